@@ -1,0 +1,153 @@
+// Transformations.
+ghost use Rattle.std.specs.Prelude.{◌≡◌, ◌≢◌, ℕ, ◌<◌, ◌≤◌, IfOk, IsErrOf, IsTrue, ◌↔◌, length, map, All, List, MatchOption, ◌==◌};
+ghost use Rattle.std.proofs.Common.{rules, ap};
+ghost use Rattle.std.specs.Hash as fed;
+ghost use Rattle.std.specs.Cmp.Lexicographic.{pointwise, slice_cmp};
+ghost use Rattle.std.specs.Cmp.Rules.{comparing, hashing};
+ghost use Rattle.std.specs.Ordering.{nat_cmp, as_partial_cmp};
+ghost use Rattle.elements.specs.Fields.{IsImage, IsFirstBad};
+ghost use Rattle.elements.specs.Transf.{composed, composed_products, same_images, AreImages};
+
+use super::element::Element;
+use super::field::{ElementFault, Field};
+use ports::NoMemory;
+use std::alloc::Global;
+use std::cmp::Ordering;
+use std::hash::{Hash, Hasher};
+use std::marker::Model;
+
+/// A transformation of the points 0 to n - 1: the list of their images (libsemigroups, `Transf`).
+/// Contracts see that list. Its shape is the degree n.
+#[derive(Drop)]
+pub struct Transf {
+    images: Vec<u32>,
+}
+
+impl Model for Transf {
+    ghost use Rattle.std.specs.Prelude.{ℕ, List};
+    ghost use Rattle.elements.specs.Transf.{AreImages};
+
+    ghost Value = { List ℕ };
+
+    ghost view = { λ t. t.images.items };
+
+    ghost invariant = { λ t. AreImages t.images.items };
+}
+
+impl PartialEq for Transf {
+    ghost eq = { pointwise ◌==◌ };
+
+    ghost laws = { Prim.search (comparing, rules) };
+
+    fn eq(&self, other: &Transf) -> bool {
+        self.images == other.images
+    }
+}
+
+impl Eq for Transf {
+    ghost laws = { Prim.search (comparing, rules) };
+}
+
+impl PartialOrd for Transf {
+    ghost partial_cmp = { as_partial_cmp (slice_cmp nat_cmp) };
+
+    ghost laws = { Prim.search (comparing, rules) };
+
+    fn partial_cmp(&self, other: &Transf) -> Option<Ordering> {
+        Some(self.cmp(other))
+    }
+}
+
+impl Ord for Transf {
+    ghost cmp = { slice_cmp nat_cmp };
+
+    ghost total = { Prim.search (comparing, rules) };
+
+    ghost matches_partial_cmp = { Prim.search (comparing, rules) };
+
+    ghost matches_eq = { Prim.search (comparing, rules) };
+
+    fn cmp(&self, other: &Transf) -> Ordering {
+        self.images.cmp(&other.images)
+    }
+}
+
+impl Hash for Transf {
+    ghost hash_input = { fed.slice fed.u32 };
+
+    ghost respects_eq = { Prim.search (hashing, rules) };
+
+    fn hash<H: Hasher>(&self, state: &mut H) {
+        self.images.hash(state);
+    }
+}
+
+impl Element for Transf {
+    ghost shape = { λ t. (length t, 0) };
+
+    ghost product = { composed };
+
+    ghost products = { composed_products };
+
+    ghost one_shape = { λ x y e. ap (λ t. (length t, 0)) (same_images x y e) };
+
+    fn same_shape(&self, other: &Transf) -> bool {
+        self.images.len() == other.images.len()
+    }
+
+    fn product(&self, alloc: Global, other: &Transf) -> Result<Transf, NoMemory> {
+        let mut images = Vec::with_capacity(alloc, self.images.len())?;
+        for i in &self.images {
+            images.push(other.images[*i as usize])?;
+        }
+        Ok(Transf { images })
+    }
+
+    fn copy(&self, alloc: Global) -> Result<Transf, NoMemory> {
+        let images = Vec::from_slice(alloc, self.images.as_slice())?;
+        Ok(Transf { images })
+    }
+}
+
+// The image that an entry names, if it is below the degree.
+fn image_below(field: Field, degree: u32) -> Option<u32>
+    ensures { MatchOption result (IsImage degree field → ⊥) (λ y. (field ≡ Field.Number y) × (y < degree)) }
+{
+    match field {
+        Field::Number(y) if y < degree => Some(y),
+        _ => None,
+    }
+}
+
+impl Transf {
+    /// The number of points.
+    pub fn degree(&self) -> usize
+        ensures degree { result ≡ length self.now }
+        ensures images { AreImages self.now }
+    {
+        self.images.len()
+    }
+
+    /// The transformation of `degree` points with these images, in their order. Refused with
+    /// `BadCount` exactly where there are not `degree` entries, then with `BadEntry` at the first
+    /// entry that is no number below `degree`; never with `NotInjective`.
+    pub fn read(alloc: Global, degree: u32, fields: &[Field]) -> Result<Transf, ElementFault>
+        ensures images { IfOk result (λ t. (length t ≡ degree) × (map Field.Number t ≡ fields.now)) }
+        ensures in_range { IfOk result (λ t. All (λ y. y < degree) t) }
+        ensures count { IsErrOf result ElementFault.BadCount ↔ (length fields.now ≢ degree) }
+        ensures entry { (place : ℕ) → IsErrOf result (ElementFault.BadEntry place) → (length fields.now ≡ degree) × IsFirstBad degree fields.now place }
+        ensures injective { (place : ℕ) → IsErrOf result (ElementFault.NotInjective place) → ⊥ }
+    {
+        if fields.len() != degree as usize {
+            return Err(ElementFault::BadCount);
+        }
+        let mut images = Vec::with_capacity(alloc, fields.len())?;
+        for (i, field) in fields.iter().enumerate() {
+            match image_below(*field, degree) {
+                Some(y) => images.push(y)?,
+                None => return Err(ElementFault::BadEntry(i)),
+            }
+        }
+        Ok(Transf { images })
+    }
+}

@@ -1,0 +1,21 @@
+use Rattle.std.proofs.Common.{ℕ, List, subst, IfSome}
+use Rattle.semi.specs.declared.script.Query.{Query}
+use Rattle.semi.specs.declared.script.Query.TheVariants.{Index}
+use Rattle.semi.specs.declared.answer.Answer.{Answer}
+use Rattle.semi.specs.Answer.{IsAnswer, IsIndex}
+use Rattle.semi.proofs.report.answer_of.Goals as goal
+
+-- the only query
+index_answer : (generators : List (List ℕ)) (q : Query) (a : Answer) → IsIndex generators a → IsAnswer generators q a
+index_answer generators Index a h = h
+
+pub returns-in-Some-clause-answer : goal.returns-in-Some-clause-answer
+returns-in-Some-clause-answer c = index_answer c.args.script.now.generators c.args.query c.in-Some.answer (subst (λ o. IfSome o (IsIndex c.args.script.now.generators)) c.in-Some.is c.requires.known)
+
+pub returns-in_ok-answer-in-None-clause-answer : goal.returns-in_ok-answer-in-None-clause-answer
+returns-in_ok-answer-in-None-clause-answer c =
+    let a : Answer = c.in_ok-answer-in-None.answer in
+    index_answer c.args.script.now.generators c.args.query a (subst (λ gs. IsIndex gs a) c.generators.ensures.generators c.in_ok-answer-in-None.ensures)
+
+pub returns-in_ok-answer-in-None-clause-known : goal.returns-in_ok-answer-in-None-clause-known
+returns-in_ok-answer-in-None-clause-known c = subst (λ gs. IsIndex gs c.in_ok-answer-in-None.answer) c.generators.ensures.generators c.in_ok-answer-in-None.ensures

@@ -1,0 +1,83 @@
+-- What is due for the bytes of a script, and what goes where.
+use Rattle.std.specs.Prelude.{◌≡◌, ℕ, ◌<◌, ◌≤◌, Bool, ◌==◌, if◌then◌else◌, List, [], ◌∷◌, ◌⊎◌, length, codes, Option, Some, None}
+use Rattle.std.specs.List.{flat_map, list_any}
+use Rattle.ports.specs.Bytes.{Rose, TakesAll, TakesPrefix}
+use Rattle.semi.specs.declared.script.Query.{Query}
+use Rattle.semi.specs.declared.answer.Answer.{Answer}
+use Rattle.semi.specs.Limits.{most_bytes}
+use Rattle.semi.specs.Script.{Partial, script_of}
+use Rattle.semi.specs.Answer.{IsAnswer, line_of, is_undecided}
+
+-- the answers of the queries, one by one
+abbrev pub AreAnswers : List (List ℕ) → List Query → List Answer → Type 0
+AreAnswers generators [] [] = Unit {0}
+AreAnswers generators [] (a ∷ answers) = ⊥
+AreAnswers generators (q ∷ queries) [] = ⊥
+AreAnswers generators (q ∷ queries) (a ∷ answers) = IsAnswer generators q a × AreAnswers generators queries answers
+
+-- the answers of the first queries
+abbrev pub AreFirstAnswers : List (List ℕ) → List Query → List Answer → Type 0
+AreFirstAnswers generators queries [] = Unit {0}
+AreFirstAnswers generators [] (a ∷ answers) = ⊥
+AreFirstAnswers generators (q ∷ queries) (a ∷ answers) = IsAnswer generators q a × AreFirstAnswers generators queries answers
+
+-- the input is this script
+pub record IsScript (input : List ℕ) (script : Partial) : Type 0 where
+  pub short : length input ≤ most_bytes
+  pub reads : script_of input ≡ Some script
+
+-- the input is too long, or no script
+abbrev pub IsRefused : List ℕ → Type 0
+IsRefused input = (most_bytes < length input) ⊎ (script_of input ≡ None)
+
+-- the lines of the answers of these queries, in order, and whether an answer is undecided
+pub record AreLines (generators : List (List ℕ)) (queries : List Query) (report : List ℕ) (undecided : Bool) : Type 0 where
+  pub answers : List Answer
+  pub correct : AreAnswers generators queries answers
+  pub lines : report ≡ flat_map line_of answers
+  pub status : undecided ≡ list_any is_undecided answers
+
+-- the report of the input
+pub record IsReport (input report : List ℕ) (undecided : Bool) : Type 0 where
+  pub script : Partial
+  pub is_script : IsScript input script
+  pub are_lines : AreLines script.generators script.queries report undecided
+
+-- the sink gained the lines of these queries
+pub record GainsLines (generators : List (List ℕ)) (queries : List Query) (undecided : Bool) (old new : Option (List ℕ)) : Type 0 where
+  pub report : List ℕ
+  pub are_lines : AreLines generators queries report undecided
+  pub gained : TakesAll old new report
+
+-- the sink gained the report of the input
+pub record GainsReport (input : List ℕ) (undecided : Bool) (old new : Option (List ℕ)) : Type 0 where
+  pub report : List ℕ
+  pub is_report : IsReport input report undecided
+  pub gained : TakesAll old new report
+
+-- the sink gained a prefix of the lines of the first of these queries
+pub record GainsPart (generators : List (List ℕ)) (queries : List Query) (old new : Option (List ℕ)) : Type 0 where
+  pub answers : List Answer
+  pub correct : AreFirstAnswers generators queries answers
+  pub gained : TakesPrefix old new (flat_map line_of answers)
+
+-- the sink gained a beginning of the report of the input
+pub record GainsBeginning (input : List ℕ) (old new : Option (List ℕ)) : Type 0 where
+  pub script : Partial
+  pub is_script : IsScript input script
+  pub part : GainsPart script.generators script.queries old new
+
+-- the sink gained this line, or a prefix of it where one of its two counts rose
+pub record GainsLine (line : List ℕ) (old new : Option (List ℕ)) (faults faults' refusals refusals' : ℕ) : Type 0 where
+  pub whole : (Rose faults faults' → ⊥) → (Rose refusals refusals' → ⊥) → TakesAll old new line
+  pub prefix : TakesPrefix old new line
+
+-- what goes to err at a status
+abbrev pub message_of : ℕ → List ℕ
+message_of status =
+    if status == 2 then codes "semi: script refused\n"
+    else if status == 3 then codes "semi: arguments refused\n"
+    else if status == 4 then codes "semi: cannot read input\n"
+    else if status == 5 then codes "semi: cannot write output\n"
+    else if status == 6 then codes "semi: out of memory\n"
+    else []

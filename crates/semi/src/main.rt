@@ -1,0 +1,40 @@
+//! Reads a script of transformations, and writes the answers of its queries.
+#![tactic(auto)]
+
+mod adapters;
+mod answer;
+mod fault;
+mod report;
+mod script;
+#[cfg(test)]
+mod tests;
+mod tokens;
+mod top;
+
+use adapters::{InputSource, OutputSink};
+use fault::Fault;
+use std::env;
+use std::io::ErrorKind;
+use std::process::ExitCode;
+use std::rt::Env;
+use top::{refuse, semi};
+
+// The words of the command line. They are refused where one of them is no text.
+fn arguments(rt: &(impl Env + AllocGlobal)) -> Result<Vec<String>, Fault> {
+    match env::args(rt) {
+        Ok(words) => Ok(words.collect(rt.alloc())?),
+        Err(error) if error.kind() == ErrorKind::OutOfMemory => Err(Fault::NoMemory),
+        Err(_) => Err(Fault::Arguments),
+    }
+}
+
+fn main(rt: HostRuntime) -> ExitCode {
+    let mut source = InputSource::new(rt.stdin());
+    let mut out = OutputSink::new(rt.stdout());
+    let mut err = OutputSink::new(rt.stderr());
+    let status = match arguments(&rt) {
+        Ok(words) => semi(&rt, rt.alloc(), &words, &mut source, &mut out, &mut err),
+        Err(fault) => refuse(&mut err, fault),
+    };
+    ExitCode::from(status)
+}

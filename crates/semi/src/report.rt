@@ -1,0 +1,107 @@
+// The report of a script.
+ghost use Rattle.std.specs.Prelude.{◌≡◌, ℕ, ◌<◌, ◌≤◌, Bool, List, Option, [], ◌∷◌, IfOk, IfSome, IsErrOf, OnErr, OnOk, length};
+ghost use Rattle.ports.specs.Bytes.{Rose, TakesPrefix};
+ghost use Rattle.semi.specs.Answer.{IsAnswer, IsIndex};
+ghost use Rattle.semi.specs.Report.{GainsBeginning, GainsLines, GainsPart, IsRefused, IsReport, IsScript};
+
+use crate::answer::{Answer, index_of};
+use crate::fault::Fault;
+use crate::script::{Query, Script, read_script};
+use ports::{NoMemory, Sink, Source, read_all, write_all};
+use std::alloc::Global;
+
+/// The greatest length of a script, in bytes.
+const MOST_BYTES: usize = 1_048_576;
+
+/// Reads the whole source as a script. Refused as the source and the reader refuse: with `Read`
+/// where the source failed, with `Script` where the bytes are too many or no script.
+pub fn take_script<S: Source>(alloc: Global, source: &mut S) -> Result<Script, Fault>
+    ensures script { IfOk result (λ script. IfSome (S.left source.old) (λ input. IsScript input script)) }
+    ensures generators { IfOk result (λ script. 0 < length script.generators) }
+    ensures refused { IsErrOf result Fault.Script → IfSome (S.left source.old) IsRefused }
+    ensures read { IsErrOf result Fault.Read → Rose (S.faults source.old) (S.faults source.new) }
+    ensures only { (IsErrOf result Fault.Arguments → ⊥) × (IsErrOf result Fault.Write → ⊥) }
+    ensures kept { S.faults source.old ≤ S.faults source.new }
+    ensures quiet { OnOk result (S.faults source.new ≡ S.faults source.old) }
+    ensures quiet_refused { IsErrOf result Fault.Script → S.faults source.new ≡ S.faults source.old }
+{
+    let bytes = read_all(alloc, source, MOST_BYTES)?;
+    let script = read_script(alloc, bytes.as_slice())?;
+    Ok(script)
+}
+
+// The answer of one query. The index is found at the first query, and known from then on.
+fn answer_of(
+    alloc: Global,
+    script: &Script,
+    query: Query,
+    known: &mut Option<Answer>,
+) -> Result<Answer, NoMemory>
+    requires some { 0 < length script.now.generators }
+    requires known { IfSome known.old (IsIndex script.now.generators) }
+    ensures answer { IfOk result (λ answer. IsAnswer script.now.generators query answer) }
+    ensures known { IfSome known.new (IsIndex script.now.generators) }
+{
+    let Query::Index = query;
+    let answer = match *known {
+        Some(answer) => answer,
+        None => index_of(alloc, script.generators())?,
+    };
+    *known = Some(answer);
+    Ok(answer)
+}
+
+// Writes the answer of one query, and tells whether it is undecided.
+fn write_answer<O: Sink>(
+    alloc: Global,
+    script: &Script,
+    query: Query,
+    known: &mut Option<Answer>,
+    out: &mut O,
+) -> Result<bool, Fault>
+    requires some { 0 < length script.now.generators }
+    requires known { IfSome known.old (IsIndex script.now.generators) }
+    ensures known { IfSome known.new (IsIndex script.now.generators) }
+    ensures written { IfOk result (λ undecided. GainsLines script.now.generators (query ∷ []) undecided (O.taken out.old) (O.taken out.new)) }
+    ensures part { OnErr result (GainsPart script.now.generators (query ∷ []) (O.taken out.old) (O.taken out.new)) }
+    ensures write { IsErrOf result Fault.Write → Rose (O.faults out.old) (O.faults out.new) }
+    ensures only { (IsErrOf result Fault.Script → ⊥) × (IsErrOf result Fault.Arguments → ⊥) × (IsErrOf result Fault.Read → ⊥) }
+    ensures kept { O.faults out.old ≤ O.faults out.new }
+    ensures quiet { OnOk result (O.faults out.new ≡ O.faults out.old) }
+{
+    let answer = answer_of(alloc, script, query, known)?;
+    let line = answer.line(alloc)?;
+    write_all(out, line.as_slice())?;
+    Ok(answer.is_undecided())
+}
+
+/// Writes the report of a script, and tells whether an answer is undecided. Refused with `Write`
+/// where the sink failed, else with `NoMemory`; the sink has then gained a beginning of the report.
+pub fn write_report<O: Sink>(alloc: Global, script: &Script, out: &mut O) -> Result<bool, Fault>
+    requires { 0 < length script.now.generators }
+    ensures written { IfOk result (λ undecided. GainsLines script.now.generators script.now.queries undecided (O.taken out.old) (O.taken out.new)) }
+    ensures part { OnErr result (GainsPart script.now.generators script.now.queries (O.taken out.old) (O.taken out.new)) }
+    ensures write { IsErrOf result Fault.Write → Rose (O.faults out.old) (O.faults out.new) }
+    ensures only { (IsErrOf result Fault.Script → ⊥) × (IsErrOf result Fault.Arguments → ⊥) × (IsErrOf result Fault.Read → ⊥) }
+    ensures kept { O.faults out.old ≤ O.faults out.new }
+    ensures quiet { OnOk result (O.faults out.new ≡ O.faults out.old) }
+{
+    let mut known = None;
+    let mut undecided = false;
+    for query in script.queries() {
+        undecided |= write_answer(alloc, script, *query, &mut known, out)?;
+    }
+    Ok(undecided)
+}
+
+/// The report is a function of the input alone: an input has one report, and one status.
+pub fn report_is_one()
+    ensures { (input report other : List ℕ) (undecided others : Bool) → IsReport input report undecided → IsReport input other others
+        → (report ≡ other) × (undecided ≡ others) }
+{}
+
+/// A beginning of the report that a sink gained is a prefix of the report.
+pub fn beginning_is_prefix()
+    ensures { (input report : List ℕ) (undecided : Bool) (old new : Option (List ℕ)) → IsReport input report undecided → GainsBeginning input old new
+        → TakesPrefix old new report }
+{}

@@ -1,0 +1,218 @@
+ghost use Rattle.std.specs.Prelude.{◌≡◌, IfOk};
+
+use super::adapters::{InputSource, OutputSink};
+use super::top::semi;
+use ports::{Failed, MemSink, MemSource, Sink, Source, WriteFault};
+use std::io;
+use std::io::{ErrorKind, Read, Write};
+use std::test::Fail;
+use std::thread::Threads;
+
+// All maps of three points to themselves, which are 27.
+const MAPS: &str = "trans 3\na = 1 0 2\nb = 1 2 0\nc = 0 0 2\nindex\nindex\n";
+
+// What a run came to.
+#[derive(Drop)]
+struct Outcome {
+    status: u8,
+    out: Vec<u8>,
+    err: Vec<u8>,
+}
+
+// The calls of the outside that fail, each by its number from 1; 0 for none.
+#[derive(Clone, Copy)]
+struct Failing {
+    read: u64,
+    write: u64,
+    tell: u64,
+}
+
+const NONE: Failing = Failing {
+    read: 0,
+    write: 0,
+    tell: 0,
+};
+
+// A run on a script that is read in pieces of 8 bytes and written in pieces of 5.
+fn run<R: Threads + Sync + AllocGlobal>(
+    rt: &R,
+    words: u8,
+    script: &[u8],
+    failing: Failing,
+) -> Result<Outcome, Fail> {
+    let alloc = rt.alloc();
+    let mut line = Vec::new(alloc);
+    for _ in 0..words {
+        line.push(String::from_str(alloc, "semi")?)?;
+    }
+    let mut source = MemSource::new(script.to_vec(alloc)?, 8, vec![in alloc; failing.read]?);
+    let mut out = MemSink::new(alloc, 5, vec![in alloc; failing.write]?);
+    let mut err = MemSink::new(alloc, 5, vec![in alloc; failing.tell]?);
+    let status = semi(rt, alloc, &line, &mut source, &mut out, &mut err);
+    Ok(Outcome {
+        status,
+        out: out.taken().to_vec(alloc)?,
+        err: err.taken().to_vec(alloc)?,
+    })
+}
+
+#[test]
+fn scripts_get_their_status_and_line(rt: HostRuntime) -> Result<(), Fail> {
+    for (script, status, out) in [
+        (MAPS, 0u8, "index 27\nindex 27\n"),
+        ("trans 1\na = 0\nb = 0\nindex", 0, "index 1\n"),
+        (
+            "\n # maps\n\ttrans  2 \r\na\t=\t1 0\r\nindex\r\n",
+            0,
+            "index 2\n",
+        ),
+        ("trans 02\nz = 0000001 0\nindex\n", 0, "index 2\n"),
+        ("trans 2\na = 0 0\n", 0, ""),
+        ("", 2, ""),
+        ("index\n", 2, ""),
+        ("trans 2\n", 2, ""),
+        ("trans 2\nindex\n", 2, ""),
+        ("trans 0\na =\n", 2, ""),
+        ("trans 65\n", 2, ""),
+        ("trans 2 2\na = 0 1\n", 2, ""),
+        ("tran 2\na = 0 1\n", 2, ""),
+        ("trans 2\na = 0 2\nindex\n", 2, ""),
+        ("trans 2\na = 0\nindex\n", 2, ""),
+        ("trans 2\na = 0 1 1\nindex\n", 2, ""),
+        ("trans 2\na = 0 -\nindex\n", 2, ""),
+        ("trans 2\na = 0 00000001\nindex\n", 2, ""),
+        ("trans 2\nA = 0 1\nindex\n", 2, ""),
+        ("trans 2\nab = 0 1\nindex\n", 2, ""),
+        ("trans 2\na = 0 1\na = 1 0\nindex\n", 2, ""),
+        ("trans 2\na = 0 1\nindex\nb = 1 0\n", 2, ""),
+        ("trans 2\na = 0 1\nindex 2\n", 2, ""),
+        ("trans 2\na = 0 1\nindices\n", 2, ""),
+        ("trans 2\na = 0 1\ntrans 2\n", 2, ""),
+        ("trans 2\na = 0 1\0\nindex\n", 2, ""),
+        ("trans 2\na = 0 1\nindex é\n", 2, ""),
+    ] {
+        let ended = run(&rt, 1, script.as_bytes(), NONE)?;
+        assert_eq!(rt; ended.status, status, "{script}");
+        assert_eq!(rt; ended.out.as_slice(), out.as_bytes(), "{script}");
+        let line = if status == 2 {
+            "semi: script refused\n"
+        } else {
+            ""
+        };
+        assert_eq!(rt; ended.err.as_slice(), line.as_bytes(), "{script}");
+    }
+    Ok(())
+}
+
+#[test]
+fn failures_of_the_outside_are_told(rt: HostRuntime) -> Result<(), Fail> {
+    // the script is read by seven calls and one that finds its end, and each line is written by two
+    for (words, read, write, tell, status, out, err) in [
+        (0u8, 0u64, 0u64, 0u64, 0u8, "index 27\nindex 27\n", ""),
+        (1, 9, 5, 1, 0, "index 27\nindex 27\n", ""),
+        (2, 1, 1, 0, 3, "", "semi: arguments refused\n"),
+        (1, 1, 1, 0, 4, "", "semi: cannot read input\n"),
+        (1, 2, 0, 0, 4, "", "semi: cannot read input\n"),
+        (1, 8, 0, 0, 4, "", "semi: cannot read input\n"),
+        (1, 0, 1, 0, 5, "", "semi: cannot write output\n"),
+        (1, 0, 2, 0, 5, "index", "semi: cannot write output\n"),
+        (1, 0, 3, 0, 5, "index 27\n", "semi: cannot write output\n"),
+        (
+            1,
+            0,
+            4,
+            0,
+            5,
+            "index 27\nindex",
+            "semi: cannot write output\n",
+        ),
+        (1, 2, 0, 1, 4, "", ""),
+        (1, 0, 3, 2, 5, "index 27\n", "semi:"),
+    ] {
+        let ended = run(&rt, words, MAPS.as_bytes(), Failing { read, write, tell })?;
+        assert_eq!(rt; ended.status, status, "{words} {read} {write} {tell}");
+        assert_eq!(rt;
+            ended.out.as_slice(),
+            out.as_bytes(),
+            "{words} {read} {write} {tell}"
+        );
+        assert_eq!(rt;
+            ended.err.as_slice(),
+            err.as_bytes(),
+            "{words} {read} {write} {tell}"
+        );
+    }
+    Ok(())
+}
+
+#[test]
+fn long_scripts_are_refused(rt: HostRuntime) -> Result<(), Fail> {
+    let alloc = rt.alloc();
+    let mut script = Vec::new(alloc);
+    script.extend_from_slice(MAPS.as_bytes())?;
+    for _ in script.len()..1_048_576 {
+        script.push(b'#')?;
+    }
+    assert_eq!(rt; run(&rt, 1, script.as_slice(), NONE)?.status, 0);
+    script.push(b'#')?;
+    assert_eq!(rt; run(&rt, 1, script.as_slice(), NONE)?.status, 2);
+    Ok(())
+}
+
+// A stream whose calls all fail, or take nothing.
+#[derive(Drop)]
+struct Broken {
+    fails: bool,
+}
+
+impl Broken {
+    fn answer(&self) -> io::Result<usize>
+        ensures { IfOk result (λ count. count ≡ 0) }
+    {
+        if self.fails {
+            Err(io::Error::from(ErrorKind::Other))
+        } else {
+            Ok(0)
+        }
+    }
+}
+
+impl Read for Broken {
+    fn read(&mut self, _buf: &mut [u8]) -> io::Result<usize> {
+        self.answer()
+    }
+}
+
+impl Write for Broken {
+    fn write(&mut self, _buf: &[u8]) -> io::Result<usize> {
+        self.answer()
+    }
+
+    fn flush(&mut self) -> io::Result<()> {
+        Ok(())
+    }
+}
+
+#[test]
+fn adapters_pass_bytes_on(rt: HostRuntime) -> Result<(), Fail> {
+    let mut buf = [0u8; 4];
+    let mut source = InputSource::new(b"index".as_slice());
+    assert_eq!(rt; source.read(&mut buf), Ok(4));
+    assert_eq!(rt; buf, *b"inde");
+    assert_eq!(rt; source.read(&mut buf), Ok(1));
+    assert_eq!(rt; source.read(&mut buf), Ok(0));
+    let mut room = [0u8; 6];
+    let mut sink = OutputSink::new(room.as_mut_slice());
+    assert_eq!(rt; sink.write(b"index"), Ok(5));
+    assert_eq!(rt; sink.write(b""), Ok(0));
+    assert_eq!(rt; sink.write(b"27"), Ok(1));
+    assert_eq!(rt; sink.write(b"7"), Err(WriteFault::Failed));
+    assert_eq!(rt; room, *b"index2");
+    let mut deaf = InputSource::new(Broken { fails: true });
+    assert_eq!(rt; deaf.read(&mut buf), Err(Failed));
+    let mut full = OutputSink::new(Broken { fails: false });
+    assert_eq!(rt; full.write(b"index"), Err(WriteFault::Failed));
+    let mut closed = OutputSink::new(Broken { fails: true });
+    assert_eq!(rt; closed.write(b"index"), Err(WriteFault::Failed));
+    Ok(())
+}

@@ -1,0 +1,98 @@
+// The whole program, over words, a source and two sinks.
+ghost use Rattle.std.specs.Prelude.{◌≡◌, ◌<◌, ◌≤◌, ◌↔◌, ◌⊎◌, true, false, IfOk, IfSome, IsErrOf, OnErr, OnOk, length, vec_len};
+ghost use Rattle.ports.specs.Bytes.{Rose};
+ghost use Rattle.semi.specs.Report.{GainsBeginning, GainsLine, GainsReport, IsRefused, IsScript, message_of};
+ghost use Rattle.semi.specs.Script.{Partial};
+ghost use Rattle.semi.specs.Status.{status_of};
+
+use crate::fault::Fault;
+use crate::report::{take_script, write_report};
+use ports::{Sink, Source, write_all};
+use std::alloc::Global;
+use std::thread::Threads;
+
+// Reads the script and writes its report, and tells whether an answer is undecided.
+fn run<S: Source, O: Sink>(
+    alloc: Global,
+    words: &Vec<String>,
+    source: &mut S,
+    out: &mut O,
+) -> Result<bool, Fault>
+    ensures reported { IfOk result (λ undecided. IfSome (S.left source.old) (λ input. GainsReport input undecided (O.taken out.old) (O.taken out.new))) }
+    ensures arguments { IsErrOf result Fault.Arguments ↔ (1 < vec_len words.now) }
+    ensures refused { IsErrOf result Fault.Script → IfSome (S.left source.old) IsRefused }
+    ensures read { IsErrOf result Fault.Read → Rose (S.faults source.old) (S.faults source.new) }
+    ensures write { IsErrOf result Fault.Write → Rose (O.faults out.old) (O.faults out.new) }
+    ensures beginning { IsErrOf result Fault.Write → IfSome (S.left source.old) (λ input. GainsBeginning input (O.taken out.old) (O.taken out.new)) }
+    ensures memory { IsErrOf result Fault.NoMemory → (out.new ≡ out.old) ⊎ IfSome (S.left source.old) (λ input. GainsBeginning input (O.taken out.old) (O.taken out.new)) }
+    ensures out_untouched { (IsErrOf result Fault.Script ⊎ (IsErrOf result Fault.Arguments ⊎ IsErrOf result Fault.Read)) → out.new ≡ out.old }
+    ensures source_untouched { IsErrOf result Fault.Arguments → source.new ≡ source.old }
+    ensures quiet { OnOk result ((S.faults source.new ≡ S.faults source.old) × (O.faults out.new ≡ O.faults out.old)) }
+    ensures quiet_refused { IsErrOf result Fault.Script → S.faults source.new ≡ S.faults source.old }
+{
+    if words.len() > 1 {
+        return Err(Fault::Arguments);
+    }
+    let script = take_script(alloc, source)?;
+    write_report(alloc, &script, out)
+}
+
+/// Writes the line of a fault to `err`, and gives the fault's status. A refused write to `err`
+/// changes no status.
+pub fn refuse<E: Sink>(err: &mut E, fault: Fault) -> u8
+    ensures status { result ≡ status_of fault }
+    ensures told { GainsLine (message_of (status_of fault)) (E.taken err.old) (E.taken err.new) (E.faults err.old) (E.faults err.new) (E.refusals err.old) (E.refusals err.new) }
+{
+    let _ = write_all(err, fault.line());
+    fault.status()
+}
+
+/// The program: reads the source as a script and writes its report to `out`; gives the status.
+///
+/// - 0: the whole report was written, and no answer is undecided. 1: the same, with one at least.
+/// - 2: the input, read in full, is longer than 1,048,576 bytes or no script.
+/// - 3: a word follows the program's name; nothing is read.
+/// - 4: the source failed. 5: `out` failed. 6: memory is wanting.
+///
+/// `err` gets one line at the statuses from 2 on. `words` begins with the program's name.
+pub fn semi<R: Threads + Sync, S: Source, O: Sink, E: Sink>(
+    _rt: &R,
+    alloc: Global,
+    words: &Vec<String>,
+    source: &mut S,
+    out: &mut O,
+    err: &mut E,
+) -> u8
+    // the whole report, at 1 with an undecided answer
+    ensures decided { result ≡ 0 → IfSome (S.left source.old) (λ input. GainsReport input false (O.taken out.old) (O.taken out.new)) }
+    ensures undecided { result ≡ 1 → IfSome (S.left source.old) (λ input. GainsReport input true (O.taken out.old) (O.taken out.new)) }
+
+    // each other status has its cause
+    ensures refused { result ≡ 2 → IfSome (S.left source.old) IsRefused }
+    ensures arguments { (result ≡ 3) ↔ (1 < vec_len words.now) }
+    ensures read { result ≡ 4 → Rose (S.faults source.old) (S.faults source.new) }
+    ensures write { result ≡ 5 → Rose (O.faults out.old) (O.faults out.new) }
+    ensures range { result ≤ 6 }
+
+    // no call failed at 0 to 3
+    ensures quiet { result ≤ 3 → (S.faults source.new ≡ S.faults source.old) × (O.faults out.new ≡ O.faults out.old) }
+
+    // what the source and the sinks are left with
+    ensures source_untouched { result ≡ 3 → source.new ≡ source.old }
+    ensures out_untouched { 2 ≤ result → result ≤ 4 → out.new ≡ out.old }
+    ensures beginning { result ≡ 5 → IfSome (S.left source.old) (λ input. GainsBeginning input (O.taken out.old) (O.taken out.new)) }
+    ensures memory { result ≡ 6 → (out.new ≡ out.old) ⊎ IfSome (S.left source.old) (λ input. GainsBeginning input (O.taken out.old) (O.taken out.new)) }
+    ensures told { GainsLine (message_of result) (E.taken err.old) (E.taken err.new) (E.faults err.old) (E.faults err.new) (E.refusals err.old) (E.refusals err.new) }
+    ensures err_untouched { result ≤ 1 → err.new ≡ err.old }
+
+    // where nothing fails, a refused input gives 2, and a script its whole report, or memory is wanting
+    ensures refuses { vec_len words.now ≤ 1 → (Rose (S.faults source.old) (S.faults source.new) → ⊥)
+        → IfSome (S.left source.old) (λ input. IsRefused input → (result ≡ 2) ⊎ (result ≡ 6)) }
+    ensures answers { vec_len words.now ≤ 1 → (Rose (S.faults source.old) (S.faults source.new) → ⊥) → (Rose (O.faults out.old) (O.faults out.new) → ⊥)
+        → IfSome (S.left source.old) (λ input. (script : Partial) → IsScript input script → (result ≤ 1) ⊎ (result ≡ 6)) }
+{
+    match run(alloc, words, source, out) {
+        Ok(undecided) => u8::from(undecided),
+        Err(fault) => refuse(err, fault),
+    }
+}

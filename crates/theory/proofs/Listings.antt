@@ -1,0 +1,166 @@
+-- The laws of pages.
+use Rattle.std.proofs.Common.{None, Some, ◌≡◌, ℕ, zero, suc, ◌+◌, ◌≤◌, Bool, true, false, List, [], ◌∷◌, ◌++◌, length, refl, sym, ap, ap₂, subst, arith, ◌⊎◌, inl, inr, Option, Some, suc-add, zero-add}
+use Rattle.theory.specs.Listing.{IsAfter, IsNext, IsPage, IsListOf, IsStartOf, last_of, IsLast, IsAscending}
+use Rattle.theory.proofs.Counting.{IsIn}
+
+-- a strict order, total on what has the property
+pub record IsStrictOrder {A : Type 0} (P : A → Type 0) (Less : A → A → Type 0) : Type 0 where
+  pub cases : (x y : A) → P x → P y → Less x y ⊎ ((x ≡ y) ⊎ Less y x)
+  pub irrefl : (x : A) → Less x x → ⊥
+  pub trans : (x y z : A) → Less x y → Less y z → Less x z
+
+module _ {A : Type 0} (P : A → Type 0) (Less : A → A → Type 0) (order : IsStrictOrder P Less) where
+  pub next_unique : (cursor : Option A) (x y : A) → IsNext P Less cursor x → IsNext P Less cursor y → x ≡ y
+  next_unique cursor x y p q =
+      elim (order.cases x y p.has q.has) [
+        | inl l ↦ absurd (q.least x p.has p.after l)
+        | inr (inl e) ↦ e
+        | inr (inr g) ↦ absurd (p.least y q.has q.after g)
+      ]
+
+  -- a cursor has one page of each size
+  pub page_unique : (cursor : Option A) (count : ℕ) (xs ys : List A) (m n : Bool) → IsPage P Less cursor count xs m
+      → IsPage P Less cursor count ys n → (xs ≡ ys) × (m ≡ n)
+  page_unique cursor count [] [] false false p q = (refl, refl)
+  page_unique cursor zero [] [] false true p q = absurd (p q.0 q.1.has q.1.after)
+  page_unique cursor (suc count) [] [] false true p q = absurd q
+  page_unique cursor zero [] [] true false p q = absurd (q p.0 p.1.has p.1.after)
+  page_unique cursor (suc count) [] [] true false p q = absurd p
+  page_unique cursor count [] [] true true p q = (refl, refl)
+  page_unique cursor zero [] (y ∷ ys) m n p q = absurd q
+  page_unique cursor (suc count) [] (y ∷ ys) false n p q = absurd (p y q.0.has q.0.after)
+  page_unique cursor (suc count) [] (y ∷ ys) true n p q = absurd p
+  page_unique cursor zero (x ∷ xs) ys m n p q = absurd p
+  page_unique cursor (suc count) (x ∷ xs) [] m false p q = absurd (q x p.0.has p.0.after)
+  page_unique cursor (suc count) (x ∷ xs) [] m true p q = absurd q
+  page_unique cursor (suc count) (x ∷ xs) (y ∷ ys) m n p q =
+      let same : x ≡ y = next_unique cursor x y p.0 q.0 in
+      let rest = page_unique (Some y) count xs ys m n (subst (λ z. IsPage P Less (Some z) count xs m) same p.1) q.1 in
+      (ap₂ (λ (z : A) (zs : List A). z ∷ zs) same rest.0, rest.1)
+
+  -- a page of what is greater than the last of a full page goes on where that ended
+  pub page_join : (cursor : Option A) (m n : ℕ) (xs ys : List A) (more : Bool) → IsPage P Less cursor m xs true
+      → IsPage P Less (last_of cursor xs) n ys more → IsPage P Less cursor (m + n) (xs ++ ys) more
+  page_join cursor zero n [] ys more p q = rw zero-add q
+  page_join cursor (suc m) n [] ys more p q = absurd p
+  page_join cursor zero n (x ∷ xs) ys more p q = absurd p
+  page_join cursor (suc m) n (x ∷ xs) ys more p q = rw suc-add (p.0, page_join (Some x) m n xs ys more p.1 q)
+
+  -- behind a page with nothing further there is nothing
+  pub page_end : (cursor : Option A) (count : ℕ) (xs : List A) → IsPage P Less cursor count xs false → IsListOf P Less cursor xs
+  page_end cursor count [] p = p
+  page_end cursor zero (x ∷ xs) p = absurd p
+  page_end cursor (suc count) (x ∷ xs) p = (p.0, page_end (Some x) count xs p.1)
+
+  -- a page is the beginning of the list
+  pub page_start : (cursor : Option A) (count : ℕ) (xs : List A) (more : Bool) → IsPage P Less cursor count xs more
+      → IsStartOf P Less cursor xs
+  page_start cursor count [] more p = tt
+  page_start cursor zero (x ∷ xs) more p = absurd p
+  page_start cursor (suc count) (x ∷ xs) more p = (p.0, page_start (Some x) count xs more p.1)
+
+  pub page_length : (cursor : Option A) (count : ℕ) (xs : List A) (more : Bool) → IsPage P Less cursor count xs more → length xs ≤ count
+  page_length cursor count [] more p = omega arith
+  page_length cursor zero (x ∷ xs) more p = absurd p
+  page_length cursor (suc count) (x ∷ xs) more p = let rest = page_length (Some x) count xs more p.1 in omega (arith, rest)
+
+  -- there is one list
+  pub list_unique : (cursor : Option A) (xs ys : List A) → IsListOf P Less cursor xs → IsListOf P Less cursor ys → xs ≡ ys
+  list_unique cursor [] [] p q = refl
+  list_unique cursor [] (y ∷ ys) p q = absurd (p y q.0.has q.0.after)
+  list_unique cursor (x ∷ xs) [] p q = absurd (q x p.0.has p.0.after)
+  list_unique cursor (x ∷ xs) (y ∷ ys) p q =
+      let same : x ≡ y = next_unique cursor x y p.0 q.0 in
+      ap₂ (λ (z : A) (zs : List A). z ∷ zs) same (list_unique (Some y) xs ys (subst (λ z. IsListOf P Less (Some z) xs) same p.1) q.1)
+
+  -- no beginning is longer than the list
+  pub start_no_longer : (cursor : Option A) (xs ys : List A) → IsListOf P Less cursor xs → IsStartOf P Less cursor ys
+      → length ys ≤ length xs
+  start_no_longer cursor xs [] p q = omega arith
+  start_no_longer cursor [] (y ∷ ys) p q = absurd (p y q.0.has q.0.after)
+  start_no_longer cursor (x ∷ xs) (y ∷ ys) p q =
+      let same : x ≡ y = next_unique cursor x y p.0 q.0 in
+      let rest = start_no_longer (Some y) xs ys (subst (λ z. IsListOf P Less (Some z) xs) same p.1) q.1 in
+      omega (arith, rest)
+
+  -- what the beginning of a list leaves out is greater than its last
+  pub start_full : (cursor : Option A) (xs : List A) → IsStartOf P Less cursor xs → (y : A) → P y → IsAfter Less cursor y
+      → ((before after : List A) × (xs ≡ before ++ (y ∷ after))) ⊎ IsAfter Less (last_of cursor xs) y
+  start_full cursor [] p y has after = inr after
+  start_full cursor (x ∷ xs) p y has after =
+      elim (order.cases y x has p.0.has) [
+        | inl l ↦ absurd (p.0.least y has after l)
+        | inr (inl e) ↦ inl ([], xs, ap (λ z. z ∷ xs) (sym e))
+        | inr (inr g) ↦ elim (start_full (Some x) xs p.1 y has g) [
+          | inl r ↦ inl (x ∷ r.0, r.1, ap (λ zs. x ∷ zs) r.2)
+          | inr a ↦ inr a
+        ]
+      ]
+
+  -- Pages as a loop makes them, one after another.
+  -- one more at the end
+  pub start_push : (cursor : Option A) (xs : List A) (y : A) → IsStartOf P Less cursor xs → IsNext P Less (last_of cursor xs) y
+      → IsStartOf P Less cursor (xs ++ y ∷ [])
+  start_push cursor [] y p q = (q, tt)
+  start_push cursor (x ∷ xs) y p q = (p.0, start_push (Some x) xs y p.1 q)
+
+  pub last_of_push : (cursor : Option A) (xs : List A) (y : A) → last_of cursor (xs ++ y ∷ []) ≡ Some y
+  last_of_push cursor [] y = refl
+  last_of_push cursor (x ∷ xs) y = last_of_push (Some x) xs y
+
+  -- a full page with a further one
+  pub page_from_next : (cursor : Option A) (xs : List A) (y : A) → IsStartOf P Less cursor xs → IsNext P Less (last_of cursor xs) y
+      → IsPage P Less cursor (length xs) xs true
+  page_from_next cursor [] y p q = (y, q)
+  page_from_next cursor (x ∷ xs) y p q = (p.0, page_from_next (Some x) xs y p.1 q)
+
+  -- a page with nothing further
+  pub page_from_last : (cursor : Option A) (count : ℕ) (xs : List A) → length xs ≤ count → IsStartOf P Less cursor xs
+      → IsLast P Less (last_of cursor xs) → IsPage P Less cursor count xs false
+  page_from_last cursor count [] h p q = q
+  page_from_last cursor zero (x ∷ xs) h p q = absurd (omega arith)
+  page_from_last cursor (suc count) (x ∷ xs) h p q = (p.0, page_from_last (Some x) count xs (omega arith) p.1 q)
+
+  -- all of the list
+  pub list_from_last : (cursor : Option A) (xs : List A) → IsStartOf P Less cursor xs → IsLast P Less (last_of cursor xs)
+      → IsListOf P Less cursor xs
+  list_from_last cursor [] p q = q
+  list_from_last cursor (x ∷ xs) p q = (p.0, list_from_last (Some x) xs p.1 q)
+
+  -- where each has a next there are beginnings of every length
+  pub endless : ((cursor : Option A) → (x : A) × IsNext P Less cursor x) → (cursor : Option A) (n : ℕ)
+      → (xs : List A) × IsStartOf P Less cursor xs × (length xs ≡ n)
+  endless next cursor zero = ([], tt, refl)
+  endless next cursor (suc n) =
+      let first = next cursor in
+      let rest = endless next (Some first.0) n in
+      (first.0 ∷ rest.0, (first.1, rest.1), ap suc rest.2)
+
+  -- what is ascending is behind its cursor
+  ascending_after : (x : A) (xs : List A) → IsAscending Less (Some x) xs → (y : A) → IsIn y xs → Less x y
+  ascending_after x [] h y m = absurd m
+  ascending_after x (z ∷ xs) h y (inl e) = subst (λ w. Less x w) (sym e) h.0
+  ascending_after x (z ∷ xs) h y (inr m) = order.trans x z y h.0 (ascending_after z xs h.1 y m)
+
+  -- an ascending list of all that have the property is the list
+  pub list_from_ascending : (cursor : Option A) (xs : List A) → IsAscending Less cursor xs → ((y : A) → IsIn y xs → P y)
+      → ((y : A) → P y → IsAfter Less cursor y → IsIn y xs) → IsListOf P Less cursor xs
+  list_from_ascending cursor [] h has all = λ y p a. all y p a
+  list_from_ascending cursor (x ∷ xs) h has all = (
+    record {
+      has = has x (inl refl);
+      after = h.0;
+      least = λ y p a less. elim (all y p a) [
+        | inl e ↦ order.irrefl x (subst (λ w. Less w x) e less)
+        | inr m ↦ order.irrefl x (order.trans x y x (ascending_after x xs h.1 y m) less)
+      ];
+    },
+    list_from_ascending (Some x) xs h.1 (λ y m. has y (inr m)) (λ y p a. elim (all y p (later cursor x y h.0 a)) [
+      | inl e ↦ absurd (order.irrefl x (subst (λ w. Less x w) e a))
+      | inr m ↦ m
+    ]),
+  )
+    where
+      later : (cursor : Option A) (x y : A) → IsAfter Less cursor x → Less x y → IsAfter Less cursor y
+      later None x y a l = tt
+      later (Some z) x y a l = order.trans z x y a l

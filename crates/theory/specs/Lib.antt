@@ -1,0 +1,17 @@
+pub mod Word
+pub mod ShortLex
+pub mod Listing
+pub mod Congruence
+pub mod Chain
+pub mod Class
+pub mod Facts
+pub mod Felsch
+pub mod Hlt
+pub mod Completion
+pub mod Value
+pub mod Generated
+pub mod Graph
+pub mod LowIndex
+pub mod PlacedStep
+pub mod Decided
+pub mod Examples

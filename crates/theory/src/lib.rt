@@ -1,0 +1,20 @@
+// Words, congruences and their classes, the strategies that decide them, and the laws that tie these together.
+#![tactic(auto)]
+
+pub mod classes;
+pub mod completion;
+pub mod examples;
+pub mod facts;
+pub mod kinds;
+pub mod order;
+pub mod predicates;
+pub mod tables;
+pub mod values;
+
+/// Where the pairs of a congruence may be used: anywhere, at the front of a word, or at its end.
+#[derive(Clone, Copy, Debug, PartialEq, Eq)]
+pub enum Kind {
+    TwoSided,
+    Right,
+    Left,
+}
