@@ -9,6 +9,7 @@ IsImage n (Number y) = y < n
 IsImage n Dash = ⊥
 IsImage n Bad = ⊥
 
+-- there is an entry, and it is an image below n
 abbrev pub IsImageAt : ℕ → Option Field → Type 0
 IsImageAt n (Some f) = IsImage n f
 IsImageAt n None = ⊥

@@ -3,6 +3,8 @@
 
 mod element;
 mod field;
+#[cfg(test)]
+mod tests;
 mod transf;
 
 pub use element::Element;

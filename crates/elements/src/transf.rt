@@ -1,15 +1,18 @@
 // Transformations.
-ghost use Rattle.std.specs.Prelude.{◌≡◌, ◌≢◌, ℕ, ◌<◌, ◌≤◌, IfOk, IsErrOf, IsTrue, ◌↔◌, length, map, All, List, MatchOption, ◌==◌};
-ghost use Rattle.std.proofs.Common.{rules, ap};
+ghost use Rattle.std.specs.Prelude.{◌≡◌, ◌≢◌, ℕ, ◌<◌, ◌≤◌, ◌⊎◌, IfOk, IsErrOf, IsTrue, ◌↔◌, length, map, All, List, MatchOption, ◌==◌, codes, decimal};
+ghost use Rattle.std.specs.List.{join_by};
+ghost use Rattle.std.proofs.Common.{rules};
 ghost use Rattle.std.specs.Hash as fed;
 ghost use Rattle.std.specs.Cmp.Lexicographic.{pointwise, slice_cmp};
 ghost use Rattle.std.specs.Cmp.Rules.{comparing, hashing};
 ghost use Rattle.std.specs.Ordering.{nat_cmp, as_partial_cmp};
 ghost use Rattle.elements.specs.Fields.{IsImage, IsFirstBad};
-ghost use Rattle.elements.specs.Transf.{composed, composed_products, same_images, AreImages};
+ghost use Rattle.elements.specs.Transf.{composed, AreImages};
+ghost use Rattle.elements.specs.TransfLaws.{composed_products, one_degree};
 
 use super::element::Element;
 use super::field::{ElementFault, Field};
+use itoa::Buffer;
 use ports::NoMemory;
 use std::alloc::Global;
 use std::cmp::Ordering;
@@ -89,17 +92,14 @@ impl Element for Transf {
 
     ghost products = { composed_products };
 
-    ghost one_shape = { λ x y e. ap (λ t. (length t, 0)) (same_images x y e) };
+    ghost one_shape = { one_degree };
 
     fn same_shape(&self, other: &Transf) -> bool {
         self.images.len() == other.images.len()
     }
 
     fn product(&self, alloc: Global, other: &Transf) -> Result<Transf, NoMemory> {
-        let mut images = Vec::with_capacity(alloc, self.images.len())?;
-        for i in &self.images {
-            images.push(other.images[*i as usize])?;
-        }
+        let images = compose(alloc, &self.images, &other.images)?;
         Ok(Transf { images })
     }
 
@@ -107,6 +107,18 @@ impl Element for Transf {
         let images = Vec::from_slice(alloc, self.images.as_slice())?;
         Ok(Transf { images })
     }
+}
+
+// The images of the left list under the right one.
+fn compose(alloc: Global, left: &[u32], right: &[u32]) -> Result<Vec<u32>, NoMemory>
+    requires { All (λ y. y < length right.now) left.now }
+    ensures { IfOk result (λ images. images.items ≡ composed left.now right.now) }
+{
+    let mut images = Vec::with_capacity(alloc, left.len())?;
+    for y in left {
+        images.push(right[*y as usize])?;
+    }
+    Ok(images)
 }
 
 // The image that an entry names, if it is below the degree.
@@ -136,6 +148,7 @@ impl Transf {
         ensures in_range { IfOk result (λ t. All (λ y. y < degree) t) }
         ensures count { IsErrOf result ElementFault.BadCount ↔ (length fields.now ≢ degree) }
         ensures entry { (place : ℕ) → IsErrOf result (ElementFault.BadEntry place) → (length fields.now ≡ degree) × IsFirstBad degree fields.now place }
+        ensures refused { (place : ℕ) → length fields.now ≡ degree → IsFirstBad degree fields.now place → IsErrOf result (ElementFault.BadEntry place) ⊎ IsErrOf result ElementFault.NoMemory }
         ensures injective { (place : ℕ) → IsErrOf result (ElementFault.NotInjective place) → ⊥ }
     {
         if fields.len() != degree as usize {
@@ -149,5 +162,20 @@ impl Transf {
             }
         }
         Ok(Transf { images })
+    }
+
+    /// The images in decimal, with one space between each two.
+    pub fn print(&self, alloc: Global) -> Result<Vec<u8>, NoMemory>
+        ensures { IfOk result (λ text. text.items ≡ join_by decimal (codes " ") self.now) }
+    {
+        let mut text = Vec::new(alloc);
+        let mut buffer = Buffer::new();
+        for (i, y) in self.images.iter().enumerate() {
+            if 0 < i {
+                text.push(b' ')?;
+            }
+            text.extend_from_slice(buffer.format(*y).as_bytes())?;
+        }
+        Ok(text)
     }
 }

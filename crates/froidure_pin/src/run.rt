@@ -1,61 +1,28 @@
 // Each element times each generator, in the order of their least words.
-ghost use Rattle.std.specs.Prelude.{[], ◌≡◌, ℕ, ◌+◌, ◌*◌, ◌<◌, ◌≤◌, ◌↔◌, length, IfOk, OnOk, IfSome, Ok, slice_index, true, false, IsTrue, slice_get, Some, zero, suc, List};
+ghost use Rattle.std.specs.Prelude.{[], ◌≡◌, ℕ, ◌+◌, ◌*◌, ◌<◌, ◌≤◌, ◌↔◌, length, IfOk, OnOk, OnErr, IsTrue, Ok, true, false};
 ghost use Rattle.theory.specs.Value.{HasAtMostValues, HasMoreValues};
 ghost use Rattle.froidure_pin.specs.Found.{AreFound, IsTableOf, value_by, words_of, insert_factor};
 ghost use Rattle.indexmap.specs.IndexSet.{insert_key};
 ghost use Rattle.froidure_pin.specs.Shape.{HaveOneShape};
 
 use super::steps::Steps;
+use super::table::Table;
 use elements::Element;
 use indexmap::IndexSet;
 use ports::NoMemory;
 use std::alloc::Global;
-use std::marker::Model;
 use std::sync::ledger::Ledger;
 
-/// The elements of a semigroup in short-lex order of their least words.
-#[derive(Drop)]
-pub struct Table<E: Element> {
-    elements: IndexSet<E>,
-    factors: Vec<(usize, usize)>,
-}
-
-impl<E: Element> Model for Table<E> {
-    ghost use Rattle.std.specs.Prelude.{List, ℕ};
-    ghost use Rattle.std.specs.Coded.{coded_list, coded×, coded_ℕ};
-
-    ghost Value = { List E × List (ℕ × ℕ) };
-
-    ghost coded = { coded× (coded_list E.code) (coded_list (coded× coded_ℕ coded_ℕ)) };
-
-    ghost view = { λ t. (t.elements.keys, t.factors.items) };
-}
-
-impl<E: Element> Table<E> {
-    /// How many elements there are.
-    pub fn len(&self) -> usize
-        ensures { result ≡ length self.now.0 }
-    {
-        self.elements.len()
-    }
-
-    /// The element of a number.
-    pub fn element(&self, i: usize) -> &E
-        requires { i < length self.now.0 }
-        ensures { slice_get self.now.0 i ≡ Some result.now }
-    {
-        &self.elements[i]
-    }
-}
-
-/// The whole table, or more elements than the bound.
+/// What a run ends with.
 #[derive(Drop)]
 pub enum Run<E: Element> {
+    /// All elements.
     Whole(Table<E>),
+    /// There are more elements than the bound.
     Over,
 }
 
-/// The algorithm of Froidure and Pin.
+/// The algorithm of Froidure and Pin (1997).
 pub struct FroidurePin;
 
 // Takes in a product, with its parent and its letter where it is new.
@@ -75,55 +42,88 @@ fn take_in<E: Element>(
     Ok(())
 }
 
+// Takes in a product, and says whether there are more elements than the bound then.
+fn goes_over<E: Element>(
+    elements: &mut IndexSet<E>,
+    factors: &mut Vec<(usize, usize)>,
+    made: E,
+    parent: usize,
+    letter: usize,
+    bound: usize,
+) -> Result<bool, NoMemory>
+    ensures elements { OnOk result (elements.new.keys ≡ insert_key E.eq elements.old.keys made) }
+    ensures factors { OnOk result (factors.new.items ≡ insert_factor E.eq elements.old.keys factors.old.items made parent letter) }
+    ensures over { IfOk result (λ over. IsTrue over ↔ (bound < length elements.new.keys)) }
+{
+    take_in(elements, factors, made, parent, letter)?;
+    Ok(elements.len() > bound)
+}
+
+// The product of two elements, counted as one step.
+fn multiply<E: Element, L: Ledger>(
+    alloc: Global,
+    left: &E,
+    right: &E,
+    steps: &mut Steps<L>,
+) -> Result<E, NoMemory>
+    requires { E.shape left.now ≡ E.shape right.now }
+    ensures made { IfOk result (λ made. made ≡ E.product left.now right.now) }
+    ensures step { OnOk result (steps.new ≡ steps.old + 1) }
+    ensures none { OnErr result (steps.new ≡ steps.old) }
+{
+    let made = left.product(alloc, right)?;
+    steps.tick();
+    Ok(made)
+}
+
 // Whether there are more elements than the bound, once the generators are taken in.
 fn take_generators<E: Element>(
     alloc: Global,
-    gens: &Vec<E>,
+    generators: &Vec<E>,
     bound: usize,
     elements: &mut IndexSet<E>,
     factors: &mut Vec<(usize, usize)>,
 ) -> Result<bool, NoMemory>
-    requires shape { HaveOneShape E.shape gens.now.items }
+    requires shape { HaveOneShape E.shape generators.now.items }
     requires empty { (elements.old.keys ≡ []) × (factors.old.items ≡ []) }
     ensures whole { result ≡ Ok false → length elements.new.keys ≤ bound }
-    ensures found { result ≡ Ok false → (unused : E) → AreFound E.product E.eq gens.now.items unused (words_of factors.new.items) elements.new.keys 1 0 }
-    ensures over { result ≡ Ok true → (unused : E) → HasMoreValues (length gens.now.items) E.eq (value_by E.product gens.now.items unused) bound }
+    ensures found { result ≡ Ok false → (unused : E) → AreFound E.product E.eq generators.now.items unused (words_of factors.new.items) elements.new.keys 1 0 }
+    ensures over { result ≡ Ok true → (unused : E) → HasMoreValues (length generators.now.items) E.eq (value_by E.product generators.now.items unused) bound }
 {
-    for (letter, generator) in gens.iter().enumerate() {
+    for (letter, generator) in generators.iter().enumerate() {
         let copy = generator.copy(alloc)?;
-        take_in(elements, factors, copy, 0, letter)?;
-        if elements.len() > bound {
+        if goes_over(elements, factors, copy, 0, letter, bound)? {
             return Ok(true);
         }
     }
     Ok(false)
 }
 
-// Whether there are more elements than the bound, once the products of one element by each generator are taken in.
+// Whether there are more elements than the bound, once the products of the element of a number by
+// each generator are taken in.
 fn take_products<E: Element, L: Ledger>(
     alloc: Global,
-    gens: &Vec<E>,
+    generators: &Vec<E>,
     bound: usize,
     elements: &mut IndexSet<E>,
     factors: &mut Vec<(usize, usize)>,
-    i: usize,
+    number: usize,
     steps: &mut Steps<L>,
 ) -> Result<bool, NoMemory>
-    requires shape { HaveOneShape E.shape gens.now.items }
-    requires within { i < length elements.old.keys }
+    requires shape { HaveOneShape E.shape generators.now.items }
+    requires within { number < length elements.old.keys }
     requires few { length elements.old.keys ≤ bound }
-    requires found { (unused : E) → AreFound E.product E.eq gens.now.items unused (words_of factors.old.items) elements.old.keys (i + 1) 0 }
+    requires found { (unused : E) → AreFound E.product E.eq generators.now.items unused (words_of factors.old.items) elements.old.keys (number + 1) 0 }
     ensures whole { result ≡ Ok false → length elements.new.keys ≤ bound }
     ensures more { result ≡ Ok false → length elements.old.keys ≤ length elements.new.keys }
-    ensures found { result ≡ Ok false → (unused : E) → AreFound E.product E.eq gens.now.items unused (words_of factors.new.items) elements.new.keys (i + 2) 0 }
-    ensures over { result ≡ Ok true → (unused : E) → HasMoreValues (length gens.now.items) E.eq (value_by E.product gens.now.items unused) bound }
-    ensures steps { result ≡ Ok false → steps.new ≡ steps.old + length gens.now.items }
+    ensures found { result ≡ Ok false → (unused : E) → AreFound E.product E.eq generators.now.items unused (words_of factors.new.items) elements.new.keys (number + 2) 0 }
+    ensures over { result ≡ Ok true → (unused : E) → HasMoreValues (length generators.now.items) E.eq (value_by E.product generators.now.items unused) bound }
+    ensures steps { result ≡ Ok false → steps.new ≡ steps.old + length generators.now.items }
+    ensures counted { steps.old ≤ steps.new }
 {
-    for (letter, generator) in gens.iter().enumerate() {
-        let made = elements[i].product(alloc, generator)?;
-        steps.tick();
-        take_in(elements, factors, made, i + 1, letter)?;
-        if elements.len() > bound {
+    for (letter, generator) in generators.iter().enumerate() {
+        let made = multiply(alloc, &elements[number], generator, steps)?;
+        if goes_over(elements, factors, made, number + 1, letter, bound)? {
             return Ok(true);
         }
     }
@@ -131,28 +131,39 @@ fn take_products<E: Element, L: Ledger>(
 }
 
 impl FroidurePin {
-    /// The table of the semigroup that the generators generate, or Over where it has more elements than the bound.
+    /// The table of the semigroup that the generators generate, or `Over` exactly where it has more
+    /// elements than the bound. The generators are the letters, in their order. Each product of an
+    /// element and a generator is one step. Only want of memory refuses a run.
     pub fn run<E: Element, L: Ledger>(
         alloc: Global,
-        gens: &Vec<E>,
+        generators: &Vec<E>,
         bound: usize,
         steps: &mut Steps<L>,
     ) -> Result<Run<E>, NoMemory>
-        requires some { 0 < length gens.now.items }
-        requires shape { HaveOneShape E.shape gens.now.items }
-        ensures whole { IfOk result (λ run. (unused : E) → ((table : Table E) × (run ≡ Run.Whole table)) ↔ HasAtMostValues (length gens.now.items) E.eq (value_by E.product gens.now.items unused) bound) }
-        ensures table { (table : Table E) → result ≡ Ok (Run.Whole table) → (unused : E) → IsTableOf E.product E.eq gens.now.items unused (words_of table.1) table.0 }
-        ensures over { IfOk result (λ run. (unused : E) → (run ≡ Run.Over) ↔ HasMoreValues (length gens.now.items) E.eq (value_by E.product gens.now.items unused) bound) }
-        ensures steps { (table : Table E) → result ≡ Ok (Run.Whole table) → steps.new ≡ steps.old + length table.0 * length gens.now.items }
+        requires some { 0 < length generators.now.items }
+        requires shape { HaveOneShape E.shape generators.now.items }
+        ensures whole { IfOk result (λ run. (unused : E) → ((table : Table E) × (run ≡ Run.Whole table)) ↔ HasAtMostValues (length generators.now.items) E.eq (value_by E.product generators.now.items unused) bound) }
+        ensures over { IfOk result (λ run. (unused : E) → (run ≡ Run.Over) ↔ HasMoreValues (length generators.now.items) E.eq (value_by E.product generators.now.items unused) bound) }
+        ensures table { (table : Table E) → result ≡ Ok (Run.Whole table) → (unused : E) → IsTableOf E.product E.eq generators.now.items unused table.1 table.0 }
+        ensures steps { (table : Table E) → result ≡ Ok (Run.Whole table) → steps.new ≡ steps.old + length table.0 * length generators.now.items }
+        ensures counted { steps.old ≤ steps.new }
     {
         let mut elements = IndexSet::new(alloc);
         let mut factors = Vec::new(alloc);
-        if take_generators(alloc, gens, bound, &mut elements, &mut factors)? {
+        if take_generators(alloc, generators, bound, &mut elements, &mut factors)? {
             return Ok(Run::Over);
         }
         let mut i = 0;
         while i < elements.len() {
-            if take_products(alloc, gens, bound, &mut elements, &mut factors, i, steps)? {
+            if take_products(
+                alloc,
+                generators,
+                bound,
+                &mut elements,
+                &mut factors,
+                i,
+                steps,
+            )? {
                 return Ok(Run::Over);
             }
             i += 1;

@@ -1,10 +1,10 @@
 -- The images of a generator, by its fields and by its tokens.
-use Rattle.std.proofs.Common.{◌≡◌, ◌≢◌, ℕ, zero, suc, ◌+◌, ◌<◌, ◌≤◌, Bool, true, false, ◌==◌, if◌then◌else◌, List, [], ◌∷◌, length, map, All, Option, Some, None, option_and_then, slice_get, nat_lt, refl, sym, ap, ◌∙◌, subst, arith, rules, codes, eqb, ltb}
+use Rattle.std.proofs.Common.{◌≡◌, ◌≢◌, ℕ, zero, suc, ◌<◌, ◌≤◌, Bool, true, false, ◌==◌, if◌then◌else◌, List, [], ◌∷◌, length, map, All, Option, Some, None, option_and_then, slice_get, nat_lt, refl, sym, ap, ◌∙◌, subst, arith, codes}
 use Rattle.std.proofs.lemmas.Grind.{common_steps}
 use Rattle.std.proofs.lemmas.List.{length-map}
 use Rattle.elements.specs.declared.field.Field.{Field}
 use Rattle.elements.specs.declared.field.Field.TheVariants.{Number, Dash, Bad}
-use Rattle.elements.specs.Fields.{IsImage, IsFirstBad}
+use Rattle.elements.specs.Fields.{IsImage}
 use Rattle.semi.specs.Token.{Token, number_of, is_word}
 use Rattle.semi.specs.Script.{image_of, all_of, images_of}
 use Rattle.semi.specs.Fields.{field_of, field_from}

@@ -1,5 +1,5 @@
 -- Scripts that are read line by line.
-use Rattle.std.proofs.Common.{◌≡◌, ℕ, List, [], ◌∷◌, ◌++◌, Bool, true, false, not, append-nil, Option, Some, None, option_and_then, map, filter, refl, sym, ap, ◌∙◌, subst, arith, ◌<◌, suc, take, drop, get_or, length, Result, Ok, Err, IfOk, IsErrOf}
+use Rattle.std.proofs.Common.{◌≡◌, ℕ, List, [], ◌∷◌, ◌++◌, Bool, true, false, append-nil, Option, Some, None, option_and_then, map, refl, sym, ap, ◌∙◌, subst, suc, take, drop, length, Result, IfOk, IsErrOf}
 use Rattle.std.specs.Option.{ok_or}
 use Rattle.std.specs.Iterator.{Yields}
 use Rattle.std.proofs.lemmas.Iterator.{YieldsList}

@@ -1,16 +1,14 @@
 -- What a sink gains with each answer.
-use Rattle.std.proofs.Common.{◌≡◌, ℕ, ◌+◌, ◌<◌, ◌≤◌, Bool, true, false, ◌||◌, List, [], ◌∷◌, ◌++◌, length, length-append, take, Option, Some, None, Result, Ok, Err, OnOk, OnErr, IsErrOf, refl, sym, ap, ◌∙◌, subst, arith, append-nil}
+use Rattle.std.proofs.Common.{◌≡◌, ℕ, ◌+◌, Bool, true, false, ◌||◌, List, [], ◌∷◌, ◌++◌, length, length-append, take, Option, Some, None, Result, Ok, Err, OnErr, refl, sym, ap, ◌∙◌, subst, arith, append-nil}
 use Rattle.std.specs.List.{flat_map, list_any}
 use Rattle.std.proofs.Math.Seq.{take-append-add, take-length}
 use Rattle.std.proofs.lemmas.Grind.{flat_map-append}
-use Rattle.ports.specs.declared.fault.WriteFault.{WriteFault}
-use Rattle.ports.specs.declared.fault.WriteFault.TheVariants.{Failed, NoMemory}
-use Rattle.ports.specs.Bytes.{Rose, TakesAll, TakesPrefix}
+use Rattle.ports.specs.Bytes.{TakesAll, TakesPrefix}
 use Rattle.ports.proofs.BytesLemmas.{TakesAll-append}
 use Rattle.semi.specs.declared.script.Query.{Query}
 use Rattle.semi.specs.declared.answer.Answer.{Answer}
 use Rattle.semi.specs.Answer.{IsAnswer, line_of, is_undecided}
-use Rattle.semi.specs.Report.{AreAnswers, AreFirstAnswers, AreLines, GainsLines, GainsPart, GainsLine}
+use Rattle.semi.specs.Report.{AreAnswers, AreFirstAnswers, GainsLines, GainsPart}
 
 -- a sink that was not called gained nothing
 pub gains_nothing : (old : Option (List ℕ)) → TakesAll old old []

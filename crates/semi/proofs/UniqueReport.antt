@@ -1,5 +1,5 @@
 -- An input has one report, and beginnings are prefixes of it.
-use Rattle.std.proofs.Common.{◌≡◌, ℕ, ◌≤◌, ◌<◌, Bool, List, [], ◌∷◌, ◌++◌, length, length-append, take, Option, Some, None, refl, sym, ap, ◌∙◌, subst, arith, ◌==◌}
+use Rattle.std.proofs.Common.{◌≡◌, ℕ, ◌≤◌, Bool, List, [], ◌∷◌, ◌++◌, length, length-append, take, Option, Some, None, refl, sym, ap, ◌∙◌, subst, arith, ◌==◌}
 use Rattle.std.specs.Cmp.Lexicographic.{pointwise}
 use Rattle.std.specs.List.{flat_map, list_any}
 use Rattle.std.proofs.lemmas.List.{take-append-le}
@@ -10,14 +10,15 @@ use Rattle.theory.specs.Class.{IsLeast, HasIndex}
 use Rattle.theory.proofs.Listings.{list_unique}
 use Rattle.theory.proofs.ClassLaws.{shortlex_strict}
 use Rattle.theory.proofs.ValueLaws.{values_bound}
-use Rattle.elements.specs.Transf.{composed, composed_products}
+use Rattle.elements.specs.Transf.{composed}
+use Rattle.elements.specs.TransfLaws.{composed_products}
 use Rattle.semi.specs.declared.script.Query.{Query}
 use Rattle.semi.specs.declared.script.Query.TheVariants as query
 use Rattle.semi.specs.declared.answer.Answer.{Answer}
 use Rattle.semi.specs.declared.answer.Answer.TheVariants.{Index, Over, Undecided}
-use Rattle.semi.specs.Limits.{most_elements, most_classes}
-use Rattle.semi.specs.Script.{Partial, script_of}
-use Rattle.semi.specs.Answer.{SameElement, HasAtMost, HasMore, IsIndex, IsAnswer, value_of, line_of, is_undecided}
+use Rattle.semi.specs.Limits.{most_elements}
+use Rattle.semi.specs.Script.{Partial}
+use Rattle.semi.specs.Answer.{SameElement, HasAtMost, HasMore, IsIndex, value_of, line_of, is_undecided}
 use Rattle.semi.specs.Report.{AreAnswers, AreFirstAnswers, GainsBeginning, IsReport}
 
 module _ (generators : List (List ℕ)) where

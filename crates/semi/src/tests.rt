@@ -105,6 +105,33 @@ fn scripts_get_their_status_and_line(rt: HostRuntime) -> Result<(), Fail> {
 }
 
 #[test]
+fn examples_give_their_output(rt: HostRuntime) -> Result<(), Fail> {
+    for (script, status, out) in [
+        (
+            "# A rotation of five points, and its square.\ntrans 5\n\na = 1 2 3 4 0\nb = 2 3 4 0 1\n\n\
+             # They generate the cyclic group of order 5.\nindex\n",
+            0u8,
+            "index 5\n",
+        ),
+        (
+            "trans 6\na = 1 0 2 3 4 5\nb = 1 2 3 4 5 0\nc = 0 0 2 3 4 5\nindex\n",
+            0,
+            "index over 10000\n",
+        ),
+        (
+            "trans 7\na = 1 0 2 3 4 5 6\nb = 1 2 3 4 5 6 0\nc = 0 0 2 3 4 5 6\nindex\n",
+            1,
+            "undecided\n",
+        ),
+    ] {
+        let ended = run(&rt, 1, script.as_bytes(), NONE)?;
+        assert_eq!(rt; ended.status, status, "{script}");
+        assert_eq!(rt; ended.out.as_slice(), out.as_bytes(), "{script}");
+    }
+    Ok(())
+}
+
+#[test]
 fn failures_of_the_outside_are_told(rt: HostRuntime) -> Result<(), Fail> {
     // the script is read by seven calls and one that finds its end, and each line is written by two
     for (words, read, write, tell, status, out, err) in [

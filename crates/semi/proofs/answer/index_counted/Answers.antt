@@ -1,5 +1,4 @@
-use Rattle.std.proofs.Common.{◌≡◌, ℕ, List, [], ap, Ok}
-use Rattle.froidure_pin.specs.Found.{words_of}
+use Rattle.std.proofs.Common.{ℕ, List, [], ap, Ok}
 use Rattle.semi.proofs.AnswerLemmas.{table_answer}
 use Rattle.semi.proofs.answer.index_counted.Goals as goal
 
@@ -10,6 +9,6 @@ pub returns : goal.returns
 returns g c =
     let generators : List (List ℕ) = c.args.generators.now.items in
     let table = c.in-Whole.table in
-    table_answer generators (words_of table.1) table.0 c.len.result c.answer_at.result
+    table_answer generators table.1 table.0 c.len.result c.answer_at.result
     (c.in_ok-run.ensures.table table (ap Ok c.in-Whole.is) []) ((c.in_ok-run.ensures.whole []).0 (table, c.in-Whole.is))
     c.len.ensures c.answer_at.ensures.small c.answer_at.ensures.large

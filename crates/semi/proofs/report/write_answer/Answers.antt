@@ -1,4 +1,4 @@
-use Rattle.std.proofs.Common.{◌≡◌, ℕ, List, [], ◌∷◌, Bool, ◌∙◌, sym, subst}
+use Rattle.std.proofs.Common.{[], ◌∷◌, ◌∙◌, sym, subst}
 use Rattle.semi.specs.Report.{GainsLines}
 use Rattle.semi.proofs.ReportLemmas.{one_gained, one_begun, on_err}
 use Rattle.semi.proofs.report.write_answer.Goals as goal

@@ -1,4 +1,4 @@
-use Rattle.std.proofs.Common.{◌≡◌, ℕ, ◌+◌, ◌<◌, List, [], ◌∷◌, ◌++◌, Bool, ◌||◌, ◌∙◌, sym, ap, subst, length, take, drop, suc, get_or}
+use Rattle.std.proofs.Common.{◌≡◌, ℕ, ◌+◌, ◌<◌, List, [], ◌∷◌, ◌++◌, Bool, ◌||◌, ◌∙◌, sym, ap, subst, length, take, drop, get_or}
 use Rattle.std.proofs.lemmas.List.{take_more, take-append-drop}
 use Rattle.semi.specs.declared.script.Query.{Query}
 use Rattle.semi.specs.declared.script.Query.TheVariants.{Index}

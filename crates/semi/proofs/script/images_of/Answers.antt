@@ -1,7 +1,6 @@
 use Rattle.std.proofs.Common.{◌≡◌, ℕ, List, ◌∙◌, sym, ap, map, Bor, Err, slice_get}
 use Rattle.std.proofs.lemmas.Simd.{map-map}
 use Rattle.elements.specs.declared.field.Field.{Field}
-use Rattle.semi.specs.Token.{Token}
 use Rattle.semi.specs.Texts.{texts}
 use Rattle.semi.specs.Fields.{field_of}
 use Rattle.semi.proofs.FieldLemmas.{images-some, images-none, all-none}

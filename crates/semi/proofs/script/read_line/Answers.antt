@@ -1,9 +1,9 @@
-use Rattle.std.proofs.Common.{◌≡◌, ℕ, List, [], ◌∷◌, ◌++◌, Bool, true, false, Some, None, Bor, sym, ap, ◌∙◌, subst, rules}
-use Rattle.semi.specs.Token.{Line, tokens_of, is_kept, kept_lines}
+use Rattle.std.proofs.Common.{◌≡◌, ℕ, List, true, false, None, Bor, sym, ap, ◌∙◌, subst, rules}
+use Rattle.semi.specs.Token.{tokens_of, is_kept}
 use Rattle.semi.specs.Texts.{texts}
 use Rattle.semi.specs.Reading.{IsRead}
-use Rattle.semi.specs.Script.{Partial, header_of, with_line, read_lines}
-use Rattle.semi.proofs.ReadLemmas.{read_skipped, read_more, read_bad, read_first, read_no_header}
+use Rattle.semi.specs.Script.{with_line}
+use Rattle.semi.proofs.ReadLemmas.{read_skipped, read_more, read_bad}
 use Rattle.semi.proofs.script.read_line.Goals as goal
 
 -- the tokens that were lent are those of the line

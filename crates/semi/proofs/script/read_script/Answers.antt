@@ -1,11 +1,11 @@
-use Rattle.std.proofs.Common.{◌≡◌, ℕ, List, [], ◌∷◌, ◌++◌, Option, option_and_then, Bor, sym, ap, ◌∙◌, subst, rules, length, drop, suc, ◌==◌}
+use Rattle.std.proofs.Common.{ℕ, List, [], ◌∷◌, option_and_then, Bor, sym, ap, ◌∙◌, subst, rules, length, drop, suc, ◌==◌}
 use Rattle.std.proofs.lemmas.List.{map-append}
 use Rattle.std.proofs.lemmas.Iterator.Consumers.{YieldsList-at}
 use Rattle.std.proofs.lemmas.Iterator.Splits.{YieldsList-from_slice_split}
 use Rattle.semi.specs.Token.{cut_lines, kept_lines}
 use Rattle.semi.specs.Texts.{texts}
 use Rattle.semi.specs.Reading.{IsRead}
-use Rattle.semi.specs.Script.{Partial, script_of, read_lines, whole_of}
+use Rattle.semi.specs.Script.{script_of, read_lines, whole_of}
 use Rattle.semi.proofs.ReadLemmas.{items_around, items_all, read_whole, ok_or_value}
 use Rattle.semi.proofs.script.read_script.Goals as goal
 

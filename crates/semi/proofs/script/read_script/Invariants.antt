@@ -1,4 +1,3 @@
-use Rattle.std.proofs.Common.{ℕ, List, map, Bor}
 use Rattle.semi.specs.Texts.{texts}
 use Rattle.semi.specs.Reading.{IsRead}
 use Rattle.semi.proofs.script.read_script.Given as goal

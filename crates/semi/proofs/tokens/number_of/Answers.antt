@@ -1,6 +1,5 @@
-use Rattle.std.proofs.Common.{◌≡◌, ℕ, ◌+◌, ◌*◌, ◌^◌, ◌<◌, ◌≤◌, zero, arith, rules, lit<}
+use Rattle.std.proofs.Common.{ℕ, ◌^◌, ◌≤◌, arith, lit<}
 use Rattle.std.proofs.Math.Nat.{pow-le-pow_right}
-use Rattle.std.proofs.lemmas.Grind.{common_steps}
 use Rattle.semi.proofs.tokens.number_of.Goals as goal
 
 small_power : (i : ℕ) → i ≤ 6 → 10 ^ i ≤ 1000000

@@ -1,4 +1,4 @@
-use Rattle.std.proofs.Common.{◌≡◌, ℕ, ◌+◌, ◌-◌, ◌*◌, ◌<◌, ◌^◌, take, fold, true}
+use Rattle.std.proofs.Common.{◌≡◌, ◌+◌, ◌-◌, ◌*◌, ◌<◌, ◌^◌, take, fold, true}
 use Rattle.std.specs.List.{list_all}
 use Rattle.semi.specs.Token.{is_digit}
 use Rattle.semi.proofs.tokens.number_of.Given as goal

@@ -1,11 +1,10 @@
-use Rattle.std.proofs.Common.{◌≡◌, ℕ, List, [], ◌∷◌, ◌++◌, ◌<◌, ◌+◌, All, map, take, length, slice_get, slice_index_or, Some, arith, rules, sym, ap, ◌∙◌, below_more, subst}
+use Rattle.std.proofs.Common.{◌≡◌, ℕ, List, [], ◌∷◌, ◌++◌, ◌<◌, take, slice_get, Some, arith, sym, ap, ◌∙◌, below_more}
 use Rattle.std.proofs.lemmas.Grind.{common_steps}
 use Rattle.std.proofs.lemmas.List.{take_more, map-append}
 use Rattle.std.proofs.lemmas.List.Elements.{All-append}
 use Rattle.std.proofs.lemmas.Option.{slice_get-get_or}
 use Rattle.elements.specs.declared.field.Field.{Field}
 use Rattle.elements.specs.declared.field.Field.TheVariants.{Number}
-use Rattle.elements.specs.Fields.{IsImageAt}
 use Rattle.elements.proofs.transf.Transf.read.Goals as goal
 
 pub loop-i-preserved : goal.loop-i-preserved

@@ -1,0 +1,145 @@
+ghost use Rattle.std.specs.Prelude.{◌≡◌, ◌+◌, ◌*◌, ◌<◌, ◌≤◌, length, IfOk, IfSome};
+ghost use Rattle.froidure_pin.specs.Shape.{HaveOneShape};
+
+use super::*;
+use elements::{Element, Field, Transf};
+use ports::NoMemory;
+use std::alloc::Global;
+use std::marker::Brand;
+use std::process::Abort;
+use std::sync::ledger::{Blank, Ledger};
+use std::test::Fail;
+
+const SWAP: [u32; 3] = [1, 0, 2];
+
+const TURN: [u32; 3] = [1, 2, 0];
+
+const FOLD: [u32; 3] = [0, 0, 2];
+
+// The generators with these images.
+fn generators_of(rt: &impl Abort, alloc: Global, table: &[[u32; 3]]) -> Result<Vec<Transf>, Fail>
+    ensures some { IfOk result (λ generators. 0 < length generators.items) }
+    ensures shape { IfOk result (λ generators. HaveOneShape (λ t. (length t, 0)) generators.items) }
+{
+    let mut generators = Vec::new(alloc);
+    for images in table {
+        generators.push(Transf::read(alloc, 3, &images.map(Field::Number))?)?;
+    }
+    assert!(rt; generators.len() > 0);
+    assert!(rt; have_one_shape(&generators));
+    Ok(generators)
+}
+
+// How many elements there are, or None where they are more than the bound: each was multiplied by
+// each generator.
+fn counted<L: Ledger>(
+    alloc: Global,
+    generators: &Vec<Transf>,
+    bound: usize,
+    steps: &mut Steps<L>,
+) -> Result<Option<usize>, NoMemory>
+    requires some { 0 < length generators.now.items }
+    requires shape { HaveOneShape (λ t. (length t, 0)) generators.now.items }
+    ensures { IfOk result (λ found. IfSome found (λ n. steps.new ≡ steps.old + n * length generators.now.items)) }
+{
+    match FroidurePin::run(alloc, generators, bound, steps)? {
+        Run::Whole(table) => Ok(Some(table.len())),
+        Run::Over => Ok(None),
+    }
+}
+
+// The same, from no step.
+fn count_from_none<L: Ledger>(
+    alloc: Global,
+    blank: Blank,
+    generators: &Vec<Transf>,
+    bound: usize,
+) -> Result<Option<usize>, NoMemory>
+    requires name { blank.name ≡ L.name }
+    requires parts { (blank.parts ≡ L.parts) × (0 < L.parts) }
+    requires some { 0 < length generators.now.items }
+    requires shape { HaveOneShape (λ t. (length t, 0)) generators.now.items }
+{
+    let mut steps = Steps::<L>::open(blank);
+    counted(alloc, generators, bound, &mut steps)
+}
+
+// The same, where nobody asks for the steps.
+fn count(alloc: Global, generators: &Vec<Transf>, bound: usize) -> Result<Option<usize>, NoMemory>
+    requires some { 0 < length generators.now.items }
+    requires shape { HaveOneShape (λ t. (length t, 0)) generators.now.items }
+{
+    count_from_none::<Brand>(alloc, Blank::new(1), generators, bound)
+}
+
+#[test]
+fn counts_up_to_the_bound(rt: HostRuntime) -> Result<(), Fail> {
+    let alloc = rt.alloc();
+    let all = generators_of(&rt, alloc, &[SWAP, TURN, FOLD])?;
+    let ring = generators_of(&rt, alloc, &[TURN])?;
+    let twice = generators_of(&rt, alloc, &[SWAP, SWAP])?;
+    assert_eq!(rt; count(alloc, &all, 27)?, Some(27));
+    assert_eq!(rt; count(alloc, &all, 26)?, None);
+    assert_eq!(rt; count(alloc, &all, 0)?, None);
+    assert_eq!(rt; count(alloc, &ring, 3)?, Some(3));
+    assert_eq!(rt; count(alloc, &ring, 2)?, None);
+    assert_eq!(rt; count(alloc, &twice, 2)?, Some(2));
+    Ok(())
+}
+
+// In the order of the words a, b, aa, ab, ba, bb.
+const PERMUTATIONS: [&str; 6] = ["1 0 2", "1 2 0", "0 1 2", "2 1 0", "0 2 1", "2 0 1"];
+
+// The printed elements, one a line.
+fn listed<L: Ledger>(
+    alloc: Global,
+    blank: Blank,
+    generators: &Vec<Transf>,
+) -> Result<Vec<u8>, NoMemory>
+    requires name { blank.name ≡ L.name }
+    requires parts { (blank.parts ≡ L.parts) × (0 < L.parts) }
+    requires some { 0 < length generators.now.items }
+    requires shape { HaveOneShape (λ t. (length t, 0)) generators.now.items }
+{
+    let mut text = Vec::new(alloc);
+    let mut steps = Steps::<L>::open(blank);
+    if let Run::Whole(table) = FroidurePin::run(alloc, generators, 100, &mut steps)? {
+        for number in 0..table.len() {
+            let line = table.element(number).print(alloc)?;
+            text.extend_from_slice(&line)?;
+            text.push(b'\n')?;
+        }
+    }
+    Ok(text)
+}
+
+#[test]
+fn lists_in_the_order_of_words(rt: HostRuntime) -> Result<(), Fail> {
+    let alloc = rt.alloc();
+    let generators = generators_of(&rt, alloc, &[SWAP, TURN])?;
+    let text = listed::<Brand>(alloc, Blank::new(1), &generators)?;
+    let mut want = Vec::new(alloc);
+    for line in PERMUTATIONS {
+        want.extend_from_slice(line.as_bytes())?;
+        want.push(b'\n')?;
+    }
+    assert_eq!(rt; text.as_slice(), want.as_slice());
+    Ok(())
+}
+
+#[test]
+fn shapes_are_held_against_the_first(rt: HostRuntime) -> Result<(), Fail> {
+    let alloc = rt.alloc();
+    let mut generators = Vec::new(alloc);
+    assert!(rt; have_one_shape::<Transf>(&generators));
+    for degree in [2, 2, 3] {
+        assert!(rt; have_one_shape(&generators));
+        let mut fields = Vec::new(alloc);
+        for _ in 0..degree {
+            fields.push(Field::Number(0))?;
+        }
+        generators.push(Transf::read(alloc, degree, &fields)?)?;
+    }
+    assert!(rt; !have_one_shape(&generators));
+    Ok(())
+}
