@@ -2,10 +2,11 @@
 use Rattle.std.proofs.Common.{◌≡◌, ℕ, ◌+◌, Bool, true, false, ◌||◌, List, [], ◌∷◌, ◌++◌, length, length-append, take, Option, Some, None, Result, Ok, Err, OnErr, refl, sym, ap, ◌∙◌, subst, arith, append-nil}
 use Rattle.std.specs.List.{flat_map, list_any}
 use Rattle.std.proofs.Math.Seq.{take-append-add, take-length}
+use Rattle.std.proofs.lemmas.List.{take-append-le}
 use Rattle.std.proofs.lemmas.Grind.{flat_map-append}
 use Rattle.ports.specs.Bytes.{TakesAll, TakesPrefix}
 use Rattle.ports.proofs.BytesLemmas.{TakesAll-append}
-use Rattle.semi.specs.declared.script.Query.{Query}
+use Rattle.query_lang.specs.declared.script.Query.{Query}
 use Rattle.semi.specs.declared.answer.Answer.{Answer}
 use Rattle.semi.specs.Answer.{IsAnswer, line_of, is_undecided}
 use Rattle.semi.specs.Report.{AreAnswers, AreFirstAnswers, GainsLines, GainsPart}
@@ -105,3 +106,20 @@ all_is_prefix old new line taken = (length line, omega arith, subst (TakesAll ol
 pub on_err : {T E : Type 0} (r : Result T E) (P : Type 0) → P → OnErr r P
 on_err (Ok x) P p = tt
 on_err (Err e) P p = p
+
+-- where there is an error, one thing and so another
+pub on_err_so : {T E : Type 0} (r : Result T E) (P Q : Type 0) → (P → Q) → OnErr r P → OnErr r Q
+on_err_so (Ok x) P Q f p = tt
+on_err_so (Err e) P Q f p = f p
+
+-- a prefix of what stands in front
+pub prefix_more : (old new : Option (List ℕ)) (xs ys : List ℕ) → TakesPrefix old new xs → TakesPrefix old new (xs ++ ys)
+prefix_more old new xs ys p = (p.0, omega (arith, p.1, length-append xs ys), subst (TakesAll old new) (sym (take-append-le p.0 xs ys p.1)) p.2)
+
+-- all of what stands in front, and a prefix of the rest
+pub prefix_after : (old mid new : Option (List ℕ)) (xs ys : List ℕ) → TakesAll old mid xs → TakesPrefix mid new ys → TakesPrefix old new (xs ++ ys)
+prefix_after old mid new xs ys all p = (
+  length xs + p.0,
+  omega (arith, p.1, length-append xs ys),
+  subst (TakesAll old new) (sym (take-append-add xs ys p.0)) (TakesAll-append old mid new xs (take p.0 ys) all p.2),
+)

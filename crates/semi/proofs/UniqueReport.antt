@@ -1,5 +1,5 @@
 -- An input has one report, and beginnings are prefixes of it.
-use Rattle.std.proofs.Common.{◌≡◌, ℕ, ◌≤◌, Bool, List, [], ◌∷◌, ◌++◌, length, length-append, take, Option, Some, None, refl, sym, ap, ◌∙◌, subst, arith, ◌==◌}
+use Rattle.std.proofs.Common.{◌≡◌, ℕ, ◌≤◌, Bool, List, [], ◌∷◌, ◌++◌, length, length-append, take, Option, None, Result, Ok, refl, sym, ap, ◌∙◌, subst, arith, ◌==◌}
 use Rattle.std.specs.Cmp.Lexicographic.{pointwise}
 use Rattle.std.specs.List.{flat_map, list_any}
 use Rattle.std.proofs.lemmas.List.{take-append-le}
@@ -12,12 +12,13 @@ use Rattle.theory.proofs.ClassLaws.{shortlex_strict}
 use Rattle.theory.proofs.ValueLaws.{values_bound}
 use Rattle.elements.specs.Transf.{composed}
 use Rattle.elements.specs.TransfLaws.{composed_products}
-use Rattle.semi.specs.declared.script.Query.{Query}
-use Rattle.semi.specs.declared.script.Query.TheVariants as query
+use Rattle.query_lang.specs.declared.script.Query.{Query}
+use Rattle.query_lang.specs.declared.script.Query.TheVariants as query
 use Rattle.semi.specs.declared.answer.Answer.{Answer}
 use Rattle.semi.specs.declared.answer.Answer.TheVariants.{Index, Over, Undecided}
 use Rattle.semi.specs.Limits.{most_elements}
-use Rattle.semi.specs.Script.{Partial}
+use Rattle.query_lang.specs.Script.{Partial}
+use Rattle.query_lang.specs.declared.cause.Cause.{Cause}
 use Rattle.semi.specs.Answer.{SameElement, HasAtMost, HasMore, IsIndex, value_of, line_of, is_undecided}
 use Rattle.semi.specs.Report.{AreAnswers, AreFirstAnswers, GainsBeginning, IsReport}
 
@@ -50,7 +51,7 @@ module _ (generators : List (List ℕ)) where
   one_list (r ∷ queries) (x ∷ xs) [] p q = absurd q
   one_list (query.Index ∷ queries) (x ∷ xs) (y ∷ ys) p q = let e = one_answer x y p.0 q.0 in let rest = one_list queries xs ys p.1 q.1 in cc
 
-same_script : (p q : Partial) → ◌≡◌ {A = Option Partial} (Some p) (Some q) → p ≡ q
+same_script : (p q : Partial) → ◌≡◌ {A = Result Partial (ℕ × Cause)} (Ok p) (Ok q) → p ≡ q
 same_script p q e = cc
 
 pub one_report : (input r s : List ℕ) (u v : Bool) → IsReport input r u → IsReport input s v → (r ≡ s) × (u ≡ v)

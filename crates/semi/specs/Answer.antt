@@ -7,8 +7,8 @@ use Rattle.theory.specs.Value.{SameValue, HasAtMostValues, HasMoreValues}
 use Rattle.elements.specs.Transf.{composed}
 use Rattle.froidure_pin.specs.Found.{value_by}
 use Rattle.semi.specs.Limits.{most_elements, most_classes}
-use Rattle.semi.specs.declared.script.Query.{Query}
-use Rattle.semi.specs.declared.script.Query.TheVariants as query
+use Rattle.query_lang.specs.declared.script.Query.{Query}
+use Rattle.query_lang.specs.declared.script.Query.TheVariants as query
 use Rattle.semi.specs.declared.answer.Answer.{Answer}
 use Rattle.semi.specs.declared.answer.Answer.TheVariants.{Index, Over, Undecided}
 

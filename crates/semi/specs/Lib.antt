@@ -1,9 +1,4 @@
 pub mod Limits
-pub mod Token
-pub mod Script
 pub mod Answer
 pub mod Report
 pub mod Status
-pub mod Texts
-pub mod Fields
-pub mod Reading

@@ -1,11 +1,16 @@
 -- What is due for the bytes of a script, and what goes where.
-use Rattle.std.specs.Prelude.{◌≡◌, ℕ, ◌<◌, ◌≤◌, Bool, ◌==◌, if◌then◌else◌, List, [], ◌∷◌, ◌⊎◌, length, codes, Option, Some, None}
+use Rattle.std.specs.Prelude.{◌≡◌, ℕ, ◌<◌, ◌≤◌, Bool, List, [], ◌∷◌, length, Option, Ok}
 use Rattle.std.specs.List.{flat_map, list_any}
 use Rattle.ports.specs.Bytes.{Rose, TakesAll, TakesPrefix}
-use Rattle.semi.specs.declared.script.Query.{Query}
+use Rattle.query_lang.specs.declared.script.Query.{Query}
 use Rattle.semi.specs.declared.answer.Answer.{Answer}
 use Rattle.semi.specs.Limits.{most_bytes}
-use Rattle.semi.specs.Script.{Partial, script_of}
+use Rattle.query_lang.specs.declared.fault.ScriptFault.TheVariants.{Bad}
+use Rattle.query_lang.specs.Faults.{IsScriptFault}
+use Rattle.query_lang.specs.Script.{Partial, script_of}
+use Rattle.semi.specs.declared.fault.Fault.{Fault}
+use Rattle.semi.specs.declared.fault.Fault.TheVariants.{TooLong, Script, Arguments, Read, Write, NoMemory}
+use Rattle.semi.specs.Status.{line_of_fault}
 use Rattle.semi.specs.Answer.{IsAnswer, line_of, is_undecided}
 
 -- the answers of the queries, one by one
@@ -24,11 +29,20 @@ AreFirstAnswers generators (q ∷ queries) (a ∷ answers) = IsAnswer generators
 -- the input is this script
 pub record IsScript (input : List ℕ) (script : Partial) : Type 0 where
   pub short : length input ≤ most_bytes
-  pub reads : script_of input ≡ Some script
+  pub reads : script_of input ≡ Ok script
 
--- the input is too long, or no script
+-- the input is refused for this fault: it is too long, or else this is its first fault
+abbrev pub IsRefusal : List ℕ → Fault → Type 0
+IsRefusal input TooLong = most_bytes < length input
+IsRefusal input (Script line cause) = (length input ≤ most_bytes) × IsScriptFault (script_of input) (Bad line cause)
+IsRefusal input Arguments = ⊥
+IsRefusal input Read = ⊥
+IsRefusal input Write = ⊥
+IsRefusal input NoMemory = ⊥
+
+-- the input is refused
 abbrev pub IsRefused : List ℕ → Type 0
-IsRefused input = (most_bytes < length input) ⊎ (script_of input ≡ None)
+IsRefused input = (fault : Fault) × IsRefusal input fault
 
 -- the lines of the answers of these queries, in order, and whether an answer is undecided
 pub record AreLines (generators : List (List ℕ)) (queries : List Query) (report : List ℕ) (undecided : Bool) : Type 0 where
@@ -72,12 +86,6 @@ pub record GainsLine (line : List ℕ) (old new : Option (List ℕ)) (faults fau
   pub whole : (Rose faults faults' → ⊥) → (Rose refusals refusals' → ⊥) → TakesAll old new line
   pub prefix : TakesPrefix old new line
 
--- what goes to err at a status
-abbrev pub message_of : ℕ → List ℕ
-message_of status =
-    if status == 2 then codes "semi: script refused\n"
-    else if status == 3 then codes "semi: arguments refused\n"
-    else if status == 4 then codes "semi: cannot read input\n"
-    else if status == 5 then codes "semi: cannot write output\n"
-    else if status == 6 then codes "semi: out of memory\n"
-    else []
+-- err gained the line of this fault, or a prefix of it where one of its counts rose
+abbrev pub GainsLineOf : Fault → Option (List ℕ) → Option (List ℕ) → ℕ → ℕ → ℕ → ℕ → Type 0
+GainsLineOf fault = GainsLine (line_of_fault fault)

@@ -1,25 +1,40 @@
--- The status of each fault.
-use Rattle.std.specs.Prelude.{ℕ}
+-- The status and the line of each fault.
+use Rattle.std.specs.Prelude.{ℕ, List, ◌++◌, codes, decimal}
 use Rattle.ports.specs.declared.fault.ReadFault.{ReadFault}
 use Rattle.ports.specs.declared.fault.ReadFault.TheVariants as read
 use Rattle.ports.specs.declared.fault.WriteFault.{WriteFault}
 use Rattle.ports.specs.declared.fault.WriteFault.TheVariants as write
-use Rattle.semi.specs.declared.script.ScriptFault.{ScriptFault}
-use Rattle.semi.specs.declared.script.ScriptFault.TheVariants as script
+use Rattle.query_lang.specs.Causes.{cause_text}
+use Rattle.query_lang.specs.declared.fault.ScriptFault.{ScriptFault}
+use Rattle.query_lang.specs.declared.fault.ScriptFault.TheVariants as script
 use Rattle.semi.specs.declared.fault.Fault.{Fault}
-use Rattle.semi.specs.declared.fault.Fault.TheVariants.{Script, Arguments, Read, Write, NoMemory}
+use Rattle.semi.specs.declared.fault.Fault.TheVariants.{TooLong, Script, Arguments, Read, Write, NoMemory}
 
 abbrev pub status_of : Fault → ℕ
-status_of Script = 2
+status_of TooLong = 2
+status_of (Script line cause) = 2
 status_of Arguments = 3
 status_of Read = 4
 status_of Write = 5
 status_of NoMemory = 6
 
+-- what a fault says, between the program's name and the line feed
+abbrev pub text_of : Fault → List ℕ
+text_of TooLong = codes "script too long"
+text_of (Script line cause) = codes "line " ++ (decimal line ++ (codes ": " ++ cause_text cause))
+text_of Arguments = codes "arguments refused"
+text_of Read = codes "cannot read input"
+text_of Write = codes "cannot write output"
+text_of NoMemory = codes "out of memory"
+
+-- the line of a fault
+abbrev pub line_of_fault : Fault → List ℕ
+line_of_fault fault = codes "semi: " ++ (text_of fault ++ codes "\n")
+
 -- a source that fails, gives too much or finds no memory
 abbrev pub of_read : ReadFault → Fault
 of_read read.Failed = Read
-of_read read.TooLong = Script
+of_read read.TooLong = TooLong
 of_read read.NoMemory = NoMemory
 
 abbrev pub of_write : WriteFault → Fault
@@ -27,5 +42,5 @@ of_write write.Failed = Write
 of_write write.NoMemory = NoMemory
 
 abbrev pub of_script : ScriptFault → Fault
-of_script script.Bad = Script
+of_script (script.Bad line cause) = Script line cause
 of_script script.NoMemory = NoMemory

@@ -1,20 +1,25 @@
 // Why a run ends without the whole report.
-ghost use Rattle.std.specs.Prelude.{◌≡◌};
-ghost use Rattle.semi.specs.Report.{message_of};
-ghost use Rattle.semi.specs.Status.{of_read, of_script, of_write, status_of};
+ghost use Rattle.std.specs.Prelude.{◌≡◌, ◌++◌, OnErr, OnOk, IsErrOf, codes};
+ghost use Rattle.ports.specs.Bytes.{Rose, TakesAll, TakesPrefix};
+ghost use Rattle.semi.specs.Report.{GainsLineOf};
+ghost use Rattle.semi.specs.Status.{line_of_fault, of_read, of_script, of_write, status_of, text_of};
 ghost use Rattle.semi.specs.declared.fault.Fault.TheVariants as fault;
 
-use crate::script::ScriptFault;
-use ports::{NoMemory, ReadFault, WriteFault};
+use itoa::Buffer;
+use ports::{NoMemory, ReadFault, Sink, WriteFault, write_all};
+use query_lang::{ScriptFault, cause_text};
 use std::alloc::AllocError;
 use thiserror::Error;
 
 /// Why a run ends without the whole report. Each has a status and a line of its own.
 #[derive(Clone, Copy, Debug, PartialEq, Eq, Error)]
 pub enum Fault {
-    /// The input is too long, or no script: status 2.
-    #[error("script refused")]
-    Script,
+    /// The input has more bytes than a script may have: status 2.
+    #[error("script too long")]
+    TooLong,
+    /// The first faulty line of the script, counted from 1, and the number of its cause: status 2.
+    #[error("line {line}: cause {cause}")]
+    Script { line: usize, cause: u8 },
     /// The words of the command line are refused: status 3.
     #[error("arguments refused")]
     Arguments,
@@ -29,41 +34,13 @@ pub enum Fault {
     NoMemory,
 }
 
-impl Fault {
-    /// The status that the program ends with.
-    pub fn status(self) -> u8
-        ensures { result ≡ status_of self }
-    {
-        match self {
-            Fault::Script => 2,
-            Fault::Arguments => 3,
-            Fault::Read => 4,
-            Fault::Write => 5,
-            Fault::NoMemory => 6,
-        }
-    }
-
-    /// The line that goes to err, with its line feed.
-    pub fn line(self) -> &'static [u8]
-        ensures { result.now ≡ message_of (status_of self) }
-    {
-        match self {
-            Fault::Script => b"semi: script refused\n",
-            Fault::Arguments => b"semi: arguments refused\n",
-            Fault::Read => b"semi: cannot read input\n",
-            Fault::Write => b"semi: cannot write output\n",
-            Fault::NoMemory => b"semi: out of memory\n",
-        }
-    }
-}
-
 impl From<ReadFault> for Fault {
     ghost from_gives = { λ f e. e ≡ of_read f };
 
     fn from(fault: ReadFault) -> Fault {
         match fault {
             ReadFault::Failed => Fault::Read,
-            ReadFault::TooLong => Fault::Script,
+            ReadFault::TooLong => Fault::TooLong,
             ReadFault::NoMemory => Fault::NoMemory,
         }
     }
@@ -85,7 +62,7 @@ impl From<ScriptFault> for Fault {
 
     fn from(fault: ScriptFault) -> Fault {
         match fault {
-            ScriptFault::Bad => Fault::Script,
+            ScriptFault::Bad { line, cause } => Fault::Script { line, cause },
             ScriptFault::NoMemory => Fault::NoMemory,
         }
     }
@@ -105,4 +82,75 @@ impl From<AllocError> for Fault {
     fn from(_error: AllocError) -> Fault {
         Fault::NoMemory
     }
+}
+
+impl Fault {
+    /// The status that the program ends with.
+    pub fn status(self) -> u8
+        ensures { result ≡ status_of self }
+    {
+        match self {
+            Fault::TooLong => 2,
+            Fault::Script { .. } => 2,
+            Fault::Arguments => 3,
+            Fault::Read => 4,
+            Fault::Write => 5,
+            Fault::NoMemory => 6,
+        }
+    }
+
+    // Writes what the fault says. It asks for no memory.
+    fn write_text<E: Sink>(self, err: &mut E) -> Result<(), WriteFault>
+        ensures all { OnOk result (TakesAll (E.taken err.old) (E.taken err.new) (text_of self)) }
+        ensures prefix { OnErr result (TakesPrefix (E.taken err.old) (E.taken err.new) (text_of self)) }
+        ensures quiet { OnOk result ((E.faults err.new ≡ E.faults err.old) × (E.refusals err.new ≡ E.refusals err.old)) }
+        ensures failed { IsErrOf result WriteFault.Failed → Rose (E.faults err.old) (E.faults err.new) }
+        ensures refused { IsErrOf result WriteFault.NoMemory → Rose (E.refusals err.old) (E.refusals err.new) }
+    {
+        match self {
+            Fault::TooLong => write_all(err, b"script too long"),
+            Fault::Script { line, cause } => write_place(err, line, cause),
+            Fault::Arguments => write_all(err, b"arguments refused"),
+            Fault::Read => write_all(err, b"cannot read input"),
+            Fault::Write => write_all(err, b"cannot write output"),
+            Fault::NoMemory => write_all(err, b"out of memory"),
+        }
+    }
+
+    // Writes the line of the fault, with the program's name and the line feed.
+    fn write_line<E: Sink>(self, err: &mut E) -> Result<(), WriteFault>
+        ensures all { OnOk result (TakesAll (E.taken err.old) (E.taken err.new) (line_of_fault self)) }
+        ensures prefix { OnErr result (TakesPrefix (E.taken err.old) (E.taken err.new) (line_of_fault self)) }
+        ensures failed { IsErrOf result WriteFault.Failed → Rose (E.faults err.old) (E.faults err.new) }
+        ensures refused { IsErrOf result WriteFault.NoMemory → Rose (E.refusals err.old) (E.refusals err.new) }
+    {
+        write_all(err, b"semi: ")?;
+        self.write_text(err)?;
+        write_all(err, b"\n")
+    }
+
+    /// Writes the line of the fault to `err`, and gives the fault's status. A refused write to `err`
+    /// changes no status.
+    pub fn tell<E: Sink>(self, err: &mut E) -> u8
+        ensures status { result ≡ status_of self }
+        ensures told { GainsLineOf self (E.taken err.old) (E.taken err.new) (E.faults err.old) (E.faults err.new) (E.refusals err.old) (E.refusals err.new) }
+    {
+        let _ = self.write_line(err);
+        self.status()
+    }
+}
+
+// Writes the number of a line and the text of its cause.
+fn write_place<E: Sink>(err: &mut E, line: usize, cause: u8) -> Result<(), WriteFault>
+    ensures all { OnOk result (TakesAll (E.taken err.old) (E.taken err.new) (text_of (fault.Script line cause))) }
+    ensures prefix { OnErr result (TakesPrefix (E.taken err.old) (E.taken err.new) (text_of (fault.Script line cause))) }
+    ensures quiet { OnOk result ((E.faults err.new ≡ E.faults err.old) × (E.refusals err.new ≡ E.refusals err.old)) }
+    ensures failed { IsErrOf result WriteFault.Failed → Rose (E.faults err.old) (E.faults err.new) }
+    ensures refused { IsErrOf result WriteFault.NoMemory → Rose (E.refusals err.old) (E.refusals err.new) }
+{
+    let mut buffer = Buffer::new();
+    write_all(err, b"line ")?;
+    write_all(err, buffer.format(line).as_bytes())?;
+    write_all(err, b": ")?;
+    write_all(err, cause_text(cause))
 }

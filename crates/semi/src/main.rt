@@ -5,10 +5,8 @@ mod adapters;
 mod answer;
 mod fault;
 mod report;
-mod script;
 #[cfg(test)]
 mod tests;
-mod tokens;
 mod top;
 
 use adapters::{InputSource, OutputSink};
@@ -17,7 +15,7 @@ use std::env;
 use std::io::ErrorKind;
 use std::process::ExitCode;
 use std::rt::Env;
-use top::{refuse, semi};
+use top::semi;
 
 // The words of the command line. They are refused where one of them is no text.
 fn arguments(rt: &(impl Env + AllocGlobal)) -> Result<Vec<String>, Fault> {
@@ -34,7 +32,7 @@ fn main(rt: HostRuntime) -> ExitCode {
     let mut err = OutputSink::new(rt.stderr());
     let status = match arguments(&rt) {
         Ok(words) => semi(&rt, rt.alloc(), &words, &mut source, &mut out, &mut err),
-        Err(fault) => refuse(&mut err, fault),
+        Err(fault) => fault.tell(&mut err),
     };
     ExitCode::from(status)
 }

@@ -1,29 +1,30 @@
 // The report of a script.
-ghost use Rattle.std.specs.Prelude.{◌≡◌, ℕ, ◌<◌, ◌≤◌, Bool, List, Option, [], ◌∷◌, IfOk, IfSome, IsErrOf, OnErr, OnOk, length};
+ghost use Rattle.std.specs.Prelude.{◌≡◌, ℕ, ◌<◌, ◌≤◌, Bool, List, Option, [], ◌∷◌, IfErr, IfOk, IfSome, IsErrOf, OnErr, OnOk, length};
 ghost use Rattle.ports.specs.Bytes.{Rose, TakesPrefix};
 ghost use Rattle.semi.specs.Answer.{IsAnswer, IsIndex};
-ghost use Rattle.semi.specs.Report.{GainsBeginning, GainsLines, GainsPart, IsRefused, IsReport, IsScript};
+ghost use Rattle.semi.specs.Report.{GainsBeginning, GainsLines, GainsPart, IsRefusal, IsReport, IsScript};
+ghost use Rattle.semi.specs.Status.{status_of};
 
 use crate::answer::{Answer, index_of};
 use crate::fault::Fault;
-use crate::script::{Query, Script, read_script};
 use ports::{NoMemory, Sink, Source, read_all, write_all};
+use query_lang::{Query, Script, read_script};
 use std::alloc::Global;
 
 /// The greatest length of a script, in bytes.
 const MOST_BYTES: usize = 1_048_576;
 
-/// Reads the whole source as a script. Refused as the source and the reader refuse: with `Read`
-/// where the source failed, with `Script` where the bytes are too many or no script.
+/// Reads the whole source as a script. Refused with `Read` where the source failed, with `TooLong`
+/// where more bytes came than a script may have, and with `Script` at the first faulty line.
 pub fn take_script<S: Source>(alloc: Global, source: &mut S) -> Result<Script, Fault>
     ensures script { IfOk result (λ script. IfSome (S.left source.old) (λ input. IsScript input script)) }
     ensures generators { IfOk result (λ script. 0 < length script.generators) }
-    ensures refused { IsErrOf result Fault.Script → IfSome (S.left source.old) IsRefused }
+    ensures refused { IfErr result (λ fault. status_of fault ≡ 2 → IfSome (S.left source.old) (λ input. IsRefusal input fault)) }
     ensures read { IsErrOf result Fault.Read → Rose (S.faults source.old) (S.faults source.new) }
     ensures only { (IsErrOf result Fault.Arguments → ⊥) × (IsErrOf result Fault.Write → ⊥) }
     ensures kept { S.faults source.old ≤ S.faults source.new }
     ensures quiet { OnOk result (S.faults source.new ≡ S.faults source.old) }
-    ensures quiet_refused { IsErrOf result Fault.Script → S.faults source.new ≡ S.faults source.old }
+    ensures quiet_refused { IfErr result (λ fault. status_of fault ≡ 2 → S.faults source.new ≡ S.faults source.old) }
 {
     let bytes = read_all(alloc, source, MOST_BYTES)?;
     let script = read_script(alloc, bytes.as_slice())?;
@@ -65,7 +66,7 @@ fn write_answer<O: Sink>(
     ensures written { IfOk result (λ undecided. GainsLines script.now.generators (query ∷ []) undecided (O.taken out.old) (O.taken out.new)) }
     ensures part { OnErr result (GainsPart script.now.generators (query ∷ []) (O.taken out.old) (O.taken out.new)) }
     ensures write { IsErrOf result Fault.Write → Rose (O.faults out.old) (O.faults out.new) }
-    ensures only { (IsErrOf result Fault.Script → ⊥) × (IsErrOf result Fault.Arguments → ⊥) × (IsErrOf result Fault.Read → ⊥) }
+    ensures only { IfErr result (λ fault. 5 ≤ status_of fault) }
     ensures kept { O.faults out.old ≤ O.faults out.new }
     ensures quiet { OnOk result (O.faults out.new ≡ O.faults out.old) }
 {
@@ -82,7 +83,7 @@ pub fn write_report<O: Sink>(alloc: Global, script: &Script, out: &mut O) -> Res
     ensures written { IfOk result (λ undecided. GainsLines script.now.generators script.now.queries undecided (O.taken out.old) (O.taken out.new)) }
     ensures part { OnErr result (GainsPart script.now.generators script.now.queries (O.taken out.old) (O.taken out.new)) }
     ensures write { IsErrOf result Fault.Write → Rose (O.faults out.old) (O.faults out.new) }
-    ensures only { (IsErrOf result Fault.Script → ⊥) × (IsErrOf result Fault.Arguments → ⊥) × (IsErrOf result Fault.Read → ⊥) }
+    ensures only { IfErr result (λ fault. 5 ≤ status_of fault) }
     ensures kept { O.faults out.old ≤ O.faults out.new }
     ensures quiet { OnOk result (O.faults out.new ≡ O.faults out.old) }
 {

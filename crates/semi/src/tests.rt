@@ -58,48 +58,36 @@ fn run<R: Threads + Sync + AllocGlobal>(
 
 #[test]
 fn scripts_get_their_status_and_line(rt: HostRuntime) -> Result<(), Fail> {
-    for (script, status, out) in [
-        (MAPS, 0u8, "index 27\nindex 27\n"),
-        ("trans 1\na = 0\nb = 0\nindex", 0, "index 1\n"),
+    for (script, status, out, err) in [
+        (MAPS, 0u8, "index 27\nindex 27\n", ""),
+        ("trans 1\na = 0\nb = 0\nindex", 0, "index 1\n", ""),
         (
             "\n # maps\n\ttrans  2 \r\na\t=\t1 0\r\nindex\r\n",
             0,
             "index 2\n",
+            "",
         ),
-        ("trans 02\nz = 0000001 0\nindex\n", 0, "index 2\n"),
-        ("trans 2\na = 0 0\n", 0, ""),
-        ("", 2, ""),
-        ("index\n", 2, ""),
-        ("trans 2\n", 2, ""),
-        ("trans 2\nindex\n", 2, ""),
-        ("trans 0\na =\n", 2, ""),
-        ("trans 65\n", 2, ""),
-        ("trans 2 2\na = 0 1\n", 2, ""),
-        ("tran 2\na = 0 1\n", 2, ""),
-        ("trans 2\na = 0 2\nindex\n", 2, ""),
-        ("trans 2\na = 0\nindex\n", 2, ""),
-        ("trans 2\na = 0 1 1\nindex\n", 2, ""),
-        ("trans 2\na = 0 -\nindex\n", 2, ""),
-        ("trans 2\na = 0 00000001\nindex\n", 2, ""),
-        ("trans 2\nA = 0 1\nindex\n", 2, ""),
-        ("trans 2\nab = 0 1\nindex\n", 2, ""),
-        ("trans 2\na = 0 1\na = 1 0\nindex\n", 2, ""),
-        ("trans 2\na = 0 1\nindex\nb = 1 0\n", 2, ""),
-        ("trans 2\na = 0 1\nindex 2\n", 2, ""),
-        ("trans 2\na = 0 1\nindices\n", 2, ""),
-        ("trans 2\na = 0 1\ntrans 2\n", 2, ""),
-        ("trans 2\na = 0 1\0\nindex\n", 2, ""),
-        ("trans 2\na = 0 1\nindex é\n", 2, ""),
+        ("trans 2\na = 0 0\n", 0, "", ""),
+        ("", 2, "", "semi: line 1: header missing\n"),
+        ("\n# nothing\n\n", 2, "", "semi: line 4: header missing\n"),
+        (
+            "trans 2\na = 0 2\nindex\n",
+            2,
+            "",
+            "semi: line 2: bad entry\n",
+        ),
+        (
+            "trans 2\na = 0 1\n\nindex 2\n",
+            2,
+            "",
+            "semi: line 4: wrong number of words\n",
+        ),
+        ("trans 2\n", 2, "", "semi: line 2: no generator\n"),
     ] {
         let ended = run(&rt, 1, script.as_bytes(), NONE)?;
         assert_eq!(rt; ended.status, status, "{script}");
         assert_eq!(rt; ended.out.as_slice(), out.as_bytes(), "{script}");
-        let line = if status == 2 {
-            "semi: script refused\n"
-        } else {
-            ""
-        };
-        assert_eq!(rt; ended.err.as_slice(), line.as_bytes(), "{script}");
+        assert_eq!(rt; ended.err.as_slice(), err.as_bytes(), "{script}");
     }
     Ok(())
 }
@@ -182,7 +170,9 @@ fn long_scripts_are_refused(rt: HostRuntime) -> Result<(), Fail> {
     }
     assert_eq!(rt; run(&rt, 1, script.as_slice(), NONE)?.status, 0);
     script.push(b'#')?;
-    assert_eq!(rt; run(&rt, 1, script.as_slice(), NONE)?.status, 2);
+    let ended = run(&rt, 1, script.as_slice(), NONE)?;
+    assert_eq!(rt; ended.status, 2);
+    assert_eq!(rt; ended.err.as_slice(), b"semi: script too long\n".as_slice());
     Ok(())
 }
 

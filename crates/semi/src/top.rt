@@ -1,13 +1,14 @@
 // The whole program, over words, a source and two sinks.
-ghost use Rattle.std.specs.Prelude.{◌≡◌, ◌<◌, ◌≤◌, ◌↔◌, ◌⊎◌, true, false, IfOk, IfSome, IsErrOf, OnErr, OnOk, length, vec_len};
+ghost use Rattle.std.specs.Prelude.{◌≡◌, ◌<◌, ◌≤◌, ◌↔◌, ◌⊎◌, true, false, IfErr, IfOk, IfSome, IsErrOf, OnErr, OnOk, length, vec_len};
 ghost use Rattle.ports.specs.Bytes.{Rose};
-ghost use Rattle.semi.specs.Report.{GainsBeginning, GainsLine, GainsReport, IsRefused, IsScript, message_of};
-ghost use Rattle.semi.specs.Script.{Partial};
+ghost use Rattle.semi.specs.Report.{GainsBeginning, GainsLineOf, GainsReport, IsRefusal, IsRefused, IsScript};
+ghost use Rattle.query_lang.specs.Script.{Partial};
 ghost use Rattle.semi.specs.Status.{status_of};
+ghost use Rattle.semi.specs.declared.fault.Fault.{Fault};
 
 use crate::fault::Fault;
 use crate::report::{take_script, write_report};
-use ports::{Sink, Source, write_all};
+use ports::{Sink, Source};
 use std::alloc::Global;
 use std::thread::Threads;
 
@@ -20,15 +21,15 @@ fn run<S: Source, O: Sink>(
 ) -> Result<bool, Fault>
     ensures reported { IfOk result (λ undecided. IfSome (S.left source.old) (λ input. GainsReport input undecided (O.taken out.old) (O.taken out.new))) }
     ensures arguments { IsErrOf result Fault.Arguments ↔ (1 < vec_len words.now) }
-    ensures refused { IsErrOf result Fault.Script → IfSome (S.left source.old) IsRefused }
+    ensures refused { IfErr result (λ fault. status_of fault ≡ 2 → IfSome (S.left source.old) (λ input. IsRefusal input fault)) }
     ensures read { IsErrOf result Fault.Read → Rose (S.faults source.old) (S.faults source.new) }
     ensures write { IsErrOf result Fault.Write → Rose (O.faults out.old) (O.faults out.new) }
     ensures beginning { IsErrOf result Fault.Write → IfSome (S.left source.old) (λ input. GainsBeginning input (O.taken out.old) (O.taken out.new)) }
     ensures memory { IsErrOf result Fault.NoMemory → (out.new ≡ out.old) ⊎ IfSome (S.left source.old) (λ input. GainsBeginning input (O.taken out.old) (O.taken out.new)) }
-    ensures out_untouched { (IsErrOf result Fault.Script ⊎ (IsErrOf result Fault.Arguments ⊎ IsErrOf result Fault.Read)) → out.new ≡ out.old }
+    ensures out_untouched { IfErr result (λ fault. status_of fault ≤ 4 → out.new ≡ out.old) }
     ensures source_untouched { IsErrOf result Fault.Arguments → source.new ≡ source.old }
     ensures quiet { OnOk result ((S.faults source.new ≡ S.faults source.old) × (O.faults out.new ≡ O.faults out.old)) }
-    ensures quiet_refused { IsErrOf result Fault.Script → S.faults source.new ≡ S.faults source.old }
+    ensures quiet_refused { IfErr result (λ fault. status_of fault ≡ 2 → S.faults source.new ≡ S.faults source.old) }
 {
     if words.len() > 1 {
         return Err(Fault::Arguments);
@@ -37,24 +38,14 @@ fn run<S: Source, O: Sink>(
     write_report(alloc, &script, out)
 }
 
-/// Writes the line of a fault to `err`, and gives the fault's status. A refused write to `err`
-/// changes no status.
-pub fn refuse<E: Sink>(err: &mut E, fault: Fault) -> u8
-    ensures status { result ≡ status_of fault }
-    ensures told { GainsLine (message_of (status_of fault)) (E.taken err.old) (E.taken err.new) (E.faults err.old) (E.faults err.new) (E.refusals err.old) (E.refusals err.new) }
-{
-    let _ = write_all(err, fault.line());
-    fault.status()
-}
-
 /// The program: reads the source as a script and writes its report to `out`; gives the status.
 ///
 /// - 0: the whole report was written, and no answer is undecided. 1: the same, with one at least.
-/// - 2: the input, read in full, is longer than 1,048,576 bytes or no script.
+/// - 2: the input, read in full, is longer than 1,048,576 bytes, or a line of it is faulty.
 /// - 3: a word follows the program's name; nothing is read.
 /// - 4: the source failed. 5: `out` failed. 6: memory is wanting.
 ///
-/// `err` gets one line at the statuses from 2 on. `words` begins with the program's name.
+/// `err` gets one line at the statuses from 2 on; at 2 it tells the first faulty line and its cause. `words` begins with the program's name.
 pub fn semi<R: Threads + Sync, S: Source, O: Sink, E: Sink>(
     _rt: &R,
     alloc: Global,
@@ -82,7 +73,8 @@ pub fn semi<R: Threads + Sync, S: Source, O: Sink, E: Sink>(
     ensures out_untouched { 2 ≤ result → result ≤ 4 → out.new ≡ out.old }
     ensures beginning { result ≡ 5 → IfSome (S.left source.old) (λ input. GainsBeginning input (O.taken out.old) (O.taken out.new)) }
     ensures memory { result ≡ 6 → (out.new ≡ out.old) ⊎ IfSome (S.left source.old) (λ input. GainsBeginning input (O.taken out.old) (O.taken out.new)) }
-    ensures told { GainsLine (message_of result) (E.taken err.old) (E.taken err.new) (E.faults err.old) (E.faults err.new) (E.refusals err.old) (E.refusals err.new) }
+    ensures told { 2 ≤ result → (fault : Fault) × (result ≡ status_of fault) × (result ≡ 2 → IfSome (S.left source.old) (λ input. IsRefusal input fault))
+        × GainsLineOf fault (E.taken err.old) (E.taken err.new) (E.faults err.old) (E.faults err.new) (E.refusals err.old) (E.refusals err.new) }
     ensures err_untouched { result ≤ 1 → err.new ≡ err.old }
 
     // where nothing fails, a refused input gives 2, and a script its whole report, or memory is wanting
@@ -93,6 +85,6 @@ pub fn semi<R: Threads + Sync, S: Source, O: Sink, E: Sink>(
 {
     match run(alloc, words, source, out) {
         Ok(undecided) => u8::from(undecided),
-        Err(fault) => refuse(err, fault),
+        Err(fault) => fault.tell(err),
     }
 }

@@ -1,6 +1,6 @@
 use Rattle.std.proofs.Common.{ℕ, List, subst, IfSome}
-use Rattle.semi.specs.declared.script.Query.{Query}
-use Rattle.semi.specs.declared.script.Query.TheVariants.{Index}
+use Rattle.query_lang.specs.declared.script.Query.{Query}
+use Rattle.query_lang.specs.declared.script.Query.TheVariants.{Index}
 use Rattle.semi.specs.declared.answer.Answer.{Answer}
 use Rattle.semi.specs.Answer.{IsAnswer, IsIndex}
 use Rattle.semi.proofs.report.answer_of.Goals as goal

@@ -1,7 +1,7 @@
 use Rattle.std.proofs.Common.{◌≡◌, ℕ, ◌+◌, ◌<◌, List, [], ◌∷◌, ◌++◌, Bool, ◌||◌, ◌∙◌, sym, ap, subst, length, take, drop, get_or}
 use Rattle.std.proofs.lemmas.List.{take_more, take-append-drop}
-use Rattle.semi.specs.declared.script.Query.{Query}
-use Rattle.semi.specs.declared.script.Query.TheVariants.{Index}
+use Rattle.query_lang.specs.declared.script.Query.{Query}
+use Rattle.query_lang.specs.declared.script.Query.TheVariants.{Index}
 use Rattle.semi.specs.Report.{GainsLines, GainsPart}
 use Rattle.semi.proofs.ReportLemmas.{more_gained, more_begun, on_err}
 use Rattle.semi.proofs.report.write_report.Goals as goal

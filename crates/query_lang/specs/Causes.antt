@@ -1,0 +1,33 @@
+-- The numbers and the texts of the causes of refusal.
+use Rattle.std.specs.Prelude.{ℕ, List, [], codes, ◌==◌, if◌then◌else◌}
+use Rattle.query_lang.specs.declared.cause.Cause.{Cause}
+use Rattle.query_lang.specs.declared.cause.Cause.TheVariants.{HeaderMissing, UnknownHeader, WrongNumberOfWords, BadNumber, NotALetter, RepeatedLetter, UnknownLine, LineOutOfOrder, NoGenerator, WrongNumberOfEntries, BadEntry}
+
+abbrev pub number_of_cause : Cause → ℕ
+number_of_cause HeaderMissing = 1
+number_of_cause UnknownHeader = 2
+number_of_cause WrongNumberOfWords = 3
+number_of_cause BadNumber = 4
+number_of_cause NotALetter = 5
+number_of_cause RepeatedLetter = 6
+number_of_cause UnknownLine = 7
+number_of_cause LineOutOfOrder = 8
+number_of_cause NoGenerator = 9
+number_of_cause WrongNumberOfEntries = 10
+number_of_cause BadEntry = 11
+
+-- the text of the cause of this number
+abbrev pub cause_text : ℕ → List ℕ
+cause_text n =
+    if n == 1 then codes "header missing"
+    else if n == 2 then codes "unknown header"
+    else if n == 3 then codes "wrong number of words"
+    else if n == 4 then codes "bad number"
+    else if n == 5 then codes "not a letter"
+    else if n == 6 then codes "repeated letter"
+    else if n == 7 then codes "unknown line"
+    else if n == 8 then codes "line out of order"
+    else if n == 9 then codes "no generator"
+    else if n == 10 then codes "wrong number of entries"
+    else if n == 11 then codes "bad entry"
+    else []

@@ -1,0 +1,23 @@
+-- What the faults of the reader mean.
+use Rattle.std.specs.Prelude.{◌≡◌, ℕ, Result, Err}
+use Rattle.query_lang.specs.declared.cause.Cause.{Cause}
+use Rattle.query_lang.specs.declared.fault.LineFault.{LineFault}
+use Rattle.query_lang.specs.declared.fault.LineFault.TheVariants as line
+use Rattle.query_lang.specs.declared.fault.ScriptFault.{ScriptFault}
+use Rattle.query_lang.specs.declared.fault.ScriptFault.TheVariants as script
+use Rattle.query_lang.specs.Causes.{number_of_cause}
+
+-- a line is refused for its cause; want of memory says nothing of it
+abbrev pub IsLineFault : {A : Type 0} → Result A Cause → LineFault → Type 0
+IsLineFault outcome (line.Refused cause) = outcome ≡ Err cause
+IsLineFault outcome line.NoMemory = Unit {0}
+
+-- the fault of a line, with its number
+abbrev pub fault_at_line : ℕ → LineFault → ScriptFault
+fault_at_line n (line.Refused cause) = script.Bad n (number_of_cause cause)
+fault_at_line n line.NoMemory = script.NoMemory
+
+-- the first fault of the lines, by its cause's number; want of memory says nothing of them
+abbrev pub IsScriptFault : {A : Type 0} → Result A (ℕ × Cause) → ScriptFault → Type 0
+IsScriptFault outcome (script.Bad line number) = (cause : Cause) × (outcome ≡ Err (line, cause)) × (number ≡ number_of_cause cause)
+IsScriptFault outcome script.NoMemory = Unit {0}

@@ -1,0 +1,52 @@
+-- The lines of a script and their tokens.
+use Rattle.std.specs.Prelude.{ℕ, ◌+◌, ◌-◌, ◌*◌, Bool, true, false, not, ◌&&◌, ◌||◌, ◌==◌, nat_le, List, [], ◌∷◌, length, filter, fold, if◌then◌else◌, Option, Some, None, option_and_then}
+use Rattle.std.specs.List.{slice_split, list_all}
+use Rattle.std.specs.Cmp.Lexicographic.{pointwise}
+
+abbrev pub Token : Type 0
+Token = List ℕ
+
+abbrev pub Line : Type 0
+Line = List Token
+
+-- space, tab and carriage return part tokens
+abbrev pub is_blank : ℕ → Bool
+is_blank b = (b == 32) || ((b == 9) || (b == 13))
+
+-- the longest runs of bytes that are not blank
+abbrev pub tokens_of : List ℕ → Line
+tokens_of bytes = filter (λ t. not (length t == 0)) (slice_split is_blank bytes)
+
+-- a line with no token is skipped, and so is one whose first token begins with `#`
+abbrev pub is_kept : Line → Bool
+is_kept [] = false
+is_kept ([] ∷ tokens) = true
+is_kept ((b ∷ bs) ∷ tokens) = not (b == 35)
+
+-- the bytes of each line: lines end at a line feed, and the rest is a line too
+abbrev pub cut_lines : List ℕ → List (List ℕ)
+cut_lines = slice_split (λ b. b == 10)
+
+-- the token reads so
+abbrev pub is_word : List ℕ → Token → Bool
+is_word text t = pointwise ◌==◌ t text
+
+abbrev pub is_digit : ℕ → Bool
+is_digit b = nat_le 48 b && nat_le b 57
+
+-- one to seven decimal digits
+abbrev pub number_of : Token → Option ℕ
+number_of t =
+    if nat_le 1 (length t) && (nat_le (length t) 7 && list_all is_digit t)
+    then Some (fold (λ n b. n * 10 + (b - 48)) 0 t)
+    else None
+
+-- a number in its range
+abbrev pub number_within : ℕ → ℕ → Token → Option ℕ
+number_within low high t = option_and_then (λ n. if nat_le low n && nat_le n high then Some n else None) (number_of t)
+
+-- one of the bytes `a` to `z`
+abbrev pub letter_of : Token → Option ℕ
+letter_of (b ∷ []) = if nat_le 97 b && nat_le b 122 then Some b else None
+letter_of (b ∷ c ∷ t) = None
+letter_of [] = None

@@ -1,0 +1,69 @@
+// Why a script is refused.
+ghost use Rattle.std.specs.Prelude.{◌≡◌};
+ghost use Rattle.query_lang.specs.Faults.{fault_at_line};
+ghost use Rattle.query_lang.specs.declared.fault.LineFault.TheVariants as line;
+
+use crate::cause::Cause;
+use std::alloc::{AllocError, AllocFailed};
+use thiserror::Error;
+
+/// Why bytes make no script.
+#[derive(Clone, Copy, Debug, PartialEq, Eq, Error)]
+pub enum ScriptFault {
+    /// The first line, counted from 1, that is out of form or out of place, and the number of its cause.
+    #[error("line {line}: cause {cause}")]
+    Bad { line: usize, cause: u8 },
+    /// Memory is wanting.
+    #[error("out of memory")]
+    NoMemory,
+}
+
+/// Why a line is refused.
+#[derive(Clone, Copy, Debug, PartialEq, Eq, Error)]
+pub enum LineFault {
+    /// The line has a cause of refusal.
+    #[error("cause {0:?}")]
+    Refused(Cause),
+    /// Memory is wanting.
+    #[error("out of memory")]
+    NoMemory,
+}
+
+impl From<Cause> for LineFault {
+    ghost from_gives = { λ cause e. e ≡ line.Refused cause };
+
+    fn from(cause: Cause) -> LineFault {
+        LineFault::Refused(cause)
+    }
+}
+
+impl From<AllocError> for LineFault {
+    ghost from_gives = { λ _ e. e ≡ line.NoMemory };
+
+    fn from(_error: AllocError) -> LineFault {
+        LineFault::NoMemory
+    }
+}
+
+impl<T: Drop> From<AllocFailed<T>> for LineFault {
+    ghost from_gives = { λ _ e. e ≡ line.NoMemory };
+
+    fn from(_error: AllocFailed<T>) -> LineFault {
+        LineFault::NoMemory
+    }
+}
+
+impl LineFault {
+    /// The fault at the line of this number.
+    pub fn at_line(self, line: usize) -> ScriptFault
+        ensures { result ≡ fault_at_line line self }
+    {
+        match self {
+            LineFault::Refused(cause) => ScriptFault::Bad {
+                line,
+                cause: cause.number(),
+            },
+            LineFault::NoMemory => ScriptFault::NoMemory,
+        }
+    }
+}

@@ -1,0 +1,16 @@
+//! The script language: what the bytes of a script pose and ask, or its first fault with the line and
+//! the cause.
+#![tactic(auto)]
+
+mod cause;
+mod fault;
+mod reader;
+mod script;
+mod tokens;
+
+pub use cause::{Cause, cause_text};
+pub use fault::ScriptFault;
+pub use script::{Query, Script, read_script};
+
+#[cfg(test)]
+mod tests;

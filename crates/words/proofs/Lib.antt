@@ -1,0 +1,3 @@
+pub mod AlphabetLemmas
+pub mod TextLemmas
+pub mod TextLaws

@@ -1,0 +1,5 @@
+use Rattle.words.proofs.AlphabetLemmas.{faultless, unfaulted_alphabet}
+use Rattle.words.proofs.facts.alphabets_have_no_fault.Goals as goal
+
+pub returns : goal.returns
+returns c = λ text. (unfaulted_alphabet text, faultless text)

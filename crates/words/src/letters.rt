@@ -1,0 +1,109 @@
+// Letters and words.
+ghost use Rattle.std.specs.Prelude.{◌≡◌, ℕ, ◌<◌, List, [], ◌∷◌, ◌++◌, length, slice_get, IfOk, OnOk, OnErr, IsTrue, ◌↔◌};
+
+use ports::NoMemory;
+use std::alloc::Global;
+use std::marker::Model;
+
+/// A letter: the number of its place in its alphabet, from 0 (libsemigroups, `letter_type`).
+#[derive(Clone, Copy, Debug, PartialEq, Eq, PartialOrd, Ord)]
+pub struct Letter {
+    number: u8,
+}
+
+impl Model for Letter {
+    ghost use Rattle.std.specs.Prelude.{ℕ};
+
+    ghost Value = { ℕ };
+
+    ghost view = { λ l. l.number };
+
+    ghost inverse = { λ n. record { number = n } };
+}
+
+impl Letter {
+    /// The letter of this number.
+    pub fn new(number: u8) -> Letter
+        ensures { result ≡ number }
+    {
+        Letter { number }
+    }
+
+    /// The number of the letter.
+    pub fn number(self) -> usize
+        ensures { result ≡ self }
+    {
+        usize::from(self.number)
+    }
+}
+
+/// A word: a list of letters, a byte each (libsemigroups, `word_type`).
+#[derive(Drop)]
+pub struct Word {
+    letters: Vec<Letter>,
+}
+
+impl Model for Word {
+    ghost use Rattle.std.specs.Prelude.{List, ℕ};
+
+    ghost Value = { List ℕ };
+
+    ghost view = { λ w. w.letters.items };
+}
+
+impl Word {
+    /// The empty word.
+    pub fn new(alloc: Global) -> Word
+        ensures { result ≡ [] }
+    {
+        Word {
+            letters: Vec::new(alloc),
+        }
+    }
+
+    /// How many letters the word has.
+    pub fn len(&self) -> usize
+        ensures { result ≡ length self.now }
+    {
+        self.letters.len()
+    }
+
+    /// Whether the word has no letter.
+    pub fn is_empty(&self) -> bool
+        ensures { IsTrue result ↔ (self.now ≡ []) }
+    {
+        self.letters.is_empty()
+    }
+
+    /// The letter at a place of the word, from 0.
+    pub fn letter(&self, place: usize) -> Letter
+        requires { place < length self.now }
+        ensures { slice_get self.now place ≡ Some result }
+    {
+        self.letters[place]
+    }
+
+    /// Puts a letter at the end. Refused only where memory is wanting, and then the word stays as it was.
+    pub fn push(&mut self, letter: Letter) -> Result<(), NoMemory>
+        ensures ok { OnOk result (self.new ≡ self.old ++ letter ∷ []) }
+        ensures err { OnErr result (self.new ≡ self.old) }
+    {
+        self.letters.push(letter)?;
+        Ok(())
+    }
+
+    /// The letters, in order.
+    pub fn letters(&self) -> &[Letter]
+        ensures { result.now ≡ self.now }
+    {
+        self.letters.as_slice()
+    }
+
+    /// The same word in memory of its own. Refused only where memory is wanting.
+    pub fn copy(&self, alloc: Global) -> Result<Word, NoMemory>
+        ensures { IfOk result (λ w. w ≡ self.now) }
+    {
+        let letters = Vec::from_slice(alloc, self.letters.as_slice())?;
+        Ok(Word { letters })
+    }
+}
