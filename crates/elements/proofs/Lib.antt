@@ -1,2 +1,7 @@
 pub mod Composed
 pub mod Joined
+pub mod PartialProducts
+pub mod Marks
+pub mod Refused
+pub mod TruncatedProducts
+pub mod TableSteps

@@ -1,12 +1,20 @@
 //! Elements of finite semigroups, and what their products keep (Froidure and Pin 1997).
 #![tactic(auto)]
 
+mod bmat;
 mod element;
+mod entries;
 mod field;
+mod max_plus;
+mod places;
+mod pperm;
 #[cfg(test)]
 mod tests;
 mod transf;
 
+pub use bmat::BMat;
 pub use element::Element;
 pub use field::{ElementFault, Field};
+pub use max_plus::MaxPlusTrunc;
+pub use pperm::PPerm;
 pub use transf::Transf;

@@ -1,0 +1,35 @@
+-- The first place whose field is not good.
+use Rattle.std.proofs.Common.{◌≡◌, ℕ, zero, suc, ◌+◌, ◌<◌, ◌⊎◌, List, [], ◌∷◌, length, get_or, slice_get, ap, ◌∙◌, sym, subst, inl, inr, arith}
+use Rattle.std.specs.Prelude.{Some, All}
+use Rattle.std.proofs.lemmas.Option.{slice_get-get_or, slice_get_within, same_Some}
+use Rattle.elements.specs.declared.field.Field.{Field}
+use Rattle.elements.specs.Fields.{IsFirstRefused}
+
+pub below_or_at : (k n : ℕ) → k < n + 1 → (k < n) ⊎ (k ≡ n)
+below_or_at k n h = grind arith
+
+pub all_one : {X : Type 0} (P : X → Type 0) (x : X) → P x → All P (x ∷ [])
+all_one P x p zero d lt = p
+all_one P x p (suc k) d lt = absurd (omega arith)
+
+-- the fields below n are good
+abbrev pub AreGood : (Field → Type 0) → List Field → ℕ → Type 0
+AreGood IsGood fields n = (k : ℕ) (f : Field) → k < n → slice_get fields k ≡ Some f → IsGood f
+
+module _ (IsGood : Field → Type 0) (fields : List Field) where
+  pub good_more : (n : ℕ) (d : Field) → AreGood IsGood fields n → n < length fields → IsGood (get_or fields n d) → AreGood IsGood fields (n + 1)
+  good_more n d before within good = λ k f lt at. elim (below_or_at k n lt) [
+    | inl b ↦ before k f b at
+    | inr b ↦
+        let here : slice_get fields k ≡ Some (get_or fields n d) = ap (slice_get fields) b ∙ slice_get-get_or fields n d within in
+        subst IsGood (same_Some _ _ (sym here ∙ at)) good
+  ]
+
+  pub all_good : (n : ℕ) → AreGood IsGood fields n → length fields ≡ n → All IsGood fields
+  all_good n before e = λ k d lt. before k (get_or fields k d) (omega arith) (slice_get-get_or fields k d lt)
+
+  pub none_refused : All IsGood fields → (place : ℕ) → IsFirstRefused IsGood fields place → ⊥
+  none_refused good place p =
+      let within : place < length fields = slice_get_within fields place p.at.0 p.at.1 in
+      let here : slice_get fields place ≡ Some (get_or fields place p.at.0) = slice_get-get_or fields place p.at.0 within in
+      p.at.2 (subst IsGood (same_Some _ _ (sym here ∙ p.at.1)) (good place p.at.0 within))

@@ -1,0 +1,222 @@
+// Boolean matrices.
+ghost use Rattle.std.specs.Prelude.{◌≡◌, ◌≢◌, ℕ, ◌*◌, ◌/◌, ◌%◌, ◌<◌, ◌⊎◌, ◌||◌, ◌&&◌, false, IfOk, IsErrOf, IsTrue, ◌↔◌, [], ◌∷◌, length, map, MatchOption, codes};
+ghost use Rattle.std.specs.List.{join_by};
+ghost use Rattle.std.proofs.Common.{rules};
+ghost use Rattle.std.specs.Hash as fed;
+ghost use Rattle.std.specs.Cmp.Rules.{comparing};
+ghost use Rattle.std.specs.Ordering.{as_partial_cmp};
+ghost use Rattle.elements.specs.Fields.{IsFirstRefused};
+ghost use Rattle.elements.specs.Matrix.{product_entry, matrix_product};
+ghost use Rattle.elements.specs.BMat.{IsBooleanMatrix, boolean_product, IsBit, field_of_bit, bit_text};
+ghost use Rattle.elements.specs.BMatLaws.{boolean_matrix_eq, boolean_matrix_cmp, boolean_matrix_hash, boolean_matrix_total, boolean_matrix_ties, boolean_matrix_order, boolean_matrix_alike, boolean_products, one_boolean_dimension};
+
+use super::element::Element;
+use super::field::{ElementFault, Field};
+use super::places::{place_of, square};
+use ports::NoMemory;
+use std::alloc::Global;
+use std::cmp::Ordering;
+use std::hash::{Hash, Hasher};
+use std::marker::Model;
+
+#[cfg(test)]
+mod tests;
+
+/// A square Boolean matrix, row by row (libsemigroups, `BMat`). Contracts see its dimension n and
+/// its entries. Its shape is the dimension.
+#[derive(Drop)]
+pub struct BMat {
+    dimension: u32,
+    entries: Vec<bool>,
+}
+
+impl Model for BMat {
+    ghost use Rattle.std.specs.Prelude.{◌≡◌, ◌*◌, length};
+    ghost use Rattle.elements.specs.BMat.{BooleanMatrix};
+
+    ghost Value = { BooleanMatrix };
+
+    ghost view = { λ m. record { dimension = m.dimension; entries = m.entries.items } };
+
+    ghost invariant = { λ m. length m.entries.items ≡ m.dimension * m.dimension };
+}
+
+impl PartialEq for BMat {
+    ghost eq = { boolean_matrix_eq };
+
+    ghost laws = { Prim.search (comparing, rules) };
+
+    fn eq(&self, other: &BMat) -> bool {
+        self.dimension == other.dimension && self.entries == other.entries
+    }
+}
+
+impl Eq for BMat {
+    ghost laws = { Prim.search (comparing, rules) };
+}
+
+impl PartialOrd for BMat {
+    ghost partial_cmp = { as_partial_cmp boolean_matrix_cmp };
+
+    ghost laws = { boolean_matrix_order };
+
+    fn partial_cmp(&self, other: &BMat) -> Option<Ordering> {
+        Some(self.cmp(other))
+    }
+}
+
+impl Ord for BMat {
+    ghost cmp = { boolean_matrix_cmp };
+
+    ghost total = { boolean_matrix_total };
+
+    ghost matches_partial_cmp = { Prim.search (comparing, rules) };
+
+    ghost matches_eq = { boolean_matrix_ties };
+
+    fn cmp(&self, other: &BMat) -> Ordering {
+        self.dimension
+            .cmp(&other.dimension)
+            .then(self.entries.cmp(&other.entries))
+    }
+}
+
+impl Hash for BMat {
+    ghost hash_input = { boolean_matrix_hash };
+
+    ghost respects_eq = { boolean_matrix_alike };
+
+    fn hash<H: Hasher>(&self, state: &mut H) {
+        self.dimension.hash(state);
+        self.entries.hash(state);
+    }
+}
+
+impl Element for BMat {
+    ghost shape = { λ m. (m.dimension, 0) };
+
+    ghost product = { boolean_product };
+
+    ghost products = { boolean_products };
+
+    ghost one_shape = { one_boolean_dimension };
+
+    fn same_shape(&self, other: &BMat) -> bool {
+        self.dimension == other.dimension
+    }
+
+    fn product(&self, alloc: Global, other: &BMat) -> Result<BMat, NoMemory> {
+        let dimension = self.dimension;
+        let entries = multiply_bits(alloc, dimension, &self.entries, &other.entries)?;
+        Ok(BMat { dimension, entries })
+    }
+
+    fn copy(&self, alloc: Global) -> Result<BMat, NoMemory> {
+        let dimension = self.dimension;
+        let entries = Vec::from_slice(alloc, self.entries.as_slice())?;
+        Ok(BMat { dimension, entries })
+    }
+}
+
+// The product of two matrices.
+fn multiply_bits(
+    alloc: Global,
+    dimension: u32,
+    left: &[bool],
+    right: &[bool],
+) -> Result<Vec<bool>, NoMemory>
+    requires left { length left.now ≡ dimension * dimension }
+    requires right { length right.now ≡ dimension * dimension }
+    ensures { IfOk result (λ v. v.items ≡ matrix_product ◌||◌ ◌&&◌ false dimension left.now right.now) }
+{
+    let count = square(dimension);
+    let mut entries = Vec::with_capacity(alloc, count)?;
+    for place in 0..count {
+        entries.push(multiplied_bit(dimension, left, right, place))?;
+    }
+    Ok(entries)
+}
+
+// The entry at a place of the product.
+fn multiplied_bit(dimension: u32, left: &[bool], right: &[bool], place: usize) -> bool
+    requires left { length left.now ≡ dimension * dimension }
+    requires right { length right.now ≡ dimension * dimension }
+    requires within { place < dimension * dimension }
+    ensures { result ≡ product_entry ◌||◌ ◌&&◌ false dimension left.now right.now (place / dimension) (place % dimension) }
+{
+    let row = place / dimension as usize;
+    let column = place % dimension as usize;
+    let mut sum = false;
+    for k in 0..dimension as usize {
+        let p = left[place_of(dimension, row, k)];
+        let q = right[place_of(dimension, k, column)];
+        sum |= p & q;
+    }
+    sum
+}
+
+// The bit that a field names.
+fn bit_of(field: Field) -> Option<bool>
+    ensures { MatchOption result (IsBit field → ⊥) (λ b. (field ≡ field_of_bit b) × IsBit field) }
+{
+    match field {
+        Field::Number(0) => Some(false),
+        Field::Number(1) => Some(true),
+        _ => None,
+    }
+}
+
+// The digit of a bit.
+fn digit_of(bit: bool) -> u8
+    ensures { result ∷ [] ≡ bit_text bit }
+{
+    if bit { b'1' } else { b'0' }
+}
+
+impl BMat {
+    /// The number of rows.
+    pub fn dimension(&self) -> u32
+        ensures dimension { result ≡ self.now.dimension }
+        ensures valid { IsBooleanMatrix self.now }
+    {
+        self.dimension
+    }
+
+    /// The matrix of this dimension with these entries, row by row. Refused with `BadCount` exactly
+    /// where there are not `dimension` times `dimension` entries, then with `BadEntry` at the first
+    /// entry that is neither 0 nor 1; never with `NotInjective`.
+    pub fn read(alloc: Global, dimension: u32, fields: &[Field]) -> Result<BMat, ElementFault>
+        ensures entries { IfOk result (λ m. (m.dimension ≡ dimension) × (map field_of_bit m.entries ≡ fields.now)) }
+        ensures valid { IfOk result IsBooleanMatrix }
+        ensures count { IsErrOf result ElementFault.BadCount ↔ (length fields.now ≢ dimension * dimension) }
+        ensures entry { (place : ℕ) → IsErrOf result (ElementFault.BadEntry place) → (length fields.now ≡ dimension * dimension) × IsFirstRefused IsBit fields.now place }
+        ensures refused { (place : ℕ) → length fields.now ≡ dimension * dimension → IsFirstRefused IsBit fields.now place → IsErrOf result (ElementFault.BadEntry place) ⊎ IsErrOf result ElementFault.NoMemory }
+        ensures injective { (place : ℕ) → IsErrOf result (ElementFault.NotInjective place) → ⊥ }
+    {
+        if fields.len() != square(dimension) {
+            return Err(ElementFault::BadCount);
+        }
+        let mut entries = Vec::with_capacity(alloc, fields.len())?;
+        for (i, field) in fields.iter().enumerate() {
+            match bit_of(*field) {
+                Some(bit) => entries.push(bit)?,
+                None => return Err(ElementFault::BadEntry(i)),
+            }
+        }
+        Ok(BMat { dimension, entries })
+    }
+
+    /// The entries as 0 and 1, row by row, with one space between each two.
+    pub fn print(&self, alloc: Global) -> Result<Vec<u8>, NoMemory>
+        ensures { IfOk result (λ text. text.items ≡ join_by bit_text (codes " ") self.now.entries) }
+    {
+        let mut text = Vec::new(alloc);
+        for (i, bit) in self.entries.iter().enumerate() {
+            if 0 < i {
+                text.push(b' ')?;
+            }
+            text.push(digit_of(*bit))?;
+        }
+        Ok(text)
+    }
+}
