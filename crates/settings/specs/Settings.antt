@@ -1,0 +1,62 @@
+-- The command `semi`, and the settings that clap's specification reads from its words.
+use Rattle.std.specs.Prelude.{◌≡◌, ℕ, true, false, List, [], ◌∷◌, Option, Some, codes, option_map}
+use Rattle.std.specs.Str.Parse.{digits_value, without_leading_plus}
+use Rattle.clap.specs.Words.{App, IsUnsignedIn, Row, Rule, Text, matches_of, new_app, new_rule, one_of, takes}
+use Rattle.clap.specs.Words.{with_rule}
+use Rattle.clap.specs.declared.builder.action.ArgAction.TheVariants.{Set}
+use Rattle.clap.specs.declared.builder.value_parser.ValueParser.TheVariants.{Unsigned}
+use Rattle.settings.specs.declared.Settings.{Settings}
+
+-- the option `--name`, of one number up to `most`
+abbrev pub number_rule : Text → ℕ → Text → Rule
+number_rule name most preset = record (new_rule name) {
+  long = Some name;
+  action = Some Set;
+  parser = Some (Unsigned 0 most);
+  defaults = preset ∷ [];
+}
+
+abbrev pub elements_rule : Rule
+elements_rule = number_rule (codes "elements") 10000000 (codes "100000")
+
+abbrev pub classes_rule : Rule
+classes_rule = number_rule (codes "classes") 1000000 (codes "10000")
+
+-- the command
+unfoldable pub semi_app : App
+semi_app = with_rule (with_rule (new_app (codes "semi")) elements_rule) classes_rule
+
+-- a list with no word stands for the program's name alone
+abbrev pub or_name : List Text → List Text
+or_name [] = codes "semi" ∷ []
+or_name (word ∷ rest) = word ∷ rest
+
+-- clap takes these words
+abbrev pub AreAccepted : List Text → Type 0
+AreAccepted words = takes semi_app (or_name words) ≡ true
+
+-- clap takes other words only
+abbrev pub AreRefused : List Text → Type 0
+AreRefused words = takes semi_app (or_name words) ≡ false
+
+-- the number that the matches have for an option, given or by default
+abbrev pub number_in : Text → List Row → Option ℕ
+number_in id rows =
+    option_map (λ text. digits_value 10 (without_leading_plus text)) (one_of id rows)
+
+-- clap takes the words, and finds these settings in them
+pub record Reads (words : List Text) (settings : Settings) : Type 0 where
+  pub taken : takes semi_app words ≡ true
+  pub elements : number_in (codes "elements") (matches_of semi_app words) ≡ Some settings.elements
+  pub classes : number_in (codes "classes") (matches_of semi_app words) ≡ Some settings.classes
+
+-- the matches have a number of at most `most` for an option
+pub record HasNumber (most : ℕ) (id : Text) (rows : List Row) : Type 0 where
+  pub text : Text
+  pub given : one_of id rows ≡ Some text
+  pub number : IsUnsignedIn 0 most text
+
+-- and so for each option of the command
+pub record HasNumbers (rows : List Row) : Type 0 where
+  pub elements : HasNumber 10000000 (codes "elements") rows
+  pub classes : HasNumber 1000000 (codes "classes") rows

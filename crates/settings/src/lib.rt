@@ -1,0 +1,111 @@
+//! What the command line asks for.
+#![tactic(auto)]
+
+ghost use Rattle.std.specs.Prelude.{◌≡◌, ◌≢◌, ◌≤◌, true, false, map, IfOk, IsErrOf, string_bytes};
+ghost use Rattle.clap.specs.Words.{app_of, found_of, kind_of, matches_of, rows_of, rule_of, takes};
+ghost use Rattle.clap.specs.declared.error.kind.ErrorKind.TheVariants.{OutOfMemory};
+ghost use Rattle.settings.specs.Settings.{AreRefused, HasNumber, HasNumbers, Reads, number_in, number_rule, or_name, semi_app};
+ghost use Rattle.settings.specs.declared.SettingsFault.TheVariants.{NoMemory, Refused};
+
+use clap::error::ErrorKind;
+use clap::{Arg, ArgAction, ArgMatches, Command};
+use std::alloc::{AllocError, Global};
+use thiserror::Error;
+
+/// How much is listed.
+#[derive(Clone, Copy, Debug, PartialEq, Eq)]
+pub struct Settings {
+    /// How many elements are listed at most.
+    pub elements: usize,
+    /// The greatest index that is written out.
+    pub classes: usize,
+}
+
+/// Why there are no settings.
+#[derive(Clone, Copy, Debug, PartialEq, Eq, Error)]
+pub enum SettingsFault {
+    /// The words are not those of the command.
+    #[error("usage: semi [--elements N] [--classes C]")]
+    Refused,
+    /// Memory ran out.
+    #[error("out of memory")]
+    NoMemory,
+}
+
+impl From<AllocError> for SettingsFault {
+    ghost from_gives = { λ _ fault. fault ≡ NoMemory };
+
+    fn from(_error: AllocError) -> SettingsFault {
+        SettingsFault::NoMemory
+    }
+}
+
+impl From<clap::Error> for SettingsFault {
+    ghost from_gives = { λ error fault. fault ≡ Refused → kind_of error ≢ OutOfMemory };
+
+    fn from(error: clap::Error) -> SettingsFault {
+        match error.kind() {
+            ErrorKind::OutOfMemory => SettingsFault::NoMemory,
+            _ => SettingsFault::Refused,
+        }
+    }
+}
+
+// The option `--name`, of one number up to `most`.
+fn number_option<'a>(alloc: Global, name: &'a str, most: u32, preset: &'a str) -> Arg<'a>
+    ensures rule { rule_of result ≡ number_rule name.entry.now most preset.entry.now }
+    ensures local { result.global ≡ false }
+{
+    Arg::new(alloc, name)
+        .long(name)
+        .action(ArgAction::Set)
+        .value_parser(clap::value_parser!(usize).range(..=i64::from(most)))
+        .default_value(preset)
+}
+
+#[tactic(auto, unfolding(crate::specs::Settings::semi_app))]
+fn semi_command<'a>(alloc: Global) -> Result<Command<'a>, AllocError>
+    ensures { IfOk result (λ command. app_of command ≡ semi_app) }
+{
+    Command::new(alloc, "semi")
+        .arg(number_option(alloc, "elements", 10_000_000, "100000"))?
+        .arg(number_option(alloc, "classes", 1_000_000, "10000"))
+}
+
+fn matches_in<'a>(alloc: Global, words: &'a [String]) -> Result<ArgMatches<'a>, SettingsFault>
+    ensures taken { IfOk result (λ _. takes semi_app (map string_bytes words.entry.now) ≡ true) }
+    ensures rows { IfOk result (λ matches. rows_of (found_of matches)
+        ≡ matches_of semi_app (map string_bytes words.entry.now)) }
+    ensures numbers { IfOk result (λ matches. HasNumbers (rows_of (found_of matches))) }
+    ensures refused { IsErrOf result SettingsFault.Refused
+        → takes semi_app (map string_bytes words.entry.now) ≡ false }
+{
+    let mut command = semi_command(alloc)?;
+    Ok(command.try_get_matches_from_mut(words)?)
+}
+
+// The number of an option that has one.
+fn number_of(matches: &ArgMatches, id: &str) -> usize
+    requires { HasNumber usize.MAX id.now (rows_of (found_of matches.now)) }
+    ensures { number_in id.now (rows_of (found_of matches.now)) ≡ Some result }
+{
+    matches.get_one::<usize>(id).unwrap()
+}
+
+/// The settings that the words of a command line ask for. The first word is the program's name, and
+/// where there is no word the name is taken to be there. Refused with `Refused` only where clap's
+/// rules do not take the words for this command, and with `NoMemory` where memory is wanting.
+pub fn settings_of(alloc: Global, words: &Vec<String>) -> Result<Settings, SettingsFault>
+    ensures ok { IfOk result (λ settings. Reads (or_name (map string_bytes words.now.items)) settings) }
+    ensures refused { IsErrOf result SettingsFault.Refused → AreRefused (map string_bytes words.now.items) }
+    ensures bounded { IfOk result (λ settings. (settings.elements ≤ 10000000) × (settings.classes ≤ 1000000)) }
+{
+    let matches = matches_in(alloc, words.as_slice())?;
+    Ok(Settings {
+        elements: number_of(&matches, "elements"),
+        classes: number_of(&matches, "classes"),
+    })
+}
+
+#[cfg(test)]
+mod tests;

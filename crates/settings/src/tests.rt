@@ -1,0 +1,72 @@
+use super::*;
+use std::test::Fail;
+
+// The outcomes are those that clap documents for such options.
+#[test]
+fn reads_words(rt: HostRuntime) -> Result<(), Fail> {
+    let alloc = rt.alloc();
+    let cases: [(&[&str], Option<(usize, usize)>); 28] = [
+        (&[], Some((100_000, 10_000))),
+        (&["semi"], Some((100_000, 10_000))),
+        (&["semi", "--elements", "26"], Some((26, 10_000))),
+        (&["semi", "--elements=26"], Some((26, 10_000))),
+        (&["semi", "--elements=+26"], Some((26, 10_000))),
+        (&["semi", "--classes", "0"], Some((100_000, 0))),
+        (&["semi", "--classes=7", "--elements", "9"], Some((9, 7))),
+        (
+            &["semi", "--elements", "10000000"],
+            Some((10_000_000, 10_000)),
+        ),
+        (&["semi", "--elements", "10000001"], None),
+        (
+            &["semi", "--classes", "1000000"],
+            Some((100_000, 1_000_000)),
+        ),
+        (&["semi", "--classes", "1000001"], None),
+        (&["semi", "--"], Some((100_000, 10_000))),
+        (&["semi", "--", "x"], None),
+        (&["semi", "--elements", "1", "--elements", "2"], None),
+        (&["semi", "--elements", "-1"], None),
+        (&["semi", "--elements=-1"], None),
+        (&["semi", "--elements", "abc"], None),
+        (&["semi", "--elements", ""], None),
+        (&["semi", "--elements="], None),
+        (&["semi", "--elements"], None),
+        (&["semi", "--elements", "1", "2"], None),
+        (&["semi", "--help"], None),
+        (&["semi", "-h"], None),
+        (&["semi", "--version"], None),
+        (&["semi", "-V"], None),
+        (&["semi", "x"], None),
+        (&["semi", "--workers", "2"], None),
+        (&["semi", "--elem", "5"], None),
+    ];
+    for (i, (texts, want)) in cases.iter().enumerate() {
+        let got = outcome(alloc, texts)?;
+        assert!(rt; got == *want, "case {i}");
+    }
+    Ok(())
+}
+
+// `None` is a refusal.
+fn outcome(alloc: Global, texts: &[&str]) -> Result<Option<(usize, usize)>, SettingsFault> {
+    let mut words = Vec::new(alloc);
+    for text in texts {
+        let word = String::from_str(alloc, text)?;
+        if words.push(word).is_err() {
+            return Err(SettingsFault::NoMemory);
+        }
+    }
+    match settings_of(alloc, &words) {
+        Ok(settings) => Ok(Some((settings.elements, settings.classes))),
+        Err(SettingsFault::Refused) => Ok(None),
+        Err(SettingsFault::NoMemory) => Err(SettingsFault::NoMemory),
+    }
+}
+
+#[test]
+fn tells_the_usage(rt: HostRuntime) -> Result<(), Fail> {
+    let text = format!(in rt.alloc(); "{}", SettingsFault::Refused)?;
+    assert!(rt; text.as_str() == "usage: semi [--elements N] [--classes C]");
+    Ok(())
+}
