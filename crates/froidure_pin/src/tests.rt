@@ -9,6 +9,7 @@ use std::marker::Brand;
 use std::process::Abort;
 use std::sync::ledger::{Blank, Ledger};
 use std::test::Fail;
+use words::{Letter, Word};
 
 const SWAP: [u32; 3] = [1, 0, 2];
 
@@ -19,6 +20,7 @@ const FOLD: [u32; 3] = [0, 0, 2];
 // The generators with these images.
 fn generators_of(rt: &impl Abort, alloc: Global, table: &[[u32; 3]]) -> Result<Vec<Transf>, Fail>
     ensures some { IfOk result (λ generators. 0 < length generators.items) }
+    ensures few { IfOk result (λ generators. length generators.items ≤ 256) }
     ensures shape { IfOk result (λ generators. HaveOneShape (λ t. (length t, 0)) generators.items) }
 {
     let mut generators = Vec::new(alloc);
@@ -26,6 +28,7 @@ fn generators_of(rt: &impl Abort, alloc: Global, table: &[[u32; 3]]) -> Result<V
         generators.push(Transf::read(alloc, 3, &images.map(Field::Number))?)?;
     }
     assert!(rt; generators.len() > 0);
+    assert!(rt; generators.len() <= 256);
     assert!(rt; have_one_shape(&generators));
     Ok(generators)
 }
@@ -39,6 +42,7 @@ fn counted<L: Ledger>(
     steps: &mut Steps<L>,
 ) -> Result<Option<usize>, NoMemory>
     requires some { 0 < length generators.now.items }
+    requires few { length generators.now.items ≤ 256 }
     requires shape { HaveOneShape (λ t. (length t, 0)) generators.now.items }
     ensures { IfOk result (λ found. IfSome found (λ n. steps.new ≡ steps.old + n * length generators.now.items)) }
 {
@@ -58,6 +62,7 @@ fn count_from_none<L: Ledger>(
     requires name { blank.name ≡ L.name }
     requires parts { (blank.parts ≡ L.parts) × (0 < L.parts) }
     requires some { 0 < length generators.now.items }
+    requires few { length generators.now.items ≤ 256 }
     requires shape { HaveOneShape (λ t. (length t, 0)) generators.now.items }
 {
     let mut steps = Steps::<L>::open(blank);
@@ -67,6 +72,7 @@ fn count_from_none<L: Ledger>(
 // The same, where nobody asks for the steps.
 fn count(alloc: Global, generators: &Vec<Transf>, bound: usize) -> Result<Option<usize>, NoMemory>
     requires some { 0 < length generators.now.items }
+    requires few { length generators.now.items ≤ 256 }
     requires shape { HaveOneShape (λ t. (length t, 0)) generators.now.items }
 {
     count_from_none::<Brand>(alloc, Blank::new(1), generators, bound)
@@ -99,6 +105,7 @@ fn listed<L: Ledger>(
     requires name { blank.name ≡ L.name }
     requires parts { (blank.parts ≡ L.parts) × (0 < L.parts) }
     requires some { 0 < length generators.now.items }
+    requires few { length generators.now.items ≤ 256 }
     requires shape { HaveOneShape (λ t. (length t, 0)) generators.now.items }
 {
     let mut text = Vec::new(alloc);
@@ -141,5 +148,107 @@ fn shapes_are_held_against_the_first(rt: HostRuntime) -> Result<(), Fail> {
         generators.push(Transf::read(alloc, degree, &fields)?)?;
     }
     assert!(rt; !have_one_shape(&generators));
+    Ok(())
+}
+
+// The table of a = 1 0 and b = 0 0.
+fn table_of<L: Ledger>(alloc: Global, blank: Blank) -> Result<Option<Table<Transf>>, Fail>
+    requires name { blank.name ≡ L.name }
+    requires parts { (blank.parts ≡ L.parts) × (0 < L.parts) }
+{
+    let mut generators = Vec::new(alloc);
+    for images in [[1, 0], [0, 0]] {
+        generators.push(Transf::read(alloc, 2, &images.map(Field::Number))?)?;
+    }
+    if generators.is_empty() || generators.len() > 256 || !have_one_shape(&generators) {
+        return Ok(None);
+    }
+    let mut steps = Steps::<L>::open(blank);
+    match FroidurePin::run(alloc, &generators, 10, &mut steps)? {
+        Run::Whole(table) => Ok(Some(table)),
+        Run::Over => Ok(None),
+    }
+}
+
+// Its words a, b, aa, ba, and behind each its products by a and b on the right, and on the left.
+const ELEMENTS: [(&[u8], [usize; 2], [usize; 2]); 4] = [
+    (&[0], [2, 1], [2, 3]),
+    (&[1], [3, 1], [1, 1]),
+    (&[0, 0], [0, 1], [0, 1]),
+    (&[1, 0], [1, 1], [3, 3]),
+];
+
+// Its rules: ab = b, bb = b, aaa = a, baa = b.
+const RULES: [(&[u8], &[u8]); 4] = [
+    (&[0, 1], &[1]),
+    (&[1, 1], &[1]),
+    (&[0, 0, 0], &[0]),
+    (&[1, 0, 0], &[1]),
+];
+
+// Whether these are the letters of the word.
+fn has_letters(word: &Word, letters: &[u8]) -> bool {
+    word.letters()
+        .iter()
+        .map(|letter| letter.number())
+        .eq(letters.iter().map(|letter| usize::from(*letter)))
+}
+
+#[test]
+fn follows_the_edges(rt: HostRuntime) -> Result<(), Fail> {
+    let alloc = rt.alloc();
+    let Some(table) = table_of::<Brand>(alloc, Blank::new(1))? else {
+        return Ok(assert!(rt; false));
+    };
+    assert_eq!(rt; table.len(), 4);
+    assert_eq!(rt; table.letters(), 2);
+    let (a, b) = (Letter::new(0), Letter::new(1));
+    assert_eq!(rt; table.generator(a), 0);
+    assert_eq!(rt; table.generator(b), 1);
+    for (number, (letters, right, left)) in ELEMENTS.iter().enumerate() {
+        assert!(rt; has_letters(&table.word(number)?, letters));
+        assert_eq!(rt; [table.right(number, a), table.right(number, b)], *right);
+        assert_eq!(rt; [table.left(number, a), table.left(number, b)], *left);
+    }
+    let mut word = Word::new(alloc);
+    word.push(a)?;
+    word.push(b)?;
+    word.push(b)?;
+    word.push(a)?;
+    assert_eq!(rt; table.index_of(&word), 3);
+    Ok(())
+}
+
+#[test]
+fn reads_out_tables_and_rules(rt: HostRuntime) -> Result<(), Fail> {
+    let alloc = rt.alloc();
+    let Some(table) = table_of::<Brand>(alloc, Blank::new(1))? else {
+        return Ok(assert!(rt; false));
+    };
+    let rules = table.rules()?;
+    assert_eq!(rt; rules.len(), RULES.len());
+    for (rule, (left, right)) in rules.iter().zip(RULES.iter()) {
+        assert!(rt; has_letters(&rule.0, left));
+        assert!(rt; has_letters(&rule.1, right));
+    }
+    let tables = table.tables()?;
+    assert_eq!(rt; tables.letters.into_vec().as_slice(), [0, 1].as_slice());
+    let (words, right, left) = (
+        tables.words.into_vec(),
+        tables.right.into_vec(),
+        tables.left.into_vec(),
+    );
+    assert_eq!(rt; words.len(), ELEMENTS.len());
+    for (word, (letters, _, _)) in words.iter().zip(ELEMENTS.iter()) {
+        assert!(rt; has_letters(word, letters));
+    }
+    assert_eq!(rt; right.len(), ELEMENTS.len());
+    for (row, (_, numbers, _)) in right.into_iter().zip(ELEMENTS.iter()) {
+        assert_eq!(rt; row.into_vec().as_slice(), numbers.as_slice());
+    }
+    assert_eq!(rt; left.len(), ELEMENTS.len());
+    for (row, (_, _, numbers)) in left.into_iter().zip(ELEMENTS.iter()) {
+        assert_eq!(rt; row.into_vec().as_slice(), numbers.as_slice());
+    }
     Ok(())
 }

@@ -1,5 +1,5 @@
 // Scripts of transformations.
-ghost use Rattle.std.specs.Prelude.{◌≡◌, ◌<◌, IfOk, IfErr, Ok, length, All};
+ghost use Rattle.std.specs.Prelude.{◌≡◌, ◌<◌, ◌≤◌, IfOk, IfErr, Ok, length, All};
 ghost use Rattle.query_lang.specs.Faults.{IsScriptFault};
 ghost use Rattle.query_lang.specs.Script.{script_of};
 
@@ -27,14 +27,14 @@ pub struct Script {
 }
 
 impl Model for Script {
-    ghost use Rattle.std.specs.Prelude.{◌≡◌, All, length};
+    ghost use Rattle.std.specs.Prelude.{◌≡◌, ◌≤◌, All, length};
     ghost use Rattle.query_lang.specs.Script.{Partial};
 
     ghost Value = { Partial };
 
     ghost view = { λ s. record { degree = s.degree; letters = s.alphabet; generators = s.generators.items; queries = s.queries.items } };
 
-    ghost invariant = { λ s. All (λ g. length g ≡ s.degree) s.generators.items };
+    ghost invariant = { λ s. All (λ g. length g ≡ s.degree) s.generators.items × (length s.generators.items ≤ length s.alphabet) };
 }
 
 impl Script {
@@ -45,7 +45,8 @@ impl Script {
         generators: Vec<Transf>,
         queries: Vec<Query>,
     ) -> Script
-        requires { All (λ g. length g ≡ degree) generators.items }
+        requires one_degree { All (λ g. length g ≡ degree) generators.items }
+        requires enough { length generators.items ≤ length alphabet }
         ensures degree { result.degree ≡ degree }
         ensures letters { result.letters ≡ alphabet }
         ensures generators { result.generators ≡ generators.items }
@@ -66,11 +67,13 @@ impl Script {
         &self.alphabet
     }
 
-    /// The generators: one at least in a script that was read, and of one degree.
+    /// The generators: from 1 to 26 in a script that was read, and of one degree.
     pub fn generators(&self) -> &Vec<Transf>
         ensures generators { result.now.items ≡ self.now.generators }
         ensures one_degree { All (λ g. length g ≡ self.now.degree) self.now.generators }
+        ensures few { length self.now.generators ≤ 26 }
     {
+        prove!(self.generators.len() <= self.alphabet.len());
         &self.generators
     }
 

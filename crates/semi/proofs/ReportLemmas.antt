@@ -7,6 +7,7 @@ use Rattle.std.proofs.lemmas.Grind.{flat_map-append}
 use Rattle.ports.specs.Bytes.{TakesAll, TakesPrefix}
 use Rattle.ports.proofs.BytesLemmas.{TakesAll-append}
 use Rattle.query_lang.specs.declared.script.Query.{Query}
+use Rattle.settings.specs.declared.Settings.{Settings}
 use Rattle.semi.specs.declared.answer.Answer.{Answer}
 use Rattle.semi.specs.Answer.{IsAnswer, line_of, is_undecided}
 use Rattle.semi.specs.Report.{AreAnswers, AreFirstAnswers, GainsLines, GainsPart}
@@ -31,26 +32,26 @@ any-append : (xs ys : List Answer) → list_any is_undecided (xs ++ ys) ≡ (lis
 any-append [] ys = refl
 any-append (x ∷ xs) ys = ap (λ b. is_undecided x || b) (any-append xs ys) ∙ or_assoc (is_undecided x) (list_any is_undecided xs) (list_any is_undecided ys)
 
-module _ (generators : List (List ℕ)) where
-  answers-append : (qs rs : List Query) (xs ys : List Answer) → AreAnswers generators qs xs → AreAnswers generators rs ys → AreAnswers generators (qs ++ rs) (xs ++ ys)
+module _ (settings : Settings) (generators : List (List ℕ)) where
+  answers-append : (qs rs : List Query) (xs ys : List Answer) → AreAnswers settings generators qs xs → AreAnswers settings generators rs ys → AreAnswers settings generators (qs ++ rs) (xs ++ ys)
   answers-append [] rs [] ys p q = q
   answers-append [] rs (x ∷ xs) ys p q = absurd p
   answers-append (r ∷ qs) rs [] ys p q = absurd p
   answers-append (r ∷ qs) rs (x ∷ xs) ys p q = (p.0, answers-append qs rs xs ys p.1 q)
 
-  first-more : (rs more : List Query) (ys : List Answer) → AreFirstAnswers generators rs ys → AreFirstAnswers generators (rs ++ more) ys
+  first-more : (rs more : List Query) (ys : List Answer) → AreFirstAnswers settings generators rs ys → AreFirstAnswers settings generators (rs ++ more) ys
   first-more rs more [] q = tt
   first-more [] more (y ∷ ys) q = absurd q
   first-more (r ∷ rs) more (y ∷ ys) q = (q.0, first-more rs more ys q.1)
 
-  first-append : (qs rs more : List Query) (xs ys : List Answer) → AreAnswers generators qs xs → AreFirstAnswers generators rs ys → AreFirstAnswers generators (qs ++ rs ++ more) (xs ++ ys)
+  first-append : (qs rs more : List Query) (xs ys : List Answer) → AreAnswers settings generators qs xs → AreFirstAnswers settings generators rs ys → AreFirstAnswers settings generators (qs ++ rs ++ more) (xs ++ ys)
   first-append [] rs more [] ys p q = first-more rs more ys q
   first-append [] rs more (x ∷ xs) ys p q = absurd p
   first-append (r ∷ qs) rs more [] ys p q = absurd p
   first-append (r ∷ qs) rs more (x ∷ xs) ys p q = (p.0, first-append qs rs more xs ys p.1 q)
 
   -- one answer, all of its line
-  pub one_gained : (q : Query) (a : Answer) (line : List ℕ) (old new : Option (List ℕ)) → IsAnswer generators q a → line ≡ line_of a → TakesAll old new line → GainsLines generators (q ∷ []) (is_undecided a) old new
+  pub one_gained : (q : Query) (a : Answer) (line : List ℕ) (old new : Option (List ℕ)) → IsAnswer settings generators q a → line ≡ line_of a → TakesAll old new line → GainsLines settings generators (q ∷ []) (is_undecided a) old new
   one_gained q a line old new answer e taken = record {
     report = line;
     are_lines = record { answers = a ∷ []; correct = (answer, tt); lines = e ∙ sym (one_line a); status = sym (or_false (is_undecided a)) };
@@ -58,15 +59,19 @@ module _ (generators : List (List ℕ)) where
   }
 
   -- one answer, a prefix of its line
-  pub one_begun : (q : Query) (a : Answer) (line : List ℕ) (old new : Option (List ℕ)) → IsAnswer generators q a → line ≡ line_of a → TakesPrefix old new line → GainsPart generators (q ∷ []) old new
+  pub one_begun : (q : Query) (a : Answer) (line : List ℕ) (old new : Option (List ℕ)) → IsAnswer settings generators q a → line ≡ line_of a → TakesPrefix old new line → GainsPart settings generators (q ∷ []) old new
   one_begun q a line old new answer e taken = record { answers = a ∷ []; correct = (answer, tt); gained = subst (TakesPrefix old new) (e ∙ sym (one_line a)) taken }
 
   -- no query, no line
-  pub none_gained : (old : Option (List ℕ)) → GainsLines generators [] false old old
+  pub none_gained : (old : Option (List ℕ)) → GainsLines settings generators [] false old old
   none_gained old = record { report = []; are_lines = record { answers = []; correct = tt; lines = refl; status = refl }; gained = gains_nothing old }
 
+  -- nothing is a part of it
+  pub nothing_begun : (queries : List Query) (old : Option (List ℕ)) → GainsPart settings generators queries old old
+  nothing_begun queries old = record { answers = []; correct = tt; gained = (0, omega arith, gains_nothing old) }
+
   -- the lines of more queries
-  pub more_gained : (qs rs : List Query) (u v : Bool) (old mid new : Option (List ℕ)) → GainsLines generators qs u old mid → GainsLines generators rs v mid new → GainsLines generators (qs ++ rs) (u || v) old new
+  pub more_gained : (qs rs : List Query) (u v : Bool) (old mid new : Option (List ℕ)) → GainsLines settings generators qs u old mid → GainsLines settings generators rs v mid new → GainsLines settings generators (qs ++ rs) (u || v) old new
   more_gained qs rs u v old mid new p q =
       let xs : List Answer = p.are_lines.answers in
       let ys : List Answer = q.are_lines.answers in
@@ -82,7 +87,7 @@ module _ (generators : List (List ℕ)) where
       }
 
   -- the lines of some queries, and a part of those of others
-  pub more_begun : (qs rs more : List Query) (u : Bool) (old mid new : Option (List ℕ)) → GainsLines generators qs u old mid → GainsPart generators rs mid new → GainsPart generators (qs ++ rs ++ more) old new
+  pub more_begun : (qs rs more : List Query) (u : Bool) (old mid new : Option (List ℕ)) → GainsLines settings generators qs u old mid → GainsPart settings generators rs mid new → GainsPart settings generators (qs ++ rs ++ more) old new
   more_begun qs rs more u old mid new p q =
       let xs : List Answer = p.are_lines.answers in
       let front : List ℕ = flat_map line_of xs in

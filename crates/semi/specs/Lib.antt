@@ -1,4 +1,5 @@
 pub mod Limits
+pub mod Settings
 pub mod Answer
 pub mod Report
 pub mod Status

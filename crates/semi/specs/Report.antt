@@ -8,23 +8,24 @@ use Rattle.semi.specs.Limits.{most_bytes}
 use Rattle.query_lang.specs.declared.fault.ScriptFault.TheVariants.{Bad}
 use Rattle.query_lang.specs.Faults.{IsScriptFault}
 use Rattle.query_lang.specs.Script.{Partial, script_of}
+use Rattle.settings.specs.declared.Settings.{Settings}
 use Rattle.semi.specs.declared.fault.Fault.{Fault}
 use Rattle.semi.specs.declared.fault.Fault.TheVariants.{TooLong, Script, Arguments, Read, Write, NoMemory}
 use Rattle.semi.specs.Status.{line_of_fault}
 use Rattle.semi.specs.Answer.{IsAnswer, line_of, is_undecided}
 
 -- the answers of the queries, one by one
-abbrev pub AreAnswers : List (List ℕ) → List Query → List Answer → Type 0
-AreAnswers generators [] [] = Unit {0}
-AreAnswers generators [] (a ∷ answers) = ⊥
-AreAnswers generators (q ∷ queries) [] = ⊥
-AreAnswers generators (q ∷ queries) (a ∷ answers) = IsAnswer generators q a × AreAnswers generators queries answers
+abbrev pub AreAnswers : Settings → List (List ℕ) → List Query → List Answer → Type 0
+AreAnswers settings generators [] [] = Unit {0}
+AreAnswers settings generators [] (a ∷ answers) = ⊥
+AreAnswers settings generators (q ∷ queries) [] = ⊥
+AreAnswers settings generators (q ∷ queries) (a ∷ answers) = IsAnswer settings generators q a × AreAnswers settings generators queries answers
 
 -- the answers of the first queries
-abbrev pub AreFirstAnswers : List (List ℕ) → List Query → List Answer → Type 0
-AreFirstAnswers generators queries [] = Unit {0}
-AreFirstAnswers generators [] (a ∷ answers) = ⊥
-AreFirstAnswers generators (q ∷ queries) (a ∷ answers) = IsAnswer generators q a × AreFirstAnswers generators queries answers
+abbrev pub AreFirstAnswers : Settings → List (List ℕ) → List Query → List Answer → Type 0
+AreFirstAnswers settings generators queries [] = Unit {0}
+AreFirstAnswers settings generators [] (a ∷ answers) = ⊥
+AreFirstAnswers settings generators (q ∷ queries) (a ∷ answers) = IsAnswer settings generators q a × AreFirstAnswers settings generators queries answers
 
 -- the input is this script
 pub record IsScript (input : List ℕ) (script : Partial) : Type 0 where
@@ -45,41 +46,41 @@ abbrev pub IsRefused : List ℕ → Type 0
 IsRefused input = (fault : Fault) × IsRefusal input fault
 
 -- the lines of the answers of these queries, in order, and whether an answer is undecided
-pub record AreLines (generators : List (List ℕ)) (queries : List Query) (report : List ℕ) (undecided : Bool) : Type 0 where
+pub record AreLines (settings : Settings) (generators : List (List ℕ)) (queries : List Query) (report : List ℕ) (undecided : Bool) : Type 0 where
   pub answers : List Answer
-  pub correct : AreAnswers generators queries answers
+  pub correct : AreAnswers settings generators queries answers
   pub lines : report ≡ flat_map line_of answers
   pub status : undecided ≡ list_any is_undecided answers
 
 -- the report of the input
-pub record IsReport (input report : List ℕ) (undecided : Bool) : Type 0 where
+pub record IsReport (settings : Settings) (input report : List ℕ) (undecided : Bool) : Type 0 where
   pub script : Partial
   pub is_script : IsScript input script
-  pub are_lines : AreLines script.generators script.queries report undecided
+  pub are_lines : AreLines settings script.generators script.queries report undecided
 
 -- the sink gained the lines of these queries
-pub record GainsLines (generators : List (List ℕ)) (queries : List Query) (undecided : Bool) (old new : Option (List ℕ)) : Type 0 where
+pub record GainsLines (settings : Settings) (generators : List (List ℕ)) (queries : List Query) (undecided : Bool) (old new : Option (List ℕ)) : Type 0 where
   pub report : List ℕ
-  pub are_lines : AreLines generators queries report undecided
+  pub are_lines : AreLines settings generators queries report undecided
   pub gained : TakesAll old new report
 
 -- the sink gained the report of the input
-pub record GainsReport (input : List ℕ) (undecided : Bool) (old new : Option (List ℕ)) : Type 0 where
+pub record GainsReport (settings : Settings) (input : List ℕ) (undecided : Bool) (old new : Option (List ℕ)) : Type 0 where
   pub report : List ℕ
-  pub is_report : IsReport input report undecided
+  pub is_report : IsReport settings input report undecided
   pub gained : TakesAll old new report
 
 -- the sink gained a prefix of the lines of the first of these queries
-pub record GainsPart (generators : List (List ℕ)) (queries : List Query) (old new : Option (List ℕ)) : Type 0 where
+pub record GainsPart (settings : Settings) (generators : List (List ℕ)) (queries : List Query) (old new : Option (List ℕ)) : Type 0 where
   pub answers : List Answer
-  pub correct : AreFirstAnswers generators queries answers
+  pub correct : AreFirstAnswers settings generators queries answers
   pub gained : TakesPrefix old new (flat_map line_of answers)
 
 -- the sink gained a beginning of the report of the input
-pub record GainsBeginning (input : List ℕ) (old new : Option (List ℕ)) : Type 0 where
+pub record GainsBeginning (settings : Settings) (input : List ℕ) (old new : Option (List ℕ)) : Type 0 where
   pub script : Partial
   pub is_script : IsScript input script
-  pub part : GainsPart script.generators script.queries old new
+  pub part : GainsPart settings script.generators script.queries old new
 
 -- the sink gained this line, or a prefix of it where one of its two counts rose
 pub record GainsLine (line : List ℕ) (old new : Option (List ℕ)) (faults faults' refusals refusals' : ℕ) : Type 0 where

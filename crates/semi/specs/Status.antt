@@ -7,6 +7,8 @@ use Rattle.ports.specs.declared.fault.WriteFault.TheVariants as write
 use Rattle.query_lang.specs.Causes.{cause_text}
 use Rattle.query_lang.specs.declared.fault.ScriptFault.{ScriptFault}
 use Rattle.query_lang.specs.declared.fault.ScriptFault.TheVariants as script
+use Rattle.settings.specs.declared.SettingsFault.{SettingsFault}
+use Rattle.settings.specs.declared.SettingsFault.TheVariants as settings
 use Rattle.semi.specs.declared.fault.Fault.{Fault}
 use Rattle.semi.specs.declared.fault.Fault.TheVariants.{TooLong, Script, Arguments, Read, Write, NoMemory}
 
@@ -44,3 +46,7 @@ of_write write.NoMemory = NoMemory
 abbrev pub of_script : ScriptFault → Fault
 of_script (script.Bad line cause) = Script line cause
 of_script script.NoMemory = NoMemory
+
+abbrev pub of_settings : SettingsFault → Fault
+of_settings settings.Refused = Arguments
+of_settings settings.NoMemory = NoMemory

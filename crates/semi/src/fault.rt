@@ -2,12 +2,13 @@
 ghost use Rattle.std.specs.Prelude.{◌≡◌, ◌++◌, OnErr, OnOk, IsErrOf, codes};
 ghost use Rattle.ports.specs.Bytes.{Rose, TakesAll, TakesPrefix};
 ghost use Rattle.semi.specs.Report.{GainsLineOf};
-ghost use Rattle.semi.specs.Status.{line_of_fault, of_read, of_script, of_write, status_of, text_of};
+ghost use Rattle.semi.specs.Status.{line_of_fault, of_read, of_script, of_settings, of_write, status_of, text_of};
 ghost use Rattle.semi.specs.declared.fault.Fault.TheVariants as fault;
 
 use itoa::Buffer;
 use ports::{NoMemory, ReadFault, Sink, WriteFault, write_all};
 use query_lang::{ScriptFault, cause_text};
+use settings::SettingsFault;
 use std::alloc::AllocError;
 use thiserror::Error;
 
@@ -64,6 +65,17 @@ impl From<ScriptFault> for Fault {
         match fault {
             ScriptFault::Bad { line, cause } => Fault::Script { line, cause },
             ScriptFault::NoMemory => Fault::NoMemory,
+        }
+    }
+}
+
+impl From<SettingsFault> for Fault {
+    ghost from_gives = { λ f e. e ≡ of_settings f };
+
+    fn from(fault: SettingsFault) -> Fault {
+        match fault {
+            SettingsFault::Refused => Fault::Arguments,
+            SettingsFault::NoMemory => Fault::NoMemory,
         }
     }
 }

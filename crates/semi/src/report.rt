@@ -3,12 +3,14 @@ ghost use Rattle.std.specs.Prelude.{◌≡◌, ℕ, ◌<◌, ◌≤◌, Bool, Li
 ghost use Rattle.ports.specs.Bytes.{Rose, TakesPrefix};
 ghost use Rattle.semi.specs.Answer.{IsAnswer, IsIndex};
 ghost use Rattle.semi.specs.Report.{GainsBeginning, GainsLines, GainsPart, IsRefusal, IsReport, IsScript};
+ghost use Rattle.settings.specs.declared.Settings.{Settings};
 ghost use Rattle.semi.specs.Status.{status_of};
 
 use crate::answer::{Answer, index_of};
 use crate::fault::Fault;
 use ports::{NoMemory, Sink, Source, read_all, write_all};
 use query_lang::{Query, Script, read_script};
+use settings::Settings;
 use std::alloc::Global;
 
 /// The greatest length of a script, in bytes.
@@ -34,19 +36,20 @@ pub fn take_script<S: Source>(alloc: Global, source: &mut S) -> Result<Script, F
 // The answer of one query. The index is found at the first query, and known from then on.
 fn answer_of(
     alloc: Global,
+    settings: Settings,
     script: &Script,
     query: Query,
     known: &mut Option<Answer>,
 ) -> Result<Answer, NoMemory>
     requires some { 0 < length script.now.generators }
-    requires known { IfSome known.old (IsIndex script.now.generators) }
-    ensures answer { IfOk result (λ answer. IsAnswer script.now.generators query answer) }
-    ensures known { IfSome known.new (IsIndex script.now.generators) }
+    requires known { IfSome known.old (IsIndex settings script.now.generators) }
+    ensures answer { IfOk result (λ answer. IsAnswer settings script.now.generators query answer) }
+    ensures known { IfSome known.new (IsIndex settings script.now.generators) }
 {
     let Query::Index = query;
     let answer = match *known {
         Some(answer) => answer,
-        None => index_of(alloc, script.generators())?,
+        None => index_of(alloc, settings, script.generators())?,
     };
     *known = Some(answer);
     Ok(answer)
@@ -55,22 +58,23 @@ fn answer_of(
 // Writes the answer of one query, and tells whether it is undecided.
 fn write_answer<O: Sink>(
     alloc: Global,
+    settings: Settings,
     script: &Script,
     query: Query,
     known: &mut Option<Answer>,
     out: &mut O,
 ) -> Result<bool, Fault>
     requires some { 0 < length script.now.generators }
-    requires known { IfSome known.old (IsIndex script.now.generators) }
-    ensures known { IfSome known.new (IsIndex script.now.generators) }
-    ensures written { IfOk result (λ undecided. GainsLines script.now.generators (query ∷ []) undecided (O.taken out.old) (O.taken out.new)) }
-    ensures part { OnErr result (GainsPart script.now.generators (query ∷ []) (O.taken out.old) (O.taken out.new)) }
+    requires known { IfSome known.old (IsIndex settings script.now.generators) }
+    ensures known { IfSome known.new (IsIndex settings script.now.generators) }
+    ensures written { IfOk result (λ undecided. GainsLines settings script.now.generators (query ∷ []) undecided (O.taken out.old) (O.taken out.new)) }
+    ensures part { OnErr result (GainsPart settings script.now.generators (query ∷ []) (O.taken out.old) (O.taken out.new)) }
     ensures write { IsErrOf result Fault.Write → Rose (O.faults out.old) (O.faults out.new) }
     ensures only { IfErr result (λ fault. 5 ≤ status_of fault) }
     ensures kept { O.faults out.old ≤ O.faults out.new }
     ensures quiet { OnOk result (O.faults out.new ≡ O.faults out.old) }
 {
-    let answer = answer_of(alloc, script, query, known)?;
+    let answer = answer_of(alloc, settings, script, query, known)?;
     let line = answer.line(alloc)?;
     write_all(out, line.as_slice())?;
     Ok(answer.is_undecided())
@@ -78,10 +82,15 @@ fn write_answer<O: Sink>(
 
 /// Writes the report of a script, and tells whether an answer is undecided. Refused with `Write`
 /// where the sink failed, else with `NoMemory`; the sink has then gained a beginning of the report.
-pub fn write_report<O: Sink>(alloc: Global, script: &Script, out: &mut O) -> Result<bool, Fault>
+pub fn write_report<O: Sink>(
+    alloc: Global,
+    settings: Settings,
+    script: &Script,
+    out: &mut O,
+) -> Result<bool, Fault>
     requires { 0 < length script.now.generators }
-    ensures written { IfOk result (λ undecided. GainsLines script.now.generators script.now.queries undecided (O.taken out.old) (O.taken out.new)) }
-    ensures part { OnErr result (GainsPart script.now.generators script.now.queries (O.taken out.old) (O.taken out.new)) }
+    ensures written { IfOk result (λ undecided. GainsLines settings script.now.generators script.now.queries undecided (O.taken out.old) (O.taken out.new)) }
+    ensures part { OnErr result (GainsPart settings script.now.generators script.now.queries (O.taken out.old) (O.taken out.new)) }
     ensures write { IsErrOf result Fault.Write → Rose (O.faults out.old) (O.faults out.new) }
     ensures only { IfErr result (λ fault. 5 ≤ status_of fault) }
     ensures kept { O.faults out.old ≤ O.faults out.new }
@@ -90,19 +99,19 @@ pub fn write_report<O: Sink>(alloc: Global, script: &Script, out: &mut O) -> Res
     let mut known = None;
     let mut undecided = false;
     for query in script.queries() {
-        undecided |= write_answer(alloc, script, *query, &mut known, out)?;
+        undecided |= write_answer(alloc, settings, script, *query, &mut known, out)?;
     }
     Ok(undecided)
 }
 
-/// The report is a function of the input alone: an input has one report, and one status.
+/// The report is a function of the settings and the input alone: they have one report, and one status.
 pub fn report_is_one()
-    ensures { (input report other : List ℕ) (undecided others : Bool) → IsReport input report undecided → IsReport input other others
+    ensures { (settings : Settings) (input report other : List ℕ) (undecided others : Bool) → IsReport settings input report undecided → IsReport settings input other others
         → (report ≡ other) × (undecided ≡ others) }
 {}
 
 /// A beginning of the report that a sink gained is a prefix of the report.
 pub fn beginning_is_prefix()
-    ensures { (input report : List ℕ) (undecided : Bool) (old new : Option (List ℕ)) → IsReport input report undecided → GainsBeginning input old new
+    ensures { (settings : Settings) (input report : List ℕ) (undecided : Bool) (old new : Option (List ℕ)) → IsReport settings input report undecided → GainsBeginning settings input old new
         → TakesPrefix old new report }
 {}

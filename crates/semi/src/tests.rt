@@ -36,14 +36,14 @@ const NONE: Failing = Failing {
 // A run on a script that is read in pieces of 8 bytes and written in pieces of 5.
 fn run<R: Threads + Sync + AllocGlobal>(
     rt: &R,
-    words: u8,
+    words: &[&str],
     script: &[u8],
     failing: Failing,
 ) -> Result<Outcome, Fail> {
     let alloc = rt.alloc();
     let mut line = Vec::new(alloc);
-    for _ in 0..words {
-        line.push(String::from_str(alloc, "semi")?)?;
+    for word in words {
+        line.push(String::from_str(alloc, word)?)?;
     }
     let mut source = MemSource::new(script.to_vec(alloc)?, 8, vec![in alloc; failing.read]?);
     let mut out = MemSink::new(alloc, 5, vec![in alloc; failing.write]?);
@@ -84,7 +84,7 @@ fn scripts_get_their_status_and_line(rt: HostRuntime) -> Result<(), Fail> {
         ),
         ("trans 2\n", 2, "", "semi: line 2: no generator\n"),
     ] {
-        let ended = run(&rt, 1, script.as_bytes(), NONE)?;
+        let ended = run(&rt, &["semi"], script.as_bytes(), NONE)?;
         assert_eq!(rt; ended.status, status, "{script}");
         assert_eq!(rt; ended.out.as_slice(), out.as_bytes(), "{script}");
         assert_eq!(rt; ended.err.as_slice(), err.as_bytes(), "{script}");
@@ -112,7 +112,7 @@ fn examples_give_their_output(rt: HostRuntime) -> Result<(), Fail> {
             "undecided\n",
         ),
     ] {
-        let ended = run(&rt, 1, script.as_bytes(), NONE)?;
+        let ended = run(&rt, &["semi"], script.as_bytes(), NONE)?;
         assert_eq!(rt; ended.status, status, "{script}");
         assert_eq!(rt; ended.out.as_slice(), out.as_bytes(), "{script}");
     }
@@ -122,18 +122,35 @@ fn examples_give_their_output(rt: HostRuntime) -> Result<(), Fail> {
 #[test]
 fn failures_of_the_outside_are_told(rt: HostRuntime) -> Result<(), Fail> {
     // the script is read by seven calls and one that finds its end, and each line is written by two
+    const NAME: &[&str] = &["semi"];
     for (words, read, write, tell, status, out, err) in [
-        (0u8, 0u64, 0u64, 0u64, 0u8, "index 27\nindex 27\n", ""),
-        (1, 9, 5, 1, 0, "index 27\nindex 27\n", ""),
-        (2, 1, 1, 0, 3, "", "semi: arguments refused\n"),
-        (1, 1, 1, 0, 4, "", "semi: cannot read input\n"),
-        (1, 2, 0, 0, 4, "", "semi: cannot read input\n"),
-        (1, 8, 0, 0, 4, "", "semi: cannot read input\n"),
-        (1, 0, 1, 0, 5, "", "semi: cannot write output\n"),
-        (1, 0, 2, 0, 5, "index", "semi: cannot write output\n"),
-        (1, 0, 3, 0, 5, "index 27\n", "semi: cannot write output\n"),
         (
-            1,
+            &[] as &[&str],
+            0u64,
+            0u64,
+            0u64,
+            0u8,
+            "index 27\nindex 27\n",
+            "",
+        ),
+        (NAME, 9, 5, 1, 0, "index 27\nindex 27\n", ""),
+        (&["semi", "x"], 1, 1, 0, 3, "", "semi: arguments refused\n"),
+        (NAME, 1, 1, 0, 4, "", "semi: cannot read input\n"),
+        (NAME, 2, 0, 0, 4, "", "semi: cannot read input\n"),
+        (NAME, 8, 0, 0, 4, "", "semi: cannot read input\n"),
+        (NAME, 0, 1, 0, 5, "", "semi: cannot write output\n"),
+        (NAME, 0, 2, 0, 5, "index", "semi: cannot write output\n"),
+        (
+            NAME,
+            0,
+            3,
+            0,
+            5,
+            "index 27\n",
+            "semi: cannot write output\n",
+        ),
+        (
+            NAME,
             0,
             4,
             0,
@@ -141,21 +158,87 @@ fn failures_of_the_outside_are_told(rt: HostRuntime) -> Result<(), Fail> {
             "index 27\nindex",
             "semi: cannot write output\n",
         ),
-        (1, 2, 0, 1, 4, "", ""),
-        (1, 0, 3, 2, 5, "index 27\n", "semi:"),
+        (NAME, 2, 0, 1, 4, "", ""),
+        (NAME, 0, 3, 2, 5, "index 27\n", "semi:"),
     ] {
         let ended = run(&rt, words, MAPS.as_bytes(), Failing { read, write, tell })?;
-        assert_eq!(rt; ended.status, status, "{words} {read} {write} {tell}");
+        assert_eq!(rt; ended.status, status, "{read} {write} {tell}");
         assert_eq!(rt;
             ended.out.as_slice(),
             out.as_bytes(),
-            "{words} {read} {write} {tell}"
+            "{read} {write} {tell}"
         );
         assert_eq!(rt;
             ended.err.as_slice(),
             err.as_bytes(),
-            "{words} {read} {write} {tell}"
+            "{read} {write} {tell}"
         );
+    }
+    Ok(())
+}
+
+#[test]
+fn options_set_the_bounds(rt: HostRuntime) -> Result<(), Fail> {
+    const REFUSED: &str = "semi: arguments refused\n";
+    let cases: [(&[&str], u8, &str, &str); 12] = [
+        (
+            &["semi", "--elements", "26"],
+            1,
+            "undecided\nundecided\n",
+            "",
+        ),
+        (&["semi", "--elements", "27"], 0, "index 27\nindex 27\n", ""),
+        (
+            &["semi", "--elements=27", "--classes=27"],
+            0,
+            "index 27\nindex 27\n",
+            "",
+        ),
+        (
+            &["semi", "--classes", "26"],
+            0,
+            "index over 26\nindex over 26\n",
+            "",
+        ),
+        (
+            &["semi", "--classes", "0"],
+            0,
+            "index over 0\nindex over 0\n",
+            "",
+        ),
+        (
+            &["semi", "--classes", "0", "--elements", "26"],
+            1,
+            "undecided\nundecided\n",
+            "",
+        ),
+        (
+            &["semi", "--elements", "0"],
+            1,
+            "undecided\nundecided\n",
+            "",
+        ),
+        (
+            &["semi", "--elements", "10000000"],
+            0,
+            "index 27\nindex 27\n",
+            "",
+        ),
+        (&["semi", "--elements", "10000001"], 3, "", REFUSED),
+        (&["semi", "--workers", "0"], 3, "", REFUSED),
+        (&["semi", "--help"], 3, "", REFUSED),
+        (
+            &["semi", "--elements", "1", "--elements", "1"],
+            3,
+            "",
+            REFUSED,
+        ),
+    ];
+    for (i, (words, status, out, err)) in cases.iter().enumerate() {
+        let ended = run(&rt, words, MAPS.as_bytes(), NONE)?;
+        assert_eq!(rt; ended.status, *status, "case {i}");
+        assert_eq!(rt; ended.out.as_slice(), out.as_bytes(), "case {i}");
+        assert_eq!(rt; ended.err.as_slice(), err.as_bytes(), "case {i}");
     }
     Ok(())
 }
@@ -168,9 +251,9 @@ fn long_scripts_are_refused(rt: HostRuntime) -> Result<(), Fail> {
     for _ in script.len()..1_048_576 {
         script.push(b'#')?;
     }
-    assert_eq!(rt; run(&rt, 1, script.as_slice(), NONE)?.status, 0);
+    assert_eq!(rt; run(&rt, &["semi"], script.as_slice(), NONE)?.status, 0);
     script.push(b'#')?;
-    let ended = run(&rt, 1, script.as_slice(), NONE)?;
+    let ended = run(&rt, &["semi"], script.as_slice(), NONE)?;
     assert_eq!(rt; ended.status, 2);
     assert_eq!(rt; ended.err.as_slice(), b"semi: script too long\n".as_slice());
     Ok(())

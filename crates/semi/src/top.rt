@@ -1,14 +1,17 @@
 // The whole program, over words, a source and two sinks.
-ghost use Rattle.std.specs.Prelude.{◌≡◌, ◌<◌, ◌≤◌, ◌↔◌, ◌⊎◌, true, false, IfErr, IfOk, IfSome, IsErrOf, OnErr, OnOk, length, vec_len};
+ghost use Rattle.std.specs.Prelude.{◌≡◌, ◌≤◌, ◌⊎◌, true, false, IfErr, IfOk, IfSome, IsErrOf, OnOk, map, string_bytes};
 ghost use Rattle.ports.specs.Bytes.{Rose};
 ghost use Rattle.semi.specs.Report.{GainsBeginning, GainsLineOf, GainsReport, IsRefusal, IsRefused, IsScript};
 ghost use Rattle.query_lang.specs.Script.{Partial};
+ghost use Rattle.semi.specs.Settings.{Under};
+ghost use Rattle.settings.specs.Settings.{AreAccepted, AreRefused};
 ghost use Rattle.semi.specs.Status.{status_of};
 ghost use Rattle.semi.specs.declared.fault.Fault.{Fault};
 
 use crate::fault::Fault;
 use crate::report::{take_script, write_report};
 use ports::{Sink, Source};
+use settings::settings_of;
 use std::alloc::Global;
 use std::thread::Threads;
 
@@ -19,30 +22,29 @@ fn run<S: Source, O: Sink>(
     source: &mut S,
     out: &mut O,
 ) -> Result<bool, Fault>
-    ensures reported { IfOk result (λ undecided. IfSome (S.left source.old) (λ input. GainsReport input undecided (O.taken out.old) (O.taken out.new))) }
-    ensures arguments { IsErrOf result Fault.Arguments ↔ (1 < vec_len words.now) }
+    ensures reported { IfOk result (λ undecided. Under (map string_bytes words.now.items) (λ settings. IfSome (S.left source.old) (λ input. GainsReport settings input undecided (O.taken out.old) (O.taken out.new)))) }
+    ensures arguments { IsErrOf result Fault.Arguments → AreRefused (map string_bytes words.now.items) }
+    ensures rejected { AreRefused (map string_bytes words.now.items) → IfErr result (λ fault. (fault ≡ Fault.Arguments) ⊎ (fault ≡ Fault.NoMemory)) }
     ensures refused { IfErr result (λ fault. status_of fault ≡ 2 → IfSome (S.left source.old) (λ input. IsRefusal input fault)) }
     ensures read { IsErrOf result Fault.Read → Rose (S.faults source.old) (S.faults source.new) }
     ensures write { IsErrOf result Fault.Write → Rose (O.faults out.old) (O.faults out.new) }
-    ensures beginning { IsErrOf result Fault.Write → IfSome (S.left source.old) (λ input. GainsBeginning input (O.taken out.old) (O.taken out.new)) }
-    ensures memory { IsErrOf result Fault.NoMemory → (out.new ≡ out.old) ⊎ IfSome (S.left source.old) (λ input. GainsBeginning input (O.taken out.old) (O.taken out.new)) }
+    ensures beginning { IsErrOf result Fault.Write → Under (map string_bytes words.now.items) (λ settings. IfSome (S.left source.old) (λ input. GainsBeginning settings input (O.taken out.old) (O.taken out.new))) }
+    ensures memory { IsErrOf result Fault.NoMemory → (out.new ≡ out.old) ⊎ Under (map string_bytes words.now.items) (λ settings. IfSome (S.left source.old) (λ input. GainsBeginning settings input (O.taken out.old) (O.taken out.new))) }
     ensures out_untouched { IfErr result (λ fault. status_of fault ≤ 4 → out.new ≡ out.old) }
     ensures source_untouched { IsErrOf result Fault.Arguments → source.new ≡ source.old }
     ensures quiet { OnOk result ((S.faults source.new ≡ S.faults source.old) × (O.faults out.new ≡ O.faults out.old)) }
     ensures quiet_refused { IfErr result (λ fault. status_of fault ≡ 2 → S.faults source.new ≡ S.faults source.old) }
 {
-    if words.len() > 1 {
-        return Err(Fault::Arguments);
-    }
+    let settings = settings_of(alloc, words)?;
     let script = take_script(alloc, source)?;
-    write_report(alloc, &script, out)
+    write_report(alloc, settings, &script, out)
 }
 
 /// The program: reads the source as a script and writes its report to `out`; gives the status.
 ///
 /// - 0: the whole report was written, and no answer is undecided. 1: the same, with one at least.
 /// - 2: the input, read in full, is longer than 1,048,576 bytes, or a line of it is faulty.
-/// - 3: a word follows the program's name; nothing is read.
+/// - 3: the words are not those of the command; nothing is read.
 /// - 4: the source failed. 5: `out` failed. 6: memory is wanting.
 ///
 /// `err` gets one line at the statuses from 2 on; at 2 it tells the first faulty line and its cause. `words` begins with the program's name.
@@ -55,12 +57,12 @@ pub fn semi<R: Threads + Sync, S: Source, O: Sink, E: Sink>(
     err: &mut E,
 ) -> u8
     // the whole report, at 1 with an undecided answer
-    ensures decided { result ≡ 0 → IfSome (S.left source.old) (λ input. GainsReport input false (O.taken out.old) (O.taken out.new)) }
-    ensures undecided { result ≡ 1 → IfSome (S.left source.old) (λ input. GainsReport input true (O.taken out.old) (O.taken out.new)) }
+    ensures decided { result ≡ 0 → Under (map string_bytes words.now.items) (λ settings. IfSome (S.left source.old) (λ input. GainsReport settings input false (O.taken out.old) (O.taken out.new))) }
+    ensures undecided { result ≡ 1 → Under (map string_bytes words.now.items) (λ settings. IfSome (S.left source.old) (λ input. GainsReport settings input true (O.taken out.old) (O.taken out.new))) }
 
     // each other status has its cause
     ensures refused { result ≡ 2 → IfSome (S.left source.old) IsRefused }
-    ensures arguments { (result ≡ 3) ↔ (1 < vec_len words.now) }
+    ensures arguments { result ≡ 3 → AreRefused (map string_bytes words.now.items) }
     ensures read { result ≡ 4 → Rose (S.faults source.old) (S.faults source.new) }
     ensures write { result ≡ 5 → Rose (O.faults out.old) (O.faults out.new) }
     ensures range { result ≤ 6 }
@@ -71,16 +73,19 @@ pub fn semi<R: Threads + Sync, S: Source, O: Sink, E: Sink>(
     // what the source and the sinks are left with
     ensures source_untouched { result ≡ 3 → source.new ≡ source.old }
     ensures out_untouched { 2 ≤ result → result ≤ 4 → out.new ≡ out.old }
-    ensures beginning { result ≡ 5 → IfSome (S.left source.old) (λ input. GainsBeginning input (O.taken out.old) (O.taken out.new)) }
-    ensures memory { result ≡ 6 → (out.new ≡ out.old) ⊎ IfSome (S.left source.old) (λ input. GainsBeginning input (O.taken out.old) (O.taken out.new)) }
+    ensures beginning { result ≡ 5 → Under (map string_bytes words.now.items) (λ settings. IfSome (S.left source.old) (λ input. GainsBeginning settings input (O.taken out.old) (O.taken out.new))) }
+    ensures memory { result ≡ 6 → (out.new ≡ out.old) ⊎ Under (map string_bytes words.now.items) (λ settings. IfSome (S.left source.old) (λ input. GainsBeginning settings input (O.taken out.old) (O.taken out.new))) }
     ensures told { 2 ≤ result → (fault : Fault) × (result ≡ status_of fault) × (result ≡ 2 → IfSome (S.left source.old) (λ input. IsRefusal input fault))
         × GainsLineOf fault (E.taken err.old) (E.taken err.new) (E.faults err.old) (E.faults err.new) (E.refusals err.old) (E.refusals err.new) }
     ensures err_untouched { result ≤ 1 → err.new ≡ err.old }
 
+    // words that are refused give 3, or memory is wanting
+    ensures rejects { AreRefused (map string_bytes words.now.items) → (result ≡ 3) ⊎ (result ≡ 6) }
+
     // where nothing fails, a refused input gives 2, and a script its whole report, or memory is wanting
-    ensures refuses { vec_len words.now ≤ 1 → (Rose (S.faults source.old) (S.faults source.new) → ⊥)
+    ensures refuses { AreAccepted (map string_bytes words.now.items) → (Rose (S.faults source.old) (S.faults source.new) → ⊥)
         → IfSome (S.left source.old) (λ input. IsRefused input → (result ≡ 2) ⊎ (result ≡ 6)) }
-    ensures answers { vec_len words.now ≤ 1 → (Rose (S.faults source.old) (S.faults source.new) → ⊥) → (Rose (O.faults out.old) (O.faults out.new) → ⊥)
+    ensures answers { AreAccepted (map string_bytes words.now.items) → (Rose (S.faults source.old) (S.faults source.new) → ⊥) → (Rose (O.faults out.old) (O.faults out.new) → ⊥)
         → IfSome (S.left source.old) (λ input. (script : Partial) → IsScript input script → (result ≤ 1) ⊎ (result ≡ 6)) }
 {
     match run(alloc, words, source, out) {

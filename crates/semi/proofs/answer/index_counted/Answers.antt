@@ -9,6 +9,6 @@ pub returns : goal.returns
 returns g c =
     let generators : List (List ℕ) = c.args.generators.now.items in
     let table = c.in-Whole.table in
-    table_answer generators table.1 table.0 c.len.result c.answer_at.result
+    table_answer c.args.settings generators table.words table.elements c.len.result c.answer_at.result
     (c.in_ok-run.ensures.table table (ap Ok c.in-Whole.is) []) ((c.in_ok-run.ensures.whole []).0 (table, c.in-Whole.is))
     c.len.ensures c.answer_at.ensures.small c.answer_at.ensures.large

@@ -1,0 +1,129 @@
+-- What the numbers of products mean.
+use Rattle.std.proofs.Common.{◌≡◌, ℕ, zero, suc, ◌+◌, ◌*◌, ◌<◌, ◌≤◌, ◌/◌, ◌%◌, Bool, false, List, [], ◌∷◌, ◌++◌, length, get_or, fold, None, refl, sym, ap, subst, subst₂, ◌∙◌, arith, inl, inr, append_assoc, append-nil, add-one, div-add-mod', mod-lt}
+use Rattle.theory.specs.Word.{Word, IsOver, IsElement}
+use Rattle.theory.specs.Class.{IsLeast}
+use Rattle.froidure_pin.specs.Found.{AreFactors, parent, entry, words_of}
+use Rattle.froidure_pin.specs.Numbering.{TableOf, IsNumbering, AreParts, AreRows, AreLeftRows, right_number, left_number, letter_number, number_of}
+use Rattle.froidure_pin.proofs.Order.{below_or_not, equal_or_below}
+use Rattle.froidure_pin.proofs.Places.{row_below}
+use Rattle.froidure_pin.proofs.Factors.{factor_word, words_length}
+use Rattle.froidure_pin.proofs.Starts.{start_ascending, start_has, ascending_between, in_at, values_length}
+use Rattle.froidure_pin.proofs.Search.{IsSetting, R, Number, Val, Found, r_sym, r_trans, r_right}
+
+module _ {V : Type 0} {shape : V → ℕ × ℕ} {product : V → V → V} {equal : V → V → Bool} {generators : List V} (setting : IsSetting shape product equal generators) (unused : V) where
+  -- once every row is full
+  pub full_rows : (factors : List (ℕ × ℕ)) (elements : List V) (right : List ℕ) (i : ℕ) → Found setting unused (words_of factors) elements right i 0 → length elements < i → i ≤ length elements + 1
+      → length right ≡ (length factors + 1) * length generators
+  full_rows factors elements right i f end reached =
+      let same : i ≡ length factors + 1 = omega (arith, words_length factors, values_length equal (Val setting unused) (words_of factors) elements f.values) in
+      let rows : i * length generators ≡ (length factors + 1) * length generators = ap (λ n. n * length generators) same in
+      omega (arith, f.count, rows)
+
+  pub right_rows : (factors : List (ℕ × ℕ)) (elements : List V) (right : List ℕ) (i : ℕ) → 0 < length generators → Found setting unused (words_of factors) elements right i 0 → length elements < i → i ≤ length elements + 1
+      → AreRows (length generators) (length factors) right
+  right_rows factors elements right i some f end reached = record {
+    count = full_rows factors elements right i f end reached;
+    within = λ p h.
+        let k : ℕ = length generators in
+        let place : p / k * k + p % k ≡ p = div-add-mod' p k in
+        let letter : p % k < k = mod-lt p some in
+        let number = f.numbers (p / k) (p % k) letter (omega arith) in
+        subst (λ q. get_or right q 0 < length factors) place (omega (arith, number.0, words_length factors));
+  }
+
+  module _ (factors : List (ℕ × ℕ)) (elements : List V) (right left : List ℕ) (i : ℕ) (known : AreFactors (length generators) factors) (rows : AreLeftRows (length generators) factors right left (length factors))
+      (f : Found setting unused (words_of factors) elements right i 0) (full : length right ≡ (length factors + 1) * length generators) where
+    abbrev k : ℕ
+    k = length generators
+
+    abbrev words : List Word
+    words = words_of factors
+
+    abbrev table : TableOf V
+    table = record { elements = elements; words = words; letters = k; right = right; left = left }
+
+    right_at : (j b : ℕ) → j ≤ length words → b < k → Number setting unused words (entry k right j b) (parent words j ++ b ∷ [])
+    right_at j b h l = f.numbers j b l (let row = row_below k j (length factors + 1) b (omega (arith, words_length factors)) l in omega (arith, full))
+
+    -- the number of a word with one letter more
+    right_step : (m : ℕ) (w : Word) (b : ℕ) → Number setting unused words m w → b < k → Number setting unused words (right_number table m b) (w ++ b ∷ [])
+    right_step m w b h l =
+        let next = right_at (m + 1) b (omega (arith, h.0)) l in
+        let at_next : parent words (m + 1) ≡ get_or words m [] = rw add-one refl in
+        let word : Word = get_or words (right_number table m b) [] in
+        let related = subst (λ u. R setting unused (u ++ b ∷ []) word) at_next next.1 in
+        (next.0, r_trans setting unused (w ++ b ∷ []) (get_or words m [] ++ b ∷ []) word (r_right setting unused w (get_or words m []) b h.1 l) related)
+
+    single : (a : ℕ) → a < k → Number setting unused words (letter_number table a) (a ∷ [])
+    single a h = let place : 0 * k + a ≡ a = omega arith in subst (λ p. Number setting unused words (get_or right p 0) (a ∷ [])) place (right_at 0 a (omega arith) h)
+
+    walk : (u : Word) (m : ℕ) (w : Word) → Number setting unused words m w → IsOver k u → Number setting unused words (fold (right_number table) m u) (w ++ u)
+    walk [] m w h over = subst (λ v. Number setting unused words m v) (sym (append-nil w)) h
+    walk (b ∷ u) m w h over = subst (λ v. Number setting unused words (fold (right_number table) (right_number table m b) u) v) (append_assoc w (b ∷ []) u) (walk u (right_number table m b) (w ++ b ∷ []) (right_step m w b h over.0) over.1)
+
+    every : (u : Word) → IsElement false k u → Number setting unused words (number_of table u) u
+    every [] h = absurd (h.0 refl)
+    every (a ∷ u) h = walk u (letter_number table a) (a ∷ []) (single a h.1.0) h.1.1
+
+    -- a letter times a word: times the word's parent, and then times the last letter
+    left_at : (n j a : ℕ) → j ≤ n → j ≤ length words → a < k → Number setting unused words (entry k left j a) (a ∷ parent words j)
+    left_at n zero a e h l =
+        let place : 0 * k + a ≡ a = omega arith in
+        let same : entry k left 0 a ≡ letter_number table a = ap (λ p. get_or left p 0) place ∙ rows.first a l in
+        subst (λ m. Number setting unused words m (a ∷ [])) (sym same) (single a l)
+    left_at zero (suc j) a e h l = absurd (omega arith)
+    left_at (suc n) (suc j) a e h l =
+        let inside : j < length factors = omega (arith, words_length factors) in
+        let p : ℕ × ℕ = get_or factors j (0, 0) in
+        let early : p.0 ≤ j = known.earlier j inside in
+        let before = left_at n p.0 a (omega arith) (omega (arith, words_length factors)) l in
+        let here = right_step (entry k left p.0 a) (a ∷ parent words p.0) p.1 before (known.letter j inside) in
+        let next : entry k left (suc j) a ≡ entry k right (entry k left p.0 a + 1) p.1 = let one : j + 1 ≡ suc j = omega arith in subst (λ q. entry k left q a ≡ entry k right (entry k left p.0 a + 1) p.1) one (rows.next j a inside l) in
+        let word : a ∷ get_or words j [] ≡ (a ∷ parent words p.0) ++ p.1 ∷ [] = ap (λ u. a ∷ u) (factor_word k factors known j inside) in
+        subst₂ (λ m u. Number setting unused words m u) (sym next) (sym word) here
+
+    least_at : (j : ℕ) → j < length words → IsLeast (R setting unused) (get_or words j [])
+    least_at j h = start_has (IsLeast (R setting unused)) None words f.start (get_or words j []) (in_at words j [] h)
+
+    later_apart : (j l : ℕ) → j < l → l < length words → R setting unused (get_or words j []) (get_or words l []) → ⊥
+    later_apart j l less h r = (least_at l h).none_less (get_or words j []) (r_sym setting unused (get_or words j []) (get_or words l []) r) (ascending_between None words (start_ascending (IsLeast (R setting unused)) None words f.start) j l less h)
+
+    pub numbering : IsNumbering product equal generators unused table
+    numbering = record {
+      letters = refl;
+      numbered = record {
+        elements = λ j h. (least_at j h).element.left;
+        all = λ u h. (number_of table u, every u h);
+        distinct = λ j l hj hl r. elim (below_or_not j l) [
+          | inl less ↦ absurd (later_apart j l less hl r)
+          | inr le ↦ elim (equal_or_below l j le) [ inl e ↦ sym e | inr less ↦ absurd (later_apart l j less hj (r_sym setting unused (get_or words j []) (get_or words l []) r)) ]
+        ];
+        on_right = λ j a h l. let at_next : parent words (j + 1) ≡ get_or words j [] = rw add-one refl in subst (λ u. Number setting unused words (right_number table j a) (u ++ a ∷ [])) at_next (right_at (j + 1) a (omega arith) l);
+        on_left = λ j a h l. let at_next : parent words (j + 1) ≡ get_or words j [] = rw add-one refl in subst (λ u. Number setting unused words (left_number table j a) (a ∷ u)) at_next (left_at (j + 1) (j + 1) a (omega arith) (omega arith) l);
+      };
+      single = single;
+      every = every;
+    }
+
+  -- the table at the end
+  pub numbering_as : (factors : List (ℕ × ℕ)) (elements : List V) (right left : List ℕ) (i letters : ℕ) → letters ≡ length generators → AreFactors (length generators) factors → AreLeftRows letters factors right left (length factors)
+      → Found setting unused (words_of factors) elements right i 0 → length elements < i → i ≤ length elements + 1
+      → IsNumbering product equal generators unused (record { elements = elements; words = words_of factors; letters = letters; right = right; left = left })
+  numbering_as factors elements right left i letters same known rows f end reached =
+      subst (λ n. IsNumbering product equal generators unused (record { elements = elements; words = words_of factors; letters = n; right = right; left = left })) (sym same)
+      (numbering factors elements right left i known (subst (λ n. AreLeftRows n factors right left (length factors)) same rows) f (full_rows factors elements right i f end reached))
+
+  -- and what its parts have in common
+  pub parts : (factors : List (ℕ × ℕ)) (elements : List V) (right left : List ℕ) (i letters : ℕ) → letters ≡ length generators → length generators ≤ 256 → 0 < length generators → AreFactors (length generators) factors
+      → AreLeftRows letters factors right left (length factors) → Found setting unused (words_of factors) elements right i 0 → length elements < i → i ≤ length elements + 1
+      → AreParts letters (length elements) factors right left
+  parts factors elements right left i letters same few some known rows f end reached =
+      let many : length factors ≡ length elements = omega (arith, words_length factors, values_length equal (Val setting unused) (words_of factors) elements f.values) in
+      record {
+        some = omega arith;
+        few = omega arith;
+        count = many;
+        known = subst (λ n. AreFactors n factors) (sym same) known;
+        on_right = subst₂ (λ n m. AreRows n m right) (sym same) many (right_rows factors elements right i some f end reached);
+        on_left = subst (λ m. AreRows letters m left) many (record { count = rows.count; within = rows.within });
+      }

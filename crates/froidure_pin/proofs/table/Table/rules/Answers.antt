@@ -1,0 +1,17 @@
+use Rattle.std.proofs.Common.{ℕ, List, length, sym, subst}
+use Rattle.theory.specs.Class.{IsRuleList}
+use Rattle.theory.specs.Value.{SameValue}
+use Rattle.froidure_pin.specs.Found.{value_by}
+use Rattle.froidure_pin.specs.Numbering.{AreRows}
+use Rattle.froidure_pin.specs.Rules.{IsWholeTable}
+use Rattle.froidure_pin.proofs.WholeTables.{ok_map, whole_rules}
+use Rattle.froidure_pin.proofs.table.Table.rules.Goals as goal
+
+pub returns : goal.returns
+returns g c =
+    let factors : List (ℕ × ℕ) = c.self.inside.factors.items in
+    let right : List ℕ = c.self.inside.right.items in
+    let rows = subst (λ n. AreRows c.self.inside.letters n right) (sym c.self.invariant.count) c.self.invariant.on_right in
+    ok_map _ _ c.rules_of.result (λ rules e generators unused whole.
+    let here = subst (λ t. IsWholeTable g.E.Element.shape g.E.Element.product g.E.PartialEq.eq generators unused t) (sym c.self.view_is) whole in
+    subst (λ xs. IsRuleList (SameValue (length generators) g.E.PartialEq.eq (value_by g.E.Element.product generators unused)) xs) (sym e) (whole_rules g.met.E.Element.products g.met.E.Element.one_shape generators unused factors c.self.inside.elements.keys right c.self.inside.left.items c.in_ok-suffixes.suffixes.items c.self.inside.letters here c.self.invariant.known rows c.in_ok-suffixes.ensures c.self.invariant.some)) c.rules_of.ensures

@@ -1,0 +1,50 @@
+// A table read out.
+ghost use Rattle.std.specs.Prelude.{◌≡◌, ◌+◌, ◌*◌, ◌≤◌, length, IfOk};
+ghost use Rattle.froidure_pin.specs.Found.{entry};
+ghost use Rattle.froidure_pin.specs.Numbering.{AreRows, AreRowsBy, IsRowBy};
+
+use super::lists::{Numbers, Rows, Words};
+use ports::NoMemory;
+use std::alloc::Global;
+
+/// The words of a table, its right and its left Cayley graph, and the numbers of its letters. A graph
+/// has a row for each element, and in it a number for each letter.
+#[derive(Drop)]
+pub struct CayleyTables {
+    pub words: Words,
+    pub right: Rows,
+    pub left: Rows,
+    pub letters: Numbers,
+}
+
+// The row of a parent.
+pub(crate) fn row_of(
+    alloc: Global,
+    letters: usize,
+    numbers: &Vec<usize>,
+    parent: usize,
+) -> Result<Numbers, NoMemory>
+    requires { (parent + 1) * letters ≤ length numbers.now.items }
+    ensures { IfOk result (λ row. IsRowBy letters (entry letters numbers.now.items parent) row) }
+{
+    let from = parent * letters;
+    let row = Vec::from_slice(alloc, &numbers[from..from + letters])?;
+    Ok(Numbers::from_vec(row))
+}
+
+// The rows of the elements.
+pub(crate) fn element_rows(
+    alloc: Global,
+    letters: usize,
+    numbers: &Vec<usize>,
+    count: usize,
+) -> Result<Rows, NoMemory>
+    requires { AreRows letters count numbers.now.items }
+    ensures { IfOk result (λ rows. AreRowsBy count letters (λ i. entry letters numbers.now.items (i + 1)) rows) }
+{
+    let mut rows = Vec::new(alloc);
+    for number in 0..count {
+        rows.push(row_of(alloc, letters, numbers, number + 1)?)?;
+    }
+    Ok(Rows::from_vec(rows))
+}
