@@ -1,3 +1,4 @@
 pub mod Faultless
 pub mod Numbers
 pub mod Semi
+pub mod OneReading

@@ -35,7 +35,7 @@ or_name (word ∷ rest) = word ∷ rest
 abbrev pub AreAccepted : List Text → Type 0
 AreAccepted words = takes semi_app (or_name words) ≡ true
 
--- clap takes other words only
+-- clap does not take these words
 abbrev pub AreRefused : List Text → Type 0
 AreRefused words = takes semi_app (or_name words) ≡ false
 

@@ -1,8 +1,8 @@
 //! What the command line asks for.
 #![tactic(auto)]
 
-ghost use Rattle.std.specs.Prelude.{◌≡◌, ◌≢◌, ◌≤◌, true, false, map, IfOk, IsErrOf, string_bytes};
-ghost use Rattle.clap.specs.Words.{app_of, found_of, kind_of, matches_of, rows_of, rule_of, takes};
+ghost use Rattle.std.specs.Prelude.{◌≡◌, ◌≢◌, ◌≤◌, true, false, List, map, IfOk, IsErrOf, string_bytes};
+ghost use Rattle.clap.specs.Words.{Text, app_of, found_of, kind_of, matches_of, rows_of, rule_of, takes};
 ghost use Rattle.clap.specs.declared.error.kind.ErrorKind.TheVariants.{OutOfMemory};
 ghost use Rattle.settings.specs.Settings.{AreRefused, HasNumber, HasNumbers, Reads, number_in, number_rule, or_name, semi_app};
 ghost use Rattle.settings.specs.declared.SettingsFault.TheVariants.{NoMemory, Refused};
@@ -106,6 +106,11 @@ pub fn settings_of(alloc: Global, words: &Vec<String>) -> Result<Settings, Setti
         classes: number_of(&matches, "classes"),
     })
 }
+
+/// Words set at most one settings: what clap's specification reads from them is a function of them.
+pub fn settings_are_one()
+    ensures { (words : List Text) (settings other : Settings) → Reads words settings → Reads words other → settings ≡ other }
+{}
 
 #[cfg(test)]
 mod tests;

@@ -1,0 +1,17 @@
+-- What is read from words is a function of them.
+use Rattle.std.proofs.Common.{◌≡◌, ℕ, List, Option, Some, ap, ◌∙◌}
+use Rattle.clap.specs.Words.{Text}
+use Rattle.settings.specs.Settings.{Reads}
+use Rattle.settings.specs.declared.Settings.{Settings}
+
+same_number : (o : Option ℕ) (m n : ℕ) → o ≡ Some m → o ≡ Some n → m ≡ n
+same_number o m n p q = cc
+
+abbrev built : ℕ → ℕ → Settings
+built n c = record { elements = n; classes = c }
+
+pub one_reading : (words : List Text) (s t : Settings) → Reads words s → Reads words t → s ≡ t
+one_reading words s t p q =
+    let elements : s.elements ≡ t.elements = same_number _ s.elements t.elements p.elements q.elements in
+    let classes : s.classes ≡ t.classes = same_number _ s.classes t.classes p.classes q.classes in
+    ap (λ n. built n s.classes) elements ∙ ap (built t.elements) classes
