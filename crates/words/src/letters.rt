@@ -1,5 +1,5 @@
 // Letters and words.
-ghost use Rattle.std.specs.Prelude.{◌≡◌, ℕ, ◌<◌, List, [], ◌∷◌, ◌++◌, length, slice_get, IfOk, OnOk, OnErr, IsTrue, ◌↔◌};
+ghost use Rattle.std.specs.Prelude.{◌≡◌, ℕ, ◌<◌, List, [], ◌∷◌, ◌++◌, length, reverse, slice_get, IfOk, OnOk, OnErr, IsTrue, ◌↔◌};
 
 use ports::NoMemory;
 use std::alloc::Global;
@@ -104,6 +104,25 @@ impl Word {
         ensures { IfOk result (λ w. w ≡ self.now) }
     {
         let letters = Vec::from_slice(alloc, self.letters.as_slice())?;
+        Ok(Word { letters })
+    }
+
+    /// The word read from right to left (libsemigroups, `reverse`). Refused only where memory is wanting.
+    pub fn reversed(&self, alloc: Global) -> Result<Word, NoMemory>
+        ensures { IfOk result (λ w. w ≡ reverse self.now) }
+    {
+        let mut letters = Vec::from_slice(alloc, self.letters.as_slice())?;
+        letters.reverse();
+        Ok(Word { letters })
+    }
+
+    /// The letters of this word and then those of the other: their product in the free monoid. Refused only where
+    /// memory is wanting.
+    pub fn concat(&self, alloc: Global, other: &Word) -> Result<Word, NoMemory>
+        ensures { IfOk result (λ w. w ≡ self.now ++ other.now) }
+    {
+        let mut letters = Vec::from_slice(alloc, self.letters.as_slice())?;
+        letters.extend_from_slice(other.letters.as_slice())?;
         Ok(Word { letters })
     }
 }

@@ -122,3 +122,28 @@ fn prints_what_it_reads(rt: HostRuntime) -> Result<(), Fail> {
     assert_eq!(rt; word.len(), 5);
     Ok(())
 }
+
+#[test]
+fn reverses_and_joins_words(rt: HostRuntime) -> Result<(), Fail> {
+    let alloc = rt.alloc();
+    let Ok(alphabet) = Alphabet::new(alloc, b"ab") else {
+        return Ok(assert!(rt; false));
+    };
+    let (Ok(left), Ok(right)) = (
+        alphabet.read_word(alloc, b"aab", true),
+        alphabet.read_word(alloc, b"ba", true),
+    ) else {
+        return Ok(assert!(rt; false));
+    };
+    for (word, want) in [
+        (left.reversed(alloc), b"baa".as_slice()),
+        (left.concat(alloc, &right), b"aabba".as_slice()),
+        (left.concat(alloc, &Word::new(alloc)), b"aab".as_slice()),
+    ] {
+        match (word, alphabet.read_word(alloc, want, true)) {
+            (Ok(word), Ok(want)) => assert_eq!(rt; word.letters(), want.letters()),
+            _ => assert!(rt; false),
+        }
+    }
+    Ok(())
+}
