@@ -1,6 +1,6 @@
 -- Lists whose values are each held against the first.
 use Rattle.std.proofs.Common.{◌≡◌, ℕ, zero, suc, ◌<◌, List, [], ◌∷◌, length, get_or, refl, sym, ap, ◌∙◌, arith}
-use Rattle.froidure_pin.specs.Shape.{HaveOneShape}
+use Rattle.elements.specs.Generators.{HaveOneShape}
 
 -- within a list the default does not matter
 pub get_any : {A : Type 0} (xs : List A) (i : ℕ) (d e : A) → i < length xs → get_or xs i d ≡ get_or xs i e

@@ -6,7 +6,8 @@ use Rattle.theory.specs.ShortLex.{◌≺◌}
 use Rattle.theory.specs.Listing.{IsListOf, IsStartOf}
 use Rattle.theory.specs.Class.{IsLeast, IsRuleList}
 use Rattle.theory.specs.Value.{IsProduct, SameValue}
-use Rattle.froidure_pin.specs.Found.{AreFactors, entry, parent, value_by, words_of}
+use Rattle.froidure_pin.specs.Found.{AreFactors, entry, parent, words_of}
+use Rattle.elements.specs.Generators.{value_by}
 use Rattle.froidure_pin.specs.Numbering.{TableOf, AreRows}
 use Rattle.froidure_pin.specs.Rules.{IsWholeTable, AreSuffixes, rules_to}
 use Rattle.froidure_pin.proofs.Starts.{start_ascending, start_has, in_at}

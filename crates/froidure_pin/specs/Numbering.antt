@@ -3,7 +3,8 @@ use Rattle.std.specs.Prelude.{◌≡◌, ℕ, ◌+◌, ◌*◌, ◌<◌, ◌≤�
 use Rattle.std.specs.Coded.{Coded, code_by, coded×, coded_list, coded_ℕ}
 use Rattle.theory.specs.Word.{Word, IsElement}
 use Rattle.theory.specs.Generated.{AreNumbered}
-use Rattle.froidure_pin.specs.Found.{value_by, IsNumberIn, AreFactors, entry}
+use Rattle.froidure_pin.specs.Found.{IsNumberIn, AreFactors, entry}
+use Rattle.elements.specs.Generators.{value_by}
 
 -- the elements, their words, and how many letters there are; the numbers of the products by each letter on the right, and on the left, in a row of the empty word and then in one of each element
 pub record TableOf (V : Type 0) : Type 0 where

@@ -3,7 +3,7 @@ use Rattle.std.specs.Prelude.{◌≡◌, ℕ, zero, suc, ◌+◌, ◌<◌, ◌�
 use Rattle.theory.specs.Word.{Word}
 use Rattle.froidure_pin.specs.Found.{entry, parent, words_of, IsTableOf}
 use Rattle.froidure_pin.specs.Numbering.{TableOf, IsNumbering}
-use Rattle.froidure_pin.specs.Shape.{HaveOneShape}
+use Rattle.elements.specs.Generators.{HaveOneShape}
 
 -- the table is that of the generators, and its numbers are those of their products
 pub record IsWholeTable {V : Type 0} (shape : V → ℕ × ℕ) (product : V → V → V) (equal : V → V → Bool) (generators : List V) (unused : V) (table : TableOf V) : Type 0 where

@@ -2,10 +2,11 @@
 ghost use Rattle.std.specs.Prelude.{[], ◌∷◌, ◌++◌, ◌≡◌, ℕ, ◌+◌, ◌*◌, ◌<◌, ◌≤◌, ◌↔◌, length, IfOk, OnOk, OnErr, IsTrue, Ok, true, false};
 ghost use Rattle.std.specs.List.{position_or_len};
 ghost use Rattle.theory.specs.Value.{HasAtMostValues, HasMoreValues};
-ghost use Rattle.froidure_pin.specs.Found.{AreFound, AreFactors, IsTableOf, value_by, words_of, insert_factor};
+ghost use Rattle.froidure_pin.specs.Found.{AreFound, AreFactors, IsTableOf, words_of, insert_factor};
+ghost use Rattle.elements.specs.Generators.{value_by};
 ghost use Rattle.froidure_pin.specs.Numbering.{IsNumbering};
 ghost use Rattle.indexmap.specs.IndexSet.{insert_key};
-ghost use Rattle.froidure_pin.specs.Shape.{HaveOneShape};
+ghost use Rattle.elements.specs.Generators.{HaveOneShape};
 
 use super::rows::left_rows;
 use super::steps::Steps;

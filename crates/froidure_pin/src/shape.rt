@@ -1,6 +1,6 @@
 // Whether generators can be multiplied.
 ghost use Rattle.std.specs.Prelude.{IsTrue, ◌↔◌};
-ghost use Rattle.froidure_pin.specs.Shape.{HaveOneShape};
+ghost use Rattle.elements.specs.Generators.{HaveOneShape};
 
 use elements::Element;
 

@@ -3,7 +3,7 @@ ghost use Rattle.std.specs.Prelude.{List, ◌≡◌, ◌≢◌, ◌<◌, ◌≤�
 ghost use Rattle.theory.specs.Class.{IsRuleList};
 ghost use Rattle.theory.specs.Value.{SameValue};
 ghost use Rattle.theory.specs.Word.{IsOver};
-ghost use Rattle.froidure_pin.specs.Found.{value_by};
+ghost use Rattle.elements.specs.Generators.{value_by};
 ghost use Rattle.froidure_pin.specs.Rules.{IsWholeTable};
 ghost use Rattle.froidure_pin.specs.Numbering.{AreRowsBy, IsRowBy, left_number, letter_number, number_of, right_number};
 

@@ -1,5 +1,5 @@
 ghost use Rattle.std.specs.Prelude.{◌≡◌, ◌+◌, ◌*◌, ◌<◌, ◌≤◌, length, IfOk, IfSome};
-ghost use Rattle.froidure_pin.specs.Shape.{HaveOneShape};
+ghost use Rattle.elements.specs.Generators.{HaveOneShape};
 
 use super::*;
 use elements::{Element, Field, Transf};

@@ -1,7 +1,7 @@
 use Rattle.std.proofs.Common.{ℕ, List, length, sym, subst}
 use Rattle.theory.specs.Class.{IsRuleList}
 use Rattle.theory.specs.Value.{SameValue}
-use Rattle.froidure_pin.specs.Found.{value_by}
+use Rattle.elements.specs.Generators.{value_by}
 use Rattle.froidure_pin.specs.Numbering.{AreRows}
 use Rattle.froidure_pin.specs.Rules.{IsWholeTable}
 use Rattle.froidure_pin.proofs.WholeTables.{ok_map, whole_rules}
