@@ -1,0 +1,15 @@
+//! What a script poses: generators of one kind and shape, each with a letter, and the values of the
+//! words over them (Froidure and Pin 1997).
+#![tactic(auto)]
+
+mod budgets;
+mod kinds;
+mod lists;
+mod posing;
+#[cfg(test)]
+mod tests;
+
+pub use budgets::Budgets;
+pub use kinds::Problem;
+pub use lists::Gens;
+pub use posing::Posed;

@@ -1,0 +1,53 @@
+// Values of words.
+ghost use Rattle.std.specs.Prelude.{◌≡◌, IfOk, length};
+
+use super::*;
+use elements::{BMat, Element, Field, MaxPlusTrunc, PPerm, Transf};
+use std::alloc::Global;
+use std::test::Fail;
+use words::{Alphabet, Letter, Word};
+
+// The semigroup of one generator, by the letter `a`.
+fn posed<E: Element>(alloc: Global, generator: E) -> Result<Posed<E>, Fail>
+    ensures { IfOk result (λ posed. length posed.letters ≡ 1) }
+{
+    let alphabet = Alphabet::new(alloc, b"a")?;
+    let mut generators = Vec::new(alloc);
+    generators.push(generator)?;
+    Ok(Posed::new(alphabet, Gens::from_vec(generators)))
+}
+
+#[test]
+fn values_are_printed(rt: HostRuntime) -> Result<(), Fail> {
+    let alloc = rt.alloc();
+    let mut word = Word::new(alloc);
+    word.push(Letter::new(0))?;
+    word.push(Letter::new(0))?;
+    let one = Field::Number(1);
+    let none = Field::Dash;
+    let zero = Field::Number(0);
+    let transf = posed(
+        alloc,
+        Transf::read(alloc, 3, &[one, Field::Number(2), zero])?,
+    )?;
+    assert_eq!(rt; transf.generators().len(), 1);
+    let pperm = posed(
+        alloc,
+        PPerm::read(alloc, 3, &[one, Field::Number(2), none])?,
+    )?;
+    let bmat = posed(alloc, BMat::read(alloc, 2, &[one, one, zero, zero])?)?;
+    let max_plus = posed(
+        alloc,
+        MaxPlusTrunc::read(alloc, (1, 5), &[Field::Number(2)])?,
+    )?;
+    for (problem, text) in [
+        (Problem::Transf(transf), "2 0 1"),
+        (Problem::PPerm(pperm), "2 - -"),
+        (Problem::BMat(bmat), "1 1 0 0"),
+        (Problem::MaxPlus(max_plus), "4"),
+    ] {
+        assert_eq!(rt; problem.alphabet().len(), 1);
+        assert_eq!(rt; problem.value(alloc, &word)?.as_slice(), text.as_bytes());
+    }
+    Ok(())
+}
