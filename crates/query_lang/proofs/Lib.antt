@@ -1,4 +1,6 @@
-pub mod FieldLemmas
+pub mod EntryLemmas
+pub mod InjectiveLemmas
+pub mod KindLemmas
+pub mod DraftLemmas
 pub mod LineLemmas
 pub mod ReadLemmas
-pub mod ReaderLemmas

@@ -1,7 +1,7 @@
 -- The numbers and the texts of the causes of refusal.
 use Rattle.std.specs.Prelude.{ℕ, List, [], codes, ◌==◌, if◌then◌else◌}
 use Rattle.query_lang.specs.declared.cause.Cause.{Cause}
-use Rattle.query_lang.specs.declared.cause.Cause.TheVariants.{HeaderMissing, UnknownHeader, WrongNumberOfWords, BadNumber, NotALetter, RepeatedLetter, UnknownLine, LineOutOfOrder, NoGenerator, WrongNumberOfEntries, BadEntry}
+use Rattle.query_lang.specs.declared.cause.Cause.TheVariants.{HeaderMissing, UnknownHeader, WrongNumberOfWords, BadNumber, NotALetter, RepeatedLetter, UnknownLine, LineOutOfOrder, NoGenerator, WrongNumberOfEntries, BadEntry, NotInjective, NotInAlphabet, WordTooLong, EmptyWord, AfterExpected}
 
 abbrev pub number_of_cause : Cause → ℕ
 number_of_cause HeaderMissing = 1
@@ -15,6 +15,11 @@ number_of_cause LineOutOfOrder = 8
 number_of_cause NoGenerator = 9
 number_of_cause WrongNumberOfEntries = 10
 number_of_cause BadEntry = 11
+number_of_cause NotInjective = 12
+number_of_cause NotInAlphabet = 13
+number_of_cause WordTooLong = 14
+number_of_cause EmptyWord = 15
+number_of_cause AfterExpected = 21
 
 -- the text of the cause of this number
 abbrev pub cause_text : ℕ → List ℕ
@@ -30,4 +35,9 @@ cause_text n =
     else if n == 9 then codes "no generator"
     else if n == 10 then codes "wrong number of entries"
     else if n == 11 then codes "bad entry"
+    else if n == 12 then codes "not injective"
+    else if n == 13 then codes "letter not in alphabet"
+    else if n == 14 then codes "word too long"
+    else if n == 15 then codes "empty word not allowed"
+    else if n == 21 then codes "after expected"
     else []

@@ -1,6 +1,11 @@
 -- What the faults of the reader mean.
 use Rattle.std.specs.Prelude.{◌≡◌, ℕ, Result, Err}
+use Rattle.elements.specs.declared.field.ElementFault.{ElementFault}
+use Rattle.elements.specs.declared.field.ElementFault.TheVariants as element
+use Rattle.words.specs.declared.fault.WordFault.{WordFault}
+use Rattle.words.specs.declared.fault.WordFault.TheVariants as word
 use Rattle.query_lang.specs.declared.cause.Cause.{Cause}
+use Rattle.query_lang.specs.declared.cause.Cause.TheVariants.{WrongNumberOfEntries, BadEntry, NotInjective, NotInAlphabet, WordTooLong, EmptyWord}
 use Rattle.query_lang.specs.declared.fault.LineFault.{LineFault}
 use Rattle.query_lang.specs.declared.fault.LineFault.TheVariants as line
 use Rattle.query_lang.specs.declared.fault.ScriptFault.{ScriptFault}
@@ -11,6 +16,20 @@ use Rattle.query_lang.specs.Causes.{number_of_cause}
 abbrev pub IsLineFault : {A : Type 0} → Result A Cause → LineFault → Type 0
 IsLineFault outcome (line.Refused cause) = outcome ≡ Err cause
 IsLineFault outcome line.NoMemory = Unit {0}
+
+-- the fault of a line whose entries are refused
+abbrev pub fault_of_element : ElementFault → LineFault
+fault_of_element element.BadCount = line.Refused WrongNumberOfEntries
+fault_of_element (element.BadEntry place) = line.Refused BadEntry
+fault_of_element (element.NotInjective place) = line.Refused NotInjective
+fault_of_element element.NoMemory = line.NoMemory
+
+-- the fault of a line with a word that is refused
+abbrev pub fault_of_word : WordFault → LineFault
+fault_of_word word.EmptyWord = line.Refused EmptyWord
+fault_of_word (word.NotInAlphabet place) = line.Refused NotInAlphabet
+fault_of_word word.TooLong = line.Refused WordTooLong
+fault_of_word word.NoMemory = line.NoMemory
 
 -- the fault of a line, with its number
 abbrev pub fault_at_line : ℕ → LineFault → ScriptFault

@@ -3,6 +3,12 @@ pub mod Token
 pub mod Texts
 pub mod Fields
 pub mod Causes
-pub mod Script
 pub mod Faults
-pub mod Reader
+pub mod Entries
+pub mod Draft
+pub mod Generators
+pub mod Header
+pub mod Query
+pub mod QueryLines
+pub mod Asked
+pub mod Script

@@ -1,94 +1,54 @@
--- Scripts of transformations: what each line gives after the lines before it, or its cause of refusal.
-use Rattle.std.specs.Prelude.{ℕ, suc, Bool, false, ◌==◌, nat_lt, List, [], ◌∷◌, ◌++◌, length, codes, if◌then◌else◌, Option, Some, None, option_and_then, Result, Ok, Err}
+-- Scripts: what each line gives after the lines before it, or its cause of refusal.
+pub use Rattle.query_lang.specs.Asked.{ScriptOf}
+use Rattle.std.specs.Prelude.{ℕ, suc, List, [], ◌∷◌, ◌++◌, length, map, codes, if◌then◌else◌, Option, Some, None, Result, Ok, Err}
 use Rattle.std.specs.Option.{ok_or}
-use Rattle.std.specs.List.{list_any}
-use Rattle.query_lang.specs.declared.script.Query.{Query}
-use Rattle.query_lang.specs.declared.script.Query.TheVariants.{Index}
+use Rattle.problem.specs.Problem.{letters_of}
 use Rattle.query_lang.specs.declared.cause.Cause.{Cause}
-use Rattle.query_lang.specs.declared.cause.Cause.TheVariants.{HeaderMissing, UnknownHeader, WrongNumberOfWords, BadNumber, NotALetter, RepeatedLetter, UnknownLine, LineOutOfOrder, NoGenerator, WrongNumberOfEntries, BadEntry}
+use Rattle.query_lang.specs.declared.cause.Cause.TheVariants.{HeaderMissing, UnknownLine, LineOutOfOrder}
+use Rattle.query_lang.specs.declared.query_line.QueryName.{QueryName}
+use Rattle.query_lang.specs.declared.reader.Reader.{Reader}
+use Rattle.query_lang.specs.declared.reader.Reader.TheVariants.{Posing, Asking}
 use Rattle.query_lang.specs.Outcome.{and_then}
-use Rattle.query_lang.specs.Token.{Token, Line, tokens_of, is_kept, cut_lines, is_word, number_of, number_within, letter_of}
+use Rattle.query_lang.specs.Token.{Token, Line, tokens_of, is_kept, cut_lines, is_word}
+use Rattle.query_lang.specs.Fields.{field_of}
+use Rattle.query_lang.specs.Generators.{draft_with, problem_of}
+use Rattle.query_lang.specs.Header.{header_of}
+use Rattle.query_lang.specs.QueryLines.{query_name_of, query_of}
 
--- what the lines so far have given
-pub record Partial : Type 0 where
-  pub degree : ℕ
-  pub letters : List ℕ
-  pub generators : List (List ℕ)
-  pub queries : List Query
+-- one query more
+abbrev pub asked : ScriptOf → QueryName → List Token → Result ScriptOf Cause
+asked s name tokens = and_then (λ q. Ok (record s { queries = s.queries ++ q ∷ [] })) (query_of (letters_of s.problem) name tokens)
 
--- nothing but a degree
-abbrev pub start_of : ℕ → Partial
-start_of d = record { degree = d; letters = []; generators = []; queries = [] }
+-- the script so far, which has a generator
+abbrev pub finished : Reader → Result ScriptOf Cause
+finished (Posing draft) = and_then (λ p. Ok (record { problem = p; queries = [] })) (problem_of draft)
+finished (Asking script) = Ok script
 
--- the degree of a header, from 1 to 64
-abbrev pub degree_of : List Token → Result ℕ Cause
-degree_of [] = Err WrongNumberOfWords
-degree_of (number ∷ []) = ok_or (number_within 1 64 number) BadNumber
-degree_of (number ∷ more ∷ tokens) = Err WrongNumberOfWords
+-- the generator line `x = ENTRIES`, which may stand before the queries
+abbrev pub generator_line : Reader → Token → List Token → Result Reader Cause
+generator_line (Posing draft) name entries = and_then (λ d. Ok (Posing d)) (draft_with draft name (map field_of entries))
+generator_line (Asking script) name entries = Err LineOutOfOrder
 
--- the header `trans D`
-abbrev pub header_of : Line → Result Partial Cause
-header_of [] = Err UnknownHeader
-header_of (name ∷ tokens) = if is_word (codes "trans") name then and_then (λ d. Ok (start_of d)) (degree_of tokens) else Err UnknownHeader
+-- a query, which may stand after the generators
+abbrev pub query_line : Reader → Token → List Token → Result Reader Cause
+query_line r first tokens =
+    and_then (λ name. and_then (λ script. and_then (λ s. Ok (Asking s)) (asked script name tokens)) (finished r)) (ok_or (query_name_of first) UnknownLine)
 
--- an image: a number below the degree
-abbrev pub image_of : ℕ → Token → Option ℕ
-image_of d t = option_and_then (λ n. if nat_lt n d then Some n else None) (number_of t)
-
--- the values of all tokens, if each has one
-abbrev pub all_of : (Token → Option ℕ) → List Token → Option (List ℕ)
-all_of f [] = Some []
-all_of f (t ∷ ts) = option_and_then (λ x. option_and_then (λ xs. Some (x ∷ xs)) (all_of f ts)) (f t)
-
--- as many images as the degree
-abbrev pub images_of : ℕ → List Token → Result (List ℕ) Cause
-images_of d tokens = if length tokens == d then ok_or (all_of (image_of d) tokens) BadEntry else Err WrongNumberOfEntries
-
--- a letter that no generator has yet
-abbrev pub new_letter_of : Partial → Token → Result ℕ Cause
-new_letter_of p name = and_then (λ x. if list_any (λ y. y == x) p.letters then Err RepeatedLetter else Ok x) (ok_or (letter_of name) NotALetter)
-
--- one generator more
-abbrev pub add_generator : Partial → ℕ → List ℕ → Partial
-add_generator p x images = record p { letters = p.letters ++ x ∷ []; generators = p.generators ++ images ∷ [] }
-
--- the second token of a generator line is `=`
-abbrev pub is_generator_line : Line → Bool
-is_generator_line [] = false
-is_generator_line (name ∷ []) = false
-is_generator_line (name ∷ sign ∷ entries) = is_word (codes "=") sign
-
--- the generator line `x = IMAGES`, which may stand before the queries
-abbrev pub with_generator : Partial → Line → Result Partial Cause
-with_generator p [] = Err UnknownLine
-with_generator p (name ∷ []) = Err UnknownLine
-with_generator p (name ∷ sign ∷ entries) =
-    if length p.queries == 0
-    then and_then (λ x. and_then (λ images. Ok (add_generator p x images)) (images_of p.degree entries)) (new_letter_of p name)
-    else Err LineOutOfOrder
-
--- the query `index`, which may stand after the generators
-abbrev pub with_query : Partial → Line → Result Partial Cause
-with_query p [] = Err UnknownLine
-with_query p (name ∷ tokens) =
-    if is_word (codes "index") name
-    then if length p.generators == 0 then Err NoGenerator
-    else if length tokens == 0 then Ok (record p { queries = p.queries ++ Index ∷ [] })
-    else Err WrongNumberOfWords
-    else Err UnknownLine
-
--- a line after the header
-abbrev pub with_line : Partial → Line → Result Partial Cause
-with_line p line = if is_generator_line line then with_generator p line else with_query p line
+-- a line after the header; the second token of a generator line is `=`
+abbrev pub with_line : Reader → Line → Result Reader Cause
+with_line r [] = Err UnknownLine
+with_line r (first ∷ []) = query_line r first []
+with_line r (first ∷ second ∷ tokens) =
+    if is_word (codes "=") second then generator_line r first tokens else query_line r first (second ∷ tokens)
 
 -- a line that is not skipped, after what the lines before it gave: nothing, before the header
-abbrev pub read_line : Option Partial → Line → Result Partial Cause
-read_line None line = header_of line
-read_line (Some p) line = with_line p line
+abbrev pub read_line : Option Reader → Line → Result Reader Cause
+read_line None line = and_then (λ d. Ok (Posing d)) (header_of line)
+read_line (Some r) line = with_line r line
 
 -- a line, which may be skipped
-abbrev pub take_line : Option Partial → List ℕ → Result (Option Partial) Cause
-take_line s bytes = if is_kept (tokens_of bytes) then and_then (λ p. Ok (Some p)) (read_line s (tokens_of bytes)) else Ok s
+abbrev pub take_line : Option Reader → List ℕ → Result (Option Reader) Cause
+take_line s bytes = if is_kept (tokens_of bytes) then and_then (λ r. Ok (Some r)) (read_line s (tokens_of bytes)) else Ok s
 
 -- the fault of a line: its number and its cause
 abbrev pub at_line : {A : Type 0} → ℕ → Result A Cause → Result A (ℕ × Cause)
@@ -96,15 +56,15 @@ at_line n (Ok x) = Ok x
 at_line n (Err cause) = Err (n, cause)
 
 -- the lines from the number n on: what they give, or the first fault
-abbrev pub read_lines : ℕ → Option Partial → List (List ℕ) → Result (Option Partial) (ℕ × Cause)
+abbrev pub read_lines : ℕ → Option Reader → List (List ℕ) → Result (Option Reader) (ℕ × Cause)
 read_lines n s [] = Ok s
 read_lines n s (bytes ∷ lines) = and_then (λ t. read_lines (suc n) t lines) (at_line n (take_line s bytes))
 
 -- a script has a header and a generator
-abbrev pub whole_of : Option Partial → Result Partial Cause
+abbrev pub whole_of : Option Reader → Result ScriptOf Cause
 whole_of None = Err HeaderMissing
-whole_of (Some p) = if length p.generators == 0 then Err NoGenerator else Ok p
+whole_of (Some r) = finished r
 
 -- the script that the bytes are, or their first fault; what is missing at the end is a fault of the last line
-abbrev pub script_of : List ℕ → Result Partial (ℕ × Cause)
+abbrev pub script_of : List ℕ → Result ScriptOf (ℕ × Cause)
 script_of bytes = and_then (λ s. at_line (length (cut_lines bytes)) (whole_of s)) (read_lines 1 None (cut_lines bytes))

@@ -17,7 +17,7 @@ pub enum Cause {
     NotALetter = 5,
     /// A generator's name came before.
     RepeatedLetter = 6,
-    /// The line is no generator line, and its first token no name of a query.
+    /// The line is no generator line, and its first token no query's name.
     UnknownLine = 7,
     /// A generator stands after a query.
     LineOutOfOrder = 8,
@@ -25,8 +25,18 @@ pub enum Cause {
     NoGenerator = 9,
     /// A generator has not as many entries as it should.
     WrongNumberOfEntries = 10,
-    /// An entry is no number, or out of range.
+    /// An entry is out of form, or out of range.
     BadEntry = 11,
+    /// A partial permutation has an image twice.
+    NotInjective = 12,
+    /// A word has a byte that is no letter of the script.
+    NotInAlphabet = 13,
+    /// A word has too many letters.
+    WordTooLong = 14,
+    /// A word is empty.
+    EmptyWord = 15,
+    /// The token in the place of `after` is another.
+    AfterExpected = 21,
 }
 
 impl Cause {
@@ -54,6 +64,11 @@ pub fn cause_text(number: u8) -> &'static [u8]
         9 => b"no generator",
         10 => b"wrong number of entries",
         11 => b"bad entry",
+        12 => b"not injective",
+        13 => b"letter not in alphabet",
+        14 => b"word too long",
+        15 => b"empty word not allowed",
+        21 => b"after expected",
         _ => b"",
     }
 }

@@ -1,11 +1,13 @@
 // Why a script is refused.
 ghost use Rattle.std.specs.Prelude.{◌≡◌};
-ghost use Rattle.query_lang.specs.Faults.{fault_at_line};
+ghost use Rattle.query_lang.specs.Faults.{fault_at_line, fault_of_element, fault_of_word};
 ghost use Rattle.query_lang.specs.declared.fault.LineFault.TheVariants as line;
 
 use crate::cause::Cause;
+use elements::ElementFault;
 use std::alloc::{AllocError, AllocFailed};
 use thiserror::Error;
+use words::WordFault;
 
 /// Why bytes make no script.
 #[derive(Clone, Copy, Debug, PartialEq, Eq, Error)]
@@ -34,6 +36,32 @@ impl From<Cause> for LineFault {
 
     fn from(cause: Cause) -> LineFault {
         LineFault::Refused(cause)
+    }
+}
+
+impl From<ElementFault> for LineFault {
+    ghost from_gives = { λ fault e. e ≡ fault_of_element fault };
+
+    fn from(fault: ElementFault) -> LineFault {
+        match fault {
+            ElementFault::BadCount => LineFault::Refused(Cause::WrongNumberOfEntries),
+            ElementFault::BadEntry(_) => LineFault::Refused(Cause::BadEntry),
+            ElementFault::NotInjective(_) => LineFault::Refused(Cause::NotInjective),
+            ElementFault::NoMemory => LineFault::NoMemory,
+        }
+    }
+}
+
+impl From<WordFault> for LineFault {
+    ghost from_gives = { λ fault e. e ≡ fault_of_word fault };
+
+    fn from(fault: WordFault) -> LineFault {
+        match fault {
+            WordFault::EmptyWord => LineFault::Refused(Cause::EmptyWord),
+            WordFault::NotInAlphabet(_) => LineFault::Refused(Cause::NotInAlphabet),
+            WordFault::TooLong => LineFault::Refused(Cause::WordTooLong),
+            WordFault::NoMemory => LineFault::NoMemory,
+        }
     }
 }
 

@@ -3,7 +3,11 @@
 #![tactic(auto)]
 
 mod cause;
+mod draft;
 mod fault;
+mod generator;
+mod header;
+mod query_line;
 mod reader;
 mod script;
 mod tokens;

@@ -1,85 +1,99 @@
-// Scripts of transformations.
-ghost use Rattle.std.specs.Prelude.{◌≡◌, ◌<◌, ◌≤◌, IfOk, IfErr, Ok, length, All};
-ghost use Rattle.query_lang.specs.Faults.{IsScriptFault};
-ghost use Rattle.query_lang.specs.Script.{script_of};
+// Scripts: a problem, and queries.
+ghost use Rattle.std.specs.Prelude.{◌≡◌, [], IfOk, IfErr, Ok, All};
+ghost use Rattle.query_lang.specs.Faults.{IsLineFault, IsScriptFault};
+ghost use Rattle.query_lang.specs.Query.{IsQueryOf};
+ghost use Rattle.query_lang.specs.Script.{asked, script_of};
+ghost use Rattle.query_lang.specs.Texts.{texts};
 
-use crate::fault::ScriptFault;
+use crate::fault::{LineFault, ScriptFault};
+use crate::query_line::{QueryName, query_of};
 use crate::reader::{take_line, whole_of};
-use elements::Transf;
+use problem::Problem;
 use std::alloc::Global;
 use std::marker::Model;
-use words::Alphabet;
+use words::Word;
 
-/// A query of a script.
-#[derive(Clone, Copy, Debug, PartialEq, Eq)]
+/// A query of a script. Its words are not empty, and have the letters of the script's problem.
+#[derive(Drop)]
 pub enum Query {
     /// How many classes there are.
     Index,
+    /// Whether the words lie in one class.
+    Equal(Word, Word),
+    /// The least word of the word's class.
+    Normal(Word),
+    /// The first `count` least words of classes, in short-lex order; where there is a word to come
+    /// `after`, of those that are greater than it.
+    Classes { count: usize, after: Option<Word> },
+    /// The reduced rewriting rules.
+    RuleList,
+    /// The value of the word.
+    ElementOf(Word),
+    /// The Cayley graphs.
+    Cayley,
 }
 
-/// A script: generators of one degree, each with a letter of the alphabet, and queries.
+/// A script: what it poses, and the queries. Contracts see both.
 #[derive(Drop)]
 pub struct Script {
-    degree: u32,
-    alphabet: Alphabet,
-    generators: Vec<Transf>,
+    problem: Problem,
     queries: Vec<Query>,
 }
 
 impl Model for Script {
-    ghost use Rattle.std.specs.Prelude.{◌≡◌, ◌≤◌, All, length};
-    ghost use Rattle.query_lang.specs.Script.{Partial};
+    ghost use Rattle.std.specs.Prelude.{All};
+    ghost use Rattle.query_lang.specs.Query.{IsQueryOf};
+    ghost use Rattle.query_lang.specs.Asked.{ScriptOf};
 
-    ghost Value = { Partial };
+    ghost Value = { ScriptOf };
 
-    ghost view = { λ s. record { degree = s.degree; letters = s.alphabet; generators = s.generators.items; queries = s.queries.items } };
+    ghost view = { λ s. record { problem = s.problem; queries = s.queries.items } };
 
-    ghost invariant = { λ s. All (λ g. length g ≡ s.degree) s.generators.items × (length s.generators.items ≤ length s.alphabet) };
+    ghost invariant = { λ s. All (IsQueryOf s.problem) s.queries.items };
 }
 
 impl Script {
-    // The script of these parts.
-    pub(crate) fn new(
-        degree: u32,
-        alphabet: Alphabet,
-        generators: Vec<Transf>,
-        queries: Vec<Query>,
-    ) -> Script
-        requires one_degree { All (λ g. length g ≡ degree) generators.items }
-        requires enough { length generators.items ≤ length alphabet }
-        ensures degree { result.degree ≡ degree }
-        ensures letters { result.letters ≡ alphabet }
-        ensures generators { result.generators ≡ generators.items }
-        ensures queries { result.queries ≡ queries.items }
+    // The script with this problem, and no query.
+    pub(crate) fn new(alloc: Global, problem: Problem) -> Script
+        ensures problem { result.problem ≡ problem }
+        ensures queries { result.queries ≡ [] }
     {
         Script {
-            degree,
-            alphabet,
-            generators,
-            queries,
+            problem,
+            queries: Vec::new(alloc),
         }
     }
 
-    /// The letters of the generators, in their order.
-    pub fn alphabet(&self) -> &Alphabet
-        ensures { result.now ≡ self.now.letters }
+    // The query of this name and these tokens behind the others.
+    pub(crate) fn with_query(
+        self,
+        alloc: Global,
+        name: QueryName,
+        tokens: &[&[u8]],
+    ) -> Result<Script, LineFault>
+        ensures ok { IfOk result (λ next. asked self name (texts tokens.now) ≡ Ok next) }
+        ensures err { IfErr result (IsLineFault (asked self name (texts tokens.now))) }
     {
-        &self.alphabet
+        let Script {
+            problem,
+            mut queries,
+        } = self;
+        let query = query_of(alloc, problem.alphabet(), name, tokens)?;
+        queries.push(query)?;
+        Ok(Script { problem, queries })
     }
 
-    /// The generators: from 1 to 26 in a script that was read, and of one degree.
-    pub fn generators(&self) -> &Vec<Transf>
-        ensures generators { result.now.items ≡ self.now.generators }
-        ensures one_degree { All (λ g. length g ≡ self.now.degree) self.now.generators }
-        ensures few { length self.now.generators ≤ 26 }
+    /// What the script poses.
+    pub fn problem(&self) -> &Problem
+        ensures { result.now ≡ self.now.problem }
     {
-        prove!(self.generators.len() <= self.alphabet.len());
-        &self.generators
+        &self.problem
     }
 
     /// The queries, in their order.
     pub fn queries(&self) -> &[Query]
-        ensures { result.now ≡ self.now.queries }
+        ensures queries { result.now ≡ self.now.queries }
+        ensures asked { All (IsQueryOf self.now.problem) self.now.queries }
     {
         self.queries.as_slice()
     }
@@ -90,7 +104,6 @@ impl Script {
 /// line; with `NoMemory` only where memory is wanting.
 pub fn read_script(alloc: Global, bytes: &[u8]) -> Result<Script, ScriptFault>
     ensures ok { IfOk result (λ script. script_of bytes.now ≡ Ok script) }
-    ensures some { IfOk result (λ script. 0 < length script.generators) }
     ensures err { IfErr result (IsScriptFault (script_of bytes.now)) }
 {
     let mut reader = None;

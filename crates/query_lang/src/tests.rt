@@ -1,19 +1,27 @@
 use super::*;
+use problem::Problem;
+use std::alloc::Global;
 use std::test::Fail;
 
+// The fault of a script: its line and its cause; 0 and 0 where there is none.
+fn fault_of(alloc: Global, script: &str) -> Result<(usize, u8), Fail> {
+    match read_script(alloc, script.as_bytes()) {
+        Ok(_) => Ok((0, 0)),
+        Err(ScriptFault::Bad { line, cause }) => Ok((line, cause)),
+        Err(fault) => Err(fault)?,
+    }
+}
+
 #[test]
-fn scripts_are_read_or_refused_at_their_first_fault(rt: HostRuntime) -> Result<(), Fail> {
+fn lines_and_headers_are_read_or_refused(rt: HostRuntime) -> Result<(), Fail> {
     let alloc = rt.alloc();
-    // the line and the cause; 0 where there is no fault
     for (script, line, cause) in [
-        (
-            "trans 3\na = 1 0 2\nb = 1 2 0\nc = 0 0 2\nindex\nindex\n",
-            0usize,
-            0u8,
-        ),
-        ("trans 02\nz = 0000001 0\nindex", 0, 0),
+        ("trans 02\nz = 0000001 0\nindex", 0usize, 0u8),
         ("\n # maps\n\ttrans  2 \r\na\t=\t1 0\r\nindex\r\n", 0, 0),
         ("trans 64\na = 0\n", 2, 10),
+        ("pperm 64\na = 0\n", 2, 10),
+        ("bmat 16\na = 0\n", 2, 10),
+        ("mpt 16 65535\na = 0\n", 2, 10),
         ("", 1, 1),
         ("# no header\n\n", 3, 1),
         ("index\n", 1, 2),
@@ -21,23 +29,37 @@ fn scripts_are_read_or_refused_at_their_first_fault(rt: HostRuntime) -> Result<(
         ("monoid ab\n", 1, 2),
         ("trans\n", 1, 3),
         ("trans 2 2\n", 1, 3),
+        ("bmat 2 2\n", 1, 3),
+        ("mpt 2\n", 1, 3),
+        ("mpt 2 2 2\n", 1, 3),
+        ("mpt 0\n", 1, 3),
         ("trans 0\n", 1, 4),
         ("trans 65\n", 1, 4),
         ("trans two\n", 1, 4),
         ("trans 00000002\n", 1, 4),
-        ("trans 2\nA = 0 1\n", 2, 5),
-        ("trans 2\nab = 0 1\n", 2, 5),
-        ("trans 2\na = 0 1\na = 1 0\n", 3, 6),
-        ("trans 2\na = 0 1\nindices\n", 3, 7),
-        ("trans 2\na = 0 1\ntrans 2\n", 3, 7),
-        ("trans 2\na = 0 1\nequal a a\n", 3, 7),
+        ("pperm 65\n", 1, 4),
+        ("bmat 17\n", 1, 4),
+        ("mpt 17 2\n", 1, 4),
+        ("mpt 0 2\n", 1, 4),
+        ("mpt 2 65536\n", 1, 4),
+        ("mpt 2 -\n", 1, 4),
+    ] {
+        assert_eq!(rt; fault_of(alloc, script)?, (line, cause), "{script}");
+    }
+    Ok(())
+}
+
+#[test]
+fn generators_are_read_or_refused(rt: HostRuntime) -> Result<(), Fail> {
+    let alloc = rt.alloc();
+    for (script, line, cause) in [
+        ("trans 2\nA = 0 1\n", 2usize, 5u8),
+        ("trans 2\nab = 0\n", 2, 5),
+        ("trans 2\na = 0 1\na = 1\n", 3, 6),
         ("trans 2\na = 0 1\nindex\nb = 1 0\n", 4, 8),
         ("trans 2\na = 0 1\nindex\nA = 1\n", 4, 8),
-        ("trans 2\nindex\n", 2, 9),
-        ("trans 2\nindex 2\n", 2, 9),
         ("trans 2\n", 2, 9),
-        ("trans 2", 1, 9),
-        ("trans 2\na = 0 1\nindex 2\n", 3, 3),
+        ("pperm 2", 1, 9),
         ("trans 2\na =\n", 2, 10),
         ("trans 2\na = 0\n", 2, 10),
         ("trans 2\na = 0 1 x\n", 2, 10),
@@ -46,29 +68,175 @@ fn scripts_are_read_or_refused_at_their_first_fault(rt: HostRuntime) -> Result<(
         ("trans 2\na = 0 00000001\n", 2, 11),
         ("trans 2\na = 0 1\0\n", 2, 11),
         ("trans 2\na = 0 é\nindex x\n", 2, 11),
+        ("pperm 3\na = 1 - 0\nb = - - -\n", 0, 0),
+        ("pperm 3\na = 1 1\n", 2, 10),
+        ("pperm 3\na = 1 1 3\n", 2, 11),
+        ("pperm 3\na = 1 1 --\n", 2, 11),
+        ("pperm 3\na = 1 - 1\n", 2, 12),
+        ("pperm 3\na = 2 0 0\nindex x\n", 2, 12),
+        ("bmat 2\na = 1 0 0 1\n", 0, 0),
+        ("bmat 2\na = 01 0 0 0000001\n", 0, 0),
+        ("bmat 2\na = 1 0\n", 2, 10),
+        ("bmat 2\na = 1 0 0 2\n", 2, 11),
+        ("bmat 2\na = 1 0 0 -\n", 2, 11),
+        ("mpt 2 5\na = 5 - 0 -\n", 0, 0),
+        ("mpt 2 0\na = 0 - 0 -\n", 0, 0),
+        ("mpt 2 5\na = 5 - 0\n", 2, 10),
+        ("mpt 2 5\na = 6 - 0 -\n", 2, 11),
+        ("mpt 2 5\na = 5 - 0 _\n", 2, 11),
     ] {
-        let want = if line == 0 {
-            None
-        } else {
-            Some(ScriptFault::Bad { line, cause })
-        };
-        let fault = read_script(alloc, script.as_bytes()).err();
-        assert_eq!(rt; fault, want, "{script}");
+        assert_eq!(rt; fault_of(alloc, script)?, (line, cause), "{script}");
     }
     Ok(())
 }
 
 #[test]
+fn queries_are_read_or_refused(rt: HostRuntime) -> Result<(), Fail> {
+    let alloc = rt.alloc();
+    for (query, cause) in [
+        ("index", 0u8),
+        ("equal ab b", 0),
+        ("normal abba", 0),
+        ("classes 1000000", 0),
+        ("classes 0 after b", 0),
+        ("rules", 0),
+        ("element ab", 0),
+        ("cayley", 0),
+        ("index 2", 3),
+        ("equal a", 3),
+        ("equal c 1 a", 3),
+        ("normal", 3),
+        ("normal a b", 3),
+        ("classes", 3),
+        ("classes x after", 3),
+        ("classes 1 after a b", 3),
+        ("rules a", 3),
+        ("element", 3),
+        ("element a b", 3),
+        ("cayley a", 3),
+        ("classes 1000001", 4),
+        ("classes x before 1", 4),
+        ("classes - after 1", 4),
+        ("indices", 7),
+        ("Index", 7),
+        ("trans 2", 7),
+        ("rel a b", 7),
+        ("twosided a b", 7),
+        ("lowindex 1 1", 7),
+        ("equal c 1", 13),
+        ("equal ab ac", 13),
+        ("normal a1", 13),
+        ("element A", 13),
+        ("classes 1 after c", 13),
+        ("equal 1 c", 15),
+        ("equal a 1", 15),
+        ("normal 1", 15),
+        ("element 1", 15),
+        ("classes 1 after 1", 15),
+        ("classes 1 before 1", 21),
+        ("classes 1 After c", 21),
+    ] {
+        let script = format!(in alloc; "trans 2\na = 0 1\nb = 1 0\n{query}\nindex\n")?;
+        let want = if cause == 0 { (0, 0) } else { (4, cause) };
+        assert_eq!(rt; fault_of(alloc, script.as_str())?, want, "{query}");
+        let script = format!(in alloc; "trans 2\na = 0 1\nb = 1 0\nindex\n{query}\n")?;
+        let want = if cause == 0 { (0, 0) } else { (5, cause) };
+        assert_eq!(rt; fault_of(alloc, script.as_str())?, want, "{query}");
+        let script = format!(in alloc; "bmat 1\n{query}\n")?;
+        let want = if cause == 7 { 7 } else { 9 };
+        assert_eq!(rt; fault_of(alloc, script.as_str())?, (2, want), "{query}");
+    }
+    Ok(())
+}
+
+#[test]
+fn long_words_are_refused(rt: HostRuntime) -> Result<(), Fail> {
+    let alloc = rt.alloc();
+    for (length, last, cause) in [(4096, b'a', 0u8), (4097, b'a', 14), (4097, b'b', 14)] {
+        let mut script = Vec::from_slice(alloc, b"mpt 1 0\na = -\nnormal ")?;
+        for _ in 1..length {
+            script.push(b'a')?;
+        }
+        script.push(last)?;
+        let want = if cause == 0 {
+            None
+        } else {
+            Some(ScriptFault::Bad { line: 3, cause })
+        };
+        assert_eq!(rt; read_script(alloc, &script).err(), want, "{length}");
+    }
+    Ok(())
+}
+
+// What a query asks, in words of its own.
+fn text_of(alloc: Global, problem: &Problem, query: &Query) -> Result<String, Fail> {
+    let alphabet = problem.alphabet();
+    match query {
+        Query::Index => Ok(format!(in alloc; "index")?),
+        Query::Equal(left, right) => {
+            Ok(format!(in alloc; "equal {} {}", left.len(), right.len())?)
+        }
+        Query::Normal(word) => Ok(format!(in alloc; "normal {}", word.len())?),
+        Query::Classes { count, after } => match after {
+            None => Ok(format!(in alloc; "classes {count}")?),
+            Some(word) => Ok(format!(in alloc; "classes {count} after {}", word.len())?),
+        },
+        Query::RuleList => Ok(format!(in alloc; "rules")?),
+        Query::ElementOf(word) => Ok(format!(in alloc; "element {}", word.len())?),
+        Query::Cayley => Ok(format!(in alloc; "cayley {}", alphabet.len())?),
+    }
+}
+
+#[test]
 fn a_script_holds_what_was_read(rt: HostRuntime) -> Result<(), Fail> {
-    let script = read_script(rt.alloc(), b"trans 2\nx = 1 0\na = 0 0\nindex\nindex\n")?;
-    assert_eq!(rt; script.alphabet().len(), 2);
-    assert_eq!(rt;
-        script.alphabet().letter(b'a').map(|letter| letter.number()),
-        Some(1)
-    );
-    assert_eq!(rt; script.generators().len(), 2);
-    assert_eq!(rt; script.queries(), [Query::Index, Query::Index].as_slice());
-    assert_eq!(rt; cause_text(11), b"bad entry".as_slice());
-    assert_eq!(rt; cause_text(12), b"".as_slice());
+    let alloc = rt.alloc();
+    let script = read_script(
+        alloc,
+        b"trans 2\nx = 1 0\na = 0 0\nindex\nequal x aa\nnormal axa\nclasses 7\nclasses 8 after xx\nrules\nelement a\ncayley\n",
+    )?;
+    assert_eq!(rt; script.queries().len(), 8);
+    for (query, want) in script.queries().iter().zip([
+        "index",
+        "equal 1 2",
+        "normal 3",
+        "classes 7",
+        "classes 8 after 2",
+        "rules",
+        "element 1",
+        "cayley 2",
+    ]) {
+        assert_eq!(rt; text_of(alloc, script.problem(), query)?.as_str(), want);
+    }
+    assert_eq!(rt; cause_text(21), b"after expected".as_slice());
+    assert_eq!(rt; cause_text(16), b"".as_slice());
+    Ok(())
+}
+
+#[test]
+fn each_kind_holds_its_generators(rt: HostRuntime) -> Result<(), Fail> {
+    let alloc = rt.alloc();
+    for (script, want) in [
+        ("trans 3\nb = 0 0 0\na = 1 2 0\n", "1 2 0"),
+        ("pperm 3\nb = 0 - -\na = 1 - 0\n", "1 - 0"),
+        ("bmat 2\nb = 0 0 0 0\na = 1 1 01 0\n", "1 1 1 0"),
+        ("mpt 2 9\nb = 0 0 0 0\na = 9 - 0 07\n", "9 - 0 7"),
+    ] {
+        let script = read_script(alloc, script.as_bytes())?;
+        let text = match script.problem() {
+            Problem::Transf(posed) => posed.generators()[1].print(alloc),
+            Problem::PPerm(posed) => posed.generators()[1].print(alloc),
+            Problem::BMat(posed) => posed.generators()[1].print(alloc),
+            Problem::MaxPlus(posed) => posed.generators()[1].print(alloc),
+        };
+        assert_eq!(rt; text?.as_slice(), want.as_bytes());
+        assert_eq!(rt;
+            script
+                .problem()
+                .alphabet()
+                .letter(b'a')
+                .map(|letter| letter.number()),
+            Some(1)
+        );
+    }
     Ok(())
 }

@@ -1,0 +1,54 @@
+// The header of a script.
+ghost use Rattle.std.specs.Prelude.{◌≡◌};
+ghost use Rattle.query_lang.specs.Header.{header_of, size_of, sizes_of};
+ghost use Rattle.query_lang.specs.Texts.{texts};
+
+use crate::cause::Cause;
+use crate::draft::{Draft, Listed};
+use crate::tokens::{is_word, number_within};
+use std::alloc::Global;
+
+// The degree or the dimension of a header, by the tokens behind its name.
+fn size_of(greatest: u32, tokens: &[&[u8]]) -> Result<u32, Cause>
+    ensures { result ≡ size_of greatest (texts tokens.now) }
+{
+    match tokens {
+        [size] => number_within(1, greatest, size).ok_or(Cause::BadNumber),
+        _ => Err(Cause::WrongNumberOfWords),
+    }
+}
+
+// The dimension and the bound of a header, by the tokens behind its name.
+fn sizes_of(tokens: &[&[u8]]) -> Result<(u32, u32), Cause>
+    ensures { result ≡ sizes_of (texts tokens.now) }
+{
+    match tokens {
+        [dimension, bound] => {
+            let dimension = number_within(1, 16, dimension).ok_or(Cause::BadNumber)?;
+            let bound = number_within(0, 65535, bound).ok_or(Cause::BadNumber)?;
+            Ok((dimension, bound))
+        }
+        _ => Err(Cause::WrongNumberOfWords),
+    }
+}
+
+/// What the header gives: no generator yet.
+pub fn header_of(alloc: Global, header: &[&[u8]]) -> Result<Draft, Cause>
+    ensures { result ≡ header_of (texts header.now) }
+{
+    match header {
+        [name, tokens @ ..] if is_word(b"trans", name) => {
+            Ok(Draft::Transf(Listed::new(alloc, (size_of(64, tokens)?, 0))))
+        }
+        [name, tokens @ ..] if is_word(b"pperm", name) => {
+            Ok(Draft::PPerm(Listed::new(alloc, (size_of(64, tokens)?, 0))))
+        }
+        [name, tokens @ ..] if is_word(b"bmat", name) => {
+            Ok(Draft::BMat(Listed::new(alloc, (size_of(16, tokens)?, 0))))
+        }
+        [name, tokens @ ..] if is_word(b"mpt", name) => {
+            Ok(Draft::MaxPlus(Listed::new(alloc, sizes_of(tokens)?)))
+        }
+        _ => Err(Cause::UnknownHeader),
+    }
+}
