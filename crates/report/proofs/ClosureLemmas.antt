@@ -1,0 +1,155 @@
+-- What the table of a problem says of its words.
+use Rattle.std.proofs.Common.{◌≡◌, ℕ, ◌<◌, ◌==◌, Bool, List, [], length, get_or, false, sym, subst, Option, Some, None, MatchOption, IsSomeAnd}
+use Rattle.std.specs.Cmp.Lexicographic.{pointwise}
+use Rattle.std.specs.Option.{option_eq}
+use Rattle.theory.specs.Word.{Word, IsElement}
+use Rattle.theory.specs.Value.{IsProduct, SameValue}
+use Rattle.theory.specs.Class.{IsRuleList}
+use Rattle.theory.proofs.ClassLaws.{IsPartialEquivalence}
+use Rattle.elements.specs.Generators.{value_by}
+use Rattle.elements.specs.Transf.{composed}
+use Rattle.elements.specs.PPerm.{partially_composed}
+use Rattle.elements.specs.BMat.{BooleanMatrix, boolean_product}
+use Rattle.elements.specs.MaxPlus.{TruncatedMatrix, truncated_product}
+use Rattle.elements.specs.TransfLaws.{composed_products}
+use Rattle.elements.specs.PPermLaws.{partial_products}
+use Rattle.elements.specs.BMatLaws.{boolean_matrix_eq, boolean_products}
+use Rattle.elements.specs.MaxPlusLaws.{truncated_matrix_eq, truncated_products}
+use Rattle.froidure_pin.specs.Numbering.{TableOf, right_number, left_number, number_of}
+use Rattle.froidure_pin.specs.Rules.{IsWholeTable}
+use Rattle.froidure_pin.proofs.Starts.{values_length}
+use Rattle.problem.specs.declared.kinds.Problem.{Problem}
+use Rattle.problem.specs.declared.kinds.Problem.TheVariants as problem
+use Rattle.problem.specs.Problem.{SameElement, HasAtMost, HasMore, count_of, no_matrix, no_truncated_matrix}
+use Rattle.report.specs.declared.closure.Closure.{Closure}
+use Rattle.report.specs.declared.closure.Closure.TheVariants.{Transf, PPerm, BMat, MaxPlus}
+use Rattle.report.specs.Graph.{IsNumbered, AreCayleyGraphs}
+use Rattle.report.specs.Closed.{IsClosureOf, count_in, letters_in, words_of, right_of, left_of, number_in}
+
+-- numbers of classes, of words and of products
+pub record AreNumbers (R : Word → Word → Type 0) (k : ℕ) (words : List Word) (right left : ℕ → ℕ → ℕ) (number_of_word : Word → ℕ) : Type 0 where
+  pub graphs : AreCayleyGraphs R k words right left
+  pub equivalence : IsPartialEquivalence R
+  pub element : (u : Word) → R u u → IsElement false k u
+  pub related : (u : Word) → IsElement false k u → R u u
+  pub numbered : (u : Word) → IsElement false k u → IsNumbered R words (number_of_word u) u
+  pub distinct : (i j : ℕ) → i < length words → j < length words → R (get_or words i []) (get_or words j []) → i ≡ j
+
+module _ {V : Type 0} {product : V → V → V} {equal : V → V → Bool} (generators : List V) (unused : V) where
+  pub value_equivalence : {HasShape : V → Type 0} → IsProduct HasShape product equal → IsPartialEquivalence (SameValue (length generators) equal (value_by product generators unused))
+  value_equivalence laws = record {
+    symmetric = λ u v h. record { left = h.right; right = h.left; related = laws.symmetric (value_by product generators unused u) (value_by product generators unused v) h.related };
+    transitive = λ u v w h g. record { left = h.left; right = g.right; related = laws.transitive (value_by product generators unused u) (value_by product generators unused v) (value_by product generators unused w) h.related g.related };
+  }
+
+  table_numbers : {shape : V → ℕ × ℕ} → ((one : ℕ × ℕ) → IsProduct (λ x. shape x ≡ one) product equal) → (t : TableOf V) → IsWholeTable shape product equal generators unused t
+      → AreNumbers (SameValue (length generators) equal (value_by product generators unused)) (length generators) t.words (right_number t) (left_number t) (number_of t)
+  table_numbers laws t whole = record {
+    graphs = record { listed = whole.found.listed; on_right = whole.numbers.numbered.on_right; on_left = whole.numbers.numbered.on_left };
+    equivalence = value_equivalence (laws (0, 0));
+    element = λ u h. h.left;
+    related = λ u h. record { left = h; right = h; related = (laws (0, 0)).reflexive (value_by product generators unused u) };
+    numbered = whole.numbers.every;
+    distinct = whole.numbers.numbered.distinct;
+  }
+
+  table_count : {shape : V → ℕ × ℕ} → (t : TableOf V) → IsWholeTable shape product equal generators unused t → length t.elements ≡ length t.words
+  table_count t whole = sym (values_length equal (value_by product generators unused) t.words t.elements whole.found.values)
+
+pub closure_numbers : (p : Problem) (c : Closure) → IsClosureOf p c → AreNumbers (SameElement p) (count_of p) (words_of c) (right_of c) (left_of c) (number_in c)
+closure_numbers (problem.Transf p) (Transf t) h = table_numbers p.generators [] composed_products t h
+closure_numbers (problem.Transf p) (PPerm t) h = absurd h
+closure_numbers (problem.Transf p) (BMat t) h = absurd h
+closure_numbers (problem.Transf p) (MaxPlus t) h = absurd h
+closure_numbers (problem.PPerm p) (Transf t) h = absurd h
+closure_numbers (problem.PPerm p) (PPerm t) h = table_numbers p.generators [] partial_products t h
+closure_numbers (problem.PPerm p) (BMat t) h = absurd h
+closure_numbers (problem.PPerm p) (MaxPlus t) h = absurd h
+closure_numbers (problem.BMat p) (Transf t) h = absurd h
+closure_numbers (problem.BMat p) (PPerm t) h = absurd h
+closure_numbers (problem.BMat p) (BMat t) h = table_numbers p.generators no_matrix boolean_products t h
+closure_numbers (problem.BMat p) (MaxPlus t) h = absurd h
+closure_numbers (problem.MaxPlus p) (Transf t) h = absurd h
+closure_numbers (problem.MaxPlus p) (PPerm t) h = absurd h
+closure_numbers (problem.MaxPlus p) (BMat t) h = absurd h
+closure_numbers (problem.MaxPlus p) (MaxPlus t) h = table_numbers p.generators no_truncated_matrix truncated_products t h
+
+pub closure_count : (p : Problem) (c : Closure) → IsClosureOf p c → count_in c ≡ length (words_of c)
+closure_count (problem.Transf p) (Transf t) h = table_count p.generators [] t h
+closure_count (problem.Transf p) (PPerm t) h = absurd h
+closure_count (problem.Transf p) (BMat t) h = absurd h
+closure_count (problem.Transf p) (MaxPlus t) h = absurd h
+closure_count (problem.PPerm p) (Transf t) h = absurd h
+closure_count (problem.PPerm p) (PPerm t) h = table_count p.generators [] t h
+closure_count (problem.PPerm p) (BMat t) h = absurd h
+closure_count (problem.PPerm p) (MaxPlus t) h = absurd h
+closure_count (problem.BMat p) (Transf t) h = absurd h
+closure_count (problem.BMat p) (PPerm t) h = absurd h
+closure_count (problem.BMat p) (BMat t) h = table_count p.generators no_matrix t h
+closure_count (problem.BMat p) (MaxPlus t) h = absurd h
+closure_count (problem.MaxPlus p) (Transf t) h = absurd h
+closure_count (problem.MaxPlus p) (PPerm t) h = absurd h
+closure_count (problem.MaxPlus p) (BMat t) h = absurd h
+closure_count (problem.MaxPlus p) (MaxPlus t) h = table_count p.generators no_truncated_matrix t h
+
+pub closure_letters : (p : Problem) (c : Closure) → IsClosureOf p c → letters_in c ≡ count_of p
+closure_letters (problem.Transf p) (Transf t) h = h.numbers.letters
+closure_letters (problem.Transf p) (PPerm t) h = absurd h
+closure_letters (problem.Transf p) (BMat t) h = absurd h
+closure_letters (problem.Transf p) (MaxPlus t) h = absurd h
+closure_letters (problem.PPerm p) (Transf t) h = absurd h
+closure_letters (problem.PPerm p) (PPerm t) h = h.numbers.letters
+closure_letters (problem.PPerm p) (BMat t) h = absurd h
+closure_letters (problem.PPerm p) (MaxPlus t) h = absurd h
+closure_letters (problem.BMat p) (Transf t) h = absurd h
+closure_letters (problem.BMat p) (PPerm t) h = absurd h
+closure_letters (problem.BMat p) (BMat t) h = h.numbers.letters
+closure_letters (problem.BMat p) (MaxPlus t) h = absurd h
+closure_letters (problem.MaxPlus p) (Transf t) h = absurd h
+closure_letters (problem.MaxPlus p) (PPerm t) h = absurd h
+closure_letters (problem.MaxPlus p) (BMat t) h = absurd h
+closure_letters (problem.MaxPlus p) (MaxPlus t) h = h.numbers.letters
+
+-- the list has the rules of each problem that the table is of
+abbrev AreRulesOf : {V : Type 0} → (V → ℕ × ℕ) → (V → V → V) → (V → V → Bool) → TableOf V → List (Word × Word) → Type 0
+AreRulesOf {V} shape product equal t rules =
+    (generators : List V) (unused : V) → IsWholeTable shape product equal generators unused t → IsRuleList (SameValue (length generators) equal (value_by product generators unused)) rules
+
+module _ (rules : List (Word × Word)) where
+  pub transf_rules : (p : Problem) (t : TableOf (List ℕ)) → AreRulesOf (λ x. (length x, 0)) composed (pointwise ◌==◌) t rules → IsClosureOf p (Transf t) → IsRuleList (SameElement p) rules
+  transf_rules (problem.Transf p) t h m = h p.generators [] m
+  transf_rules (problem.PPerm p) t h m = absurd m
+  transf_rules (problem.BMat p) t h m = absurd m
+  transf_rules (problem.MaxPlus p) t h m = absurd m
+
+  pub pperm_rules : (p : Problem) (t : TableOf (List (Option ℕ))) → AreRulesOf (λ x. (length x, 0)) partially_composed (pointwise (option_eq ◌==◌)) t rules → IsClosureOf p (PPerm t) → IsRuleList (SameElement p) rules
+  pperm_rules (problem.Transf p) t h m = absurd m
+  pperm_rules (problem.PPerm p) t h m = h p.generators [] m
+  pperm_rules (problem.BMat p) t h m = absurd m
+  pperm_rules (problem.MaxPlus p) t h m = absurd m
+
+  pub bmat_rules : (p : Problem) (t : TableOf BooleanMatrix) → AreRulesOf (λ m. (m.dimension, 0)) boolean_product boolean_matrix_eq t rules → IsClosureOf p (BMat t) → IsRuleList (SameElement p) rules
+  bmat_rules (problem.Transf p) t h m = absurd m
+  bmat_rules (problem.PPerm p) t h m = absurd m
+  bmat_rules (problem.BMat p) t h m = h p.generators no_matrix m
+  bmat_rules (problem.MaxPlus p) t h m = absurd m
+
+  pub max_plus_rules : (p : Problem) (t : TableOf TruncatedMatrix) → AreRulesOf (λ m. (m.dimension, m.bound)) truncated_product truncated_matrix_eq t rules → IsClosureOf p (MaxPlus t) → IsRuleList (SameElement p) rules
+  max_plus_rules (problem.Transf p) t h m = absurd m
+  max_plus_rules (problem.PPerm p) t h m = absurd m
+  max_plus_rules (problem.BMat p) t h m = absurd m
+  max_plus_rules (problem.MaxPlus p) t h m = h p.generators no_truncated_matrix m
+
+-- a problem's table is its closure
+pub closure_made : {V : Type 0} (wrap : TableOf V → Closure) (p q : Problem) (bound : ℕ) (found : Option (TableOf V)) (made result : Option Closure) → p ≡ q → made ≡ result
+    → MatchOption found (HasMore q bound) (λ t. HasAtMost q bound × IsClosureOf q (wrap t)) → MatchOption found (result ≡ None) (λ t. IsSomeAnd result (λ c. c ≡ wrap t))
+    → MatchOption made (HasMore p bound) (λ c. HasAtMost p bound × IsClosureOf p c)
+closure_made {V} wrap p q bound found made result same is h e =
+    subst (λ m. MatchOption m (HasMore p bound) (λ c. HasAtMost p bound × IsClosureOf p c)) (sym is)
+    (subst (λ r. MatchOption result (HasMore r bound) (λ c. HasAtMost r bound × IsClosureOf r c)) (sym same) (wrapped found result h e))
+  where
+    wrapped : (found : Option (TableOf V)) (result : Option Closure) → MatchOption found (HasMore q bound) (λ t. HasAtMost q bound × IsClosureOf q (wrap t))
+        → MatchOption found (result ≡ None) (λ t. IsSomeAnd result (λ c. c ≡ wrap t)) → MatchOption result (HasMore q bound) (λ c. HasAtMost q bound × IsClosureOf q c)
+    wrapped None result h e = subst (λ m. MatchOption m (HasMore q bound) (λ c. HasAtMost q bound × IsClosureOf q c)) (sym e) h
+    wrapped (Some t) None h e = absurd e
+    wrapped (Some t) (Some c) h e = (h.0, subst (IsClosureOf q) (sym e) h.1)

@@ -1,0 +1,132 @@
+-- A query has one answer.
+use Rattle.std.proofs.Common.{◌≡◌, ℕ, zero, suc, ◌+◌, ◌<◌, ◌≤◌, Bool, true, false, inl, inr, List, [], ◌∷◌, ◌++◌, length, get_or, map, None, Some, Option, refl, sym, ap, ap₂, subst, ◌∙◌, arith}
+use Rattle.std.specs.Prelude.{codes, decimal}
+use Rattle.std.specs.List.{flat_map, range_with_len}
+use Rattle.std.proofs.lemmas.Bool.{cases_lt}
+use Rattle.std.proofs.lemmas.List.Concat.{flat_map_single}
+use Rattle.std.proofs.Math.Nat.{eq-or-lt_of_le}
+use Rattle.theory.specs.Word.{Word}
+use Rattle.theory.specs.ShortLex.{◌≺◌}
+use Rattle.theory.specs.Listing.{IsListOf, IsStartOf}
+use Rattle.theory.specs.Class.{IsLeast, HasIndex, IsClassList, IsReducedRule, RuleBefore}
+use Rattle.theory.specs.Value.{IsProduct, HasAtMostValues, HasMoreValues}
+use Rattle.theory.proofs.Words.{before_irrefl}
+use Rattle.theory.proofs.Listings.{list_unique, page_unique}
+use Rattle.theory.proofs.Completeness.{normal_unique}
+use Rattle.theory.proofs.ClassLaws.{IsPartialEquivalence, shortlex_strict, rule_order}
+use Rattle.theory.proofs.ValueLaws.{values_bound}
+use Rattle.elements.specs.Generators.{value_by}
+use Rattle.elements.specs.TransfLaws.{composed_products}
+use Rattle.elements.specs.PPermLaws.{partial_products}
+use Rattle.elements.specs.BMatLaws.{boolean_products}
+use Rattle.elements.specs.MaxPlusLaws.{truncated_products}
+use Rattle.froidure_pin.proofs.Starts.{in_at, start_ascending, start_has, ascending_between}
+use Rattle.problem.specs.declared.budgets.Budgets.{Budgets}
+use Rattle.problem.specs.declared.kinds.Problem.{Problem}
+use Rattle.problem.specs.declared.kinds.Problem.TheVariants as problem
+use Rattle.problem.specs.Problem.{SameElement, HasAtMost, HasMore, letters_of, count_of, no_matrix, no_truncated_matrix}
+use Rattle.query_lang.specs.declared.script.Query.{Query}
+use Rattle.query_lang.specs.declared.script.Query.TheVariants.{Index, Equal, Normal, Classes, RuleList, ElementOf, Cayley}
+use Rattle.report.specs.Graph.{IsNumbered, AreCayleyGraphs}
+use Rattle.report.specs.Lines.{index_line, end_line, normal_line, word_line, rule_line, numbers_text, cayley_line}
+use Rattle.report.specs.Answer.{cayley_lines, AreLines, IsAnswer}
+use Rattle.report.proofs.ClosureLemmas.{value_equivalence}
+
+list_start : (P : Word → Type 0) (cursor : Option Word) (words : List Word) → IsListOf P ◌≺◌ cursor words → IsStartOf P ◌≺◌ cursor words
+list_start P cursor [] h = tt
+list_start P cursor (w ∷ words) h = (h.0, list_start P (Some w) words h.1)
+
+joined_same : {A : Type 0} (f g : ℕ → List A) (from n : ℕ) → ((i : ℕ) → from ≤ i → i < from + n → f i ≡ g i) → flat_map f (range_with_len from n) ≡ flat_map g (range_with_len from n)
+joined_same f g from zero h = refl
+joined_same f g from (suc n) h = ap₂ ◌++◌ (h from (omega arith) (omega arith)) (joined_same f g (from + 1) n (λ i low high. h i (omega arith) (omega arith)))
+
+lines_same : {A : Type 0} (f g : ℕ → A) (n : ℕ) → ((i : ℕ) → i < n → f i ≡ g i) → map f (range_with_len 0 n) ≡ map g (range_with_len 0 n)
+lines_same f g n h =
+    sym (flat_map_single f (range_with_len 0 n)) ∙ joined_same (λ i. f i ∷ []) (λ i. g i ∷ []) 0 n (λ i _ high. ap (λ x. x ∷ []) (h i (omega arith))) ∙ flat_map_single g (range_with_len 0 n)
+
+numbers_same : (f g : ℕ → ℕ) (k : ℕ) → ((a : ℕ) → a < k → f a ≡ g a) → numbers_text k f ≡ numbers_text k g
+numbers_same f g k h = joined_same (λ a. codes " " ++ decimal (f a)) (λ a. codes " " ++ decimal (g a)) 0 k (λ a _ high. ap (λ n. codes " " ++ decimal n) (h a (omega arith)))
+
+module _ (R : Word → Word → Type 0) (known : IsPartialEquivalence R) where
+  one_list : (xs ys : List Word) → IsClassList R xs → IsClassList R ys → xs ≡ ys
+  one_list = list_unique (IsLeast R) ◌≺◌ (shortlex_strict (IsLeast R)) None
+
+  one_index : (m n : ℕ) → HasIndex R m → HasIndex R n → m ≡ n
+  one_index m n p q = sym p.2 ∙ ap length (one_list p.0 q.0 p.1 q.1) ∙ q.2
+
+  -- a class has one number
+  one_number : (words : List Word) → IsClassList R words → (i j : ℕ) (u : Word) → IsNumbered R words i u → IsNumbered R words j u → i ≡ j
+  one_number words listed i j u p q =
+      let start = list_start (IsLeast R) None words listed in
+      let least : (n : ℕ) → n < length words → IsLeast R (get_or words n []) = λ n h. start_has (IsLeast R) None words start (get_or words n []) (in_at words n [] h) in
+      let same : get_or words i [] ≡ get_or words j [] = normal_unique R known.symmetric known.transitive u (get_or words i []) (get_or words j []) (record { related = p.1; least = least i p.0 }) (record { related = q.1; least = least j q.0 }) in
+      let up : (m n : ℕ) → m < n → n < length words → get_or words m [] ≺ get_or words n [] = ascending_between None words (start_ascending (IsLeast R) None words start) in
+      elim (cases_lt i j) [
+        | inl less ↦ absurd (before_irrefl (get_or words j []) (subst (λ w. w ≺ get_or words j []) same (up i j less q.0)))
+        | inr more ↦ elim (eq-or-lt_of_le more) [
+          | inl e ↦ sym e
+          | inr less ↦ absurd (before_irrefl (get_or words j []) (subst (λ w. get_or words j [] ≺ w) same (up j i less p.0)))
+        ]
+      ]
+
+  graphs_same : (letters : List ℕ) (k : ℕ) (words : List Word) (right left right' left' : ℕ → ℕ → ℕ) → AreCayleyGraphs R k words right left → AreCayleyGraphs R k words right' left'
+      → cayley_lines letters k words right left ≡ cayley_lines letters k words right' left'
+  graphs_same letters k words right left right' left' g h =
+      lines_same (λ i. cayley_line letters k i (get_or words i []) (right i) (left i)) (λ i. cayley_line letters k i (get_or words i []) (right' i) (left' i)) (length words) row
+    where
+      row : (i : ℕ) → i < length words → cayley_line letters k i (get_or words i []) (right i) (left i) ≡ cayley_line letters k i (get_or words i []) (right' i) (left' i)
+      row i within =
+          let on_right : numbers_text k (right i) ≡ numbers_text k (right' i) = numbers_same (right i) (right' i) k (λ a below. one_number words g.listed (right i a) (right' i a) (get_or words i [] ++ a ∷ []) (g.on_right i a within below) (h.on_right i a within below)) in
+          let on_left : numbers_text k (left i) ≡ numbers_text k (left' i) = numbers_same (left i) (left' i) k (λ a below. one_number words g.listed (left i a) (left' i a) (a ∷ get_or words i []) (g.on_left i a within below) (h.on_left i a within below)) in
+          rw (on_right, on_left) refl
+
+module _ {V : Type 0} {product : V → V → V} {equal : V → V → Bool} (generators : List V) (unused : V) where
+  values_not_both : {HasShape : V → Type 0} → IsProduct HasShape product equal → (n : ℕ)
+      → HasAtMostValues (length generators) equal (value_by product generators unused) n → HasMoreValues (length generators) equal (value_by product generators unused) n → ⊥
+  values_not_both {HasShape} laws n few more = let less = values_bound HasShape product equal laws (length generators) (value_by product generators unused) n n few more in omega arith
+
+problem_equivalence : (p : Problem) → IsPartialEquivalence (SameElement p)
+problem_equivalence (problem.Transf p) = value_equivalence p.generators [] (composed_products (0, 0))
+problem_equivalence (problem.PPerm p) = value_equivalence p.generators [] (partial_products (0, 0))
+problem_equivalence (problem.BMat p) = value_equivalence p.generators no_matrix (boolean_products (0, 0))
+problem_equivalence (problem.MaxPlus p) = value_equivalence p.generators no_truncated_matrix (truncated_products (0, 0))
+
+not_both : (p : Problem) (n : ℕ) → HasAtMost p n → HasMore p n → ⊥
+not_both (problem.Transf p) = values_not_both p.generators [] (composed_products (0, 0))
+not_both (problem.PPerm p) = values_not_both p.generators [] (partial_products (0, 0))
+not_both (problem.BMat p) = values_not_both p.generators no_matrix (boolean_products (0, 0))
+not_both (problem.MaxPlus p) = values_not_both p.generators no_truncated_matrix (truncated_products (0, 0))
+
+module _ (p : Problem) (bound : ℕ) where
+  abbrev R : Word → Word → Type 0
+  R = SameElement p
+
+  abbrev known : IsPartialEquivalence R
+  known = problem_equivalence p
+
+  one_lines : (query : Query) (lines others : List (List ℕ)) → AreLines p bound query lines → AreLines p bound query others → lines ≡ others
+  one_lines Index lines others h g = h.2 ∙ ap (λ n. index_line bound n ∷ []) (one_index R known h.0 g.0 h.1 g.1) ∙ sym g.2
+  one_lines (Equal u v) lines others (inl h) (inl g) = h.1 ∙ sym g.1
+  one_lines (Equal u v) lines others (inl h) (inr g) = absurd (g.0 h.0)
+  one_lines (Equal u v) lines others (inr h) (inl g) = absurd (h.0 g.0)
+  one_lines (Equal u v) lines others (inr h) (inr g) = h.1 ∙ sym g.1
+  one_lines (Normal u) lines others h g = h.2 ∙ ap (λ w. normal_line (letters_of p) w ∷ []) (normal_unique R known.symmetric known.transitive u h.0 g.0 h.1 g.1) ∙ sym g.2
+  one_lines (Classes count after) lines others h g =
+      let same = page_unique (IsLeast R) ◌≺◌ (shortlex_strict (IsLeast R)) after count h.0 g.0 h.1 g.1 h.2 g.2 in
+      h.3 ∙ ap₂ (λ words more. map (word_line (letters_of p)) words ++ end_line more ∷ []) same.0 same.1 ∙ sym g.3
+  one_lines RuleList lines others h g =
+      h.2 ∙ ap (λ rules. map (rule_line (letters_of p)) rules ++ end_line false ∷ []) (list_unique (λ rule. IsReducedRule R rule.0 rule.1) RuleBefore (rule_order R known) None h.0 g.0 h.1 g.1) ∙ sym g.2
+  one_lines (ElementOf u) lines others h g = h ∙ sym g
+  one_lines Cayley lines others h g =
+      let words : g.0 ≡ h.0 = one_list R known g.0 h.0 g.3.listed h.3.listed in
+      let moved : AreCayleyGraphs R (count_of p) h.0 g.1 g.2 = subst (λ ws. AreCayleyGraphs R (count_of p) ws g.1 g.2) words g.3 in
+      h.4
+      ∙ ap (λ rows. rows ++ end_line false ∷ []) (graphs_same R known (letters_of p) (count_of p) h.0 h.1 h.2 g.1 g.2 h.3 moved ∙ ap (λ ws. cayley_lines (letters_of p) (count_of p) ws g.1 g.2) (sym words))
+      ∙ sym g.4
+
+pub one_answer : (p : Problem) (budgets : Budgets) (bound : ℕ) (query : Query) (lines others : List (List ℕ)) (undecided other : Bool)
+    → IsAnswer p budgets bound query lines undecided → IsAnswer p budgets bound query others other → (lines ≡ others) × (undecided ≡ other)
+one_answer p budgets bound query lines others false false h g = (one_lines p bound query lines others h.are_lines g.are_lines, refl)
+one_answer p budgets bound query lines others false true h g = absurd (not_both p budgets.elements (h.decided g.waiting) g.more)
+one_answer p budgets bound query lines others true false h g = absurd (not_both p budgets.elements (g.decided h.waiting) h.more)
+one_answer p budgets bound query lines others true true h g = (h.line ∙ sym g.line, refl)

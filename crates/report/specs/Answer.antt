@@ -1,0 +1,57 @@
+-- What a query asks, over relatedness, least words, the class list and the bound alone (Froidure and Pin 1997; libsemigroups: Congruence).
+use Rattle.std.specs.Prelude.{◌≡◌, ℕ, Bool, true, false, IsTrue, ◌⊎◌, List, [], ◌∷◌, ◌++◌, length, map, slice_index_or}
+use Rattle.std.specs.List.{range_with_len}
+use Rattle.theory.specs.Word.{Word}
+use Rattle.theory.specs.ShortLex.{◌≺◌}
+use Rattle.theory.specs.Listing.{IsPage}
+use Rattle.theory.specs.Class.{IsLeast, IsNormal, HasIndex, IsRuleList}
+use Rattle.problem.specs.declared.budgets.Budgets.{Budgets}
+use Rattle.problem.specs.declared.kinds.Problem.{Problem}
+use Rattle.problem.specs.Problem.{SameElement, HasAtMost, HasMore, letters_of, count_of, value_text}
+use Rattle.query_lang.specs.declared.script.Query.{Query}
+use Rattle.query_lang.specs.declared.script.Query.TheVariants.{Index, Equal, Normal, Classes, RuleList, ElementOf, Cayley}
+use Rattle.report.specs.Graph.{AreCayleyGraphs}
+use Rattle.report.specs.Lines.{undecided_line, index_line, equal_line, element_line, end_line, normal_line, word_line, rule_line, cayley_line}
+
+-- the lines of all rows of the Cayley graphs
+abbrev pub cayley_lines : List ℕ → ℕ → List Word → (ℕ → ℕ → ℕ) → (ℕ → ℕ → ℕ) → List (List ℕ)
+cayley_lines letters k words right left = map (λ i. cayley_line letters k i (slice_index_or words i []) (right i) (left i)) (range_with_len 0 (length words))
+
+-- the lines of a query whose answer is defined, with the bound up to which an index is written out
+abbrev pub AreLines : Problem → ℕ → Query → List (List ℕ) → Type 0
+AreLines p bound Index lines = (n : ℕ) × HasIndex (SameElement p) n × (lines ≡ index_line bound n ∷ [])
+AreLines p bound (Equal u v) lines = (SameElement p u v × (lines ≡ equal_line true ∷ [])) ⊎ ((SameElement p u v → ⊥) × (lines ≡ equal_line false ∷ []))
+AreLines p bound (Normal u) lines = (w : Word) × IsNormal (SameElement p) u w × (lines ≡ normal_line (letters_of p) w ∷ [])
+AreLines p bound (Classes count after) lines =
+    (words : List Word) × (more : Bool) × IsPage (IsLeast (SameElement p)) ◌≺◌ after count words more × (lines ≡ map (word_line (letters_of p)) words ++ end_line more ∷ [])
+AreLines p bound RuleList lines = (rules : List (Word × Word)) × IsRuleList (SameElement p) rules × (lines ≡ map (rule_line (letters_of p)) rules ++ end_line false ∷ [])
+AreLines p bound (ElementOf u) lines = lines ≡ element_line (value_text p u) ∷ []
+AreLines p bound Cayley lines =
+    (words : List Word) × (right : (ℕ → ℕ → ℕ)) × (left : (ℕ → ℕ → ℕ)) × AreCayleyGraphs (SameElement p) (count_of p) words right left
+    × (lines ≡ cayley_lines (letters_of p) (count_of p) words right left ++ end_line false ∷ [])
+
+-- whether a query is answered only where the problem is decided
+abbrev pub waits : Query → Bool
+waits Index = true
+waits (Equal u v) = true
+waits (Normal u) = true
+waits (Classes count after) = true
+waits RuleList = true
+waits (ElementOf u) = false
+waits Cayley = true
+
+-- the answer of a query is defined: the problem is decided within the budget, where the query waits for that
+pub record IsDefined (p : Problem) (budgets : Budgets) (bound : ℕ) (query : Query) (lines : List (List ℕ)) : Type 0 where
+  pub decided : IsTrue (waits query) → HasAtMost p budgets.elements
+  pub are_lines : AreLines p bound query lines
+
+-- the answer of a query is that the problem is not decided within the budget
+pub record IsUndecided (p : Problem) (budgets : Budgets) (query : Query) (lines : List (List ℕ)) : Type 0 where
+  pub waiting : IsTrue (waits query)
+  pub more : HasMore p budgets.elements
+  pub line : lines ≡ undecided_line ∷ []
+
+-- the lines of a query's answer, and whether it is left undecided
+abbrev pub IsAnswer : Problem → Budgets → ℕ → Query → List (List ℕ) → Bool → Type 0
+IsAnswer p budgets bound query lines false = IsDefined p budgets bound query lines
+IsAnswer p budgets bound query lines true = IsUndecided p budgets query lines

@@ -1,0 +1,47 @@
+-- What a sink gains with an answer.
+use Rattle.std.specs.Prelude.{ℕ, Bool, true, false, ◌⊎◌, List, [], Option}
+use Rattle.std.specs.List.{flat_map}
+use Rattle.ports.specs.Bytes.{TakesAll, TakesPrefix}
+use Rattle.problem.specs.declared.budgets.Budgets.{Budgets}
+use Rattle.problem.specs.declared.kinds.Problem.{Problem}
+use Rattle.query_lang.specs.declared.script.Query.{Query}
+use Rattle.report.specs.declared.answers.Answered.{Answered}
+use Rattle.report.specs.declared.answers.Answered.TheVariants.{Defined, Undecided}
+use Rattle.report.specs.Answer.{AreLines, IsAnswer}
+
+-- the bytes of lines
+abbrev pub bytes_of : List (List ℕ) → List ℕ
+bytes_of lines = flat_map (λ line. line) lines
+
+abbrev pub is_undecided : Answered → Bool
+is_undecided Defined = false
+is_undecided Undecided = true
+
+-- the sink gained the lines of a query whose answer is defined
+pub record GainsLines (p : Problem) (bound : ℕ) (query : Query) (old new : Option (List ℕ)) : Type 0 where
+  pub lines : List (List ℕ)
+  pub are_lines : AreLines p bound query lines
+  pub gained : TakesAll old new (bytes_of lines)
+
+-- the sink gained a prefix of them
+pub record GainsSome (p : Problem) (bound : ℕ) (query : Query) (old new : Option (List ℕ)) : Type 0 where
+  pub lines : List (List ℕ)
+  pub are_lines : AreLines p bound query lines
+  pub gained : TakesPrefix old new (bytes_of lines)
+
+-- the sink gained the answer of a query
+pub record GainsAnswer (p : Problem) (budgets : Budgets) (bound : ℕ) (query : Query) (undecided : Bool) (old new : Option (List ℕ)) : Type 0 where
+  pub lines : List (List ℕ)
+  pub is_answer : IsAnswer p budgets bound query lines undecided
+  pub gained : TakesAll old new (bytes_of lines)
+
+-- the sink gained a prefix of the answer of a query
+pub record GainsPrefix (p : Problem) (budgets : Budgets) (bound : ℕ) (query : Query) (old new : Option (List ℕ)) : Type 0 where
+  pub lines : List (List ℕ)
+  pub undecided : Bool
+  pub is_answer : IsAnswer p budgets bound query lines undecided
+  pub gained : TakesPrefix old new (bytes_of lines)
+
+-- the sink gained nothing, or a prefix of the answer of a query
+abbrev pub GainsPart : Problem → Budgets → ℕ → Query → Option (List ℕ) → Option (List ℕ) → Type 0
+GainsPart p budgets bound query old new = TakesAll old new [] ⊎ GainsPrefix p budgets bound query old new

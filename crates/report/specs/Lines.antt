@@ -1,0 +1,41 @@
+-- The lines of a report; each ends with a line feed.
+use Rattle.std.specs.Prelude.{ℕ, Bool, List, ◌++◌, codes, decimal, nat_le, if◌then◌else◌}
+use Rattle.std.specs.List.{flat_map, range_with_len}
+use Rattle.theory.specs.Word.{Word}
+use Rattle.words.specs.WordText.{text_of}
+
+abbrev pub undecided_line : List ℕ
+undecided_line = codes "undecided\n"
+
+-- how many classes there are, up to the bound
+abbrev pub index_line : ℕ → ℕ → List ℕ
+index_line bound n = if nat_le n bound then codes "index " ++ (decimal n ++ codes "\n") else codes "index over " ++ (decimal bound ++ codes "\n")
+
+abbrev pub equal_line : Bool → List ℕ
+equal_line same = if same then codes "equal yes\n" else codes "equal no\n"
+
+abbrev pub element_line : List ℕ → List ℕ
+element_line entries = codes "element " ++ (entries ++ codes "\n")
+
+-- what ends a page, or a list
+abbrev pub end_line : Bool → List ℕ
+end_line more = if more then codes "more\n" else codes "end\n"
+
+-- numbers of k letters, each after a space
+abbrev pub numbers_text : ℕ → (ℕ → ℕ) → List ℕ
+numbers_text k number = flat_map (λ a. codes " " ++ decimal (number a)) (range_with_len 0 k)
+
+module _ (letters : List ℕ) where
+  abbrev pub normal_line : Word → List ℕ
+  normal_line w = codes "normal " ++ (text_of letters w ++ codes "\n")
+
+  abbrev pub word_line : Word → List ℕ
+  word_line w = text_of letters w ++ codes "\n"
+
+  abbrev pub rule_line : Word × Word → List ℕ
+  rule_line p = text_of letters p.0 ++ (codes " " ++ (text_of letters p.1 ++ codes "\n"))
+
+  -- an element's number and word, and the numbers of its products by k letters on the right and on the left
+  abbrev pub cayley_line : ℕ → ℕ → Word → (ℕ → ℕ) → (ℕ → ℕ) → List ℕ
+  cayley_line k i w right left =
+      decimal i ++ (codes " " ++ (text_of letters w ++ (codes " right" ++ (numbers_text k right ++ (codes " left" ++ (numbers_text k left ++ codes "\n"))))))

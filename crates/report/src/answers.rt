@@ -1,0 +1,220 @@
+// The answers of queries.
+ghost use Rattle.std.specs.Prelude.{◌≡◌, ◌≤◌, ◌⊎◌, ◌++◌, [], length, slice_index_or, codes, true, false, OnOk, OnErr, IfOk, IfSome, IsErrOf, IsTrue, MatchOption};
+ghost use Rattle.ports.specs.Bytes.{Rose, TakesAll, TakesPrefix};
+ghost use Rattle.ports.specs.declared.fault.WriteFault.TheVariants as fault;
+ghost use Rattle.theory.specs.Word.{IsElement};
+ghost use Rattle.problem.specs.Problem.{count_of, letters_of, value_text};
+ghost use Rattle.query_lang.specs.Query.{IsQueryOf};
+ghost use Rattle.report.specs.Answer.{waits};
+ghost use Rattle.report.specs.Closed.{IsClosureOf, number_in, words_of};
+ghost use Rattle.report.specs.Gains.{GainsAnswer, GainsLines, GainsPart, GainsSome, is_undecided};
+ghost use Rattle.report.specs.Kept.{IsVerdictOf, KeepsSettings};
+ghost use Rattle.report.specs.Lines.{element_line, equal_line, index_line, normal_line};
+
+use crate::cayley::write_cayley;
+use crate::closure::Closure;
+use crate::line::Line;
+use crate::listings::{page_start, write_page, write_rules};
+use crate::state::{State, Verdict};
+use ports::{NoMemory, Sink, WriteFault, write_all};
+use problem::Problem;
+use query_lang::{Query, Script};
+use std::alloc::Global;
+use std::thread::Threads;
+use words::Word;
+
+/// Whether a query was answered.
+#[derive(Clone, Copy, Debug, PartialEq, Eq)]
+pub enum Answered {
+    /// Its answer was written.
+    Defined,
+    /// The problem is not decided within the budgets; the line `undecided` was written.
+    Undecided,
+}
+
+// The line of how many classes there are, or that there are more than the bound, without its end.
+fn index_text(alloc: Global, count: usize, bound: usize) -> Result<Line, NoMemory>
+    ensures { IfOk result (λ line. line ++ codes "\n" ≡ index_line bound count) }
+{
+    if count <= bound {
+        let mut line = Line::starting(alloc, b"index ")?;
+        line.number(count)?;
+        Ok(line)
+    } else {
+        let mut line = Line::starting(alloc, b"index over ")?;
+        line.number(bound)?;
+        Ok(line)
+    }
+}
+
+// Writes how many classes there are, or that there are more than the bound.
+fn write_index<O: Sink>(
+    alloc: Global,
+    count: usize,
+    bound: usize,
+    sink: &mut O,
+) -> Result<(), WriteFault>
+    ensures written { OnOk result (TakesAll (O.taken sink.old) (O.taken sink.new) (index_line bound count)) }
+    ensures part { OnErr result (TakesPrefix (O.taken sink.old) (O.taken sink.new) (index_line bound count)) }
+    ensures failed { IsErrOf result WriteFault.Failed → Rose (O.faults sink.old) (O.faults sink.new) }
+    ensures kept { O.faults sink.old ≤ O.faults sink.new }
+    ensures quiet { OnOk result (O.faults sink.new ≡ O.faults sink.old) }
+{
+    index_text(alloc, count, bound)?.write(sink)
+}
+
+// Writes whether two words are related.
+fn write_equal<O: Sink>(same: bool, sink: &mut O) -> Result<(), WriteFault>
+    ensures written { OnOk result (TakesAll (O.taken sink.old) (O.taken sink.new) (equal_line same)) }
+    ensures part { OnErr result (TakesPrefix (O.taken sink.old) (O.taken sink.new) (equal_line same)) }
+    ensures failed { IsErrOf result WriteFault.Failed → Rose (O.faults sink.old) (O.faults sink.new) }
+    ensures kept { O.faults sink.old ≤ O.faults sink.new }
+    ensures quiet { OnOk result (O.faults sink.new ≡ O.faults sink.old) }
+{
+    if same {
+        write_all(sink, b"equal yes\n")
+    } else {
+        write_all(sink, b"equal no\n")
+    }
+}
+
+// Writes the normal form of a word.
+fn write_normal<O: Sink>(
+    alloc: Global,
+    problem: &Problem,
+    closure: &Closure,
+    word: &Word,
+    sink: &mut O,
+) -> Result<(), WriteFault>
+    requires closure { IsClosureOf problem.now closure.now }
+    requires word { IsElement false (count_of problem.now) word.now }
+    ensures written { OnOk result (TakesAll (O.taken sink.old) (O.taken sink.new) (normal_line (letters_of problem.now) (slice_index_or (words_of closure.now) (number_in closure.now word.now) []))) }
+    ensures part { OnErr result (TakesPrefix (O.taken sink.old) (O.taken sink.new) (normal_line (letters_of problem.now) (slice_index_or (words_of closure.now) (number_in closure.now word.now) []))) }
+    ensures failed { IsErrOf result WriteFault.Failed → Rose (O.faults sink.old) (O.faults sink.new) }
+    ensures kept { O.faults sink.old ≤ O.faults sink.new }
+    ensures quiet { OnOk result (O.faults sink.new ≡ O.faults sink.old) }
+{
+    let normal = closure.word(closure.index_of(word))?;
+    let mut line = Line::starting(alloc, b"normal ")?;
+    line.word(alloc, problem.alphabet(), &normal)?;
+    line.write(sink)
+}
+
+// Writes the entries of a word's value.
+fn write_element<O: Sink>(
+    alloc: Global,
+    problem: &Problem,
+    word: &Word,
+    sink: &mut O,
+) -> Result<(), WriteFault>
+    requires { IsElement false (length (letters_of problem.now)) word.now }
+    ensures written { OnOk result (TakesAll (O.taken sink.old) (O.taken sink.new) (element_line (value_text problem.now word.now))) }
+    ensures part { OnErr result (TakesPrefix (O.taken sink.old) (O.taken sink.new) (element_line (value_text problem.now word.now))) }
+    ensures failed { IsErrOf result WriteFault.Failed → Rose (O.faults sink.old) (O.faults sink.new) }
+    ensures kept { O.faults sink.old ≤ O.faults sink.new }
+    ensures quiet { OnOk result (O.faults sink.new ≡ O.faults sink.old) }
+{
+    let entries = problem.value(alloc, word)?;
+    let mut line = Line::starting(alloc, b"element ")?;
+    line.text(entries.as_slice())?;
+    line.write(sink)
+}
+
+// Writes the answer of a query of a problem whose elements are all known.
+fn write_known<O: Sink>(
+    alloc: Global,
+    problem: &Problem,
+    closure: &Closure,
+    query: &Query,
+    bound: usize,
+    sink: &mut O,
+) -> Result<(), WriteFault>
+    requires closure { IsClosureOf problem.now closure.now }
+    requires query { IsQueryOf problem.now query.now }
+    ensures written { OnOk result (GainsLines problem.now bound query.now (O.taken sink.old) (O.taken sink.new)) }
+    ensures part { OnErr result (TakesAll (O.taken sink.old) (O.taken sink.new) [] ⊎ GainsSome problem.now bound query.now (O.taken sink.old) (O.taken sink.new)) }
+    ensures failed { IsErrOf result WriteFault.Failed → Rose (O.faults sink.old) (O.faults sink.new) }
+    ensures kept { O.faults sink.old ≤ O.faults sink.new }
+    ensures quiet { OnOk result (O.faults sink.new ≡ O.faults sink.old) }
+{
+    let alphabet = problem.alphabet();
+    match query {
+        Query::Index => write_index(alloc, closure.len(), bound, sink),
+        Query::Equal(left, right) => write_equal(
+            closure.index_of(left) == closure.index_of(right),
+            sink,
+        ),
+        Query::Normal(word) => write_normal(alloc, problem, closure, word, sink),
+        Query::Classes { count, after } => {
+            let start = page_start(problem, closure, after.as_ref())?;
+            write_page(alloc, problem, closure, start, *count, sink)
+        }
+        Query::RuleList => write_rules(alloc, alphabet, &closure.rules()?, sink),
+        Query::ElementOf(word) => write_element(alloc, problem, word, sink),
+        Query::Cayley => write_cayley(alloc, problem, closure, sink),
+    }
+}
+
+// Writes the answer of a query that waits for the problem's decision.
+fn write_decided<O: Sink>(
+    alloc: Global,
+    problem: &Problem,
+    query: &Query,
+    state: &State,
+    sink: &mut O,
+) -> Result<Answered, WriteFault>
+    requires query { IsQueryOf problem.now query.now }
+    requires kept { MatchOption state.now.verdict ⊥ (IsVerdictOf problem.now state.now.budgets) }
+    requires waits { IsTrue (waits query.now) }
+    ensures written { IfOk result (λ answered. GainsAnswer problem.now state.now.budgets state.now.classes query.now (is_undecided answered) (O.taken sink.old) (O.taken sink.new)) }
+    ensures part { OnErr result (GainsPart problem.now state.now.budgets state.now.classes query.now (O.taken sink.old) (O.taken sink.new)) }
+    ensures failed { IsErrOf result WriteFault.Failed → Rose (O.faults sink.old) (O.faults sink.new) }
+    ensures kept { O.faults sink.old ≤ O.faults sink.new }
+    ensures quiet { OnOk result (O.faults sink.new ≡ O.faults sink.old) }
+{
+    match state.verdict() {
+        Some(Verdict::Known(closure)) => {
+            write_known(alloc, problem, closure, query, state.classes(), sink)?;
+            Ok(Answered::Defined)
+        }
+        Some(Verdict::Undecided) => {
+            write_all(sink, b"undecided\n")?;
+            Ok(Answered::Undecided)
+        }
+        None => unreachable!(),
+    }
+}
+
+/// Writes the answer of a query of the script, each line as one piece, and tells whether it is
+/// defined. The value of a word is told whatever the budgets are; the other queries are answered where
+/// the problem is decided within them, and else with the line `undecided`.
+///
+/// `Failed` comes only where the sink failed, and `NoMemory` for want of memory; the sink has then
+/// gained a prefix of the answer. What the state keeps is of this script's problem, and what it
+/// keeps afterwards too; nothing else in it changes.
+pub fn write_answer<R: Threads + Sync, O: Sink>(
+    _rt: &R,
+    alloc: Global,
+    script: &Script,
+    query: &Query,
+    state: &mut State,
+    sink: &mut O,
+) -> Result<Answered, WriteFault>
+    requires query { IsQueryOf script.now.problem query.now }
+    requires kept { IfSome state.old.verdict (IsVerdictOf script.now.problem state.old.budgets) }
+    ensures kept { IfSome state.new.verdict (IsVerdictOf script.now.problem state.new.budgets) }
+    ensures settings { KeepsSettings state.old state.new }
+    ensures written { IfOk result (λ answered. GainsAnswer script.now.problem state.old.budgets state.old.classes query.now (is_undecided answered) (O.taken sink.old) (O.taken sink.new)) }
+    ensures part { OnErr result (GainsPart script.now.problem state.old.budgets state.old.classes query.now (O.taken sink.old) (O.taken sink.new)) }
+    ensures failed { IsErrOf result WriteFault.Failed → Rose (O.faults sink.old) (O.faults sink.new) }
+    ensures kept_faults { O.faults sink.old ≤ O.faults sink.new }
+    ensures quiet { OnOk result (O.faults sink.new ≡ O.faults sink.old) }
+{
+    let problem = script.problem();
+    if let Query::ElementOf(word) = query {
+        write_element(alloc, problem, word, sink)?;
+        return Ok(Answered::Defined);
+    }
+    state.decide(alloc, problem)?;
+    write_decided(alloc, problem, query, state, sink)
+}

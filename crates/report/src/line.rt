@@ -1,0 +1,73 @@
+// Lines that are put together.
+ghost use Rattle.std.specs.Prelude.{◌≡◌, ◌++◌, [], length, decimal, codes, OnOk, OnErr, IfOk, IsErrOf, ◌≤◌};
+ghost use Rattle.theory.specs.Word.{IsOver};
+ghost use Rattle.words.specs.WordText.{text_of};
+ghost use Rattle.ports.specs.Bytes.{Rose, TakesAll, TakesPrefix};
+ghost use Rattle.ports.specs.declared.fault.WriteFault.TheVariants as fault;
+
+use itoa::Buffer;
+use ports::{NoMemory, Sink, WriteFault, write_all};
+use std::alloc::Global;
+use std::marker::Model;
+use words::{Alphabet, Word};
+
+/// A line that is put together, and then written as one piece. Contracts see its bytes.
+#[derive(Drop)]
+pub struct Line {
+    bytes: Vec<u8>,
+}
+
+impl Model for Line {
+    ghost use Rattle.std.specs.Prelude.{List, ℕ};
+
+    ghost Value = { List ℕ };
+
+    ghost view = { λ l. l.bytes.items };
+}
+
+impl Line {
+    /// A line that begins with a text. Only want of memory refuses it.
+    pub fn starting(alloc: Global, text: &[u8]) -> Result<Line, NoMemory>
+        ensures { IfOk result (λ line. line ≡ text.now) }
+    {
+        let bytes = Vec::from_slice(alloc, text)?;
+        Ok(Line { bytes })
+    }
+
+    /// Puts a text at the end. Only want of memory refuses it.
+    pub fn text(&mut self, text: &[u8]) -> Result<(), NoMemory>
+        ensures { OnOk result (self.new ≡ self.old ++ text.now) }
+    {
+        self.bytes.extend_from_slice(text)?;
+        Ok(())
+    }
+
+    /// Puts a number in decimal at the end. Only want of memory refuses it.
+    pub fn number(&mut self, number: usize) -> Result<(), NoMemory>
+        ensures { OnOk result (self.new ≡ self.old ++ decimal number) }
+    {
+        let mut buffer = Buffer::new();
+        self.text(buffer.format(number).as_bytes())
+    }
+
+    /// Puts a word at the end. Only want of memory refuses it.
+    pub fn word(&mut self, alloc: Global, alphabet: &Alphabet, word: &Word) -> Result<(), NoMemory>
+        requires { IsOver (length alphabet.now) word.now }
+        ensures { OnOk result (self.new ≡ self.old ++ text_of alphabet.now word.now) }
+    {
+        self.text(alphabet.print_word(alloc, word)?.as_slice())
+    }
+
+    /// Ends the line with a line feed, and writes it. `Failed` comes only where the sink failed; after
+    /// a refusal the sink has gained a prefix of the line.
+    pub fn write<O: Sink>(mut self, sink: &mut O) -> Result<(), WriteFault>
+        ensures all { OnOk result (TakesAll (O.taken sink.old) (O.taken sink.new) (self ++ codes "\n")) }
+        ensures prefix { OnErr result (TakesPrefix (O.taken sink.old) (O.taken sink.new) (self ++ codes "\n")) }
+        ensures failed { IsErrOf result WriteFault.Failed → Rose (O.faults sink.old) (O.faults sink.new) }
+        ensures kept { O.faults sink.old ≤ O.faults sink.new }
+        ensures quiet { OnOk result (O.faults sink.new ≡ O.faults sink.old) }
+    {
+        self.text(b"\n")?;
+        write_all(sink, self.bytes.as_slice())
+    }
+}

@@ -1,0 +1,82 @@
+// What is known while the queries of a script are answered.
+ghost use Rattle.std.specs.Prelude.{◌≡◌, None, Some, OnOk, IfOk, IfSome, MatchOption};
+ghost use Rattle.report.specs.Kept.{IsVerdictOf, KeepsSettings};
+
+use super::closure::Closure;
+use ports::NoMemory;
+use problem::{Budgets, Problem};
+use std::alloc::Global;
+
+/// What was found of a problem.
+#[derive(Drop)]
+pub enum Verdict {
+    /// All its elements.
+    Known(Closure),
+    /// It has more elements than the budget allows.
+    Undecided,
+}
+
+/// What the queries of one script are answered with: its budgets, the bound up to which an index is
+/// written out, how many workers may be at it, and what was found of the problem so far.
+#[derive(Drop)]
+pub struct State {
+    budgets: Budgets,
+    classes: usize,
+    workers: usize,
+    verdict: Option<Verdict>,
+}
+
+impl State {
+    /// Nothing is found yet.
+    pub fn new(budgets: Budgets, classes: usize, workers: usize) -> State
+        ensures budgets { result.budgets ≡ budgets }
+        ensures classes { result.classes ≡ classes }
+        ensures workers { result.workers ≡ workers }
+        ensures verdict { result.verdict ≡ None }
+    {
+        State {
+            budgets,
+            classes,
+            workers,
+            verdict: None,
+        }
+    }
+
+    // Finds out about the problem, where that was not done yet.
+    pub(crate) fn decide(&mut self, alloc: Global, problem: &Problem) -> Result<(), NoMemory>
+        requires { IfSome self.old.verdict (IsVerdictOf problem.now self.old.budgets) }
+        ensures kept { IfSome self.new.verdict (IsVerdictOf problem.now self.new.budgets) }
+        ensures settings { KeepsSettings self.old self.new }
+        ensures found { OnOk result (MatchOption self.new.verdict ⊥ (λ _. Unit {0})) }
+    {
+        if self.verdict.is_none() {
+            let verdict = verdict_of(alloc, problem, self.budgets)?;
+            self.verdict = Some(verdict);
+        }
+        Ok(())
+    }
+
+    // What was found of the problem, if it was looked for.
+    pub(crate) fn verdict(&self) -> Option<&Verdict>
+        ensures { MatchOption result (self.now.verdict ≡ None) (λ verdict. self.now.verdict ≡ Some verdict.now) }
+    {
+        self.verdict.as_ref()
+    }
+
+    // The bound up to which an index is written out.
+    pub(crate) fn classes(&self) -> usize
+        ensures { result ≡ self.now.classes }
+    {
+        self.classes
+    }
+}
+
+// What is found of a problem within the budgets.
+fn verdict_of(alloc: Global, problem: &Problem, budgets: Budgets) -> Result<Verdict, NoMemory>
+    ensures { IfOk result (IsVerdictOf problem.now budgets) }
+{
+    match Closure::of(alloc, problem, budgets.elements)? {
+        Some(closure) => Ok(Verdict::Known(closure)),
+        None => Ok(Verdict::Undecided),
+    }
+}

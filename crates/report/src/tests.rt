@@ -1,0 +1,55 @@
+// Answers, as a sink takes them.
+use super::*;
+use ports::MemSink;
+use problem::Budgets;
+use query_lang::read_script;
+use std::test::Fail;
+use std::thread::Threads;
+
+// The answer of the only query of a script, which a sink takes in pieces of three bytes.
+fn answer<R: Threads + Sync + AllocGlobal>(
+    rt: &R,
+    script: &str,
+    elements: usize,
+) -> Result<(Option<Answered>, Vec<u8>), Fail> {
+    let alloc = rt.alloc();
+    let script = read_script(alloc, script.as_bytes())?;
+    let mut state = State::new(Budgets { elements }, 2, 1);
+    let mut sink = MemSink::new(alloc, 3, Vec::new(alloc));
+    let answered = match script.queries() {
+        [query] => Some(write_answer(rt, alloc, &script, query, &mut state, &mut sink)?),
+        _ => None,
+    };
+    Ok((answered, sink.taken().to_vec(alloc)?))
+}
+
+#[test]
+fn each_query_is_answered(rt: HostRuntime) -> Result<(), Fail> {
+    // The group of two elements: b and aa have one value.
+    let swap = "trans 2\na = 1 0\nb = 0 1\n";
+    for (query, lines) in [
+        ("index", "index 2\n"),
+        ("equal ab bba", "equal yes\n"),
+        ("equal a b", "equal no\n"),
+        ("normal abab", "normal b\n"),
+        ("classes 1", "a\nmore\n"),
+        ("classes 2", "a\nb\nend\n"),
+        ("classes 5 after a", "b\nend\n"),
+        ("classes 0 after bb", "end\n"),
+        ("rules", "aa b\nab a\nba a\nbb b\nend\n"),
+        ("element aab", "element 0 1\n"),
+        (
+            "cayley",
+            "0 a right 1 0 left 1 0\n1 b right 0 1 left 0 1\nend\n",
+        ),
+    ] {
+        let script = format!(in rt.alloc(); "{swap}{query}")?;
+        let (answered, out) = answer(&rt, script.as_str(), 2)?;
+        assert_eq!(rt; answered, Some(Answered::Defined), "{query}");
+        assert_eq!(rt; out.as_slice(), lines.as_bytes(), "{query}");
+        let (answered, _) = answer(&rt, script.as_str(), 1)?;
+        let waits = !query.starts_with("element");
+        assert_eq!(rt; answered == Some(Answered::Undecided), waits, "{query}");
+    }
+    Ok(())
+}
