@@ -1,34 +1,58 @@
 -- What is due for the bytes of a script, and what goes where.
-use Rattle.std.specs.Prelude.{◌≡◌, ℕ, ◌<◌, ◌≤◌, Bool, List, [], ◌∷◌, length, Option, Ok}
+use Rattle.std.specs.Prelude.{◌≡◌, ℕ, ◌<◌, ◌≤◌, Bool, List, [], ◌∷◌, length, IfSome, Option, Ok}
 use Rattle.std.specs.List.{flat_map, list_any}
 use Rattle.ports.specs.Bytes.{Rose, TakesAll, TakesPrefix}
-use Rattle.query_lang.specs.declared.script.Query.{Query}
-use Rattle.semi.specs.declared.answer.Answer.{Answer}
-use Rattle.semi.specs.Limits.{most_bytes}
+use Rattle.problem.specs.declared.budgets.Budgets.{Budgets}
+use Rattle.problem.specs.declared.kinds.Problem.{Problem}
 use Rattle.query_lang.specs.declared.fault.ScriptFault.TheVariants.{Bad}
+use Rattle.query_lang.specs.declared.script.Query.{Query}
 use Rattle.query_lang.specs.Faults.{IsScriptFault}
-use Rattle.query_lang.specs.Script.{Partial, script_of}
+use Rattle.query_lang.specs.Script.{ScriptOf, script_of}
+use Rattle.report.specs.declared.state.State.{State}
+use Rattle.report.specs.Answer.{IsAnswer}
+use Rattle.report.specs.Gains.{bytes_of}
+use Rattle.report.specs.Kept.{IsVerdictOf}
 use Rattle.settings.specs.declared.Settings.{Settings}
 use Rattle.semi.specs.declared.fault.Fault.{Fault}
 use Rattle.semi.specs.declared.fault.Fault.TheVariants.{TooLong, Script, Arguments, Read, Write, NoMemory}
+use Rattle.semi.specs.Limits.{most_bytes}
 use Rattle.semi.specs.Status.{line_of_fault}
-use Rattle.semi.specs.Answer.{IsAnswer, line_of, is_undecided}
+
+-- an answer: its lines, and whether the query is left undecided
+pub record Answer : Type 0 where
+  pub lines : List (List ℕ)
+  pub undecided : Bool
+
+-- the bytes of its lines
+abbrev pub lines_of : Answer → List ℕ
+lines_of a = bytes_of a.lines
+
+abbrev pub is_undecided : Answer → Bool
+is_undecided a = a.undecided
+
+-- what may be used up on a problem under these settings
+abbrev pub budgets_of : Settings → Budgets
+budgets_of settings = record { elements = settings.elements }
+
+-- the answer of a query
+abbrev pub IsAnswerOf : Settings → Problem → Query → Answer → Type 0
+IsAnswerOf settings problem query a = IsAnswer problem (budgets_of settings) settings.classes query a.lines a.undecided
 
 -- the answers of the queries, one by one
-abbrev pub AreAnswers : Settings → List (List ℕ) → List Query → List Answer → Type 0
-AreAnswers settings generators [] [] = Unit {0}
-AreAnswers settings generators [] (a ∷ answers) = ⊥
-AreAnswers settings generators (q ∷ queries) [] = ⊥
-AreAnswers settings generators (q ∷ queries) (a ∷ answers) = IsAnswer settings generators q a × AreAnswers settings generators queries answers
+abbrev pub AreAnswers : Settings → Problem → List Query → List Answer → Type 0
+AreAnswers settings problem [] [] = Unit {0}
+AreAnswers settings problem [] (a ∷ answers) = ⊥
+AreAnswers settings problem (q ∷ queries) [] = ⊥
+AreAnswers settings problem (q ∷ queries) (a ∷ answers) = IsAnswerOf settings problem q a × AreAnswers settings problem queries answers
 
 -- the answers of the first queries
-abbrev pub AreFirstAnswers : Settings → List (List ℕ) → List Query → List Answer → Type 0
-AreFirstAnswers settings generators queries [] = Unit {0}
-AreFirstAnswers settings generators [] (a ∷ answers) = ⊥
-AreFirstAnswers settings generators (q ∷ queries) (a ∷ answers) = IsAnswer settings generators q a × AreFirstAnswers settings generators queries answers
+abbrev pub AreFirstAnswers : Settings → Problem → List Query → List Answer → Type 0
+AreFirstAnswers settings problem queries [] = Unit {0}
+AreFirstAnswers settings problem [] (a ∷ answers) = ⊥
+AreFirstAnswers settings problem (q ∷ queries) (a ∷ answers) = IsAnswerOf settings problem q a × AreFirstAnswers settings problem queries answers
 
 -- the input is this script
-pub record IsScript (input : List ℕ) (script : Partial) : Type 0 where
+pub record IsScript (input : List ℕ) (script : ScriptOf) : Type 0 where
   pub short : length input ≤ most_bytes
   pub reads : script_of input ≡ Ok script
 
@@ -46,22 +70,22 @@ abbrev pub IsRefused : List ℕ → Type 0
 IsRefused input = (fault : Fault) × IsRefusal input fault
 
 -- the lines of the answers of these queries, in order, and whether an answer is undecided
-pub record AreLines (settings : Settings) (generators : List (List ℕ)) (queries : List Query) (report : List ℕ) (undecided : Bool) : Type 0 where
+pub record AreLines (settings : Settings) (problem : Problem) (queries : List Query) (report : List ℕ) (undecided : Bool) : Type 0 where
   pub answers : List Answer
-  pub correct : AreAnswers settings generators queries answers
-  pub lines : report ≡ flat_map line_of answers
+  pub correct : AreAnswers settings problem queries answers
+  pub lines : report ≡ flat_map lines_of answers
   pub status : undecided ≡ list_any is_undecided answers
 
 -- the report of the input
 pub record IsReport (settings : Settings) (input report : List ℕ) (undecided : Bool) : Type 0 where
-  pub script : Partial
+  pub script : ScriptOf
   pub is_script : IsScript input script
-  pub are_lines : AreLines settings script.generators script.queries report undecided
+  pub are_lines : AreLines settings script.problem script.queries report undecided
 
 -- the sink gained the lines of these queries
-pub record GainsLines (settings : Settings) (generators : List (List ℕ)) (queries : List Query) (undecided : Bool) (old new : Option (List ℕ)) : Type 0 where
+pub record GainsLines (settings : Settings) (problem : Problem) (queries : List Query) (undecided : Bool) (old new : Option (List ℕ)) : Type 0 where
   pub report : List ℕ
-  pub are_lines : AreLines settings generators queries report undecided
+  pub are_lines : AreLines settings problem queries report undecided
   pub gained : TakesAll old new report
 
 -- the sink gained the report of the input
@@ -71,16 +95,22 @@ pub record GainsReport (settings : Settings) (input : List ℕ) (undecided : Boo
   pub gained : TakesAll old new report
 
 -- the sink gained a prefix of the lines of the first of these queries
-pub record GainsPart (settings : Settings) (generators : List (List ℕ)) (queries : List Query) (old new : Option (List ℕ)) : Type 0 where
+pub record GainsPart (settings : Settings) (problem : Problem) (queries : List Query) (old new : Option (List ℕ)) : Type 0 where
   pub answers : List Answer
-  pub correct : AreFirstAnswers settings generators queries answers
-  pub gained : TakesPrefix old new (flat_map line_of answers)
+  pub correct : AreFirstAnswers settings problem queries answers
+  pub gained : TakesPrefix old new (flat_map lines_of answers)
 
 -- the sink gained a beginning of the report of the input
 pub record GainsBeginning (settings : Settings) (input : List ℕ) (old new : Option (List ℕ)) : Type 0 where
-  pub script : Partial
+  pub script : ScriptOf
   pub is_script : IsScript input script
-  pub part : GainsPart settings script.generators script.queries old new
+  pub part : GainsPart settings script.problem script.queries old new
+
+-- the state answers queries of this problem under these settings
+pub record IsStateOf (settings : Settings) (problem : Problem) (state : State) : Type 0 where
+  pub budgets : state.budgets ≡ budgets_of settings
+  pub classes : state.classes ≡ settings.classes
+  pub verdict : IfSome state.verdict (IsVerdictOf problem state.budgets)
 
 -- the sink gained this line, or a prefix of it where one of its two counts rose
 pub record GainsLine (line : List ℕ) (old new : Option (List ℕ)) (faults faults' refusals refusals' : ℕ) : Type 0 where

@@ -1,13 +1,13 @@
-//! Reads a script of transformations, and writes the answers of its queries.
+//! Reads a script of transformations, partial permutations, Boolean matrices or truncated max-plus
+//! matrices, and writes the answers of its queries.
 #![tactic(auto)]
 
 mod adapters;
-mod answer;
 mod fault;
-mod report;
 #[cfg(test)]
 mod tests;
 mod top;
+mod whole;
 
 use adapters::{InputSource, OutputSink};
 use fault::Fault;

@@ -93,6 +93,73 @@ fn scripts_get_their_status_and_line(rt: HostRuntime) -> Result<(), Fail> {
 }
 
 #[test]
+fn scripts_get_their_report(rt: HostRuntime) -> Result<(), Fail> {
+    const NAME: &[&str] = &["semi"];
+    for (words, script, status, out, err) in [
+        (
+            NAME,
+            "trans 3\na = 1 0 2\nb = 1 2 0\nc = 0 0 2\n\
+             index\nequal aaa a\nnormal aaa\nelement ab\nclasses 4\n",
+            0u8,
+            "index 27\nequal yes\nnormal a\nelement 2 1 0\na\nb\nc\naa\nmore\n",
+            "",
+        ),
+        (
+            NAME,
+            "pperm 2\na = 1 -\nb = - 0\nclasses 9\nrules\ncayley\n",
+            0,
+            "a\nb\naa\nab\nba\nend\n\
+             bb aa\naaa aa\naab aa\naba a\nbaa aa\nbab b\nend\n\
+             0 a right 2 3 left 2 4\n1 b right 4 2 left 3 2\n2 aa right 2 2 left 2 2\n\
+             3 ab right 0 2 left 2 1\n4 ba right 2 1 left 0 2\nend\n",
+            "",
+        ),
+        (
+            NAME,
+            "mpt 1 3\na = 1\nindex\nrules\nelement aaaa\n",
+            0,
+            "index 3\naaaa aaa\nend\nelement 3\n",
+            "",
+        ),
+        (
+            NAME,
+            "bmat 2\na = 1 1 0 1\nindex\nrules\nelement aa\n",
+            0,
+            "index 1\naa a\nend\nelement 1 1 0 1\n",
+            "",
+        ),
+        (
+            NAME,
+            "trans 1\na = 0\nb = 0\nindex\nrules\n",
+            0,
+            "index 1\nb a\naa a\nend\n",
+            "",
+        ),
+        (
+            &["semi", "--elements", "0"],
+            "trans 1\na = 0\nindex\nelement a\n",
+            1,
+            "undecided\nelement 0\n",
+            "",
+        ),
+        (
+            NAME,
+            "pperm 2\na = 0 0\n",
+            2,
+            "",
+            "semi: line 2: not injective\n",
+        ),
+        (NAME, "mpt 16 65536\n", 2, "", "semi: line 1: bad number\n"),
+    ] {
+        let ended = run(&rt, words, script.as_bytes(), NONE)?;
+        assert_eq!(rt; ended.status, status, "{script}");
+        assert_eq!(rt; ended.out.as_slice(), out.as_bytes(), "{script}");
+        assert_eq!(rt; ended.err.as_slice(), err.as_bytes(), "{script}");
+    }
+    Ok(())
+}
+
+#[test]
 fn examples_give_their_output(rt: HostRuntime) -> Result<(), Fail> {
     for (script, status, out) in [
         (

@@ -2,21 +2,22 @@
 ghost use Rattle.std.specs.Prelude.{◌≡◌, ◌≤◌, ◌⊎◌, true, false, IfErr, IfOk, IfSome, IsErrOf, OnOk, map, string_bytes};
 ghost use Rattle.ports.specs.Bytes.{Rose};
 ghost use Rattle.semi.specs.Report.{GainsBeginning, GainsLineOf, GainsReport, IsRefusal, IsRefused, IsScript};
-ghost use Rattle.query_lang.specs.Script.{Partial};
+ghost use Rattle.query_lang.specs.Script.{ScriptOf};
 ghost use Rattle.semi.specs.Settings.{Under};
 ghost use Rattle.settings.specs.Settings.{AreAccepted, AreRefused};
 ghost use Rattle.semi.specs.Status.{status_of};
 ghost use Rattle.semi.specs.declared.fault.Fault.{Fault};
 
 use crate::fault::Fault;
-use crate::report::{take_script, write_report};
+use crate::whole::{take_script, write_report};
 use ports::{Sink, Source};
 use settings::settings_of;
 use std::alloc::Global;
 use std::thread::Threads;
 
 // Reads the script and writes its report, and tells whether an answer is undecided.
-fn run<S: Source, O: Sink>(
+fn run<R: Threads + Sync, S: Source, O: Sink>(
+    rt: &R,
     alloc: Global,
     words: &Vec<String>,
     source: &mut S,
@@ -37,10 +38,11 @@ fn run<S: Source, O: Sink>(
 {
     let settings = settings_of(alloc, words)?;
     let script = take_script(alloc, source)?;
-    write_report(alloc, settings, &script, out)
+    write_report(rt, alloc, settings, &script, out)
 }
 
-/// The program: reads the source as a script and writes its report to `out`; gives the status.
+/// The program: reads the source as a script of elements and writes its report to `out`; gives the
+/// status.
 ///
 /// - 0: the whole report was written, and no answer is undecided. 1: the same, with one at least.
 /// - 2: the input, read in full, is longer than 1,048,576 bytes, or a line of it is faulty.
@@ -49,7 +51,7 @@ fn run<S: Source, O: Sink>(
 ///
 /// `err` gets one line at the statuses from 2 on; at 2 it tells the first faulty line and its cause. `words` begins with the program's name.
 pub fn semi<R: Threads + Sync, S: Source, O: Sink, E: Sink>(
-    _rt: &R,
+    rt: &R,
     alloc: Global,
     words: &Vec<String>,
     source: &mut S,
@@ -86,9 +88,9 @@ pub fn semi<R: Threads + Sync, S: Source, O: Sink, E: Sink>(
     ensures refuses { AreAccepted (map string_bytes words.now.items) → (Rose (S.faults source.old) (S.faults source.new) → ⊥)
         → IfSome (S.left source.old) (λ input. IsRefused input → (result ≡ 2) ⊎ (result ≡ 6)) }
     ensures answers { AreAccepted (map string_bytes words.now.items) → (Rose (S.faults source.old) (S.faults source.new) → ⊥) → (Rose (O.faults out.old) (O.faults out.new) → ⊥)
-        → IfSome (S.left source.old) (λ input. (script : Partial) → IsScript input script → (result ≤ 1) ⊎ (result ≡ 6)) }
+        → IfSome (S.left source.old) (λ input. (script : ScriptOf) → IsScript input script → (result ≤ 1) ⊎ (result ≡ 6)) }
 {
-    match run(alloc, words, source, out) {
+    match run(rt, alloc, words, source, out) {
         Ok(undecided) => u8::from(undecided),
         Err(fault) => fault.tell(err),
     }

@@ -1,7 +1,7 @@
 use Rattle.std.proofs.Common.{◌≡◌, ◌++◌, codes, decimal, subst, ◌∙◌}
 use Rattle.ports.specs.Bytes.{TakesAll, TakesPrefix}
 use Rattle.query_lang.specs.Causes.{cause_text}
-use Rattle.semi.proofs.ReportLemmas.{on_err, on_err_so, prefix_more, prefix_after}
+use Rattle.report.proofs.GainLemmas.{on_err, on_err_so, prefix_more, prefix_after}
 use Rattle.semi.proofs.fault.write_place.Goals as goal
 
 pub returns-in_err-write_all-clause-prefix : goal.returns-in_err-write_all-clause-prefix

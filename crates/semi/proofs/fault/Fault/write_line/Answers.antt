@@ -1,7 +1,7 @@
 use Rattle.std.proofs.Common.{◌++◌, codes}
 use Rattle.ports.specs.Bytes.{TakesPrefix}
 use Rattle.semi.specs.Status.{text_of}
-use Rattle.semi.proofs.ReportLemmas.{on_err, on_err_so, prefix_more, prefix_after}
+use Rattle.report.proofs.GainLemmas.{on_err, on_err_so, prefix_more, prefix_after}
 use Rattle.semi.proofs.fault.Fault.write_line.Goals as goal
 
 pub returns-in_err-write_all-clause-prefix : goal.returns-in_err-write_all-clause-prefix

@@ -1,5 +1,5 @@
 use Rattle.semi.proofs.UniqueReport.{one_report}
-use Rattle.semi.proofs.report.report_is_one.Goals as goal
+use Rattle.semi.proofs.whole.report_is_one.Goals as goal
 
 pub returns : goal.returns
 returns c = one_report

@@ -1,5 +1,5 @@
 use Rattle.semi.proofs.UniqueReport.{beginning_prefix}
-use Rattle.semi.proofs.report.beginning_is_prefix.Goals as goal
+use Rattle.semi.proofs.whole.beginning_is_prefix.Goals as goal
 
 pub returns : goal.returns
 returns c = beginning_prefix
