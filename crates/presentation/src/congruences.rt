@@ -1,0 +1,81 @@
+// Congruences given by pairs.
+ghost use Rattle.std.specs.Prelude.{◌≡◌, List, length, IfOk};
+ghost use Rattle.theory.specs.Congruence.{AreElements, IsWellFormed};
+ghost use Rattle.presentation.specs.Presented.{IsPosed};
+
+use crate::pair_lists::Pairs;
+use crate::presentations::Presentation;
+use ports::NoMemory;
+use std::alloc::Global;
+use std::marker::Model;
+use theory::Kind;
+
+/// The congruence of a kind that pairs generate on a presentation (libsemigroups, `Congruence`). The sides of the
+/// pairs are elements.
+#[derive(Drop)]
+pub struct Congruence {
+    presentation: Presentation,
+    kind: Kind,
+    pairs: Pairs,
+}
+
+impl Model for Congruence {
+    ghost use Rattle.presentation.specs.Presented.{Posed, IsPosed};
+
+    ghost Value = { Posed };
+
+    ghost view = { λ c. record { alphabet = c.presentation.alphabet; congruence = record { presentation = c.presentation.presentation; kind = c.kind; pairs = c.pairs } } };
+
+    ghost invariant = { λ c. IsPosed (record { alphabet = c.presentation.alphabet; congruence = record { presentation = c.presentation.presentation; kind = c.kind; pairs = c.pairs } }) };
+}
+
+impl Congruence {
+    /// The congruence that the pairs generate. Their sides are elements of the presentation.
+    pub fn new(presentation: Presentation, kind: Kind, pairs: Pairs) -> Congruence
+        requires { AreElements presentation.presentation.is_monoid presentation.presentation.letters pairs }
+        ensures { result ≡ record { alphabet = presentation.alphabet; congruence = record { presentation = presentation.presentation; kind = kind; pairs = pairs } } }
+    {
+        let _relations = presentation.relations();
+        Congruence {
+            presentation,
+            kind,
+            pairs,
+        }
+    }
+
+    /// The presentation. What holds of every congruence is told here: the sides of relations and pairs are elements.
+    pub fn presentation(&self) -> &Presentation
+        ensures alphabet { result.now.alphabet ≡ self.now.alphabet }
+        ensures presentation { result.now.presentation ≡ self.now.congruence.presentation }
+        ensures posed { IsPosed self.now }
+    {
+        &self.presentation
+    }
+
+    /// Where the pairs may be used.
+    pub fn kind(&self) -> Kind
+        ensures { result ≡ self.now.congruence.kind }
+    {
+        self.kind
+    }
+
+    /// The pairs.
+    pub fn pairs(&self) -> &Pairs
+        ensures { result.now ≡ self.now.congruence.pairs }
+    {
+        &self.pairs
+    }
+
+    /// The same congruence in memory of its own. Refused only where memory is wanting.
+    pub fn copy(&self, alloc: Global) -> Result<Congruence, NoMemory>
+        ensures { IfOk result (λ c. c ≡ self.now) }
+    {
+        let presentation = self.presentation.copy(alloc)?;
+        let pairs = self.pairs.copy(alloc)?;
+        Ok(Congruence {
+            presentation,
+            kind: self.kind,
+            pairs,
+        })
+    }
+}

@@ -1,0 +1,94 @@
+ghost use Rattle.std.specs.Prelude.{IfOk};
+ghost use Rattle.theory.specs.Word.{IsOver};
+
+use super::*;
+use ports::NoMemory;
+use std::alloc::Global;
+use std::test::Fail;
+use words::{Alphabet, Word};
+
+// A presentation over `ab` without relations.
+fn over_ab(alloc: Global, monoid: bool) -> Result<Presentation, NoMemory> {
+    match Alphabet::new(alloc, b"ab") {
+        Ok(alphabet) => Ok(Presentation::new(alloc, alphabet, monoid)),
+        Err(_) => Err(NoMemory),
+    }
+}
+
+// The word of the text.
+fn word(presentation: &Presentation, alloc: Global, text: &[u8]) -> Result<Word, NoMemory>
+    ensures { IfOk result (λ w. IsOver presentation.now.presentation.letters w) }
+{
+    let alphabet = presentation.alphabet();
+    match alphabet.read_word(alloc, text, true) {
+        Ok(word) => Ok(word),
+        Err(_) => Err(NoMemory),
+    }
+}
+
+// Adds the relation of the two texts.
+fn add(
+    presentation: &mut Presentation,
+    alloc: Global,
+    left: &[u8],
+    right: &[u8],
+) -> Result<(), AddFault> {
+    let left = word(presentation, alloc, left)?;
+    let right = word(presentation, alloc, right)?;
+    presentation.add(left, right)
+}
+
+// What adding the relation of the two texts to none gives.
+fn added(alloc: Global, monoid: bool, left: &[u8], right: &[u8]) -> Result<(), AddFault> {
+    let mut presentation = over_ab(alloc, monoid)?;
+    add(&mut presentation, alloc, left, right)
+}
+
+// The fault at a relation behind 8,192 others.
+fn behind_8192(alloc: Global, left: &[u8], right: &[u8]) -> Result<(), AddFault> {
+    let mut presentation = over_ab(alloc, false)?;
+    for _ in 0..MOST_RELATIONS {
+        add(&mut presentation, alloc, b"aa", b"b")?;
+    }
+    add(&mut presentation, alloc, left, right)
+}
+
+#[test]
+fn refuses_empty_sides_in_semigroups(rt: HostRuntime) {
+    let alloc = rt.alloc();
+    assert_eq!(rt; added(alloc, true, b"", b""), Ok(()));
+    assert_eq!(rt; added(alloc, false, b"ab", b"ba"), Ok(()));
+    assert_eq!(rt; added(alloc, false, b"ab", b"1"), Err(AddFault::EmptyWord));
+    assert_eq!(rt; added(alloc, false, b"", b"a"), Err(AddFault::EmptyWord));
+}
+
+#[test]
+fn takes_8192_relations(rt: HostRuntime) {
+    let alloc = rt.alloc();
+    assert_eq!(rt; behind_8192(alloc, b"aa", b"b"), Err(AddFault::TooMany));
+    assert_eq!(rt; behind_8192(alloc, b"", b"b"), Err(AddFault::EmptyWord));
+}
+
+#[test]
+fn reverses_and_extends(rt: HostRuntime) -> Result<(), Fail> {
+    let alloc = rt.alloc();
+    let presentation = over_ab(alloc, true)?;
+    let turned = presentation.reversed(alloc)?;
+    let mut pairs = Pairs::new(alloc);
+    pairs.push(Word::new(alloc), Word::new(alloc))?;
+    let pairs = pairs.reversed(alloc)?;
+    assert_eq!(rt; pairs.len(), 1);
+    assert!(rt; turned.with_pairs(alloc, &Pairs::new(alloc)).is_ok());
+    Ok(())
+}
+
+#[test]
+fn copies_congruences(rt: HostRuntime) -> Result<(), Fail> {
+    let alloc = rt.alloc();
+    let presentation = over_ab(alloc, true)?;
+    let congruence = Congruence::new(presentation, Kind::Right, Pairs::new(alloc));
+    let copied = congruence.copy(alloc)?;
+    assert_eq!(rt; copied.kind(), Kind::Right);
+    assert_eq!(rt; copied.presentation().letters(), 2);
+    Ok(())
+}
