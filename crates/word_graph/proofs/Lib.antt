@@ -1,0 +1,10 @@
+pub mod Paths
+pub mod EdgeLaws
+pub mod OrderLaws
+pub mod WalkLaws
+pub mod StepLaws
+pub mod RenumberLaws
+pub mod RowLaws
+pub mod StandardLaws
+pub mod WordLaws
+pub mod NumberLaws

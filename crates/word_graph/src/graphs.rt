@@ -1,0 +1,252 @@
+// Word graphs, their nodes and edges.
+ghost use Rattle.std.specs.Prelude.{◌≡◌, ◌≢◌, ℕ, ◌<◌, ◌≤◌, ◌↔◌, List, [], ◌∷◌, ◌++◌, length, replicate, take, Option, None, Some, slice_get, slice_set, slice_index_or, unwrap_or, IfOk, MatchOption, OnErr, IfSome, IfNone, IsTrue};
+ghost use Rattle.theory.specs.Graph.{target as target_of, path as path_of, IsGraph, IsComplete, SameEnd, Shows};
+ghost use Rattle.theory.specs.Facts.{AllDefined};
+ghost use Rattle.word_graph.specs.Edges.{with_edge, with_node};
+ghost use Rattle.theory.specs.LowIndex.{Rows, graph_of, IsNumberedFrom, IsStandard};
+ghost use Rattle.word_graph.specs.Numbered.{max_from, seen_at};
+ghost use Rattle.word_graph.specs.Standard.{IsStandardGraph};
+
+use crate::rows::Row;
+use crate::walks::Walk;
+use ports::NoMemory;
+use std::alloc::Global;
+use std::marker::Model;
+use words::{Letter, Word};
+
+/// The most letters of a word graph: as many as there are [`Letter`]s.
+pub const MOST_LETTERS: usize = 256;
+
+/// A rooted word graph, complete or not: nodes 0, 1, .. with root 0, and for each node and letter at most one edge
+/// (libsemigroups, `WordGraph`). It has at least one node and at most [`MOST_LETTERS`] letters.
+#[derive(Drop)]
+pub struct WordGraph {
+    alloc: Global,
+    letters: usize,
+    rows: Vec<Row>,
+}
+
+impl Model for WordGraph {
+    ghost use Rattle.std.specs.Prelude.{◌≤◌};
+    ghost use Rattle.theory.specs.Graph.{Graph, IsGraph};
+
+    ghost Value = { Graph };
+
+    ghost view = { λ g. g.rows.items };
+
+    ghost invariant = { λ g. record { graph : IsGraph g.letters g.rows.items; few : g.letters ≤ 256 } };
+}
+
+// The greatest node seen after an entry, unless it is more than one greater than all before.
+fn seen_at(target: Option<usize>, seen: usize) -> Option<usize>
+    ensures { result ≡ seen_at target seen }
+{
+    match target {
+        None => Some(seen),
+        Some(node) => {
+            if seen.saturating_add(1) < node {
+                return None;
+            }
+            Some(seen.max(node))
+        }
+    }
+}
+
+impl WordGraph {
+    /// So many nodes, the root among them, and no edge. Refused only where memory is wanting.
+    pub fn new(alloc: Global, letters: usize, nodes: usize) -> Result<WordGraph, NoMemory>
+        requires letters { letters ≤ MOST_LETTERS }
+        requires nodes { 0 < nodes }
+        ensures { IfOk result (λ g. g ≡ replicate nodes (replicate letters None)) }
+    {
+        let mut rows = Vec::new(alloc);
+        for _ in 0..nodes {
+            rows.push(Row::new(alloc, letters)?)?;
+        }
+        Ok(WordGraph {
+            alloc,
+            letters,
+            rows,
+        })
+    }
+
+    /// How many nodes there are: at least one.
+    pub fn nodes(&self) -> usize
+        ensures nodes { result ≡ length self.now }
+        ensures rooted { 0 < result }
+    {
+        let _letters = &self.letters;
+        self.rows.len()
+    }
+
+    /// How many letters there are. What holds of every word graph is told here: each row has as many entries, and
+    /// each edge leads to a node.
+    pub fn letters(&self) -> usize
+        ensures graph { IsGraph result self.now }
+        ensures few { result ≤ MOST_LETTERS }
+    {
+        self.letters
+    }
+
+    /// Where the edge of the letter leads from the node. `None` exactly where there is no such edge.
+    pub fn target(&self, node: usize, letter: Letter) -> Option<usize>
+        ensures { result ≡ target_of self.now node letter }
+    {
+        if node < self.rows.len() {
+            self.rows[node].get(letter)
+        } else {
+            None
+        }
+    }
+
+    /// Where the word leads from the node. `None` exactly where an edge is missing on the way.
+    pub fn path(&self, node: usize, word: &Word) -> Option<usize>
+        ensures { result ≡ path_of self.now node word.now }
+    {
+        self.prefix_path(node, word, word.len())
+    }
+
+    /// Where the first `count` letters of the word lead from the node. `None` exactly where an edge is missing on
+    /// the way.
+    pub fn prefix_path(&self, node: usize, word: &Word, count: usize) -> Option<usize>
+        requires { count ≤ length word.now }
+        ensures { result ≡ path_of self.now node (take count word.now) }
+    {
+        let mut at = node;
+        for i in 0..count {
+            match self.target(at, word.letter(i)) {
+                None => return None,
+                Some(next) => at = next,
+            }
+        }
+        Some(at)
+    }
+
+    /// Adds a node without edges, and tells its number. Refused only where memory is wanting, and then the graph
+    /// stays as it was.
+    pub fn add_node(&mut self) -> Result<usize, NoMemory>
+        ensures ok { IfOk result (λ node. (node ≡ length self.old) × ((k : ℕ) → IsGraph k self.old → self.new ≡ with_node k self.old)) }
+        ensures err { OnErr result (self.new ≡ self.old) }
+    {
+        let node = self.rows.len();
+        let row = Row::new(self.alloc, self.letters)?;
+        self.rows.push(row)?;
+        Ok(node)
+    }
+
+    /// Makes the edge of the letter lead from the one node to the other, in the place of the edge that was there.
+    pub fn set_target(&mut self, node: usize, letter: Letter, to: usize)
+        requires node { node < length self.old }
+        requires letter { letter < length (slice_index_or self.old node []) }
+        requires to { to < length self.old }
+        ensures { self.new ≡ with_edge self.old node letter to }
+    {
+        let _letters = &self.letters;
+        let row = &mut self.rows[node];
+        row.set(letter, to);
+    }
+
+    /// The least letter without an edge at the node. `None` exactly where the node has every edge.
+    pub fn missing_letter(&self, node: usize) -> Option<Letter>
+        ensures some { IfSome result (λ a. (k : ℕ) → IsGraph k self.now → (a < k) × (target_of self.now node a ≡ None)) }
+        ensures least { IfSome result (λ a. (b : ℕ) → b < a → target_of self.now node b ≢ None) }
+        ensures none { IfNone result ((k b : ℕ) → IsGraph k self.now → b < k → target_of self.now node b ≢ None) }
+    {
+        for number in 0..self.letters {
+            let letter = Letter::new(number as u8);
+            if self.target(node, letter).is_none() {
+                return Some(letter);
+            }
+        }
+        None
+    }
+
+    /// Whether each node has an edge for each letter.
+    pub fn is_complete(&self) -> bool
+        ensures { (k : ℕ) → IsGraph k self.now → IsTrue result ↔ IsComplete k self.now }
+    {
+        let _letters = &self.letters;
+        for node in 0..self.rows.len() {
+            if self.missing_letter(node).is_some() {
+                return false;
+            }
+        }
+        true
+    }
+
+    /// Whether the graph is standard: complete, and its nodes numbered by first appearance when the rows are read in
+    /// order (Sims 1994, 4.7; libsemigroups, `is_standardized`).
+    pub fn is_standard(&self) -> bool
+        ensures { (k : ℕ) → IsGraph k self.now → IsTrue result ↔ IsStandardGraph k self.now }
+    {
+        self.is_complete() && self.is_numbered()
+    }
+
+    // Whether the nodes of a complete graph are numbered by first appearance.
+    fn is_numbered(&self) -> bool
+        ensures { (k : ℕ) (rows : Rows) → IsGraph k self.now → self.now ≡ graph_of rows → IsTrue result ↔ IsStandard k rows }
+    {
+        let _letters = &self.letters;
+        let mut seen = 0;
+        for node in 0..self.rows.len() {
+            if seen < node {
+                return false;
+            }
+            match self.seen_in(node, seen) {
+                None => return false,
+                Some(next) => seen = next,
+            }
+        }
+        true
+    }
+
+    // The greatest node seen after the row of a node; none where an entry is more than one greater than all before.
+    fn seen_in(&self, node: usize, seen: usize) -> Option<usize>
+        ensures { (rows : Rows) → self.now ≡ graph_of rows → MatchOption result (IsNumberedFrom seen (slice_index_or rows node []) → ⊥) (λ next. IsNumberedFrom seen (slice_index_or rows node []) × (next ≡ max_from seen (slice_index_or rows node []))) }
+    {
+        let letters = self.letters();
+        let mut greatest = seen;
+        for number in 0..letters {
+            let target = self.target(node, Letter::new(number as u8));
+            greatest = seen_at(target, greatest)?;
+        }
+        Some(greatest)
+    }
+
+    /// The same graph in memory of its own. Refused only where memory is wanting.
+    pub fn copy(&self, alloc: Global) -> Result<WordGraph, NoMemory>
+        ensures { IfOk result (λ g. g ≡ self.now) }
+    {
+        let mut rows = Vec::new(alloc);
+        for row in &self.rows {
+            rows.push(row.copy(alloc)?)?;
+        }
+        Ok(WordGraph {
+            alloc,
+            letters: self.letters,
+            rows,
+        })
+    }
+
+    /// The part of the graph that is reached from the root, its nodes numbered by first appearance when the rows are
+    /// read in order (Sims 1994, 4.7; libsemigroups, `standardize`): each of its nodes is reached, and its equal paths
+    /// are those of this graph. It is standard where this graph is complete, or has a path for each word. Refused only
+    /// where memory is wanting.
+    pub fn standardise(&self, alloc: Global) -> Result<WordGraph, NoMemory>
+        ensures shows { IfOk result (λ g. Shows g (SameEnd self.now)) }
+        ensures graph { IfOk result (λ g. (k : ℕ) → IsGraph k self.now → IsGraph k g) }
+        ensures standard { IfOk result (λ g. (k : ℕ) → IsGraph k self.now → AllDefined k (SameEnd self.now) → IsStandardGraph k g) }
+    {
+        let Walk { steps, places } = Walk::over(alloc, self)?;
+        let mut rows = Vec::new(alloc);
+        for step in &steps {
+            let row = &self.rows[step.node];
+            rows.push(row.renumbered(alloc, places.as_slice())?)?;
+        }
+        Ok(WordGraph {
+            alloc,
+            letters: self.letters,
+            rows,
+        })
+    }
+}
