@@ -1,0 +1,7 @@
+pub mod Merged
+pub mod Merging
+pub mod Closing
+pub mod Folding
+pub mod Live
+pub mod DueSpec
+pub mod Table

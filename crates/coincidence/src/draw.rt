@@ -1,0 +1,110 @@
+// Definitions, coincidences, and all that follows.
+ghost use Rattle.std.specs.Prelude.{◌≡◌, ◌≢◌, ℕ, ◌<◌, ◌≤◌, ◌&&◌, nat_eq, Bool, true, false, List, [], ◌∷◌, ◌++◌, None, length, slice_index, slice_index_or, IfOk, OnOk, OnErr};
+ghost use Rattle.theory.specs.Congruence.{IsWellFormed};
+ghost use Rattle.theory.specs.Facts.{ClosedAll};
+ghost use Rattle.theory.specs.Graph.{IsGraph, target, SameEnd, PathsRelate};
+ghost use Rattle.word_graph.specs.Edges.{with_edge, with_node};
+ghost use Rattle.coincidence.specs.Live.{IsOn, IsLiveGraph, IsIdentified};
+
+use crate::due::{Due, due_in};
+use crate::merge::{Quotient, merge};
+use ports::NoMemory;
+use presentation::Congruence;
+use std::alloc::Global;
+use word_graph::WordGraph;
+use words::Letter;
+
+// A node stays live where it was, and is the least of its class.
+pub fn kept(alloc: Global, live: &Vec<bool>, class: &Vec<usize>) -> Result<Vec<bool>, NoMemory>
+    requires { length class.now.items ≡ length live.now.items }
+    ensures length { IfOk result (λ v. length v.items ≡ length live.now.items) }
+    ensures kept { IfOk result (λ v. (n : ℕ) → slice_index_or v.items n false ≡ (slice_index_or live.now.items n false && nat_eq (slice_index class.now.items n) n)) }
+{
+    let mut kept = Vec::new(alloc);
+    for n in 0..live.len() {
+        kept.push(live[n] && class[n] == n)?;
+    }
+    Ok(kept)
+}
+
+// The least merging of nodes under which the two are one and edges still agree.
+pub fn identify_in(
+    alloc: Global,
+    graph: &mut WordGraph,
+    live: &mut Vec<bool>,
+    x: usize,
+    y: usize,
+) -> Result<(), NoMemory>
+    requires live { IsLiveGraph graph.old live.old.items }
+    requires x { IsOn live.old.items x }
+    requires y { IsOn live.old.items y }
+    ensures ok { OnOk result (IsIdentified graph.old graph.new live.old.items live.new.items x y) }
+    ensures err { OnErr result ((graph.new ≡ graph.old) × (live.new.items ≡ live.old.items)) }
+    ensures graph { (k : ℕ) → IsGraph k graph.old → IsGraph k graph.new }
+{
+    let Quotient {
+        graph: merged,
+        class,
+    } = merge(alloc, graph, x, y)?;
+    let still = kept(alloc, live, &class)?;
+    *graph = merged;
+    *live = still;
+    Ok(())
+}
+
+// Draws what the relations ask for at each live node and the pairs at the root, until nothing is left.
+pub fn close_in(
+    alloc: Global,
+    congruence: &Congruence,
+    graph: &mut WordGraph,
+    live: &mut Vec<bool>,
+) -> Result<(), NoMemory>
+    requires live { IsLiveGraph graph.old live.old.items }
+    requires graph { IsGraph congruence.now.congruence.presentation.letters graph.old }
+    requires well_formed { IsWellFormed congruence.now.congruence }
+    ensures relates { OnOk result (PathsRelate graph.new (ClosedAll congruence.now.congruence (SameEnd graph.old))) }
+    ensures nodes { length graph.new ≡ length graph.old }
+    ensures live { IsLiveGraph graph.new live.new.items }
+    ensures graph { IsGraph congruence.now.congruence.presentation.letters graph.new }
+{
+    loop {
+        match due_in(congruence, graph, live) {
+            Due::Nothing => return Ok(()),
+            Due::Edge(at, letter, to) => graph.set_target(at, letter, to),
+            Due::Join(_, _, x, y) => identify_in(alloc, graph, live, x, y)?,
+        }
+    }
+}
+
+// An edge to a new node.
+pub fn define_in(
+    graph: &mut WordGraph,
+    live: &mut Vec<bool>,
+    letters: usize,
+    node: usize,
+    letter: Letter,
+) -> Result<usize, NoMemory>
+    requires live { IsLiveGraph graph.old live.old.items }
+    requires graph { IsGraph letters graph.old }
+    requires node { IsOn live.old.items node }
+    requires letter { letter < letters }
+    requires missing { target graph.old node letter ≡ None }
+    ensures fresh { IfOk result (λ n. n ≡ length graph.old) }
+    ensures graph { IfOk result (λ n. graph.new ≡ with_edge (with_node letters graph.old) node letter n) }
+    ensures live { OnOk result (live.new.items ≡ live.old.items ++ true ∷ []) }
+    ensures live_graph { OnOk result (IsLiveGraph graph.new live.new.items) }
+    ensures is_graph { OnOk result (IsGraph letters graph.new) }
+    ensures err { OnErr result ((graph.new ≡ graph.old) × (live.new.items ≡ live.old.items)) }
+{
+    live.push(true)?;
+    match graph.add_node() {
+        Ok(fresh) => {
+            graph.set_target(node, letter, fresh);
+            Ok(fresh)
+        }
+        Err(e) => {
+            live.pop();
+            Err(e)
+        }
+    }
+}

@@ -1,0 +1,211 @@
+// Coset tables.
+ghost use Rattle.std.specs.Prelude.{◌≡◌, ◌≢◌, ℕ, ◌<◌, ◌≤◌, ◌+◌, Bool, true, false, List, [], ◌∷◌, length, replicate, IfOk, OnOk, OnErr, IsTrue, IsErr, Option, None, Some, MatchOption, ◌⊎◌};
+ghost use Rattle.theory.specs.Congruence.{IsRightSided};
+ghost use Rattle.theory.specs.Facts.{AllDefined, ClosedAll};
+ghost use Rattle.theory.specs.Graph.{target as target_of, SameEnd, PathsRelate, Shows, IsGraph};
+ghost use Rattle.word_graph.specs.Standard.{IsStandardGraph};
+ghost use Rattle.word_graph.specs.Walk.{IsFirstMissing};
+ghost use Rattle.coincidence.specs.Merged.{MergedNodes};
+ghost use Rattle.coincidence.specs.Table.{CosetTable, IsTable, IsLive, IsDefined};
+
+use crate::draw::{close_in, define_in, identify_in};
+use ports::NoMemory;
+use presentation::Congruence;
+use std::alloc::Global;
+use std::marker::Model;
+use word_graph::WordGraph;
+use words::Letter;
+
+/// The coset table of a congruence (libsemigroups, `ToddCoxeter`): a partial rooted word graph with root 0, of which
+/// some nodes are live. The live nodes are exactly those that some word leads to from the root, and only they have
+/// edges. The root is always live.
+///
+/// Each call but `target` may find memory wanting. It then answers `NoMemory`, as does each later call, and what the
+/// graph shows from then on is not told.
+#[derive(Drop)]
+pub struct Table {
+    alloc: Global,
+    congruence: Congruence,
+    graph: WordGraph,
+    live: Vec<bool>,
+    failed: bool,
+}
+
+impl Model for Table {
+    ghost use Rattle.coincidence.specs.Table.{CosetTable, IsTable};
+
+    ghost Value = { CosetTable };
+
+    ghost view = { λ t. record { congruence = t.congruence.congruence; graph = t.graph; live = t.live.items; failed = t.failed } };
+
+    ghost invariant = { λ t. IsTable (record { congruence = t.congruence.congruence; graph = t.graph; live = t.live.items; failed = t.failed }) };
+}
+
+impl Table {
+    /// The table of the congruence with the root alone and no edge. The congruence has right pairs, or none. Refused
+    /// only where memory is wanting.
+    pub fn new(alloc: Global, congruence: &Congruence) -> Result<Table, NoMemory>
+        requires { IsRightSided congruence.now.congruence }
+        ensures table { IfOk result IsTable }
+        ensures new { IfOk result (λ t. t ≡ record { congruence = congruence.now.congruence; graph = replicate congruence.now.congruence.presentation.letters None ∷ []; live = true ∷ []; failed = false }) }
+    {
+        let congruence = congruence.copy(alloc)?;
+        let graph = WordGraph::new(alloc, congruence.presentation().letters(), 1)?;
+        let mut live = Vec::new(alloc);
+        live.push(true)?;
+        Ok(Table {
+            alloc,
+            congruence,
+            graph,
+            live,
+            failed: false,
+        })
+    }
+
+    /// Where the edge of the letter leads from the node. `None` exactly where there is no such edge. No call on the
+    /// table has found memory wanting.
+    pub fn target(&self, node: usize, letter: Letter) -> Option<usize>
+        requires { self.now.failed ≡ false }
+        ensures { result ≡ target_of self.now.graph node letter }
+    {
+        self.graph.target(node, letter)
+    }
+
+    /// Makes an edge of the letter from the live node to a new node, which is live, and tells its number. The node
+    /// had no such edge.
+    pub fn define(&mut self, node: usize, letter: Letter) -> Result<usize, NoMemory>
+        requires node { IsLive self.old node }
+        requires letter { letter < self.old.congruence.presentation.letters }
+        requires missing { target_of self.old.graph node letter ≡ None }
+        ensures ok { IfOk result (IsDefined self.old self.new node letter) }
+        ensures err { OnErr result (self.new.failed ≡ true) }
+        ensures failed { self.old.failed ≡ true → IsErr result }
+        ensures congruence { self.new.congruence ≡ self.old.congruence }
+        ensures table { IsTable self.new }
+    {
+        if self.failed {
+            return Err(NoMemory);
+        }
+        let letters = self.congruence.presentation().letters();
+        match define_in(&mut self.graph, &mut self.live, letters, node, letter) {
+            Ok(fresh) => Ok(fresh),
+            Err(fault) => {
+                self.failed = true;
+                Err(fault)
+            }
+        }
+    }
+
+    /// Makes two live nodes one, and with them all nodes to which this leads: the paths then relate what they related
+    /// before, the words that lead to the one node and the words that lead to the other, and what follows from that by
+    /// adding letters (a coincidence: Sims 1994, 5.1). The numbers of nodes stay, and nodes that are merged into
+    /// another are no longer live.
+    pub fn identify(&mut self, x: usize, y: usize) -> Result<(), NoMemory>
+        requires x { IsLive self.old x }
+        requires y { IsLive self.old y }
+        ensures relates { OnOk result (PathsRelate self.new.graph (MergedNodes self.old.graph x y)) }
+        ensures nodes { OnOk result (length self.new.graph ≡ length self.old.graph) }
+        ensures ok { OnOk result (self.new.failed ≡ false) }
+        ensures err { OnErr result (self.new.failed ≡ true) }
+        ensures failed { self.old.failed ≡ true → IsErr result }
+        ensures congruence { self.new.congruence ≡ self.old.congruence }
+        ensures table { IsTable self.new }
+    {
+        if self.failed {
+            return Err(NoMemory);
+        }
+        match identify_in(self.alloc, &mut self.graph, &mut self.live, x, y) {
+            Ok(()) => Ok(()),
+            Err(fault) => {
+                self.failed = true;
+                Err(fault)
+            }
+        }
+    }
+
+    /// Draws all that follows from the relations, read at each word that has a path, and from the pairs, read at the
+    /// empty word, until nothing new follows: the paths then relate what they related before, and what follows from it.
+    pub fn close_all(&mut self) -> Result<(), NoMemory>
+        ensures relates { OnOk result (PathsRelate self.new.graph (ClosedAll self.old.congruence (SameEnd self.old.graph))) }
+        ensures nodes { OnOk result (length self.new.graph ≡ length self.old.graph) }
+        ensures ok { OnOk result (self.new.failed ≡ false) }
+        ensures err { OnErr result (self.new.failed ≡ true) }
+        ensures failed { self.old.failed ≡ true → IsErr result }
+        ensures congruence { self.new.congruence ≡ self.old.congruence }
+        ensures table { IsTable self.new }
+    {
+        if self.failed {
+            return Err(NoMemory);
+        }
+        match close_in(
+            self.alloc,
+            &self.congruence,
+            &mut self.graph,
+            &mut self.live,
+        ) {
+            Ok(()) => Ok(()),
+            Err(fault) => {
+                self.failed = true;
+                Err(fault)
+            }
+        }
+    }
+
+    /// The least word in short-lex order that has no path, as the live node that all but its last letter lead to, and
+    /// that letter. `None` exactly where each word has a path.
+    pub fn first_missing(&mut self) -> Result<Option<(usize, Letter)>, NoMemory>
+        ensures first { IfOk result (λ found. MatchOption found (AllDefined self.old.congruence.presentation.letters (SameEnd self.old.graph)) (λ p. IsFirstMissing self.old.congruence.presentation.letters self.old.graph p.0 p.1)) }
+        ensures same { OnOk result (self.new ≡ self.old) }
+        ensures err { OnErr result (self.new.failed ≡ true) }
+        ensures failed { self.old.failed ≡ true → IsErr result }
+        ensures congruence { self.new.congruence ≡ self.old.congruence }
+        ensures table { IsTable self.new }
+    {
+        if self.failed {
+            return Err(NoMemory);
+        }
+        match self.graph.first_missing(self.alloc) {
+            Ok(found) => Ok(found),
+            Err(fault) => {
+                self.failed = true;
+                Err(fault)
+            }
+        }
+    }
+
+    /// The live part of the table as a word graph of its own, whose equal paths are those of the table: each of its
+    /// nodes is reached. It is standard where each word has a path.
+    pub fn graph(&mut self) -> Result<WordGraph, NoMemory>
+        ensures shows { IfOk result (λ g. Shows g (SameEnd self.old.graph)) }
+        ensures graph { IfOk result (λ g. IsGraph self.old.congruence.presentation.letters g) }
+        ensures standard { IfOk result (λ g. AllDefined self.old.congruence.presentation.letters (SameEnd self.old.graph) → IsStandardGraph self.old.congruence.presentation.letters g) }
+        ensures same { OnOk result (self.new ≡ self.old) }
+        ensures err { OnErr result (self.new.failed ≡ true) }
+        ensures failed { self.old.failed ≡ true → IsErr result }
+        ensures congruence { self.new.congruence ≡ self.old.congruence }
+        ensures table { IsTable self.new }
+    {
+        if self.failed {
+            return Err(NoMemory);
+        }
+        match self.live_graph() {
+            Ok(graph) => Ok(graph),
+            Err(fault) => {
+                self.failed = true;
+                Err(fault)
+            }
+        }
+    }
+
+    /// As [`graph`](Table::graph), of a table that is only lent. Refused only where memory is wanting, which no later
+    /// call answers for.
+    pub fn live_graph(&self) -> Result<WordGraph, NoMemory>
+        ensures shows { IfOk result (λ g. Shows g (SameEnd self.now.graph)) }
+        ensures graph { IfOk result (λ g. IsGraph self.now.congruence.presentation.letters g) }
+        ensures standard { IfOk result (λ g. AllDefined self.now.congruence.presentation.letters (SameEnd self.now.graph) → IsStandardGraph self.now.congruence.presentation.letters g) }
+    {
+        let _congruence = &self.congruence;
+        let graph = self.graph.standardise(self.alloc)?;
+        Ok(graph)
+    }
+}
