@@ -1,0 +1,183 @@
+-- What a turn leaves.
+use Rattle.std.proofs.Common.{◌≡◌, ◌≢◌, ℕ, suc, ◌+◌, ◌<◌, ◌≤◌, [], ◌∷◌, ◌++◌, refl, sym, ◌∙◌, ap, arith, inl, inr, Option, Some, None, length, subst, replicate, Bool, true, false, cond, nat_lt}
+use Rattle.std.specs.Option.{is_some, IsSome, MatchOption}
+use Rattle.std.proofs.lemmas.Bool.{cases_lt, cases_Bool}
+use Rattle.race.specs.declared.engines.Progress.{Progress}
+use Rattle.race.specs.declared.engines.Progress.TheVariants.{More, Decided, Spent, NoMemory}
+use Rattle.theory.specs.Congruence.{Congruence}
+use Rattle.theory.specs.Facts.{AllDefined, ClosedAll}
+use Rattle.theory.specs.Graph.{Graph, target, path, SameEnd, PathsRelate}
+use Rattle.theory.specs.Felsch.{FelschFacts, FelschStage, FelschEnds, start, define}
+use Rattle.theory.proofs.Words.{over_right}
+use Rattle.theory.proofs.FelschLaws.{felsch_stage_past}
+use Rattle.theory.proofs.GraphLaws.{path_append, path_letter, least_undefined_same}
+use Rattle.word_graph.specs.Edges.{with_edge, with_node}
+use Rattle.word_graph.specs.Walk.{IsFirstMissing}
+use Rattle.coincidence.specs.Table.{CosetTable, IsTable, IsDefined}
+use Rattle.coincidence.proofs.TableLaws.{on_inside}
+use Rattle.tc_felsch.specs.Stage.{IsAtStage, IsRun, answer_of}
+use Rattle.tc_felsch.proofs.StageLaws.{start_facts, next_facts}
+
+-- the edge that is missing first has a letter of the alphabet, and is missing
+pub missing_edge : (k : ℕ) (g : Graph) (node letter : ℕ) → IsFirstMissing k g node letter → (letter < k) × (target g node letter ≡ None)
+missing_edge k g node letter is = ((over_right k is.word (letter ∷ []) is.least.over).0, go (target g node letter) refl)
+  where
+    go : (t : Option ℕ) → target g node letter ≡ t → target g node letter ≡ None
+    go None e = e
+    go (Some m) e =
+        let there : path g 0 (is.word ++ letter ∷ []) ≡ Some m = path_append g 0 node is.word (letter ∷ []) is.leads ∙ path_letter g node letter ∙ e in
+        absurd (is.least.undefined (m, there, there))
+
+-- the first stage
+pub first_stage : (c : Congruence) (g : Graph) → PathsRelate g (ClosedAll c (SameEnd (replicate c.presentation.letters None ∷ []))) → IsAtStage c 0 g
+first_stage c g shows = record { words = []; stage = start; shows = start_facts c c.presentation.letters g shows }
+
+-- the next stage
+pub next_stage : (old mid : CosetTable) (node letter made i : ℕ) (g : Graph) → IsTable old
+    → IsFirstMissing old.congruence.presentation.letters old.graph node letter → IsDefined old mid node letter made
+    → PathsRelate g (ClosedAll old.congruence (SameEnd mid.graph)) → IsAtStage old.congruence i old.graph → IsAtStage old.congruence (suc i) g
+next_stage old mid node letter made i g is first made_is shows at =
+    record {
+      words = (first.word ++ letter ∷ []) ∷ at.words;
+      stage = define at.stage (least_undefined_same k old.graph (FelschFacts old.congruence at.words) at.shows (first.word ++ letter ∷ []) first.least);
+      shows = next_facts old.congruence k old.graph node letter is.graph inside edge.0 edge.1 at.words first.word (first.word ++ letter ∷ []) g refl first.leads at.shows shows';
+    }
+  where
+    k : ℕ
+    k = old.congruence.presentation.letters
+
+    edge : (letter < k) × (target old.graph node letter ≡ None)
+    edge = missing_edge old.congruence.presentation.letters old.graph node letter first
+
+    inside : node < length old.graph
+    inside = on_inside old.graph old.live node is.live (is.live.lives node (first.word, first.leads))
+
+    graph : mid.graph ≡ with_edge (with_node old.congruence.presentation.letters old.graph) node letter (length old.graph)
+    graph = made_is.graph ∙ ap (λ z. with_edge (with_node old.congruence.presentation.letters old.graph) node letter z) made_is.fresh
+
+    shows' : PathsRelate g (ClosedAll old.congruence (SameEnd (with_edge (with_node old.congruence.presentation.letters old.graph) node letter (length old.graph))))
+    shows' = subst (λ (h : Graph). PathsRelate g (ClosedAll old.congruence (SameEnd h))) graph shows
+
+-- where all words have a path the strategy has ended
+pub ends_at : (c : Congruence) (budget made : ℕ) (g : Graph) → IsAtStage c made g → made ≤ budget → AllDefined c.presentation.letters (SameEnd g)
+    → FelschEnds c budget
+ends_at c budget made g at within all =
+    record { count = made; within = within; words = at.words; stage = at.stage; all = λ w over. (at.shows w w).0 (all w over) }
+
+-- where a word has none and the budget is used up, the strategy does not end
+pub fails_at : (c : Congruence) (budget made node letter : ℕ) (g : Graph) → IsAtStage c made g → made ≡ budget
+    → IsFirstMissing c.presentation.letters g node letter → FelschEnds c budget → ⊥
+fails_at c budget made node letter g at e first ends =
+    let next : FelschStage c (suc made) ((first.word ++ letter ∷ []) ∷ at.words) =
+    define at.stage (least_undefined_same c.presentation.letters g (FelschFacts c at.words) at.shows (first.word ++ letter ∷ []) first.least) in
+    felsch_stage_past c budget (subst (λ n. FelschStage c (suc n) ((first.word ++ letter ∷ []) ∷ at.words)) e next) ends
+
+-- a graph with the same equal paths is at the same stage, and has a path for the same words
+pub same_stage : (c : Congruence) (i : ℕ) (g h : Graph) → PathsRelate h (SameEnd g) → IsAtStage c i g → IsAtStage c i h
+same_stage c i g h same at = record {
+  words = at.words;
+  stage = at.stage;
+  shows = λ u v. (λ e. (at.shows u v).0 ((same u v).0 e), λ f. (same u v).1 ((at.shows u v).1 f));
+}
+
+pub same_defined : (k : ℕ) (g h : Graph) → PathsRelate h (SameEnd g) → AllDefined k (SameEnd g) → AllDefined k (SameEnd h)
+same_defined k g h same all w over = (same w w).1 (all w over)
+
+lt_true : (m n : ℕ) → m < n → nat_lt m n ≡ true
+lt_true m n h = grind (arith, h)
+
+lt_false : (m n : ℕ) → n ≤ m → nat_lt m n ≡ false
+lt_false m n h = grind (arith, h)
+
+-- a turn of an enumeration that goes on
+module _ (old new : CosetTable) (budget made made' : ℕ) (begun : Bool) (next next' : Option (ℕ × ℕ)) (run : IsRun old budget made begun next More)
+    (start_is : next ≡ None → old.graph ≡ replicate old.congruence.presentation.letters None ∷ [] → IsAtStage new.congruence 0 new.graph)
+    (stage_is : IsSome next → (i : ℕ) → IsAtStage old.congruence i old.graph → IsAtStage new.congruence (suc i) new.graph)
+    (table : IsTable new) (count : made' ≡ made + cond begun 1 0) where
+  more_not_none : More ≢ NoMemory
+  more_not_none e = let bad : ⊥ = cc in bad
+
+  stage_after : IsAtStage new.congruence made' new.graph
+  stage_after = elim (cases_Bool begun) [
+    | inl b ↦
+        let due = run.due refl b in
+        let there : IsSome next = ap is_some due.is in
+        let e : made' ≡ suc made = count ∙ ap (λ z. made + cond z 1 0) b ∙ omega arith in
+        subst (λ n. IsAtStage new.congruence n new.graph) (sym e) (stage_is there made (run.stage more_not_none b))
+    | inr b ↦
+        let fresh = run.fresh b in
+        let e : made' ≡ 0 = count ∙ ap (λ z. made + cond z 1 0) b ∙ omega (arith, fresh.none_made) in
+        subst (λ n. IsAtStage new.congruence n new.graph) (sym e) (start_is fresh.none_due fresh.graph)
+  ]
+
+  within_after : made' ≤ budget
+  within_after = elim (cases_Bool begun) [
+    | inl b ↦
+        let due = run.due refl b in
+        let e : made' ≡ made + 1 = count ∙ ap (λ z. made + cond z 1 0) b in
+        omega (arith, e, due.within)
+    | inr b ↦
+        let fresh = run.fresh b in
+        let e : made' ≡ made + 0 = count ∙ ap (λ z. made + cond z 1 0) b in
+        omega (arith, e, fresh.none_made)
+  ]
+
+  run_decided : AllDefined new.congruence.presentation.letters (SameEnd new.graph) → IsRun new budget made' true None Decided
+  run_decided all =
+      record {
+        table = table;
+        decided = λ e. ends_at new.congruence budget made' new.graph stage_after within_after all;
+        complete = λ e. all;
+        spent = λ e. absurd (let bad : ⊥ = cc in bad);
+        stage = λ n b. stage_after;
+        within = λ n. within_after;
+        due = λ e b. absurd (let bad : ⊥ = cc in bad);
+        fresh = λ e. absurd (let bad : ⊥ = cc in bad);
+        ended = λ e. refl;
+      }
+
+  run_more : (p : ℕ × ℕ) → IsFirstMissing new.congruence.presentation.letters new.graph p.0 p.1 → made' < budget → IsRun new budget made' true (Some p) More
+  run_more p first less =
+      record {
+        table = table;
+        decided = λ e. absurd (let bad : ⊥ = cc in bad);
+        complete = λ e. absurd (let bad : ⊥ = cc in bad);
+        spent = λ e. absurd (let bad : ⊥ = cc in bad);
+        stage = λ n b. stage_after;
+        within = λ n. within_after;
+        due = λ e b. record { within = less; node = p.0; letter = p.1; is = refl; first = first };
+        fresh = λ e. absurd (let bad : ⊥ = cc in bad);
+        ended = λ e. refl;
+      }
+
+  run_spent : (p : ℕ × ℕ) → IsFirstMissing new.congruence.presentation.letters new.graph p.0 p.1 → made' ≡ budget → IsRun new budget made' true (Some p) Spent
+  run_spent p first e =
+      record {
+        table = table;
+        decided = λ e. absurd (let bad : ⊥ = cc in bad);
+        complete = λ e. absurd (let bad : ⊥ = cc in bad);
+        spent = λ _. fails_at new.congruence budget made' p.0 p.1 new.graph stage_after e first;
+        stage = λ n b. stage_after;
+        within = λ n. within_after;
+        due = λ e b. absurd (let bad : ⊥ = cc in bad);
+        fresh = λ e. absurd (let bad : ⊥ = cc in bad);
+        ended = λ e. refl;
+      }
+
+  pub run_after : (said : Progress)
+      → MatchOption next' (AllDefined new.congruence.presentation.letters (SameEnd new.graph)) (λ p. IsFirstMissing new.congruence.presentation.letters new.graph p.0 p.1)
+      → said ≡ answer_of (is_some next') made' budget → IsRun new budget made' true next' said
+  run_after said found e = go next' found e
+    where
+      go : (next' : Option (ℕ × ℕ))
+          → MatchOption next' (AllDefined new.congruence.presentation.letters (SameEnd new.graph)) (λ p. IsFirstMissing new.congruence.presentation.letters new.graph p.0 p.1)
+          → said ≡ answer_of (is_some next') made' budget → IsRun new budget made' true next' said
+      go None all e = subst (λ s. IsRun new budget made' true None s) (sym e) (run_decided all)
+      go (Some p) first e = elim (cases_lt made' budget) [
+        | inl less ↦
+            let is : said ≡ More = e ∙ ap (λ b. cond b More Spent) (lt_true made' budget less) in
+            subst (λ s. IsRun new budget made' true (Some p) s) (sym is) (run_more p first less)
+        | inr past ↦
+            let is : said ≡ Spent = e ∙ ap (λ b. cond b More Spent) (lt_false made' budget past) in
+            subst (λ s. IsRun new budget made' true (Some p) s) (sym is) (run_spent p first (omega (arith, within_after, past)))
+      ]

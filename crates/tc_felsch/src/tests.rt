@@ -1,0 +1,140 @@
+ghost use Rattle.std.specs.Prelude.{◌≡◌, IfOk};
+ghost use Rattle.theory.specs.Word.{IsOver};
+
+use super::*;
+use ports::NoMemory;
+use presentation::{Congruence, Kind, Pairs, Presentation};
+use race::{Progress, Racer};
+use std::alloc::Global;
+use std::test::Fail;
+use words::{Alphabet, Word};
+
+// The word of the text.
+fn word(presentation: &Presentation, alloc: Global, text: &[u8]) -> Result<Word, NoMemory>
+    ensures { IfOk result (λ w. IsOver presentation.now.presentation.letters w) }
+{
+    let alphabet = presentation.alphabet();
+    match alphabet.read_word(alloc, text, true) {
+        Ok(word) => Ok(word),
+        Err(_) => Err(NoMemory),
+    }
+}
+
+// A monoid or semigroup without relations.
+fn free(alloc: Global, letters: &[u8], monoid: bool) -> Result<Presentation, NoMemory> {
+    match Alphabet::new(alloc, letters) {
+        Ok(alphabet) => Ok(Presentation::new(alloc, alphabet, monoid)),
+        Err(_) => Err(NoMemory),
+    }
+}
+
+// Adds the relation of the two texts.
+fn add(
+    presentation: &mut Presentation,
+    alloc: Global,
+    left: &[u8],
+    right: &[u8],
+) -> Result<(), NoMemory> {
+    let left = word(presentation, alloc, left)?;
+    let right = word(presentation, alloc, right)?;
+    match presentation.add(left, right) {
+        Ok(()) => Ok(()),
+        Err(_) => Err(NoMemory),
+    }
+}
+
+// The enumeration of a presentation without pairs.
+fn enumeration(alloc: Global, presentation: Presentation, defs: usize) -> Result<Felsch, NoMemory> {
+    let congruence = Congruence::new(presentation, Kind::TwoSided, Pairs::new(alloc));
+    Felsch::new(alloc, &congruence, defs)
+}
+
+// What the turns give, until one gives something else than More.
+fn end<R: Racer>(engine: &mut R) -> Progress {
+    for _ in 0..100 {
+        match engine.advance() {
+            Progress::More => {}
+            ended => return ended,
+        }
+    }
+    Progress::More
+}
+
+// How many nodes the graph has, once the enumeration is decided.
+fn nodes(engine: &mut Felsch) -> Result<usize, NoMemory> {
+    let _ended = end(engine);
+    if engine.is_decided() {
+        Ok(engine.graph()?.nodes())
+    } else {
+        Ok(0)
+    }
+}
+
+// The monoid of one letter of which three are the empty word.
+fn cyclic(alloc: Global) -> Result<Presentation, NoMemory> {
+    let mut presentation = free(alloc, b"a", true)?;
+    add(&mut presentation, alloc, b"aaa", b"")?;
+    Ok(presentation)
+}
+
+#[test]
+fn two_definitions_suffice(rt: HostRuntime) -> Result<(), Fail> {
+    let alloc = rt.alloc();
+    let mut engine = enumeration(alloc, cyclic(alloc)?, 2)?;
+    assert_eq!(rt; engine.advance(), Progress::More);
+    assert_eq!(rt; engine.advance(), Progress::More);
+    assert!(rt; !engine.is_decided());
+    assert_eq!(rt; engine.advance(), Progress::Decided);
+    assert_eq!(rt; engine.advance(), Progress::Decided);
+    assert_eq!(rt; nodes(&mut engine)?, 3);
+    Ok(())
+}
+
+#[test]
+fn one_definition_does_not(rt: HostRuntime) -> Result<(), Fail> {
+    let alloc = rt.alloc();
+    let mut engine = enumeration(alloc, cyclic(alloc)?, 1)?;
+    assert_eq!(rt; engine.advance(), Progress::More);
+    assert_eq!(rt; engine.advance(), Progress::Spent);
+    assert_eq!(rt; engine.advance(), Progress::Spent);
+    Ok(())
+}
+
+#[test]
+fn enumerates_the_symmetric_group(rt: HostRuntime) -> Result<(), Fail> {
+    let alloc = rt.alloc();
+    let mut presentation = free(alloc, b"ab", true)?;
+    add(&mut presentation, alloc, b"aa", b"")?;
+    add(&mut presentation, alloc, b"bbb", b"")?;
+    add(&mut presentation, alloc, b"abab", b"")?;
+    let mut engine = enumeration(alloc, presentation, 50)?;
+    assert_eq!(rt; nodes(&mut engine)?, 6);
+    Ok(())
+}
+
+#[test]
+fn enumerates_a_semilattice(rt: HostRuntime) -> Result<(), Fail> {
+    let alloc = rt.alloc();
+    let mut presentation = free(alloc, b"ab", false)?;
+    add(&mut presentation, alloc, b"aa", b"a")?;
+    add(&mut presentation, alloc, b"bb", b"b")?;
+    add(&mut presentation, alloc, b"ab", b"ba")?;
+    let mut engine = enumeration(alloc, presentation, 50)?;
+    assert_eq!(rt; nodes(&mut engine)?, 4);
+    Ok(())
+}
+
+// The value, as another thread may have it.
+fn sent<T: Send>(value: T) -> T
+    ensures { result ≡ value }
+{
+    value
+}
+
+#[test]
+fn goes_to_another_thread(rt: HostRuntime) -> Result<(), Fail> {
+    let alloc = rt.alloc();
+    let mut engine = sent(enumeration(alloc, cyclic(alloc)?, 2)?);
+    assert_eq!(rt; nodes(&mut engine)?, 3);
+    Ok(())
+}
