@@ -7,11 +7,12 @@ use Rattle.settings.specs.declared.Settings.{Settings}
 same_number : (o : Option ℕ) (m n : ℕ) → o ≡ Some m → o ≡ Some n → m ≡ n
 same_number o m n p q = cc
 
-abbrev built : ℕ → ℕ → Settings
-built n c = record { elements = n; classes = c }
+abbrev built : ℕ → ℕ → ℕ → Settings
+built d n c = record { defs = d; elements = n; classes = c }
 
 pub one_reading : (words : List Text) (s t : Settings) → Reads words s → Reads words t → s ≡ t
 one_reading words s t p q =
+    let defs : s.defs ≡ t.defs = same_number _ s.defs t.defs p.defs q.defs in
     let elements : s.elements ≡ t.elements = same_number _ s.elements t.elements p.elements q.elements in
     let classes : s.classes ≡ t.classes = same_number _ s.classes t.classes p.classes q.classes in
-    ap (λ n. built n s.classes) elements ∙ ap (built t.elements) classes
+    ap (λ d. built d s.elements s.classes) defs ∙ ap (λ n. built t.defs n s.classes) elements ∙ ap (built t.defs t.elements) classes
