@@ -1,0 +1,4 @@
+pub mod Answer
+pub mod Lanes
+pub mod Machine
+pub mod WholeTurns

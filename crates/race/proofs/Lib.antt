@@ -1,0 +1,5 @@
+pub mod Lists
+pub mod Keeps
+pub mod Rearranged
+pub mod Plays
+pub mod Telling
