@@ -1,5 +1,5 @@
 -- Reading relations at nodes.
-use Rattle.std.proofs.Common.{◌≡◌, ℕ, ◌+◌, ◌-◌, ◌<◌, ◌≤◌, List, [], ◌∷◌, ◌++◌, refl, sym, ◌∙◌, ap, arith, ◌⊎◌, inl, inr, Some, length, subst, get_or, slice_get, take, Bool, true, false}
+use Rattle.std.proofs.Common.{◌≡◌, ℕ, ◌+◌, ◌-◌, ◌<◌, ◌≤◌, List, [], ◌∷◌, ◌++◌, refl, sym, ◌∙◌, ap, arith, ◌⊎◌, inl, inr, Option, Some, None, length, subst, get_or, slice_get, take, Bool, true, false}
 use Rattle.std.proofs.lemmas.Bool.{cases_lt}
 use Rattle.std.proofs.lemmas.List.{take_more, take_all, same_from_push, get_or_past, get_or_read}
 use Rattle.std.proofs.lemmas.Option.{slice_get_within, get_or_from_slice_get}
@@ -8,7 +8,7 @@ use Rattle.theory.specs.Congruence.{Congruence, EitherWay}
 use Rattle.theory.specs.Graph.{Graph, target, path, IsClosedAt}
 use Rattle.coincidence.specs.Closing.{by_relation, by_pair}
 use Rattle.coincidence.specs.Live.{IsOn, IsLiveGraph}
-use Rattle.coincidence.specs.DueSpec.{ReadsTo, IsDueFrom, IsDueAt, IsDueIn}
+use Rattle.coincidence.specs.DueSpec.{ReadsTo, IsDueFrom, IsDueAt, IsDueAnywhere, IsDueIn}
 use Rattle.coincidence.specs.declared.due.Due.{Due}
 use Rattle.coincidence.specs.declared.due.Due.TheVariants.{Nothing, Edge, Join}
 use Rattle.word_graph.proofs.WalkLaws.{some_same}
@@ -68,16 +68,29 @@ quiet_closed g node pairs q r s a m j (inr h) hr hs =
 pub pair_contained : (pairs : List (Word × Word)) (i : ℕ) (p : Word × Word) → i < length pairs → p ≡ get_or pairs i p → EitherWay pairs p.0 p.1 × EitherWay pairs p.1 p.0
 pair_contained pairs i p less e = (inl (i, less, sym e), inr (i, less, sym e))
 
--- what is asked at the root or at a live node
-pub at_root : (c : Congruence) (g : Graph) (live : List Bool) (d : Due) → (d ≡ Nothing → ⊥) → IsDueAt g 0 c.pairs d → IsDueIn c g live d
-at_root c g live Nothing not h = absurd (not refl)
-at_root c g live (Edge j a m) not h = (by_pair h.0, h.1)
-at_root c g live (Join j a t m) not h = (by_pair h.0, h.1, h.2)
+-- what is asked at the root
+pub at_root : (c : Congruence) (g : Graph) (live : List Bool) (at : Option ℕ) (d : Due) → (d ≡ Nothing → ⊥) → IsDueAt g 0 c.pairs d → IsDueIn c g live at d
+at_root c g live at Nothing not h = absurd (not refl)
+at_root c g live at (Edge j a m) not h = (by_pair h.0, h.1)
+at_root c g live at (Join j a t m) not h = (by_pair h.0, h.1, h.2)
 
-pub at_node : (c : Congruence) (g : Graph) (live : List Bool) (node : ℕ) (d : Due) → IsLiveGraph g live → IsOn live node → (d ≡ Nothing → ⊥) → IsDueAt g node c.presentation.relations d → IsDueIn c g live d
-at_node c g live node Nothing is on not h = absurd (not refl)
-at_node c g live node (Edge j a m) is on not h = let r = is.reached node on in (by_relation node r.0 r.1 h.0, h.1)
-at_node c g live node (Join j a t m) is on not h = let r = is.reached node on in (by_relation node r.0 r.1 h.0, h.1, h.2)
+-- what is asked at a live node
+pub at_node : (pairs : List (Word × Word)) (g : Graph) (live : List Bool) (node : ℕ) (d : Due) → IsOn live node → (d ≡ Nothing → ⊥) → IsDueAt g node pairs d → IsDueAnywhere pairs g live d
+at_node pairs g live node Nothing on not h = absurd (not refl)
+at_node pairs g live node (Edge j a m) on not h = (node, on, h.0, h.1)
+at_node pairs g live node (Join j a t m) on not h = (node, on, h.0, h.1, h.2)
+
+-- what is asked at all live nodes, where nothing is asked at the root
+pub due_everywhere : (c : Congruence) (g : Graph) (live : List Bool) (d : Due) → IsLiveGraph g live → IsClosedAt c.pairs g 0 → IsDueAnywhere c.presentation.relations g live d → IsDueIn c g live None d
+due_everywhere c g live Nothing is root h = (λ node _ on. h node on, root)
+due_everywhere c g live (Edge j a m) is root h = let r = is.reached h.0 h.1 in (by_relation h.0 r.0 tt r.1 h.2, h.3)
+due_everywhere c g live (Join j a t m) is root h = let r = is.reached h.0 h.1 in (by_relation h.0 r.0 tt r.1 h.2, h.3, h.4)
+
+-- and at one
+pub due_here : (c : Congruence) (g : Graph) (live : List Bool) (node : ℕ) (d : Due) → IsLiveGraph g live → IsOn live node → IsClosedAt c.pairs g 0 → IsDueAt g node c.presentation.relations d → IsDueIn c g live (Some node) d
+due_here c g live node Nothing is on root h = (λ n same _. subst (IsClosedAt c.presentation.relations g) (sym same) h, root)
+due_here c g live node (Edge j a m) is on root h = let r = is.reached node on in (by_relation node r.0 refl r.1 h.0, h.1)
+due_here c g live node (Join j a t m) is on root h = let r = is.reached node on in (by_relation node r.0 refl r.1 h.0, h.1, h.2)
 
 -- the live nodes before n are closed
 abbrev pub IsClosedBefore : List (Word × Word) → Graph → List Bool → ℕ → Type 0

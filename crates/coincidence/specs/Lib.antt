@@ -4,4 +4,5 @@ pub mod Closing
 pub mod Folding
 pub mod Live
 pub mod DueSpec
+pub mod Marks
 pub mod Table

@@ -1,13 +1,15 @@
 // Definitions, coincidences, and all that follows.
-ghost use Rattle.std.specs.Prelude.{◌≡◌, ◌≢◌, ℕ, ◌<◌, ◌≤◌, ◌&&◌, nat_eq, Bool, true, false, List, [], ◌∷◌, ◌++◌, None, length, slice_index, slice_index_or, IfOk, OnOk, OnErr};
+ghost use Rattle.std.specs.Prelude.{◌≡◌, ◌≢◌, ℕ, ◌<◌, ◌≤◌, ◌&&◌, nat_eq, Bool, true, false, List, [], ◌∷◌, ◌++◌, None, length, slice_index, slice_index_or, option_map, IfOk, OnOk, OnErr};
+ghost use Rattle.std.specs.Option.{ForSome};
 ghost use Rattle.theory.specs.Congruence.{IsWellFormed};
-ghost use Rattle.theory.specs.Facts.{ClosedAll};
-ghost use Rattle.theory.specs.Graph.{IsGraph, target, SameEnd, PathsRelate};
+ghost use Rattle.theory.specs.Graph.{IsGraph, target, PathsRelate};
 ghost use Rattle.word_graph.specs.Edges.{with_edge, with_node};
+ghost use Rattle.coincidence.specs.Closing.{ClosedThere};
 ghost use Rattle.coincidence.specs.Live.{IsOn, IsLiveGraph, IsIdentified};
+ghost use Rattle.coincidence.specs.Marks.{IsCarried};
 
 use crate::due::{Due, due_in};
-use crate::merge::{Quotient, merge};
+use crate::merge::{Quotient, apart, merge};
 use ports::NoMemory;
 use presentation::Congruence;
 use std::alloc::Global;
@@ -27,18 +29,19 @@ pub fn kept(alloc: Global, live: &Vec<bool>, class: &Vec<usize>) -> Result<Vec<b
     Ok(kept)
 }
 
-// The least merging of nodes under which the two are one and edges still agree.
+// The least merging of nodes under which the two are one and edges still agree. It tells where each node has gone.
 pub fn identify_in(
     alloc: Global,
     graph: &mut WordGraph,
     live: &mut Vec<bool>,
     x: usize,
     y: usize,
-) -> Result<(), NoMemory>
+) -> Result<Vec<usize>, NoMemory>
     requires live { IsLiveGraph graph.old live.old.items }
     requires x { IsOn live.old.items x }
     requires y { IsOn live.old.items y }
     ensures ok { OnOk result (IsIdentified graph.old graph.new live.old.items live.new.items x y) }
+    ensures carried { IfOk result (λ class. IsCarried graph.old graph.new class.items) }
     ensures err { OnErr result ((graph.new ≡ graph.old) × (live.new.items ≡ live.old.items)) }
     ensures graph { (k : ℕ) → IsGraph k graph.old → IsGraph k graph.new }
 {
@@ -49,30 +52,61 @@ pub fn identify_in(
     let still = kept(alloc, live, &class)?;
     *graph = merged;
     *live = still;
-    Ok(())
+    Ok(class)
 }
 
-// Draws what the relations ask for at each live node and the pairs at the root, until nothing is left.
+// Each node goes on to where the nodes have gone next.
+fn carry_on(class: &mut Vec<usize>, next: &Vec<usize>)
+    requires { (n : ℕ) → n < length class.old.items → slice_index class.old.items n < length next.now.items }
+    ensures shape { length class.new.items ≡ length class.old.items }
+    ensures gone { (n : ℕ) → n < length class.old.items → slice_index class.new.items n ≡ slice_index next.now.items (slice_index class.old.items n) }
+{
+    for node in 0..class.len() {
+        class[node] = next[class[node]];
+    }
+}
+
+// Draws what the relations ask for at each live node, or at one alone and where it goes, and the pairs at the root,
+// until nothing is left. It tells where each node has gone.
 pub fn close_in(
     alloc: Global,
     congruence: &Congruence,
     graph: &mut WordGraph,
     live: &mut Vec<bool>,
-) -> Result<(), NoMemory>
+    at: Option<usize>,
+) -> Result<Vec<usize>, NoMemory>
     requires live { IsLiveGraph graph.old live.old.items }
+    requires at { ForSome at (IsOn live.old.items) }
     requires graph { IsGraph congruence.now.congruence.presentation.letters graph.old }
     requires well_formed { IsWellFormed congruence.now.congruence }
-    ensures relates { OnOk result (PathsRelate graph.new (ClosedAll congruence.now.congruence (SameEnd graph.old))) }
+    ensures relates { OnOk result (PathsRelate graph.new (ClosedThere congruence.now.congruence graph.old at)) }
+    ensures carried { IfOk result (λ class. IsCarried graph.old graph.new class.items) }
     ensures nodes { length graph.new ≡ length graph.old }
     ensures live { IsLiveGraph graph.new live.new.items }
     ensures graph { IsGraph congruence.now.congruence.presentation.letters graph.new }
 {
+    let mut class = apart(alloc, graph.nodes())?;
     loop {
-        match due_in(congruence, graph, live) {
-            Due::Nothing => return Ok(()),
-            Due::Edge(at, letter, to) => graph.set_target(at, letter, to),
-            Due::Join(_, _, x, y) => identify_in(alloc, graph, live, x, y)?,
+        let place = gone_to(&class, at);
+        match due_in(congruence, graph, live, place) {
+            Due::Nothing => return Ok(class),
+            Due::Edge(node, letter, to) => graph.set_target(node, letter, to),
+            Due::Join(_, _, x, y) => {
+                let next = identify_in(alloc, graph, live, x, y)?;
+                carry_on(&mut class, &next);
+            }
         }
+    }
+}
+
+// Where the node has gone.
+fn gone_to(class: &Vec<usize>, at: Option<usize>) -> Option<usize>
+    requires { ForSome at (λ node. node < length class.now.items) }
+    ensures { result ≡ option_map (slice_index class.now.items) at }
+{
+    match at {
+        None => None,
+        Some(node) => Some(class[node]),
     }
 }
 

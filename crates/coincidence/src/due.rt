@@ -1,7 +1,8 @@
 // What is left to draw from relations and pairs.
 ghost use Rattle.std.specs.Prelude.{◌≡◌, ℕ, ◌<◌, ◌≤◌, List, length, IfOk};
-ghost use Rattle.coincidence.specs.DueSpec.{IsDueFrom, IsDueAt, IsDueIn};
-ghost use Rattle.coincidence.specs.Live.{IsLiveGraph};
+ghost use Rattle.std.specs.Option.{ForSome};
+ghost use Rattle.coincidence.specs.DueSpec.{IsDueFrom, IsDueAt, IsDueAnywhere, IsDueIn};
+ghost use Rattle.coincidence.specs.Live.{IsLiveGraph, IsOn};
 
 use presentation::{Congruence, Pairs};
 use word_graph::WordGraph;
@@ -60,16 +61,10 @@ pub fn due_at(graph: &WordGraph, node: usize, pairs: &Pairs) -> Due
     Due::Nothing
 }
 
-// What the relations ask for at live nodes, or the pairs at the root.
-pub fn due_in(congruence: &Congruence, graph: &WordGraph, live: &Vec<bool>) -> Due
-    requires { IsLiveGraph graph.now live.now.items }
-    ensures { IsDueIn congruence.now.congruence graph.now live.now.items result }
+// What the relations ask for at live nodes.
+fn due_anywhere(relations: &Pairs, graph: &WordGraph, live: &Vec<bool>) -> Due
+    ensures { IsDueAnywhere relations.now graph.now live.now.items result }
 {
-    match due_at(graph, 0, congruence.pairs()) {
-        Due::Nothing => {}
-        due => return due,
-    }
-    let relations = congruence.presentation().relations();
     for node in 0..live.len() {
         if live[node] {
             match due_at(graph, node, relations) {
@@ -79,4 +74,26 @@ pub fn due_in(congruence: &Congruence, graph: &WordGraph, live: &Vec<bool>) -> D
         }
     }
     Due::Nothing
+}
+
+// What the relations ask for at live nodes, or at one of them, or the pairs at the root.
+pub fn due_in(
+    congruence: &Congruence,
+    graph: &WordGraph,
+    live: &Vec<bool>,
+    at: Option<usize>,
+) -> Due
+    requires live { IsLiveGraph graph.now live.now.items }
+    requires at { ForSome at (IsOn live.now.items) }
+    ensures { IsDueIn congruence.now.congruence graph.now live.now.items at result }
+{
+    match due_at(graph, 0, congruence.pairs()) {
+        Due::Nothing => {}
+        due => return due,
+    }
+    let relations = congruence.presentation().relations();
+    match at {
+        None => due_anywhere(relations, graph, live),
+        Some(node) => due_at(graph, node, relations),
+    }
 }

@@ -7,6 +7,7 @@
 
 mod draw;
 mod due;
+mod marks;
 mod merge;
 mod tables;
 

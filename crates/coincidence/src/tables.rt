@@ -1,14 +1,19 @@
 // Coset tables.
-ghost use Rattle.std.specs.Prelude.{◌≡◌, ◌≢◌, ℕ, ◌<◌, ◌≤◌, ◌+◌, Bool, true, false, List, [], ◌∷◌, length, replicate, IfOk, OnOk, OnErr, IsTrue, IsErr, Option, None, Some, MatchOption, ◌⊎◌};
+ghost use Rattle.std.specs.Prelude.{◌≡◌, ◌≢◌, ℕ, ◌<◌, ◌≤◌, ◌+◌, Bool, true, false, List, [], ◌∷◌, length, replicate, slice_set, IfOk, OnOk, OnErr, IsTrue, IsErr, Option, None, Some, MatchOption, ◌⊎◌};
+ghost use Rattle.std.specs.Option.{ForSome};
 ghost use Rattle.theory.specs.Congruence.{IsRightSided};
-ghost use Rattle.theory.specs.Facts.{AllDefined, ClosedAll};
-ghost use Rattle.theory.specs.Graph.{target as target_of, SameEnd, PathsRelate, Shows, IsGraph};
+ghost use Rattle.theory.specs.Word.{Word as Letters};
+ghost use Rattle.theory.specs.Facts.{AllDefined, ClosedAll, ClosedAt};
+ghost use Rattle.theory.specs.Graph.{target as target_of, path, SameEnd, PathsRelate, Shows, IsGraph};
 ghost use Rattle.word_graph.specs.Standard.{IsStandardGraph};
 ghost use Rattle.word_graph.specs.Walk.{IsFirstMissing};
+ghost use Rattle.coincidence.specs.Closing.{ClosedThere};
+ghost use Rattle.coincidence.specs.Marks.{AllMarked, IsFirstUnmarked, KeepsMarks};
 ghost use Rattle.coincidence.specs.Merged.{MergedNodes};
 ghost use Rattle.coincidence.specs.Table.{CosetTable, IsTable, IsLive, IsDefined};
 
 use crate::draw::{close_in, define_in, identify_in};
+use crate::marks::{carry_marks, first_unmarked};
 use ports::NoMemory;
 use presentation::Congruence;
 use std::alloc::Global;
@@ -17,8 +22,8 @@ use word_graph::WordGraph;
 use words::Letter;
 
 /// The coset table of a congruence (libsemigroups, `ToddCoxeter`): a partial rooted word graph with root 0, of which
-/// some nodes are live. The live nodes are exactly those that some word leads to from the root, and only they have
-/// edges. The root is always live.
+/// some nodes are live, and of these some marked. The live nodes are exactly those that some word leads to from the
+/// root, and only they have edges. The root is always live.
 ///
 /// Each call but `target` may find memory wanting. It then answers `NoMemory`, as does each later call, and what the
 /// graph shows from then on is not told.
@@ -28,6 +33,7 @@ pub struct Table {
     congruence: Congruence,
     graph: WordGraph,
     live: Vec<bool>,
+    marked: Vec<bool>,
     failed: bool,
 }
 
@@ -36,9 +42,9 @@ impl Model for Table {
 
     ghost Value = { CosetTable };
 
-    ghost view = { λ t. record { congruence = t.congruence.congruence; graph = t.graph; live = t.live.items; failed = t.failed } };
+    ghost view = { λ t. record { congruence = t.congruence.congruence; graph = t.graph; live = t.live.items; marked = t.marked.items; failed = t.failed } };
 
-    ghost invariant = { λ t. IsTable (record { congruence = t.congruence.congruence; graph = t.graph; live = t.live.items; failed = t.failed }) };
+    ghost invariant = { λ t. IsTable (record { congruence = t.congruence.congruence; graph = t.graph; live = t.live.items; marked = t.marked.items; failed = t.failed }) };
 }
 
 impl Table {
@@ -47,17 +53,20 @@ impl Table {
     pub fn new(alloc: Global, congruence: &Congruence) -> Result<Table, NoMemory>
         requires { IsRightSided congruence.now.congruence }
         ensures table { IfOk result IsTable }
-        ensures new { IfOk result (λ t. t ≡ record { congruence = congruence.now.congruence; graph = replicate congruence.now.congruence.presentation.letters None ∷ []; live = true ∷ []; failed = false }) }
+        ensures new { IfOk result (λ t. t ≡ record { congruence = congruence.now.congruence; graph = replicate congruence.now.congruence.presentation.letters None ∷ []; live = true ∷ []; marked = false ∷ []; failed = false }) }
     {
         let congruence = congruence.copy(alloc)?;
         let graph = WordGraph::new(alloc, congruence.presentation().letters(), 1)?;
         let mut live = Vec::new(alloc);
         live.push(true)?;
+        let mut marked = Vec::new(alloc);
+        marked.push(false)?;
         Ok(Table {
             alloc,
             congruence,
             graph,
             live,
+            marked,
             failed: false,
         })
     }
@@ -71,8 +80,8 @@ impl Table {
         self.graph.target(node, letter)
     }
 
-    /// Makes an edge of the letter from the live node to a new node, which is live, and tells its number. The node
-    /// had no such edge.
+    /// Makes an edge of the letter from the live node to a new node, which is live and not marked, and tells its
+    /// number. The node had no such edge.
     pub fn define(&mut self, node: usize, letter: Letter) -> Result<usize, NoMemory>
         requires node { IsLive self.old node }
         requires letter { letter < self.old.congruence.presentation.letters }
@@ -86,10 +95,15 @@ impl Table {
         if self.failed {
             return Err(NoMemory);
         }
+        let Ok(()) = self.marked.push(false) else {
+            self.failed = true;
+            return Err(NoMemory);
+        };
         let letters = self.congruence.presentation().letters();
         match define_in(&mut self.graph, &mut self.live, letters, node, letter) {
             Ok(fresh) => Ok(fresh),
             Err(fault) => {
+                self.marked.pop();
                 self.failed = true;
                 Err(fault)
             }
@@ -99,11 +113,12 @@ impl Table {
     /// Makes two live nodes one, and with them all nodes to which this leads: the paths then relate what they related
     /// before, the words that lead to the one node and the words that lead to the other, and what follows from that by
     /// adding letters (a coincidence: Sims 1994, 5.1). The numbers of nodes stay, and nodes that are merged into
-    /// another are no longer live.
+    /// another are no longer live. A word's node is marked then where the word is related to one whose node was marked.
     pub fn identify(&mut self, x: usize, y: usize) -> Result<(), NoMemory>
         requires x { IsLive self.old x }
         requires y { IsLive self.old y }
         ensures relates { OnOk result (PathsRelate self.new.graph (MergedNodes self.old.graph x y)) }
+        ensures marks { OnOk result (KeepsMarks self.old.graph self.old.marked self.new.graph self.new.marked) }
         ensures nodes { OnOk result (length self.new.graph ≡ length self.old.graph) }
         ensures ok { OnOk result (self.new.failed ≡ false) }
         ensures err { OnErr result (self.new.failed ≡ true) }
@@ -115,7 +130,10 @@ impl Table {
             return Err(NoMemory);
         }
         match identify_in(self.alloc, &mut self.graph, &mut self.live, x, y) {
-            Ok(()) => Ok(()),
+            Ok(class) => {
+                carry_marks(&mut self.marked, &class);
+                Ok(())
+            }
             Err(fault) => {
                 self.failed = true;
                 Err(fault)
@@ -123,10 +141,11 @@ impl Table {
         }
     }
 
-    /// Draws all that follows from the relations, read at each word that has a path, and from the pairs, read at the
-    /// empty word, until nothing new follows: the paths then relate what they related before, and what follows from it.
-    pub fn close_all(&mut self) -> Result<(), NoMemory>
-        ensures relates { OnOk result (PathsRelate self.new.graph (ClosedAll self.old.congruence (SameEnd self.old.graph))) }
+    // Draws what follows from the relations, read at every node or at one alone, and from the pairs.
+    fn close(&mut self, at: Option<usize>) -> Result<(), NoMemory>
+        requires at { ForSome at (IsLive self.old) }
+        ensures relates { OnOk result (PathsRelate self.new.graph (ClosedThere self.old.congruence self.old.graph at)) }
+        ensures marks { OnOk result (KeepsMarks self.old.graph self.old.marked self.new.graph self.new.marked) }
         ensures nodes { OnOk result (length self.new.graph ≡ length self.old.graph) }
         ensures ok { OnOk result (self.new.failed ≡ false) }
         ensures err { OnErr result (self.new.failed ≡ true) }
@@ -142,8 +161,83 @@ impl Table {
             &self.congruence,
             &mut self.graph,
             &mut self.live,
+            at,
         ) {
-            Ok(()) => Ok(()),
+            Ok(class) => {
+                carry_marks(&mut self.marked, &class);
+                Ok(())
+            }
+            Err(fault) => {
+                self.failed = true;
+                Err(fault)
+            }
+        }
+    }
+
+    /// Draws all that follows from the relations, read at the words that lead to the live node, and from the pairs,
+    /// read at the empty word, until nothing new follows: the paths then relate what they related before, and what
+    /// follows from it (the row of a word: Sims 1994, 5.2). Marks go with their words, as at `identify`.
+    pub fn close_at(&mut self, node: usize) -> Result<(), NoMemory>
+        requires { IsLive self.old node }
+        ensures relates { OnOk result ((w : Letters) → path self.old.graph 0 w ≡ Some node → PathsRelate self.new.graph (ClosedAt self.old.congruence (SameEnd self.old.graph) w)) }
+        ensures marks { OnOk result (KeepsMarks self.old.graph self.old.marked self.new.graph self.new.marked) }
+        ensures nodes { OnOk result (length self.new.graph ≡ length self.old.graph) }
+        ensures ok { OnOk result (self.new.failed ≡ false) }
+        ensures err { OnErr result (self.new.failed ≡ true) }
+        ensures failed { self.old.failed ≡ true → IsErr result }
+        ensures congruence { self.new.congruence ≡ self.old.congruence }
+        ensures table { IsTable self.new }
+    {
+        self.close(Some(node))
+    }
+
+    /// Draws all that follows from the relations, read at each word that has a path, and from the pairs, read at the
+    /// empty word, until nothing new follows: the paths then relate what they related before, and what follows from
+    /// it. Marks go with their words, as at `identify`.
+    pub fn close_all(&mut self) -> Result<(), NoMemory>
+        ensures relates { OnOk result (PathsRelate self.new.graph (ClosedAll self.old.congruence (SameEnd self.old.graph))) }
+        ensures marks { OnOk result (KeepsMarks self.old.graph self.old.marked self.new.graph self.new.marked) }
+        ensures nodes { OnOk result (length self.new.graph ≡ length self.old.graph) }
+        ensures ok { OnOk result (self.new.failed ≡ false) }
+        ensures err { OnErr result (self.new.failed ≡ true) }
+        ensures failed { self.old.failed ≡ true → IsErr result }
+        ensures congruence { self.new.congruence ≡ self.old.congruence }
+        ensures table { IsTable self.new }
+    {
+        self.close(None)
+    }
+
+    /// Marks the live node, and changes nothing else.
+    pub fn mark(&mut self, node: usize) -> Result<(), NoMemory>
+        requires { IsLive self.old node }
+        ensures ok { OnOk result (self.new ≡ record self.old { marked = slice_set self.old.marked node true }) }
+        ensures err { OnErr result (self.new.failed ≡ true) }
+        ensures failed { self.old.failed ≡ true → IsErr result }
+        ensures congruence { self.new.congruence ≡ self.old.congruence }
+        ensures table { IsTable self.new }
+    {
+        if self.failed {
+            return Err(NoMemory);
+        }
+        self.marked[node] = true;
+        Ok(())
+    }
+
+    /// The node of the least word in short-lex order whose node is not marked. `None` exactly where each live node is
+    /// marked.
+    pub fn first_unprocessed(&mut self) -> Result<Option<usize>, NoMemory>
+        ensures first { IfOk result (λ found. MatchOption found (AllMarked self.old.graph self.old.marked) (IsFirstUnmarked self.old.graph self.old.marked)) }
+        ensures same { OnOk result (self.new ≡ self.old) }
+        ensures err { OnErr result (self.new.failed ≡ true) }
+        ensures failed { self.old.failed ≡ true → IsErr result }
+        ensures congruence { self.new.congruence ≡ self.old.congruence }
+        ensures table { IsTable self.new }
+    {
+        if self.failed {
+            return Err(NoMemory);
+        }
+        match first_unmarked(self.alloc, &self.graph, &self.marked) {
+            Ok(found) => Ok(found),
             Err(fault) => {
                 self.failed = true;
                 Err(fault)

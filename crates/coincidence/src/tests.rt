@@ -1,4 +1,4 @@
-ghost use Rattle.std.specs.Prelude.{IfOk};
+ghost use Rattle.std.specs.Prelude.{◌≡◌, true, [], ◌∷◌, IfOk};
 ghost use Rattle.theory.specs.Word.{IsOver};
 
 use super::*;
@@ -33,7 +33,9 @@ fn cyclic(alloc: Global, text: &[u8]) -> Result<Presentation, NoMemory> {
 }
 
 // The table of the monoid without pairs.
-fn table(alloc: Global, text: &[u8]) -> Result<Table, NoMemory> {
+fn table(alloc: Global, text: &[u8]) -> Result<Table, NoMemory>
+    ensures { IfOk result (λ t. t.live ≡ true ∷ []) }
+{
     let presentation = cyclic(alloc, text)?;
     let congruence = Congruence::new(presentation, Kind::Right, Pairs::new(alloc));
     Table::new(alloc, &congruence)
@@ -58,5 +60,18 @@ fn a_word_is_missing(rt: HostRuntime) -> Result<(), Fail> {
     table.close_all()?;
     let missing = table.first_missing()?;
     assert_eq!(rt; missing, Some((0, Letter::new(0))));
+    Ok(())
+}
+
+#[test]
+fn a_row_closes_the_table(rt: HostRuntime) -> Result<(), Fail> {
+    let alloc = rt.alloc();
+    let mut table = table(alloc, b"a")?;
+    assert_eq!(rt; table.first_unprocessed()?, Some(0));
+    table.mark(0)?;
+    assert_eq!(rt; table.first_unprocessed()?, None);
+    table.close_at(0)?;
+    assert_eq!(rt; table.target(0, Letter::new(0)), Some(0));
+    assert_eq!(rt; table.first_unprocessed()?, None);
     Ok(())
 }

@@ -1,22 +1,19 @@
-use Rattle.std.proofs.Common.{◌≡◌, ◌<◌, length, sym, ◌∙◌, ap, subst, arith, false}
-use Rattle.std.proofs.lemmas.List.{get_or_read}
+use Rattle.std.proofs.Common.{ℕ, Option, sym, ◌∙◌, ap, subst}
 use Rattle.theory.specs.Graph.{IsClosedAt}
-use Rattle.coincidence.specs.Live.{IsOn}
-use Rattle.coincidence.specs.DueSpec.{IsDueAt}
-use Rattle.coincidence.proofs.DueLaws.{IsClosedBefore, at_node, before_all}
+use Rattle.coincidence.specs.DueSpec.{IsDueAt, IsDueAnywhere, IsDueIn}
+use Rattle.coincidence.proofs.DueLaws.{due_everywhere, due_here}
 use Rattle.coincidence.proofs.due.due_in.Goals as goal
 
-pub returns-in_default-due_at : goal.returns-in_default-due_at
-returns-in_default-due_at c =
-    let rels : c.relations-relations.result.now ≡ c.args.congruence.now.congruence.presentation.relations = c.relations-relations.ensures.relations ∙ ap (λ z. z.relations) c.presentation.ensures.presentation in
-    let less : c.loop-node.node < length c.args.live.now.items = omega arith in
-    let on : IsOn c.args.live.now.items c.loop-node.node = sym (get_or_read _ _ _ less c.index.ensures false) ∙ c.if-index.true in
-    at_node c.args.congruence.now.congruence c.args.graph.now c.args.live.now.items c.loop-node.node c.due_at-then-index.result c.requires on (λ e. c.in_default-due_at.not-Nothing e) (subst (λ z. IsDueAt c.args.graph.now c.loop-node.node z c.due_at-then-index.result) rels c.due_at-then-index.ensures)
+pub returns-in-None : goal.returns-in-None
+returns-in-None c =
+    let rels = c.relations-relations.ensures.relations ∙ ap (λ z. z.relations) c.presentation.ensures.presentation in
+    let root = subst (λ z. IsClosedAt z c.args.graph.now 0) c.pairs.ensures c.in-Nothing.ensures in
+    subst (λ (at : Option ℕ). IsDueIn c.args.congruence.now.congruence c.args.graph.now c.args.live.now.items at c.due_anywhere.result) (sym c.in-None.is)
+    (due_everywhere c.args.congruence.now.congruence c.args.graph.now c.args.live.now.items c.due_anywhere.result c.requires.live root (subst (λ z. IsDueAnywhere z c.args.graph.now c.args.live.now.items c.due_anywhere.result) rels c.due_anywhere.ensures))
 
-pub returns : goal.returns
-returns c =
-    let rels : c.relations-relations.result.now ≡ c.args.congruence.now.congruence.presentation.relations = c.relations-relations.ensures.relations ∙ ap (λ z. z.relations) c.presentation.ensures.presentation in
-    let end : c.loop-node.node ≡ length c.args.live.now.items = omega arith in (
-      before_all c.args.congruence.now.congruence.presentation.relations c.args.graph.now c.args.live.now.items (subst (λ z. IsClosedBefore c.args.congruence.now.congruence.presentation.relations c.args.graph.now c.args.live.now.items z) end (subst (λ z. IsClosedBefore z c.args.graph.now c.args.live.now.items c.loop-node.node) rels c.loop-node.invariant)),
-      subst (λ z. IsClosedAt z c.args.graph.now 0) c.pairs.ensures c.in-Nothing.ensures,
-    )
+pub returns-in-Some : goal.returns-in-Some
+returns-in-Some c =
+    let rels = c.relations-relations.ensures.relations ∙ ap (λ z. z.relations) c.presentation.ensures.presentation in
+    let root = subst (λ z. IsClosedAt z c.args.graph.now 0) c.pairs.ensures c.in-Nothing.ensures in
+    subst (λ (at : Option ℕ). IsDueIn c.args.congruence.now.congruence c.args.graph.now c.args.live.now.items at c.due_at-in-Some.result) (sym c.in-Some.is)
+    (due_here c.args.congruence.now.congruence c.args.graph.now c.args.live.now.items c.in-Some.node c.due_at-in-Some.result c.requires.live (c.requires.at c.in-Some.node c.in-Some.is) root (subst (λ z. IsDueAt c.args.graph.now c.in-Some.node z c.due_at-in-Some.result) rels c.due_at-in-Some.ensures))
