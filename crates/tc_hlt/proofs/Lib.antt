@@ -1,0 +1,5 @@
+pub mod DefineLaws
+pub mod GrowLaws
+pub mod RowLaws
+pub mod StartLaws
+pub mod TurnLaws

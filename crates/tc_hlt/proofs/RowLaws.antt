@@ -1,0 +1,164 @@
+-- One row leads from one stage to the next.
+use Rattle.std.proofs.Common.{◌≡◌, ◌≢◌, ◌↔◌, ℕ, suc, ◌<◌, List, ◌∷◌, refl, sym, ◌∙◌, ap, arith, inl, inr, Some, length, subst, slice_set, get_or, Contains, Bool, true, false, Result, Ok, Err}
+use Rattle.std.specs.Result.{OnOk}
+use Rattle.std.proofs.lemmas.Bool.{cases_eq}
+use Rattle.std.proofs.lemmas.List.{get_or-set_same, get_or-set_other}
+use Rattle.theory.specs.Word.{Word}
+use Rattle.theory.specs.Congruence.{Congruence}
+use Rattle.theory.specs.Graph.{Graph, path, SameEnd, PathsRelate}
+use Rattle.theory.specs.Facts.{ClosedAt, given}
+use Rattle.theory.specs.Hlt.{HltFacts, HltStage, IsInRow, IsLeastUnmet, IsMet, RowGiven, start, row}
+use Rattle.theory.proofs.Related.{none_contained}
+use Rattle.theory.proofs.Counting.{in_from_contains, contains_from_in}
+use Rattle.theory.proofs.GraphLaws.{same_end_trans}
+use Rattle.theory.proofs.HltLaws.{hlt_grows}
+use Rattle.theory.proofs.TableSteps.{hlt_row_between}
+use Rattle.coincidence.specs.Live.{IsOn}
+use Rattle.coincidence.specs.Marks.{KeepsMarks}
+use Rattle.coincidence.specs.Table.{CosetTable, IsTable}
+use Rattle.coincidence.proofs.TableLaws.{on_inside}
+use Rattle.tc_hlt.specs.Tracing.{IsGrown, IsWithin}
+use Rattle.tc_hlt.specs.Stage.{HasRows, IsReady}
+use Rattle.tc_hlt.proofs.GrowLaws.{grown_same, grown_live}
+
+-- the words that had their row are defined
+pub stage_words : (c : Congruence) → {i : ℕ} {U : List Word} → HltStage c i U → (w : Word) → Contains U w → HltFacts c U w w
+stage_words c start w m = absurd (none_contained w m)
+stage_words c (row {U = U} {w = new} s l) w m = elim (in_from_contains w (new ∷ U) m) [
+  | inl e ↦ subst (λ x. HltFacts c (new ∷ U) x x) (sym e) (hlt_grows c U new new new l.defined)
+  | inr n ↦ hlt_grows c U new w w (stage_words c s w (contains_from_in w U n))
+]
+
+-- a word is met by the paths where it is by what they relate
+pub met_same : (g : Graph) (V : Word → Word → Type 0) (U : List Word) (w : Word) → PathsRelate g V → IsMet (SameEnd g) U w ↔ IsMet V U w
+met_same g V U w shows = (λ m. (m.0, m.1, (shows w m.0).0 m.2), λ m. (m.0, m.1, (shows w m.0).1 m.2))
+
+-- the first word without a mark is the least unmet
+pub first_unmet : (t : CosetTable) (made node : ℕ) → (ready : IsReady t made node) → IsLeastUnmet (HltFacts t.congruence ready.rows.words) ready.rows.words ready.first.word
+first_unmet t made node ready = record {
+  defined = (ready.rows.shows w w).0 (node, ready.first.leads, ready.first.leads);
+  unmet = λ met. ready.first.unmarked ((ready.rows.marks w node ready.first.leads).1 ((same w).1 met));
+  least = λ v defined less.
+      let at = (ready.rows.shows v v).1 defined in
+      (same v).0 ((ready.rows.marks v at.0 at.1).0 (ready.first.least v at.0 less at.1));
+}
+  where
+    w : Word
+    w = ready.first.word
+
+    same : (v : Word) → IsMet (SameEnd t.graph) ready.rows.words v ↔ IsMet (HltFacts t.congruence ready.rows.words) ready.rows.words v
+    same v = met_same t.graph (HltFacts t.congruence ready.rows.words) ready.rows.words v ready.rows.shows
+
+-- the marks once the node has one
+pub marked_node : (marked : List Bool) (node : ℕ) → node < length marked → IsOn (slice_set marked node true) node
+marked_node marked node inside = get_or-set_same marked node true false inside
+
+pub marked_other : (marked : List Bool) (node n : ℕ) → n ≢ node → IsOn (slice_set marked node true) n ↔ IsOn marked n
+marked_other marked node n other = let e : get_or (slice_set marked node true) n false ≡ get_or marked n false = get_or-set_other marked node n true false other in (λ on. sym e ∙ on, λ on. e ∙ on)
+
+-- a row: the table grows by what it defines, the node gets its mark, and all is drawn that follows there
+module _ (old mid new : CosetTable) (made node : ℕ) (was : IsTable old) (is : IsTable mid) (g : IsGrown (IsInRow old.congruence) old mid node) (ready : IsReady old made node)
+    (closed : PathsRelate new.graph (ClosedAt old.congruence (SameEnd mid.graph) ready.first.word))
+    (marks : KeepsMarks mid.graph (slice_set mid.marked node true) new.graph new.marked) where
+  -- what is given is there
+  there : (u v : Word) → RowGiven old.congruence ready.rows.words ready.first.word u v → SameEnd mid.graph u v
+  there u v (inl f) = grown_same (IsInRow old.congruence) old mid node g u v ((ready.rows.shows u v).1 f)
+  there u v (inr d) = subst (λ x. SameEnd mid.graph u x) d.0 (elim d.1 [
+    | inl e ↦ subst (λ x. SameEnd mid.graph x x) (sym e) (0, refl, refl)
+    | inr (inl p) ↦ fact u (given (refl, inr (inl p)))
+    | inr (inr r) ↦ elim (in_from_contains r.0 (ready.first.word ∷ ready.rows.words) r.1) [
+      | inl e ↦ g.there ready.first.word u ready.first.leads (subst (λ x. IsInRow old.congruence x u) e r.2)
+      | inr n ↦ fact u (given (refl, inr (inr (r.0, contains_from_in r.0 ready.rows.words n, r.2))))
+    ]
+  ])
+    where
+      fact : (x : Word) → HltFacts old.congruence ready.rows.words x x → SameEnd mid.graph x x
+      fact x f = grown_same (IsInRow old.congruence) old mid node g x x ((ready.rows.shows x x).1 f)
+
+  -- and nothing but facts
+  within : IsWithin old.congruence (ready.first.word ∷ ready.rows.words) mid.graph
+  within =
+      g.within (ready.first.word ∷ ready.rows.words) ready.first.word ready.first.leads
+      (λ v r. given (refl, inr (inr (ready.first.word, (0, omega arith, refl), r))))
+      (λ u v h. hlt_grows old.congruence ready.rows.words ready.first.word u v ((ready.rows.shows u v).0 h))
+
+  row_shows : PathsRelate new.graph (HltFacts old.congruence (ready.first.word ∷ ready.rows.words))
+  row_shows u v =
+      let same = hlt_row_between old.congruence ready.rows.words ready.first.word (SameEnd mid.graph) there within u v in
+      (λ h. same.0 ((closed u v).0 h), λ f. (closed u v).1 (same.1 f))
+
+  -- paths to one node stay so
+  kept : (u v : Word) → SameEnd mid.graph u v → SameEnd new.graph u v
+  kept u v h = (closed u v).1 (given h)
+
+  inside : node < length mid.marked
+  inside =
+      let live = grown_live (IsInRow old.congruence) old mid node node was is g (was.live.lives node (ready.first.word, ready.first.leads)) in
+      let less : node < length mid.graph = on_inside mid.graph mid.live node is.live live in
+      omega (arith, less, is.shape)
+
+  -- a word that leads to a node with a mark is met
+  met_from : (v : Word) (m : ℕ) → path mid.graph 0 v ≡ Some m → IsOn (slice_set mid.marked node true) m → IsMet (SameEnd new.graph) (ready.first.word ∷ ready.rows.words) v
+  met_from v m hv on = elim (cases_eq m node) [
+    | inl e ↦ (ready.first.word, (0, omega arith, refl), kept v ready.first.word (node, hv ∙ ap (λ z. Some z) e, g.paths 0 node ready.first.word ready.first.leads))
+    | inr d ↦
+        let before : IsOn old.marked m = (g.marks m).0 ((marked_other mid.marked node m d).0 on) in
+        let r = was.live.reached m (was.marked ready.rows.failed m before) in
+        let met = (ready.rows.marks r.0 m r.1).0 before in
+        let one : SameEnd new.graph v r.0 = kept v r.0 (m, hv, g.paths 0 m r.0 r.1) in
+        let two : SameEnd new.graph r.0 met.0 = kept r.0 met.0 (grown_same (IsInRow old.congruence) old mid node g r.0 met.0 met.2) in
+        (met.0, contains_from_in met.0 (ready.first.word ∷ ready.rows.words) (inr (in_from_contains met.0 ready.rows.words met.1)), same_end_trans new.graph v r.0 met.0 one two)
+  ]
+
+  row_met : (u : Word) (n : ℕ) → path new.graph 0 u ≡ Some n → IsOn new.marked n → IsMet (SameEnd new.graph) (ready.first.word ∷ ready.rows.words) u
+  row_met u n hu on =
+      let f = marks.from u n hu on in
+      let met = met_from f.0 f.1 f.2 f.3 in
+      (met.0, met.1, same_end_trans new.graph u f.0 met.0 (n, hu, f.4) met.2)
+
+  row_marked : (u : Word) (n : ℕ) → path new.graph 0 u ≡ Some n → IsMet (SameEnd new.graph) (ready.first.word ∷ ready.rows.words) u → IsOn new.marked n
+  row_marked u n hu met = elim (in_from_contains met.0 (ready.first.word ∷ ready.rows.words) met.1) [
+    | inl e ↦
+        marks.kept u ready.first.word n node (g.paths 0 node ready.first.word ready.first.leads) (marked_node mid.marked node inside)
+        (subst (λ z. path new.graph 0 z ≡ Some n) e also) hu
+    | inr i ↦
+        let had : Contains ready.rows.words met.0 = contains_from_in met.0 ready.rows.words i in
+        let at = (ready.rows.shows met.0 met.0).1 (stage_words old.congruence ready.rows.stage met.0 had) in
+        let on : IsOn old.marked at.0 = (ready.rows.marks met.0 at.0 at.1).1 (met.0, had, at) in
+        marks.kept u met.0 n at.0 (g.paths 0 at.0 met.0 at.1) (still at.0 on) also hu
+  ]
+    where
+      -- where it is related to, a path leads to its node
+      also : path new.graph 0 met.0 ≡ Some n
+      also = let e : Some met.2.0 ≡ Some n = sym met.2.1 ∙ hu in met.2.2 ∙ e
+
+      still : (m : ℕ) → IsOn old.marked m → IsOn (slice_set mid.marked node true) m
+      still m on = elim (cases_eq m node) [
+        | inl e ↦ subst (λ z. IsOn (slice_set mid.marked node true) z) (sym e) (marked_node mid.marked node inside)
+        | inr d ↦ (marked_other mid.marked node m d).1 ((g.marks m).1 on)
+      ]
+
+  pub row_made : new.congruence ≡ old.congruence → new.failed ≡ false → HasRows new (suc made)
+  row_made e failed = record {
+    words = ready.first.word ∷ ready.rows.words;
+    stage = subst (λ (c : Congruence). HltStage c (suc made) (ready.first.word ∷ ready.rows.words)) (sym e) (row ready.rows.stage (first_unmet old made node ready));
+    shows = subst (λ (c : Congruence). PathsRelate new.graph (HltFacts c (ready.first.word ∷ ready.rows.words))) (sym e) row_shows;
+    marks = λ u n hu. (row_met u n hu, row_marked u n hu);
+    failed = failed;
+  }
+
+-- where closing found memory
+pub row_closed : {X Y : Type 0} (r : Result X Y) (old mid marked new : CosetTable) (node : ℕ) → IsTable old → IsTable mid → IsGrown (IsInRow old.congruence) old mid node
+    → marked ≡ record mid { marked = slice_set mid.marked node true } → new.congruence ≡ marked.congruence
+    → OnOk r ((w : Word) → path marked.graph 0 w ≡ Some node → PathsRelate new.graph (ClosedAt marked.congruence (SameEnd marked.graph) w))
+    → OnOk r (KeepsMarks marked.graph marked.marked new.graph new.marked) → OnOk r (new.failed ≡ false)
+    → OnOk r ((made : ℕ) → IsReady old made node → HasRows new (suc made))
+row_closed (Ok v) old mid marked new node was is g e now closed marks failed = λ made ready.
+    let shows : PathsRelate new.graph (ClosedAt mid.congruence (SameEnd mid.graph) ready.first.word) =
+    subst (λ (t : CosetTable). (w : Word) → path t.graph 0 w ≡ Some node → PathsRelate new.graph (ClosedAt t.congruence (SameEnd t.graph) w)) e closed
+    ready.first.word (g.paths 0 node ready.first.word ready.first.leads) in
+    row_made old mid new made node was is g ready
+    (subst (λ (c : Congruence). PathsRelate new.graph (ClosedAt c (SameEnd mid.graph) ready.first.word)) g.congruence shows)
+    (subst (λ (t : CosetTable). KeepsMarks t.graph t.marked new.graph new.marked) e marks)
+    (now ∙ ap (λ (t : CosetTable). t.congruence) e ∙ g.congruence) failed
+row_closed (Err f) old mid marked new node was is g e now closed marks failed = tt

@@ -1,0 +1,134 @@
+-- What a turn leaves.
+use Rattle.std.proofs.Common.{◌≡◌, ℕ, ◌+◌, ◌<◌, ◌≤◌, refl, sym, ◌∙◌, ap, arith, inl, inr, Option, Some, None, subst, Bool, true, false, cond, nat_lt, min, Result, Ok, Err}
+use Rattle.std.specs.Result.{IfOk, OnOk}
+use Rattle.std.specs.Option.{is_some, unwrap_or}
+use Rattle.std.proofs.lemmas.Bool.{cases_lt}
+use Rattle.race.specs.declared.engines.Progress.{Progress}
+use Rattle.race.specs.declared.engines.Progress.TheVariants.{More, Decided, Spent}
+use Rattle.theory.specs.Congruence.{Congruence}
+use Rattle.theory.specs.Facts.{AllDefined}
+use Rattle.theory.specs.Graph.{Graph, SameEnd, PathsRelate}
+use Rattle.theory.specs.Hlt.{HltFacts, HltStage, HltEnds, AllMet}
+use Rattle.theory.proofs.HltLaws.{hlt_all_defined, hlt_stage_fails}
+use Rattle.coincidence.specs.Marks.{AllMarked, IsFirstUnmarked}
+use Rattle.coincidence.specs.Table.{CosetTable, IsTable}
+use Rattle.tc_hlt.specs.Stage.{IsAtStage, HasRows, IsReady, Stands, TellsNext, IsRun, answer_of}
+use Rattle.tc_hlt.proofs.RowLaws.{met_same, first_unmet}
+
+pub at_stage : (t : CosetTable) (made : ℕ) → HasRows t made → IsAtStage t.congruence made t.graph
+at_stage t made rows = record { words = rows.words; stage = rows.stage; shows = rows.shows }
+
+-- where each node has a mark, each defined word is met
+pub all_met : (t : CosetTable) (made : ℕ) → (rows : HasRows t made) → AllMarked t.graph t.marked → AllMet t.congruence rows.words
+all_met t made rows all w defined =
+    let at = (rows.shows w w).1 defined in
+    (met_same t.graph (HltFacts t.congruence rows.words) rows.words w rows.shows).0 ((rows.marks w at.0 at.1).0 (all w at.0 at.1))
+
+-- so the strategy has ended, and all words have a path
+pub ends_at : (t : CosetTable) (budget made : ℕ) → HasRows t made → made ≤ budget → AllMarked t.graph t.marked → HltEnds t.congruence budget
+ends_at t budget made rows within all = record { count = made; within = within; words = rows.words; stage = rows.stage; all = all_met t made rows all }
+
+pub all_there : (t : CosetTable) (made : ℕ) → HasRows t made → AllMarked t.graph t.marked → AllDefined t.congruence.presentation.letters (SameEnd t.graph)
+all_there t made rows all w over = (rows.shows w w).1 (hlt_all_defined t.congruence rows.words (all_met t made rows all) w over)
+
+-- where one has none and the budget is used up, the strategy does not end
+pub fails_at : (t : CosetTable) (budget made node : ℕ) → IsReady t made node → made ≡ budget → HltEnds t.congruence budget → ⊥
+fails_at t budget made node ready e ends =
+    let least = first_unmet t made node ready in
+    hlt_stage_fails t.congruence budget ready.rows.words ready.first.word (subst (λ n. HltStage t.congruence n ready.rows.words) e ready.rows.stage) least.defined least.unmet ends
+
+-- a graph with the same equal paths is at the same stage, and has a path for the same words
+pub same_stage : (c : Congruence) (i : ℕ) (g h : Graph) → PathsRelate h (SameEnd g) → IsAtStage c i g → IsAtStage c i h
+same_stage c i g h same at = record {
+  words = at.words;
+  stage = at.stage;
+  shows = λ u v. (λ e. (at.shows u v).0 ((same u v).0 e), λ f. (same u v).1 ((at.shows u v).1 f));
+}
+
+pub same_defined : (k : ℕ) (g h : Graph) → PathsRelate h (SameEnd g) → AllDefined k (SameEnd g) → AllDefined k (SameEnd h)
+same_defined k g h same all w over = (same w w).1 (all w over)
+
+lt_true : (m n : ℕ) → m < n → nat_lt m n ≡ true
+lt_true m n h = grind (arith, h)
+
+lt_false : (m n : ℕ) → n ≤ m → nat_lt m n ≡ false
+lt_false m n h = grind (arith, h)
+
+-- the rows made after a turn
+pub rows_counted : (made budget made' : ℕ) → made ≤ budget → made' ≡ min (made + 1) budget → made + cond (nat_lt made budget) 1 0 ≡ made'
+rows_counted made budget made' within count = elim (cases_lt made budget) [
+  | inl less ↦ ap (λ b. made + cond b 1 0) (lt_true made budget less) ∙ omega (arith, less, count)
+  | inr more ↦ ap (λ b. made + cond b 1 0) (lt_false made budget more) ∙ omega (arith, more, within, count)
+]
+
+-- a turn of an enumeration that goes on
+module _ (new : CosetTable) (c : Congruence) (budget made : ℕ) (table : IsTable new) (same : c ≡ new.congruence) (rows : HasRows new made) (within : made ≤ budget) where
+  run_decided : (node : ℕ) → AllMarked new.graph new.marked → IsRun new c budget made true node Decided
+  run_decided node all =
+      record {
+        table = table;
+        congruence = same;
+        decided = λ e. ends_at new budget made rows within all;
+        complete = λ e. all_there new made rows all;
+        spent = λ e. absurd (let bad : ⊥ = cc in bad);
+        stage = λ n b. at_stage new made rows;
+        within = λ n. within;
+        stands = λ e. absurd (let bad : ⊥ = cc in bad);
+        ended = λ e. refl;
+      }
+
+  run_more : (node : ℕ) → IsFirstUnmarked new.graph new.marked node → made < budget → IsRun new c budget made true node More
+  run_more node first less =
+      record {
+        table = table;
+        congruence = same;
+        decided = λ e. absurd (let bad : ⊥ = cc in bad);
+        complete = λ e. absurd (let bad : ⊥ = cc in bad);
+        spent = λ e. absurd (let bad : ⊥ = cc in bad);
+        stage = λ n b. at_stage new made rows;
+        within = λ n. within;
+        stands = λ e. record { rows = rows; first = first };
+        ended = λ e. refl;
+      }
+
+  run_spent : (node : ℕ) → IsFirstUnmarked new.graph new.marked node → made ≡ budget → IsRun new c budget made true node Spent
+  run_spent node first e =
+      record {
+        table = table;
+        congruence = same;
+        decided = λ e. absurd (let bad : ⊥ = cc in bad);
+        complete = λ e. absurd (let bad : ⊥ = cc in bad);
+        spent = λ _. fails_at new budget made node (record { rows = rows; first = first }) e;
+        stage = λ n b. at_stage new made rows;
+        within = λ n. within;
+        stands = λ e. absurd (let bad : ⊥ = cc in bad);
+        ended = λ e. refl;
+      }
+
+  pub run_after : (next : Option ℕ) (said : Progress)
+      → TellsNext new next → said ≡ answer_of (is_some next) made budget → IsRun new c budget made true (unwrap_or next 0) said
+  run_after None said all e = subst (λ s. IsRun new c budget made true 0 s) (sym e) (run_decided 0 all)
+  run_after (Some node) said first e = elim (cases_lt made budget) [
+    | inl less ↦
+        let is : said ≡ More = e ∙ ap (λ b. cond b More Spent) (lt_true made budget less) in
+        subst (λ s. IsRun new c budget made true node s) (sym is) (run_more node first less)
+    | inr past ↦
+        let is : said ≡ Spent = e ∙ ap (λ b. cond b More Spent) (lt_false made budget past) in
+        subst (λ s. IsRun new c budget made true node s) (sym is) (run_spent node first (omega (arith, within, past)))
+  ]
+
+-- what is told of a table that stays as it was
+pub next_same : {X : Type 0} (r : Result (Option ℕ) X) (old new : CosetTable) → OnOk r (new ≡ old)
+    → IfOk r (TellsNext old) → IfOk r (TellsNext new)
+next_same (Ok next) old new e found = subst (λ (t : CosetTable). TellsNext t next) (sym e) found
+next_same (Err f) old new e found = tt
+
+-- a turn of an enumeration that goes on leaves what it says
+pub turn_after : (old new : CosetTable) (c : Congruence) (budget made made' : ℕ) (begun : Bool) (node : ℕ) (next : Option ℕ) (said : Progress)
+    → IsRun old c budget made begun node More → IsTable new → new.congruence ≡ old.congruence
+    → (Stands old begun made node → HasRows new (made + cond (nat_lt made budget) 1 0)) → made' ≡ min (made + 1) budget
+    → TellsNext new next → said ≡ answer_of (is_some next) made' budget → IsRun new c budget made' true (unwrap_or next 0) said
+turn_after old new c budget made made' begun node next said run table same rows count found e =
+    let within : made ≤ budget = run.within (λ d. let bad : ⊥ = cc in bad) in
+    let counted : HasRows new made' = subst (λ n. HasRows new n) (rows_counted made budget made' within count) (rows (run.stands refl)) in
+    run_after new c budget made' table (run.congruence ∙ sym same) counted (omega (arith, count)) next said found e

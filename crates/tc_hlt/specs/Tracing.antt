@@ -1,0 +1,34 @@
+-- Tables that grow by words that are traced in them.
+use Rattle.std.specs.Prelude.{◌≡◌, ◌↔◌, ℕ, false, List, [], ◌∷◌, ◌++◌, Some}
+use Rattle.theory.specs.Word.{Word, IsPrefix}
+use Rattle.theory.specs.Congruence.{Congruence}
+use Rattle.theory.specs.Graph.{Graph, path, SameEnd}
+use Rattle.theory.specs.Hlt.{HltFacts, IsSide}
+use Rattle.coincidence.specs.Live.{IsOn}
+use Rattle.coincidence.specs.Table.{CosetTable}
+
+-- the paths relate nothing but facts
+abbrev pub IsWithin : Congruence → List Word → Graph → Type 0
+IsWithin c U g = (u v : Word) → SameEnd g u v → HltFacts c U u v
+
+-- new is old with edges to new nodes, so that the words D x have paths for each word x that leads to the node: no fact is invented where these are defined
+pub record IsGrown (D : Word → Word → Type 0) (old new : CosetTable) (node : ℕ) : Type 0 where
+  pub congruence : new.congruence ≡ old.congruence
+  pub paths : (n m : ℕ) (u : Word) → path old.graph n u ≡ Some m → path new.graph n u ≡ Some m
+  pub marks : (n : ℕ) → IsOn new.marked n ↔ IsOn old.marked n
+  pub failed : new.failed ≡ false
+  pub there : (x v : Word) → path old.graph 0 x ≡ Some node → D x v → SameEnd new.graph v v
+  pub within : (U : List Word) (x : Word) → path old.graph 0 x ≡ Some node → ((v : Word) → D x v → HltFacts old.congruence U v v)
+      → IsWithin old.congruence U old.graph → IsWithin old.congruence U new.graph
+
+-- v is x and the letter
+abbrev pub IsNext : ℕ → Word → Word → Type 0
+IsNext a x v = v ≡ x ++ a ∷ []
+
+-- v is a prefix of x and the side
+abbrev pub IsAlong : Word → Word → Word → Type 0
+IsAlong side x v = IsPrefix v (x ++ side)
+
+-- v is a prefix of x and a side of a pair in the list
+abbrev pub IsAlongAny : List (Word × Word) → Word → Word → Type 0
+IsAlongAny pairs x v = (side : Word) × IsSide pairs side × IsPrefix v (x ++ side)

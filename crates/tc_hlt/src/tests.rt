@@ -1,0 +1,104 @@
+ghost use Rattle.std.specs.Prelude.{IfOk};
+ghost use Rattle.theory.specs.Word.{IsOver};
+
+use super::*;
+use ports::NoMemory;
+use presentation::{Congruence, Kind, Pairs, Presentation};
+use race::{Progress, Racer};
+use std::alloc::Global;
+use std::test::Fail;
+use words::{Alphabet, Word};
+
+// The word of the text.
+fn word(presentation: &Presentation, alloc: Global, text: &[u8]) -> Result<Word, NoMemory>
+    ensures { IfOk result (λ w. IsOver presentation.now.presentation.letters w) }
+{
+    let alphabet = presentation.alphabet();
+    match alphabet.read_word(alloc, text, true) {
+        Ok(word) => Ok(word),
+        Err(_) => Err(NoMemory),
+    }
+}
+
+// A monoid or semigroup without relations.
+fn free(alloc: Global, letters: &[u8], monoid: bool) -> Result<Presentation, NoMemory> {
+    match Alphabet::new(alloc, letters) {
+        Ok(alphabet) => Ok(Presentation::new(alloc, alphabet, monoid)),
+        Err(_) => Err(NoMemory),
+    }
+}
+
+// Adds the relation of the two texts.
+fn add(
+    presentation: &mut Presentation,
+    alloc: Global,
+    left: &[u8],
+    right: &[u8],
+) -> Result<(), NoMemory> {
+    let left = word(presentation, alloc, left)?;
+    let right = word(presentation, alloc, right)?;
+    match presentation.add(left, right) {
+        Ok(()) => Ok(()),
+        Err(_) => Err(NoMemory),
+    }
+}
+
+// The enumeration of a presentation without pairs.
+fn enumeration(alloc: Global, presentation: Presentation, rows: usize) -> Result<Hlt, NoMemory> {
+    let congruence = Congruence::new(presentation, Kind::TwoSided, Pairs::new(alloc));
+    Hlt::new(alloc, &congruence, rows)
+}
+
+// How many nodes the graph has, once the enumeration is decided.
+fn nodes(engine: &Hlt) -> Result<usize, NoMemory> {
+    if engine.is_decided() {
+        Ok(engine.graph()?.nodes())
+    } else {
+        Ok(0)
+    }
+}
+
+// The monoid of one letter of which three are the empty word.
+fn cyclic(alloc: Global) -> Result<Presentation, NoMemory> {
+    let mut presentation = free(alloc, b"a", true)?;
+    add(&mut presentation, alloc, b"aaa", b"")?;
+    Ok(presentation)
+}
+
+#[test]
+fn three_rows_suffice(rt: HostRuntime) -> Result<(), Fail> {
+    let alloc = rt.alloc();
+    let mut engine = enumeration(alloc, cyclic(alloc)?, 3)?;
+    assert_eq!(rt; engine.advance(), Progress::More);
+    assert_eq!(rt; engine.advance(), Progress::More);
+    assert!(rt; !engine.is_decided());
+    assert_eq!(rt; engine.advance(), Progress::Decided);
+    assert_eq!(rt; nodes(&engine)?, 3);
+    Ok(())
+}
+
+#[test]
+fn fewer_rows_do_not(rt: HostRuntime) -> Result<(), Fail> {
+    let alloc = rt.alloc();
+    let mut engine = enumeration(alloc, cyclic(alloc)?, 2)?;
+    assert_eq!(rt; engine.advance(), Progress::More);
+    assert_eq!(rt; engine.advance(), Progress::Spent);
+    assert_eq!(rt; engine.advance(), Progress::Spent);
+    let mut none = enumeration(alloc, cyclic(alloc)?, 0)?;
+    assert_eq!(rt; none.advance(), Progress::Spent);
+    Ok(())
+}
+
+#[test]
+fn pairs_come_before_rows(rt: HostRuntime) -> Result<(), Fail> {
+    let alloc = rt.alloc();
+    let presentation = cyclic(alloc)?;
+    let pairs = presentation.relations().copy(alloc)?;
+    let congruence = Congruence::new(presentation, Kind::Right, pairs);
+    let mut engine = Hlt::new(alloc, &congruence, 3)?;
+    assert_eq!(rt; engine.advance(), Progress::More);
+    assert_eq!(rt; engine.advance(), Progress::More);
+    assert_eq!(rt; engine.advance(), Progress::Decided);
+    assert_eq!(rt; nodes(&engine)?, 3);
+    Ok(())
+}
