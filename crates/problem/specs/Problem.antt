@@ -1,9 +1,13 @@
--- Problems: generators of one kind, each with a letter (Froidure and Pin 1997).
-use Rattle.std.specs.Prelude.{ℕ, List, [], ◌==◌, length, codes, decimal}
+-- Problems: congruences on presentations (Sims 1994), and semigroups by generators of one kind, each with a letter (Froidure and Pin 1997).
+use Rattle.std.specs.Prelude.{◌≡◌, ℕ, ◌+◌, ◌≤◌, ◌⊎◌, Bool, true, false, List, [], ◌==◌, length, codes, decimal}
 use Rattle.std.specs.Cmp.Lexicographic.{pointwise}
 use Rattle.std.specs.List.{join_by}
 use Rattle.std.specs.Option.{option_eq}
+use Rattle.theory.specs.declared.Kind.TheVariants as kind
 use Rattle.theory.specs.Word.{Word}
+use Rattle.theory.specs.Congruence.{Congruence, as_right}
+use Rattle.theory.specs.Class.{SameClass}
+use Rattle.theory.specs.Felsch.{FelschEnds}
 use Rattle.theory.specs.Value.{SameValue, HasAtMostValues, HasMoreValues}
 use Rattle.elements.specs.Generators.{value_by}
 use Rattle.elements.specs.Fields.{decimal_or_dash}
@@ -13,8 +17,9 @@ use Rattle.elements.specs.BMat.{BooleanMatrix, boolean_product, bit_text}
 use Rattle.elements.specs.BMatLaws.{boolean_matrix_eq}
 use Rattle.elements.specs.MaxPlus.{TruncatedMatrix, truncated_product}
 use Rattle.elements.specs.MaxPlusLaws.{truncated_matrix_eq}
+use Rattle.problem.specs.declared.budgets.Budgets.{Budgets}
 use Rattle.problem.specs.declared.kinds.Problem.{Problem}
-use Rattle.problem.specs.declared.kinds.Problem.TheVariants.{Transf, PPerm, BMat, MaxPlus}
+use Rattle.problem.specs.declared.kinds.Problem.TheVariants.{Presented, Transf, PPerm, BMat, MaxPlus}
 
 -- what stands for the value of the empty word, which has none
 abbrev pub no_matrix : BooleanMatrix
@@ -23,43 +28,78 @@ no_matrix = record { dimension = 0; entries = [] }
 abbrev pub no_truncated_matrix : TruncatedMatrix
 no_truncated_matrix = record { dimension = 0; bound = 0; entries = [] }
 
+-- whether the problem is given by relations
+abbrev pub is_presented : Problem → Bool
+is_presented (Presented p) = true
+is_presented (Transf p) = false
+is_presented (PPerm p) = false
+is_presented (BMat p) = false
+is_presented (MaxPlus p) = false
+
+-- whether the empty word is an element
+abbrev pub has_empty_word : Problem → Bool
+has_empty_word (Presented p) = p.congruence.presentation.is_monoid
+has_empty_word (Transf p) = false
+has_empty_word (PPerm p) = false
+has_empty_word (BMat p) = false
+has_empty_word (MaxPlus p) = false
+
 -- the bytes of the letters
 abbrev pub letters_of : Problem → List ℕ
+letters_of (Presented p) = p.alphabet
 letters_of (Transf p) = p.letters
 letters_of (PPerm p) = p.letters
 letters_of (BMat p) = p.letters
 letters_of (MaxPlus p) = p.letters
 
--- how many generators there are
+-- how many letters there are, or generators
 abbrev pub count_of : Problem → ℕ
+count_of (Presented p) = p.congruence.presentation.letters
 count_of (Transf p) = length p.generators
 count_of (PPerm p) = length p.generators
 count_of (BMat p) = length p.generators
 count_of (MaxPlus p) = length p.generators
 
--- both words are elements, and have one value
-abbrev pub SameElement : Problem → Word → Word → Type 0
-SameElement (Transf p) = SameValue (length p.generators) (pointwise ◌==◌) (value_by composed p.generators [])
-SameElement (PPerm p) = SameValue (length p.generators) (pointwise (option_eq ◌==◌)) (value_by partially_composed p.generators [])
-SameElement (BMat p) = SameValue (length p.generators) boolean_matrix_eq (value_by boolean_product p.generators no_matrix)
-SameElement (MaxPlus p) = SameValue (length p.generators) truncated_matrix_eq (value_by truncated_product p.generators no_truncated_matrix)
+-- both words are elements, and the congruence relates them, or they have one value
+abbrev pub SameClassOf : Problem → Word → Word → Type 0
+SameClassOf (Presented p) = SameClass p.congruence
+SameClassOf (Transf p) = SameValue (length p.generators) (pointwise ◌==◌) (value_by composed p.generators [])
+SameClassOf (PPerm p) = SameValue (length p.generators) (pointwise (option_eq ◌==◌)) (value_by partially_composed p.generators [])
+SameClassOf (BMat p) = SameValue (length p.generators) boolean_matrix_eq (value_by boolean_product p.generators no_matrix)
+SameClassOf (MaxPlus p) = SameValue (length p.generators) truncated_matrix_eq (value_by truncated_product p.generators no_truncated_matrix)
 
--- the words have at most n values
-abbrev pub HasAtMost : Problem → ℕ → Type 0
-HasAtMost (Transf p) = HasAtMostValues (length p.generators) (pointwise ◌==◌) (value_by composed p.generators [])
-HasAtMost (PPerm p) = HasAtMostValues (length p.generators) (pointwise (option_eq ◌==◌)) (value_by partially_composed p.generators [])
-HasAtMost (BMat p) = HasAtMostValues (length p.generators) boolean_matrix_eq (value_by boolean_product p.generators no_matrix)
-HasAtMost (MaxPlus p) = HasAtMostValues (length p.generators) truncated_matrix_eq (value_by truncated_product p.generators no_truncated_matrix)
+-- the congruence has at most 8,192 relations and pairs together, and its pairs are two-sided or right ones
+pub record IsSolvable (c : Congruence) : Type 0 where
+  pub few : length c.presentation.relations + length c.pairs ≤ 8192
+  pub sided : (c.kind ≡ kind.TwoSided) ⊎ (c.kind ≡ kind.Right)
 
--- the words have more than n values
-abbrev pub HasMore : Problem → ℕ → Type 0
-HasMore (Transf p) = HasMoreValues (length p.generators) (pointwise ◌==◌) (value_by composed p.generators [])
-HasMore (PPerm p) = HasMoreValues (length p.generators) (pointwise (option_eq ◌==◌)) (value_by partially_composed p.generators [])
-HasMore (BMat p) = HasMoreValues (length p.generators) boolean_matrix_eq (value_by boolean_product p.generators no_matrix)
-HasMore (MaxPlus p) = HasMoreValues (length p.generators) truncated_matrix_eq (value_by truncated_product p.generators no_truncated_matrix)
+-- a problem that scripts pose
+abbrev pub IsPosable : Problem → Type 0
+IsPosable (Presented p) = IsSolvable p.congruence
+IsPosable (Transf p) = Unit {0}
+IsPosable (PPerm p) = Unit {0}
+IsPosable (BMat p) = Unit {0}
+IsPosable (MaxPlus p) = Unit {0}
 
--- the entries of a word's value, with a space between each two
+-- the problem is decided within the budgets: Felsch's strategy ends, or the words have no more values than may be
+abbrev pub IsDecided : Problem → Budgets → Type 0
+IsDecided (Presented p) b = FelschEnds (as_right p.congruence) b.defs
+IsDecided (Transf p) b = HasAtMostValues (length p.generators) (pointwise ◌==◌) (value_by composed p.generators []) b.elements
+IsDecided (PPerm p) b = HasAtMostValues (length p.generators) (pointwise (option_eq ◌==◌)) (value_by partially_composed p.generators []) b.elements
+IsDecided (BMat p) b = HasAtMostValues (length p.generators) boolean_matrix_eq (value_by boolean_product p.generators no_matrix) b.elements
+IsDecided (MaxPlus p) b = HasAtMostValues (length p.generators) truncated_matrix_eq (value_by truncated_product p.generators no_truncated_matrix) b.elements
+
+-- the problem is not decided within the budgets: Felsch's strategy does not end, or the words have more values
+abbrev pub IsUndecided : Problem → Budgets → Type 0
+IsUndecided (Presented p) b = FelschEnds (as_right p.congruence) b.defs → ⊥
+IsUndecided (Transf p) b = HasMoreValues (length p.generators) (pointwise ◌==◌) (value_by composed p.generators []) b.elements
+IsUndecided (PPerm p) b = HasMoreValues (length p.generators) (pointwise (option_eq ◌==◌)) (value_by partially_composed p.generators []) b.elements
+IsUndecided (BMat p) b = HasMoreValues (length p.generators) boolean_matrix_eq (value_by boolean_product p.generators no_matrix) b.elements
+IsUndecided (MaxPlus p) b = HasMoreValues (length p.generators) truncated_matrix_eq (value_by truncated_product p.generators no_truncated_matrix) b.elements
+
+-- the entries of a word's value, with a space between each two; words over relations have none
 abbrev pub value_text : Problem → Word → List ℕ
+value_text (Presented p) u = []
 value_text (Transf p) u = join_by decimal (codes " ") (value_by composed p.generators [] u)
 value_text (PPerm p) u = join_by decimal_or_dash (codes " ") (value_by partially_composed p.generators [] u)
 value_text (BMat p) u = let m : BooleanMatrix = value_by boolean_product p.generators no_matrix u in join_by bit_text (codes " ") m.entries

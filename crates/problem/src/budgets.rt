@@ -3,6 +3,8 @@
 /// What an engine may use up on a problem before it gives up.
 #[derive(Clone, Copy, Debug, PartialEq, Eq)]
 pub struct Budgets {
+    /// How many definitions a coset enumeration by Felsch's strategy may make.
+    pub defs: usize,
     /// How many elements the generators may have at most.
     pub elements: usize,
 }

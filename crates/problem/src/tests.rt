@@ -3,6 +3,7 @@ ghost use Rattle.std.specs.Prelude.{◌≡◌, IfOk, length};
 
 use super::*;
 use elements::{BMat, Element, Field, MaxPlusTrunc, PPerm, Transf};
+use presentation::{Congruence, Kind, Pairs, Presentation};
 use std::alloc::Global;
 use std::test::Fail;
 use words::{Alphabet, Letter, Word};
@@ -49,5 +50,22 @@ fn values_are_printed(rt: HostRuntime) -> Result<(), Fail> {
         assert_eq!(rt; problem.alphabet().len(), 1);
         assert_eq!(rt; problem.value(alloc, &word)?.as_slice(), text.as_bytes());
     }
+    Ok(())
+}
+
+#[test]
+fn presentations_are_told_apart(rt: HostRuntime) -> Result<(), Fail> {
+    let alloc = rt.alloc();
+    for monoid in [true, false] {
+        let presentation = Presentation::new(alloc, Alphabet::new(alloc, b"ab")?, monoid);
+        let congruence = Congruence::new(presentation, Kind::TwoSided, Pairs::new(alloc));
+        let problem = Problem::Presented(congruence);
+        assert_eq!(rt; problem.alphabet().len(), 2);
+        assert!(rt; problem.is_presented());
+        assert!(rt; problem.has_empty_word() == monoid);
+    }
+    let transf = Transf::read(alloc, 1, &[Field::Number(0)])?;
+    let generated = Problem::Transf(posed(alloc, transf)?);
+    assert!(rt; !generated.is_presented() && !generated.has_empty_word());
     Ok(())
 }

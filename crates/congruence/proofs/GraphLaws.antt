@@ -1,0 +1,52 @@
+-- The graph that coset enumeration ends with decides the congruence.
+use Rattle.std.proofs.Common.{◌≡◌, ℕ, List, subst, ◌⊎◌, inl, inr}
+use Rattle.theory.specs.Word.{Word}
+use Rattle.theory.specs.Congruence.{Presentation, Congruence, IsWellFormed, IsRightSided, as_right}
+use Rattle.theory.specs.declared.Kind.{Kind}
+use Rattle.theory.specs.declared.Kind.TheVariants.{TwoSided, Right, Left}
+use Rattle.theory.specs.Facts.{AllDefined}
+use Rattle.theory.specs.Graph.{Graph, SameEnd, Shows, IsGraph}
+use Rattle.theory.proofs.FelschLaws.{felsch_related}
+use Rattle.theory.proofs.KindLaws.{as_right_related, as_right_sided, as_right_well_formed}
+use Rattle.word_graph.specs.Standard.{IsStandardGraph}
+use Rattle.tc_felsch.specs.Stage.{IsAtStage}
+use Rattle.congruence.specs.Solution.{IsGraphOf}
+
+-- the graph of the last stage
+stage_graph : (c : Congruence) (made : ℕ) (g h : Graph) → IsWellFormed c → IsRightSided c → IsStandardGraph c.presentation.letters g
+    → Shows g (SameEnd h) → IsAtStage c made g → IsGraph c.presentation.letters g → AllDefined c.presentation.letters (SameEnd g) → IsGraphOf c g
+stage_graph c made g h well sided standard shows at graph all = record {
+  graph = graph;
+  reached = shows.reached;
+  standard = standard;
+  decides = λ u v over.
+      let facts = felsch_related c at.words well sided (λ w o. (at.shows w w).0 (all w o)) u v over in
+      (λ r. (at.shows u v).1 (facts.1 r), λ e. facts.0 ((at.shows u v).0 e));
+}
+
+-- so the graph of an enumeration that ended decides the right congruence that stands for c
+pub enumerated_graph : (c d : Congruence) (made : ℕ) (g h : Graph) → IsWellFormed c → d ≡ as_right c → IsStandardGraph d.presentation.letters g
+    → Shows g (SameEnd h) → IsAtStage d made g → IsGraph d.presentation.letters g → AllDefined d.presentation.letters (SameEnd g)
+    → IsGraphOf (as_right c) g
+enumerated_graph c d made g h well same standard shows at graph all =
+    subst (λ (e : Congruence). IsWellFormed e → IsRightSided e → IsGraphOf e g) same
+    (λ w s. stage_graph d made g h w s standard shows at graph all) (as_right_well_formed c well) (as_right_sided c)
+
+-- which relates the same words, where the pairs are no left pairs
+pub same_graph : (c : Congruence) (g : Graph) → (c.kind ≡ TwoSided) ⊎ (c.kind ≡ Right) → IsGraphOf (as_right c) g → IsGraphOf c g
+same_graph c g sided is = go c.presentation c.kind c.pairs sided is
+  where
+    go : (p : Presentation) (kind : Kind) (pairs : List (Word × Word)) → (kind ≡ TwoSided) ⊎ (kind ≡ Right)
+        → IsGraphOf (as_right (record { presentation = p; kind = kind; pairs = pairs })) g
+        → IsGraphOf (record { presentation = p; kind = kind; pairs = pairs }) g
+    go p TwoSided pairs sided is = record {
+      graph = is.graph;
+      reached = is.reached;
+      standard = is.standard;
+      decides = λ u v over.
+          let same = as_right_related (record { presentation = p; kind = TwoSided; pairs = pairs }) u v in
+          (λ r. (is.decides u v over).0 (same.0 r), λ e. same.1 ((is.decides u v over).1 e));
+    }
+    go p Right pairs sided is = is
+    go p Left pairs (inl e) is = cc
+    go p Left pairs (inr e) is = cc

@@ -1,0 +1,5 @@
+pub mod OrderedWords
+pub mod SolutionLaws
+pub mod AnswerLaws
+pub mod PlaceLaws
+pub mod GraphLaws
