@@ -1,44 +1,35 @@
 -- Query lines.
-use Rattle.std.proofs.Common.{◌≡◌, ◌≢◌, ℕ, ◌-◌, ◌<◌, ◌≤◌, ◌⊎◌, inl, inr, Bool, false, if◌then◌else◌, List, [], ◌∷◌, length, take, drop, Err, Bor, get_or, codes, refl, sym, ap, ◌∙◌, arith}
+use Rattle.std.proofs.Common.{◌≡◌, ◌≢◌, ℕ, ◌-◌, ◌<◌, ◌≤◌, ◌⊎◌, inl, inr, Bool, false, if◌then◌else◌, List, [], ◌∷◌, length, take, drop, Some, Ok, Err, Bor, get_or, codes, refl, sym, ap, ◌∙◌, arith}
 use Rattle.std.proofs.lemmas.List.{take_all}
+use Rattle.query_lang.specs.declared.cause.Cause.{Cause}
 use Rattle.query_lang.specs.declared.cause.Cause.TheVariants.{WrongNumberOfWords}
-use Rattle.query_lang.specs.declared.fault.LineFault.{LineFault}
-use Rattle.query_lang.specs.Faults.{IsLineFault}
+use Rattle.query_lang.specs.declared.script.Query.TheVariants.{Classes}
+use Rattle.query_lang.specs.Outcome.{and_then}
 use Rattle.query_lang.specs.Texts.{texts}
 use Rattle.query_lang.specs.Token.{is_word}
 use Rattle.query_lang.specs.declared.reader.Reader.{Reader}
-use Rattle.query_lang.specs.Script.{generator_line, query_line, with_line}
-use Rattle.query_lang.specs.QueryLines.{element_of, one_word, two_words, page_of}
-use Rattle.query_lang.proofs.KindLemmas.{refused_then}
+use Rattle.query_lang.specs.Script.{generator_line, query_line, element_line}
+use Rattle.query_lang.specs.QueryLines.{count_of, cursor_of, page_of}
 
-pub not_one_word : (letters : List ℕ) (tokens : List (Bor (List ℕ))) → length tokens ≢ 1 → one_word letters (texts tokens) ≡ Err WrongNumberOfWords
-not_one_word letters [] h = refl
-not_one_word letters (s ∷ []) h = absurd (h refl)
-not_one_word letters (s ∷ t ∷ ts) h = refl
+pub no_page : (letters : List ℕ) (allow_empty : Bool) (tokens : List (Bor (List ℕ))) → length tokens ≢ 1 → length tokens ≢ 3 → page_of letters allow_empty (texts tokens) ≡ Err WrongNumberOfWords
+no_page letters allow_empty [] h k = refl
+no_page letters allow_empty (s ∷ []) h k = absurd (h refl)
+no_page letters allow_empty (s ∷ t ∷ []) h k = refl
+no_page letters allow_empty (s ∷ t ∷ u ∷ []) h k = absurd (k refl)
+no_page letters allow_empty (s ∷ t ∷ u ∷ v ∷ ts) h k = refl
 
-pub not_two_words : (letters : List ℕ) (tokens : List (Bor (List ℕ))) → length tokens ≢ 2 → two_words letters (texts tokens) ≡ Err WrongNumberOfWords
-not_two_words letters [] h = refl
-not_two_words letters (s ∷ []) h = refl
-not_two_words letters (s ∷ t ∷ []) h = absurd (h refl)
-not_two_words letters (s ∷ t ∷ u ∷ ts) h = refl
-
-pub no_page : (letters : List ℕ) (tokens : List (Bor (List ℕ))) → length tokens ≢ 1 → length tokens ≢ 3 → page_of letters (texts tokens) ≡ Err WrongNumberOfWords
-no_page letters [] h k = refl
-no_page letters (s ∷ []) h k = absurd (h refl)
-no_page letters (s ∷ t ∷ []) h k = refl
-no_page letters (s ∷ t ∷ u ∷ []) h k = absurd (k refl)
-no_page letters (s ∷ t ∷ u ∷ v ∷ ts) h k = refl
-
--- the first of two words is refused
-pub first_refused : (letters : List ℕ) (tokens : List (Bor (List ℕ))) (none : Bor (List ℕ)) (fault : LineFault) → length tokens ≡ 2 → IsLineFault (element_of letters (get_or tokens 0 none).now) fault → IsLineFault (two_words letters (texts tokens)) fault
-first_refused letters [] none fault n h = absurd (omega arith)
-first_refused letters (s ∷ []) none fault n h = absurd (omega arith)
-first_refused letters (s ∷ t ∷ []) none fault n h = refused_then _ (element_of letters s.now) fault h
-first_refused letters (s ∷ t ∷ u ∷ ts) none fault n h = absurd (omega arith)
+-- a page whose number is refused
+pub count_refused : (letters : List ℕ) (allow_empty : Bool) (tokens : List (Bor (List ℕ))) (none : Bor (List ℕ)) (cause : Cause) → length tokens ≡ 3 → count_of (get_or tokens 0 none).now ≡ Err cause → page_of letters allow_empty (texts tokens) ≡ Err cause
+count_refused letters allow_empty [] none cause n h = absurd (omega arith)
+count_refused letters allow_empty (s ∷ []) none cause n h = absurd (omega arith)
+count_refused letters allow_empty (s ∷ t ∷ []) none cause n h = absurd (omega arith)
+count_refused letters allow_empty (s ∷ t ∷ u ∷ []) none cause n h =
+    ap (and_then (λ m. and_then (λ w. Ok (Classes m (Some w))) (cursor_of letters allow_empty t.now u.now))) h
+count_refused letters allow_empty (s ∷ t ∷ u ∷ v ∷ ts) none cause n h = absurd (omega arith)
 
 -- a line that is no generator line
 pub is_query_line : (r : Reader) (line : List (Bor (List ℕ))) (none : Bor (List ℕ)) → 1 ≤ length line → (length line < 2) ⊎ (is_word (codes "=") (get_or line 1 none).now ≡ false)
-    → query_line r (get_or line 0 none).now (texts (take (length line - 1) (drop 1 line))) ≡ with_line r (texts line)
+    → query_line r (get_or line 0 none).now (texts (take (length line - 1) (drop 1 line))) ≡ element_line r (texts line)
 is_query_line r [] none h which = absurd (omega arith)
 is_query_line r (s ∷ []) none h which = refl
 is_query_line r (s ∷ t ∷ ts) none h (inl short) = absurd (omega arith)

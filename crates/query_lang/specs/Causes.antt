@@ -1,7 +1,7 @@
 -- The numbers and the texts of the causes of refusal.
 use Rattle.std.specs.Prelude.{ℕ, List, [], codes, ◌==◌, if◌then◌else◌}
 use Rattle.query_lang.specs.declared.cause.Cause.{Cause}
-use Rattle.query_lang.specs.declared.cause.Cause.TheVariants.{HeaderMissing, UnknownHeader, WrongNumberOfWords, BadNumber, NotALetter, RepeatedLetter, UnknownLine, LineOutOfOrder, NoGenerator, WrongNumberOfEntries, BadEntry, NotInjective, NotInAlphabet, WordTooLong, EmptyWord, AfterExpected}
+use Rattle.query_lang.specs.declared.cause.Cause.TheVariants.{HeaderMissing, UnknownHeader, WrongNumberOfWords, BadNumber, NotALetter, RepeatedLetter, UnknownLine, LineOutOfOrder, NoGenerator, WrongNumberOfEntries, BadEntry, NotInjective, NotInAlphabet, WordTooLong, EmptyWord, TooManyRelations, TooManyPairs, MixedKinds, AfterExpected}
 
 abbrev pub number_of_cause : Cause → ℕ
 number_of_cause HeaderMissing = 1
@@ -19,6 +19,9 @@ number_of_cause NotInjective = 12
 number_of_cause NotInAlphabet = 13
 number_of_cause WordTooLong = 14
 number_of_cause EmptyWord = 15
+number_of_cause TooManyRelations = 16
+number_of_cause TooManyPairs = 17
+number_of_cause MixedKinds = 18
 number_of_cause AfterExpected = 21
 
 -- the text of the cause of this number
@@ -39,5 +42,8 @@ cause_text n =
     else if n == 13 then codes "letter not in alphabet"
     else if n == 14 then codes "word too long"
     else if n == 15 then codes "empty word not allowed"
+    else if n == 16 then codes "too many relations"
+    else if n == 17 then codes "too many pairs"
+    else if n == 18 then codes "mixed kinds of pairs"
     else if n == 21 then codes "after expected"
     else []

@@ -2,10 +2,12 @@
 use Rattle.std.specs.Prelude.{◌≡◌, ℕ, Result, Err}
 use Rattle.elements.specs.declared.field.ElementFault.{ElementFault}
 use Rattle.elements.specs.declared.field.ElementFault.TheVariants as element
+use Rattle.words.specs.declared.fault.AlphabetFault.{AlphabetFault}
+use Rattle.words.specs.declared.fault.AlphabetFault.TheVariants as alphabet
 use Rattle.words.specs.declared.fault.WordFault.{WordFault}
 use Rattle.words.specs.declared.fault.WordFault.TheVariants as word
 use Rattle.query_lang.specs.declared.cause.Cause.{Cause}
-use Rattle.query_lang.specs.declared.cause.Cause.TheVariants.{WrongNumberOfEntries, BadEntry, NotInjective, NotInAlphabet, WordTooLong, EmptyWord}
+use Rattle.query_lang.specs.declared.cause.Cause.TheVariants.{NotALetter, RepeatedLetter, WrongNumberOfEntries, BadEntry, NotInjective, NotInAlphabet, WordTooLong, EmptyWord}
 use Rattle.query_lang.specs.declared.fault.LineFault.{LineFault}
 use Rattle.query_lang.specs.declared.fault.LineFault.TheVariants as line
 use Rattle.query_lang.specs.declared.fault.ScriptFault.{ScriptFault}
@@ -23,6 +25,13 @@ fault_of_element element.BadCount = line.Refused WrongNumberOfEntries
 fault_of_element (element.BadEntry place) = line.Refused BadEntry
 fault_of_element (element.NotInjective place) = line.Refused NotInjective
 fault_of_element element.NoMemory = line.NoMemory
+
+-- the fault of a line with letters that are refused
+abbrev pub fault_of_alphabet : AlphabetFault → LineFault
+fault_of_alphabet alphabet.Empty = line.Refused NotALetter
+fault_of_alphabet (alphabet.NotALetter place) = line.Refused NotALetter
+fault_of_alphabet (alphabet.Repeated place) = line.Refused RepeatedLetter
+fault_of_alphabet alphabet.NoMemory = line.NoMemory
 
 -- the fault of a line with a word that is refused
 abbrev pub fault_of_word : WordFault → LineFault

@@ -1,6 +1,7 @@
 -- The header of a script.
-use Rattle.std.specs.Prelude.{ℕ, List, [], ◌∷◌, codes, if◌then◌else◌, Result, Ok, Err}
+use Rattle.std.specs.Prelude.{ℕ, Bool, List, [], ◌∷◌, codes, if◌then◌else◌, Result, Ok, Err}
 use Rattle.std.specs.Option.{ok_or}
+use Rattle.presentation.specs.Presented.{Posed}
 use Rattle.query_lang.specs.declared.cause.Cause.{Cause}
 use Rattle.query_lang.specs.declared.cause.Cause.TheVariants.{UnknownHeader, WrongNumberOfWords, BadNumber}
 use Rattle.query_lang.specs.declared.draft.Draft.{Draft}
@@ -8,6 +9,8 @@ use Rattle.query_lang.specs.declared.draft.Draft.TheVariants.{Transf, PPerm, BMa
 use Rattle.query_lang.specs.Outcome.{and_then}
 use Rattle.query_lang.specs.Token.{Token, Line, is_word, number_within}
 use Rattle.query_lang.specs.Draft.{start_of}
+use Rattle.query_lang.specs.LineWords.{one_token}
+use Rattle.query_lang.specs.Outline.{alphabet_of, free_over}
 
 -- one number, from 1 to the greatest one
 abbrev pub size_of : ℕ → List Token → Result ℕ Cause
@@ -19,6 +22,10 @@ abbrev pub sizes_of : List Token → Result (ℕ × ℕ) Cause
 sizes_of (dimension ∷ bound ∷ []) =
     and_then (λ d. and_then (λ t. Ok (d, t)) (ok_or (number_within 0 65535 bound) BadNumber)) (ok_or (number_within 1 16 dimension) BadNumber)
 sizes_of tokens = Err WrongNumberOfWords
+
+-- the letters of a monoid or a semigroup
+abbrev pub outline_of : Bool → List Token → Result Posed Cause
+outline_of is_monoid tokens = and_then (λ letters. Ok (free_over is_monoid letters)) (and_then alphabet_of (one_token tokens))
 
 -- `trans D`, `pperm D`, `bmat D` or `mpt D T`
 abbrev pub header_of : Line → Result Draft Cause

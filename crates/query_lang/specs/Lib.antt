@@ -7,6 +7,8 @@ pub mod Faults
 pub mod Entries
 pub mod Draft
 pub mod Generators
+pub mod LineWords
+pub mod Outline
 pub mod Header
 pub mod Query
 pub mod QueryLines

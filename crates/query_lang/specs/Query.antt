@@ -1,22 +1,33 @@
 -- Queries, and the words in them.
-use Rattle.std.specs.Prelude.{ℕ, false, length, Some, None}
+use Rattle.std.specs.Prelude.{◌≡◌, ℕ, Bool, true, false, length, Some, None}
 use Rattle.theory.specs.Word.{IsElement}
 use Rattle.problem.specs.declared.kinds.Problem.{Problem}
-use Rattle.problem.specs.Problem.{letters_of}
+use Rattle.problem.specs.Problem.{has_empty_word, is_presented, letters_of}
 use Rattle.query_lang.specs.declared.script.Query.{Query}
 use Rattle.query_lang.specs.declared.script.Query.TheVariants.{Index, Equal, Normal, Classes, RuleList, ElementOf, Cayley}
 
--- each word of the query is a non-empty one over k letters
-abbrev pub IsQueryOver : ℕ → Query → Type 0
-IsQueryOver k Index = Unit {0}
-IsQueryOver k (Equal u v) = IsElement false k u × IsElement false k v
-IsQueryOver k (Normal u) = IsElement false k u
-IsQueryOver k (Classes count None) = Unit {0}
-IsQueryOver k (Classes count (Some u)) = IsElement false k u
-IsQueryOver k RuleList = Unit {0}
-IsQueryOver k (ElementOf u) = IsElement false k u
-IsQueryOver k Cayley = Unit {0}
+-- each word of the query is an element over k letters
+abbrev pub IsQueryOver : Bool → ℕ → Query → Type 0
+IsQueryOver empty k Index = Unit {0}
+IsQueryOver empty k (Equal u v) = IsElement empty k u × IsElement empty k v
+IsQueryOver empty k (Normal u) = IsElement empty k u
+IsQueryOver empty k (Classes count None) = Unit {0}
+IsQueryOver empty k (Classes count (Some u)) = IsElement empty k u
+IsQueryOver empty k RuleList = Unit {0}
+IsQueryOver empty k (ElementOf u) = IsElement empty k u
+IsQueryOver empty k Cayley = Unit {0}
 
--- each word of the query is an element over the problem's letters
-abbrev pub IsQueryOf : Problem → Query → Type 0
-IsQueryOf problem = IsQueryOver (length (letters_of problem))
+-- whether the query is there only where generators are given
+abbrev pub needs_generators : Query → Bool
+needs_generators Index = false
+needs_generators (Equal u v) = false
+needs_generators (Normal u) = false
+needs_generators (Classes count after) = false
+needs_generators RuleList = true
+needs_generators (ElementOf u) = true
+needs_generators Cayley = true
+
+-- the query is one of this problem: it is there for it, and each of its words is an element
+pub record IsQueryOf (p : Problem) (query : Query) : Type 0 where
+  pub there : is_presented p ≡ true → needs_generators query ≡ false
+  pub over : IsQueryOver (has_empty_word p) (length (letters_of p)) query

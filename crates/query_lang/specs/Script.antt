@@ -1,49 +1,99 @@
 -- Scripts: what each line gives after the lines before it, or its cause of refusal.
 pub use Rattle.query_lang.specs.Asked.{ScriptOf}
-use Rattle.std.specs.Prelude.{ℕ, suc, List, [], ◌∷◌, ◌++◌, length, map, codes, if◌then◌else◌, Option, Some, None, Result, Ok, Err}
+use Rattle.std.specs.Prelude.{ℕ, suc, Bool, true, false, ◌&&◌, List, [], ◌∷◌, ◌++◌, length, map, codes, if◌then◌else◌, Option, Some, None, Result, Ok, Err}
 use Rattle.std.specs.Option.{ok_or}
-use Rattle.problem.specs.Problem.{letters_of}
+use Rattle.theory.specs.declared.Kind.{Kind}
+use Rattle.theory.specs.declared.Kind.TheVariants.{TwoSided, Right}
+use Rattle.presentation.specs.Presented.{Posed}
+use Rattle.problem.specs.declared.kinds.Problem.TheVariants.{Presented}
+use Rattle.problem.specs.Problem.{has_empty_word, is_presented, letters_of}
 use Rattle.query_lang.specs.declared.cause.Cause.{Cause}
-use Rattle.query_lang.specs.declared.cause.Cause.TheVariants.{HeaderMissing, UnknownLine, LineOutOfOrder}
+use Rattle.query_lang.specs.declared.cause.Cause.TheVariants.{HeaderMissing, UnknownHeader, UnknownLine, LineOutOfOrder}
 use Rattle.query_lang.specs.declared.query_line.QueryName.{QueryName}
 use Rattle.query_lang.specs.declared.reader.Reader.{Reader}
-use Rattle.query_lang.specs.declared.reader.Reader.TheVariants.{Posing, Asking}
+use Rattle.query_lang.specs.declared.reader.Reader.TheVariants.{Posing, Relating, Asking}
 use Rattle.query_lang.specs.Outcome.{and_then}
 use Rattle.query_lang.specs.Token.{Token, Line, tokens_of, is_kept, cut_lines, is_word}
 use Rattle.query_lang.specs.Fields.{field_of}
 use Rattle.query_lang.specs.Generators.{draft_with, problem_of}
-use Rattle.query_lang.specs.Header.{header_of}
-use Rattle.query_lang.specs.QueryLines.{query_name_of, query_of}
+use Rattle.query_lang.specs.Header.{header_of, outline_of}
+use Rattle.query_lang.specs.Outline.{with_pair, with_relation}
+use Rattle.query_lang.specs.QueryLines.{name_needs_generators, query_name_of, query_of}
 
--- one query more
+-- one query more; one that needs generators is unknown in a presentation
 abbrev pub asked : ScriptOf → QueryName → List Token → Result ScriptOf Cause
-asked s name tokens = and_then (λ q. Ok (record s { queries = s.queries ++ q ∷ [] })) (query_of (letters_of s.problem) name tokens)
+asked s name tokens =
+    if is_presented s.problem && name_needs_generators name then Err UnknownLine
+    else and_then (λ q. Ok (record s { queries = s.queries ++ q ∷ [] })) (query_of (letters_of s.problem) (has_empty_word s.problem) name tokens)
 
--- the script so far, which has a generator
+-- whether the script is a presentation
+abbrev pub is_presentation : Reader → Bool
+is_presentation (Posing draft) = false
+is_presentation (Relating outline) = true
+is_presentation (Asking script) = is_presented script.problem
+
+-- the script so far: a presentation, or what has a generator
 abbrev pub finished : Reader → Result ScriptOf Cause
 finished (Posing draft) = and_then (λ p. Ok (record { problem = p; queries = [] })) (problem_of draft)
+finished (Relating outline) = Ok (record { problem = Presented outline; queries = [] })
 finished (Asking script) = Ok script
 
 -- the generator line `x = ENTRIES`, which may stand before the queries
 abbrev pub generator_line : Reader → Token → List Token → Result Reader Cause
 generator_line (Posing draft) name entries = and_then (λ d. Ok (Posing d)) (draft_with draft name (map field_of entries))
+generator_line (Relating outline) name entries = Err UnknownLine
 generator_line (Asking script) name entries = Err LineOutOfOrder
 
--- a query, which may stand after the generators
+-- the relations and the pairs so far, which stand before the queries
+abbrev pub outline_so_far : Reader → Result Posed Cause
+outline_so_far (Posing draft) = Err UnknownLine
+outline_so_far (Relating outline) = Ok outline
+outline_so_far (Asking script) = Err LineOutOfOrder
+
+-- the relation `rel U V`
+abbrev pub relation_line : Reader → List Token → Result Reader Cause
+relation_line r tokens = and_then (λ outline. and_then (λ o. Ok (Relating o)) (with_relation outline tokens)) (outline_so_far r)
+
+-- the pair `twosided U V` or `right U V`
+abbrev pub pair_line : Reader → Kind → List Token → Result Reader Cause
+pair_line r kind tokens = and_then (λ outline. and_then (λ o. Ok (Relating o)) (with_pair outline kind tokens)) (outline_so_far r)
+
+-- a query, which may stand after the generators, or after the relations and the pairs
 abbrev pub query_line : Reader → Token → List Token → Result Reader Cause
 query_line r first tokens =
     and_then (λ name. and_then (λ script. and_then (λ s. Ok (Asking s)) (asked script name tokens)) (finished r)) (ok_or (query_name_of first) UnknownLine)
 
--- a line after the header; the second token of a generator line is `=`
-abbrev pub with_line : Reader → Line → Result Reader Cause
-with_line r [] = Err UnknownLine
-with_line r (first ∷ []) = query_line r first []
-with_line r (first ∷ second ∷ tokens) =
+-- a line after the header of a presentation
+abbrev pub presentation_line : Reader → Line → Result Reader Cause
+presentation_line r [] = Err UnknownLine
+presentation_line r (first ∷ tokens) =
+    if is_word (codes "rel") first then relation_line r tokens
+    else if is_word (codes "twosided") first then pair_line r TwoSided tokens
+    else if is_word (codes "right") first then pair_line r Right tokens
+    else query_line r first tokens
+
+-- a line after the header of generators; the second token of a generator line is `=`
+abbrev pub element_line : Reader → Line → Result Reader Cause
+element_line r [] = Err UnknownLine
+element_line r (first ∷ []) = query_line r first []
+element_line r (first ∷ second ∷ tokens) =
     if is_word (codes "=") second then generator_line r first tokens else query_line r first (second ∷ tokens)
+
+-- a line after the header
+abbrev pub with_line : Reader → Line → Result Reader Cause
+with_line r line = if is_presentation r then presentation_line r line else element_line r line
+
+-- `monoid LETTERS`, `semigroup LETTERS`, or a header of generators
+abbrev pub header_line : Line → Result Reader Cause
+header_line [] = Err UnknownHeader
+header_line (name ∷ tokens) =
+    if is_word (codes "monoid") name then and_then (λ o. Ok (Relating o)) (outline_of true tokens)
+    else if is_word (codes "semigroup") name then and_then (λ o. Ok (Relating o)) (outline_of false tokens)
+    else and_then (λ d. Ok (Posing d)) (header_of (name ∷ tokens))
 
 -- a line that is not skipped, after what the lines before it gave: nothing, before the header
 abbrev pub read_line : Option Reader → Line → Result Reader Cause
-read_line None line = and_then (λ d. Ok (Posing d)) (header_of line)
+read_line None line = header_line line
 read_line (Some r) line = with_line r line
 
 -- a line, which may be skipped
@@ -60,7 +110,7 @@ abbrev pub read_lines : ℕ → Option Reader → List (List ℕ) → Result (Op
 read_lines n s [] = Ok s
 read_lines n s (bytes ∷ lines) = and_then (λ t. read_lines (suc n) t lines) (at_line n (take_line s bytes))
 
--- a script has a header and a generator
+-- a script has a header, and a generator where it is no presentation
 abbrev pub whole_of : Option Reader → Result ScriptOf Cause
 whole_of None = Err HeaderMissing
 whole_of (Some r) = finished r

@@ -13,15 +13,16 @@ pub enum Cause {
     WrongNumberOfWords = 3,
     /// A token in a number's place is no number, or out of range.
     BadNumber = 4,
-    /// A generator's name is no letter.
+    /// A generator's name, or a byte in the place of the header's letters, is no letter.
     NotALetter = 5,
-    /// A generator's name came before.
+    /// A generator's name, or a letter of the header, came before.
     RepeatedLetter = 6,
-    /// The line is no generator line, and its first token no query's name.
+    /// The line is of no form that the script's kind has: its first token is no name of such a
+    /// line, and it is no generator line.
     UnknownLine = 7,
-    /// A generator stands after a query.
+    /// A generator, a relation or a pair stands after a query, or a relation after a pair.
     LineOutOfOrder = 8,
-    /// A query stands before any generator, or the script ends without one.
+    /// In a script of generators a query stands before any, or the script ends without one.
     NoGenerator = 9,
     /// A generator has not as many entries as it should.
     WrongNumberOfEntries = 10,
@@ -33,8 +34,14 @@ pub enum Cause {
     NotInAlphabet = 13,
     /// A word has too many letters.
     WordTooLong = 14,
-    /// A word is empty.
+    /// A word is empty, and the script poses no monoid.
     EmptyWord = 15,
+    /// There are 4,096 relations before this one.
+    TooManyRelations = 16,
+    /// There are 4,096 pairs before this one.
+    TooManyPairs = 17,
+    /// A pair is of another kind than the first one.
+    MixedKinds = 18,
     /// The token in the place of `after` is another.
     AfterExpected = 21,
 }
@@ -68,6 +75,9 @@ pub fn cause_text(number: u8) -> &'static [u8]
         13 => b"letter not in alphabet",
         14 => b"word too long",
         15 => b"empty word not allowed",
+        16 => b"too many relations",
+        17 => b"too many pairs",
+        18 => b"mixed kinds of pairs",
         21 => b"after expected",
         _ => b"",
     }

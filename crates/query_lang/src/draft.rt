@@ -1,5 +1,6 @@
 // Generators that lines give, one after another.
 ghost use Rattle.std.specs.Prelude.{◌≡◌, ℕ, IfOk, IfErr, Ok, map};
+ghost use Rattle.problem.specs.Problem.{IsPosable};
 ghost use Rattle.query_lang.specs.Draft.{new_letter_of, posed_of, start_of, with_generator};
 ghost use Rattle.query_lang.specs.Faults.{IsLineFault};
 ghost use Rattle.query_lang.specs.Fields.{field_of};
@@ -140,6 +141,7 @@ impl Draft {
     /// What the generators pose. Refused where there is none, or for want of memory.
     pub fn problem(self, alloc: Global) -> Result<Problem, LineFault>
         ensures ok { IfOk result (λ problem. problem_of self ≡ Ok problem) }
+        ensures posable { IfOk result IsPosable }
         ensures err { IfErr result (IsLineFault (problem_of self)) }
     {
         match self {

@@ -1,13 +1,14 @@
 // Why a script is refused.
 ghost use Rattle.std.specs.Prelude.{◌≡◌};
-ghost use Rattle.query_lang.specs.Faults.{fault_at_line, fault_of_element, fault_of_word};
+ghost use Rattle.query_lang.specs.Faults.{fault_at_line, fault_of_alphabet, fault_of_element, fault_of_word};
 ghost use Rattle.query_lang.specs.declared.fault.LineFault.TheVariants as line;
 
 use crate::cause::Cause;
 use elements::ElementFault;
+use ports::NoMemory;
 use std::alloc::{AllocError, AllocFailed};
 use thiserror::Error;
-use words::WordFault;
+use words::{AlphabetFault, WordFault};
 
 /// Why bytes make no script.
 #[derive(Clone, Copy, Debug, PartialEq, Eq, Error)]
@@ -52,6 +53,19 @@ impl From<ElementFault> for LineFault {
     }
 }
 
+impl From<AlphabetFault> for LineFault {
+    ghost from_gives = { λ fault e. e ≡ fault_of_alphabet fault };
+
+    fn from(fault: AlphabetFault) -> LineFault {
+        match fault {
+            AlphabetFault::Empty => LineFault::Refused(Cause::NotALetter),
+            AlphabetFault::NotALetter(_) => LineFault::Refused(Cause::NotALetter),
+            AlphabetFault::Repeated(_) => LineFault::Refused(Cause::RepeatedLetter),
+            AlphabetFault::NoMemory => LineFault::NoMemory,
+        }
+    }
+}
+
 impl From<WordFault> for LineFault {
     ghost from_gives = { λ fault e. e ≡ fault_of_word fault };
 
@@ -62,6 +76,14 @@ impl From<WordFault> for LineFault {
             WordFault::TooLong => LineFault::Refused(Cause::WordTooLong),
             WordFault::NoMemory => LineFault::NoMemory,
         }
+    }
+}
+
+impl From<NoMemory> for LineFault {
+    ghost from_gives = { λ _ e. e ≡ line.NoMemory };
+
+    fn from(_error: NoMemory) -> LineFault {
+        LineFault::NoMemory
     }
 }
 

@@ -1,12 +1,17 @@
 // The header of a script.
-ghost use Rattle.std.specs.Prelude.{◌≡◌};
-ghost use Rattle.query_lang.specs.Header.{header_of, size_of, sizes_of};
+ghost use Rattle.std.specs.Prelude.{◌≡◌, IfOk, IfErr, Ok};
+ghost use Rattle.query_lang.specs.Faults.{IsLineFault};
+ghost use Rattle.query_lang.specs.Header.{header_of, outline_of, size_of, sizes_of};
 ghost use Rattle.query_lang.specs.Texts.{texts};
 
 use crate::cause::Cause;
 use crate::draft::{Draft, Listed};
+use crate::fault::LineFault;
+use crate::line_words::one_token;
+use crate::outline::Outline;
 use crate::tokens::{is_word, number_within};
 use std::alloc::Global;
+use words::Alphabet;
 
 // The degree or the dimension of a header, by the tokens behind its name.
 fn size_of(greatest: u32, tokens: &[&[u8]]) -> Result<u32, Cause>
@@ -32,7 +37,18 @@ fn sizes_of(tokens: &[&[u8]]) -> Result<(u32, u32), Cause>
     }
 }
 
-/// What the header gives: no generator yet.
+/// What the header of a monoid or a semigroup gives, by the tokens behind its name: no relation
+/// yet. Refused for their cause, or for want of memory.
+pub fn outline_of(alloc: Global, monoid: bool, tokens: &[&[u8]]) -> Result<Outline, LineFault>
+    ensures ok { IfOk result (λ outline. outline_of monoid (texts tokens.now) ≡ Ok outline) }
+    ensures err { IfErr result (IsLineFault (outline_of monoid (texts tokens.now))) }
+{
+    let letters = one_token(tokens)?;
+    let alphabet = Alphabet::new(alloc, letters)?;
+    Ok(Outline::new(alloc, alphabet, monoid))
+}
+
+/// What the header of generators gives: no generator yet.
 pub fn header_of(alloc: Global, header: &[&[u8]]) -> Result<Draft, Cause>
     ensures { result ≡ header_of (texts header.now) }
 {

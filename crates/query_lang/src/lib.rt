@@ -1,5 +1,6 @@
 //! The script language: what the bytes of a script pose and ask, or its first fault with the line and
-//! the cause.
+//! the cause. A script poses a congruence on a monoid or a semigroup that is given by relations, or a
+//! semigroup by generators of one kind.
 #![tactic(auto)]
 
 mod cause;
@@ -7,6 +8,8 @@ mod draft;
 mod fault;
 mod generator;
 mod header;
+mod line_words;
+mod outline;
 mod query_line;
 mod reader;
 mod script;

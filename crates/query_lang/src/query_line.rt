@@ -2,12 +2,13 @@
 ghost use Rattle.std.specs.Prelude.{◌≡◌, false, IfOk, IfErr, Ok, length};
 ghost use Rattle.theory.specs.Word.{IsElement};
 ghost use Rattle.query_lang.specs.Faults.{IsLineFault};
-ghost use Rattle.query_lang.specs.Query.{IsQueryOver};
-ghost use Rattle.query_lang.specs.QueryLines.{bare, count_of, cursor_of, element_of, one_word, page_of, query_name_of, query_of, two_words};
+ghost use Rattle.query_lang.specs.Query.{IsQueryOver, needs_generators};
+ghost use Rattle.query_lang.specs.QueryLines.{bare, count_of, cursor_of, name_needs_generators, page_of, query_name_of, query_of};
 ghost use Rattle.query_lang.specs.Texts.{texts};
 
 use crate::cause::Cause;
 use crate::fault::LineFault;
+use crate::line_words::{element_of, one_word, two_words};
 use crate::script::Query;
 use crate::tokens::{is_word, number_within};
 use std::alloc::Global;
@@ -32,6 +33,18 @@ pub enum QueryName {
     Cayley,
 }
 
+impl QueryName {
+    /// Whether a query of this name is there only where generators are given.
+    pub fn needs_generators(self) -> bool
+        ensures { result ≡ name_needs_generators self }
+    {
+        match self {
+            QueryName::Index | QueryName::Equal | QueryName::Normal | QueryName::Classes => false,
+            QueryName::Rules | QueryName::Element | QueryName::Cayley => true,
+        }
+    }
+}
+
 /// The query that a line's first token names.
 pub fn query_name_of(first: &[u8]) -> Option<QueryName>
     ensures { result ≡ query_name_of first.now }
@@ -48,15 +61,6 @@ pub fn query_name_of(first: &[u8]) -> Option<QueryName>
     }
 }
 
-// A word over the alphabet, which is not empty.
-fn element_of(alloc: Global, alphabet: &Alphabet, token: &[u8]) -> Result<Word, LineFault>
-    ensures ok { IfOk result (λ word. element_of alphabet.now token.now ≡ Ok word) }
-    ensures element { IfOk result (IsElement false (length alphabet.now)) }
-    ensures err { IfErr result (IsLineFault (element_of alphabet.now token.now)) }
-{
-    Ok(alphabet.read_word(alloc, token, false)?)
-}
-
 // The query, which has no words.
 fn bare(query: Query, tokens: &[&[u8]]) -> Result<Query, Cause>
     ensures { result ≡ bare query (texts tokens.now) }
@@ -64,37 +68,6 @@ fn bare(query: Query, tokens: &[&[u8]]) -> Result<Query, Cause>
     match tokens {
         [] => Ok(query),
         _ => Err(Cause::WrongNumberOfWords),
-    }
-}
-
-fn one_word(alloc: Global, alphabet: &Alphabet, tokens: &[&[u8]]) -> Result<Word, LineFault>
-    ensures ok { IfOk result (λ word. one_word alphabet.now (texts tokens.now) ≡ Ok word) }
-    ensures element { IfOk result (IsElement false (length alphabet.now)) }
-    ensures err { IfErr result (IsLineFault (one_word alphabet.now (texts tokens.now))) }
-{
-    match tokens {
-        [token] => element_of(alloc, alphabet, token),
-        _ => Err(LineFault::Refused(Cause::WrongNumberOfWords)),
-    }
-}
-
-fn two_words(
-    alloc: Global,
-    alphabet: &Alphabet,
-    tokens: &[&[u8]],
-) -> Result<(Word, Word), LineFault>
-    ensures ok { IfOk result (λ words. two_words alphabet.now (texts tokens.now) ≡ Ok words) }
-    ensures first { IfOk result (λ words. IsElement false (length alphabet.now) words.0) }
-    ensures second { IfOk result (λ words. IsElement false (length alphabet.now) words.1) }
-    ensures err { IfErr result (IsLineFault (two_words alphabet.now (texts tokens.now))) }
-{
-    match tokens {
-        [first, second] => {
-            let first = element_of(alloc, alphabet, first)?;
-            let second = element_of(alloc, alphabet, second)?;
-            Ok((first, second))
-        }
-        _ => Err(LineFault::Refused(Cause::WrongNumberOfWords)),
     }
 }
 
@@ -110,25 +83,32 @@ fn count_of(token: &[u8]) -> Result<usize, Cause>
 fn cursor_of(
     alloc: Global,
     alphabet: &Alphabet,
+    allow_empty: bool,
     after: &[u8],
     token: &[u8],
 ) -> Result<Word, LineFault>
-    ensures ok { IfOk result (λ word. cursor_of alphabet.now after.now token.now ≡ Ok word) }
-    ensures element { IfOk result (IsElement false (length alphabet.now)) }
-    ensures err { IfErr result (IsLineFault (cursor_of alphabet.now after.now token.now)) }
+    ensures ok { IfOk result (λ word. cursor_of alphabet.now allow_empty after.now token.now ≡ Ok word) }
+    ensures element { IfOk result (IsElement allow_empty (length alphabet.now)) }
+    ensures err { IfErr result (IsLineFault (cursor_of alphabet.now allow_empty after.now token.now)) }
 {
     if is_word(b"after", after) {
-        element_of(alloc, alphabet, token)
+        element_of(alloc, alphabet, allow_empty, token)
     } else {
         Err(LineFault::Refused(Cause::AfterExpected))
     }
 }
 
 // The page of classes that the tokens behind `classes` ask for.
-fn page_of(alloc: Global, alphabet: &Alphabet, tokens: &[&[u8]]) -> Result<Query, LineFault>
-    ensures ok { IfOk result (λ query. page_of alphabet.now (texts tokens.now) ≡ Ok query) }
-    ensures over { IfOk result (IsQueryOver (length alphabet.now)) }
-    ensures err { IfErr result (IsLineFault (page_of alphabet.now (texts tokens.now))) }
+fn page_of(
+    alloc: Global,
+    alphabet: &Alphabet,
+    allow_empty: bool,
+    tokens: &[&[u8]],
+) -> Result<Query, LineFault>
+    ensures ok { IfOk result (λ query. page_of alphabet.now allow_empty (texts tokens.now) ≡ Ok query) }
+    ensures over { IfOk result (IsQueryOver allow_empty (length alphabet.now)) }
+    ensures needs { IfOk result (λ query. needs_generators query ≡ false) }
+    ensures err { IfErr result (IsLineFault (page_of alphabet.now allow_empty (texts tokens.now))) }
 {
     match tokens {
         [count] => Ok(Query::Classes {
@@ -137,7 +117,7 @@ fn page_of(alloc: Global, alphabet: &Alphabet, tokens: &[&[u8]]) -> Result<Query
         }),
         [count, after, cursor] => {
             let count = count_of(count)?;
-            let cursor = cursor_of(alloc, alphabet, after, cursor)?;
+            let cursor = cursor_of(alloc, alphabet, allow_empty, after, cursor)?;
             Ok(Query::Classes {
                 count,
                 after: Some(cursor),
@@ -152,23 +132,25 @@ fn page_of(alloc: Global, alphabet: &Alphabet, tokens: &[&[u8]]) -> Result<Query
 pub fn query_of(
     alloc: Global,
     alphabet: &Alphabet,
+    allow_empty: bool,
     name: QueryName,
     tokens: &[&[u8]],
 ) -> Result<Query, LineFault>
-    ensures ok { IfOk result (λ query. query_of alphabet.now name (texts tokens.now) ≡ Ok query) }
-    ensures over { IfOk result (IsQueryOver (length alphabet.now)) }
-    ensures err { IfErr result (IsLineFault (query_of alphabet.now name (texts tokens.now))) }
+    ensures ok { IfOk result (λ query. query_of alphabet.now allow_empty name (texts tokens.now) ≡ Ok query) }
+    ensures over { IfOk result (IsQueryOver allow_empty (length alphabet.now)) }
+    ensures needs { IfOk result (λ query. needs_generators query ≡ name_needs_generators name) }
+    ensures err { IfErr result (IsLineFault (query_of alphabet.now allow_empty name (texts tokens.now))) }
 {
     match name {
         QueryName::Index => Ok(bare(Query::Index, tokens)?),
         QueryName::Equal => {
-            let (left, right) = two_words(alloc, alphabet, tokens)?;
+            let (left, right) = two_words(alloc, alphabet, allow_empty, tokens)?;
             Ok(Query::Equal(left, right))
         }
-        QueryName::Normal => Ok(Query::Normal(one_word(alloc, alphabet, tokens)?)),
-        QueryName::Classes => page_of(alloc, alphabet, tokens),
+        QueryName::Normal => Ok(Query::Normal(one_word(alloc, alphabet, allow_empty, tokens)?)),
+        QueryName::Classes => page_of(alloc, alphabet, allow_empty, tokens),
         QueryName::Rules => Ok(bare(Query::RuleList, tokens)?),
-        QueryName::Element => Ok(Query::ElementOf(one_word(alloc, alphabet, tokens)?)),
+        QueryName::Element => Ok(Query::ElementOf(one_word(alloc, alphabet, allow_empty, tokens)?)),
         QueryName::Cayley => Ok(bare(Query::Cayley, tokens)?),
     }
 }

@@ -1,16 +1,18 @@
 // What the lines of a script give, one after another.
-ghost use Rattle.std.specs.Prelude.{◌≡◌, IfOk, IfErr, Ok};
+ghost use Rattle.std.specs.Prelude.{◌≡◌, ◌⊎◌, IfOk, IfErr, Ok};
 ghost use Rattle.query_lang.specs.Faults.{IsLineFault};
-ghost use Rattle.query_lang.specs.Script.{finished, generator_line, query_line, read_line, take_line, whole_of, with_line};
+ghost use Rattle.query_lang.specs.Script.{element_line, finished, generator_line, header_line, is_presentation, outline_so_far, pair_line, presentation_line, query_line, read_line, relation_line, take_line, whole_of, with_line};
 ghost use Rattle.query_lang.specs.Texts.{texts};
 
 use crate::cause::Cause;
 use crate::draft::Draft;
 use crate::fault::LineFault;
-use crate::header::header_of;
+use crate::header::{header_of, outline_of};
+use crate::outline::Outline;
 use crate::query_line::query_name_of;
 use crate::script::Script;
 use crate::tokens::{is_kept, is_word, tokens_of};
+use presentation::Kind;
 use std::alloc::Global;
 
 /// What the lines so far have given, from the header on.
@@ -18,18 +20,33 @@ use std::alloc::Global;
 pub enum Reader {
     /// Generators, before the first query.
     Posing(Draft),
+    /// A presentation and pairs, before the first query.
+    Relating(Outline),
     /// A script, from the first query on.
     Asking(Script),
 }
 
 impl Reader {
-    // The script so far. Refused where there is no generator, or for want of memory.
+    // Whether the script is a presentation.
+    fn is_presentation(&self) -> bool
+        ensures { result ≡ is_presentation self.now }
+    {
+        match self {
+            Reader::Posing(_) => false,
+            Reader::Relating(_) => true,
+            Reader::Asking(script) => script.problem().is_presented(),
+        }
+    }
+
+    // The script so far. Refused where there is neither a generator nor a presentation, or for want
+    // of memory.
     fn finish(self, alloc: Global) -> Result<Script, LineFault>
         ensures ok { IfOk result (λ script. finished self ≡ Ok script) }
         ensures err { IfErr result (IsLineFault (finished self)) }
     {
         match self {
             Reader::Posing(draft) => Ok(Script::new(alloc, draft.problem(alloc)?)),
+            Reader::Relating(outline) => Ok(Script::new(alloc, outline.problem())),
             Reader::Asking(script) => Ok(script),
         }
     }
@@ -47,8 +64,38 @@ impl Reader {
             Reader::Posing(draft) => Ok(Reader::Posing(draft.with_generator(
                 alloc, name, entries,
             )?)),
+            Reader::Relating(_) => Err(LineFault::Refused(Cause::UnknownLine)),
             Reader::Asking(_) => Err(LineFault::Refused(Cause::LineOutOfOrder)),
         }
+    }
+
+    // The relations and the pairs so far, which stand before the queries.
+    fn into_outline(self) -> Result<Outline, Cause>
+        ensures { result ≡ outline_so_far self }
+    {
+        match self {
+            Reader::Posing(_) => Err(Cause::UnknownLine),
+            Reader::Relating(outline) => Ok(outline),
+            Reader::Asking(_) => Err(Cause::LineOutOfOrder),
+        }
+    }
+
+    fn add_relation(self, alloc: Global, tokens: &[&[u8]]) -> Result<Reader, LineFault>
+        ensures ok { IfOk result (λ next. relation_line self (texts tokens.now) ≡ Ok next) }
+        ensures err { IfErr result (IsLineFault (relation_line self (texts tokens.now))) }
+    {
+        let outline = self.into_outline()?;
+        Ok(Reader::Relating(outline.with_relation(alloc, tokens)?))
+    }
+
+    // A pair of this kind, which is two-sided or right.
+    fn add_pair(self, alloc: Global, kind: Kind, tokens: &[&[u8]]) -> Result<Reader, LineFault>
+        requires { (kind ≡ Kind.TwoSided) ⊎ (kind ≡ Kind.Right) }
+        ensures ok { IfOk result (λ next. pair_line self kind (texts tokens.now) ≡ Ok next) }
+        ensures err { IfErr result (IsLineFault (pair_line self kind (texts tokens.now))) }
+    {
+        let outline = self.into_outline()?;
+        Ok(Reader::Relating(outline.with_pair(alloc, kind, tokens)?))
     }
 
     fn add_query(self, alloc: Global, first: &[u8], tokens: &[&[u8]]) -> Result<Reader, LineFault>
@@ -60,10 +107,28 @@ impl Reader {
         Ok(Reader::Asking(script.with_query(alloc, name, tokens)?))
     }
 
-    // A line after the header.
-    fn add_line(self, alloc: Global, line: &[&[u8]]) -> Result<Reader, LineFault>
-        ensures ok { IfOk result (λ next. with_line self (texts line.now) ≡ Ok next) }
-        ensures err { IfErr result (IsLineFault (with_line self (texts line.now))) }
+    // A line after the header of a presentation.
+    fn add_presentation_line(self, alloc: Global, line: &[&[u8]]) -> Result<Reader, LineFault>
+        ensures ok { IfOk result (λ next. presentation_line self (texts line.now) ≡ Ok next) }
+        ensures err { IfErr result (IsLineFault (presentation_line self (texts line.now))) }
+    {
+        match line {
+            [first, tokens @ ..] if is_word(b"rel", first) => self.add_relation(alloc, tokens),
+            [first, tokens @ ..] if is_word(b"twosided", first) => {
+                self.add_pair(alloc, Kind::TwoSided, tokens)
+            }
+            [first, tokens @ ..] if is_word(b"right", first) => {
+                self.add_pair(alloc, Kind::Right, tokens)
+            }
+            [first, tokens @ ..] => self.add_query(alloc, first, tokens),
+            [] => Err(LineFault::Refused(Cause::UnknownLine)),
+        }
+    }
+
+    // A line after the header of generators.
+    fn add_element_line(self, alloc: Global, line: &[&[u8]]) -> Result<Reader, LineFault>
+        ensures ok { IfOk result (λ next. element_line self (texts line.now) ≡ Ok next) }
+        ensures err { IfErr result (IsLineFault (element_line self (texts line.now))) }
     {
         match line {
             [name, sign, entries @ ..] if is_word(b"=", sign) => {
@@ -73,6 +138,34 @@ impl Reader {
             [] => Err(LineFault::Refused(Cause::UnknownLine)),
         }
     }
+
+    // A line after the header.
+    fn add_line(self, alloc: Global, line: &[&[u8]]) -> Result<Reader, LineFault>
+        ensures ok { IfOk result (λ next. with_line self (texts line.now) ≡ Ok next) }
+        ensures err { IfErr result (IsLineFault (with_line self (texts line.now))) }
+    {
+        if self.is_presentation() {
+            self.add_presentation_line(alloc, line)
+        } else {
+            self.add_element_line(alloc, line)
+        }
+    }
+}
+
+// The header.
+fn header_line(alloc: Global, line: &[&[u8]]) -> Result<Reader, LineFault>
+    ensures ok { IfOk result (λ next. header_line (texts line.now) ≡ Ok next) }
+    ensures err { IfErr result (IsLineFault (header_line (texts line.now))) }
+{
+    match line {
+        [name, tokens @ ..] if is_word(b"monoid", name) => {
+            Ok(Reader::Relating(outline_of(alloc, true, tokens)?))
+        }
+        [name, tokens @ ..] if is_word(b"semigroup", name) => {
+            Ok(Reader::Relating(outline_of(alloc, false, tokens)?))
+        }
+        _ => Ok(Reader::Posing(header_of(alloc, line)?)),
+    }
 }
 
 // A line that is not skipped.
@@ -81,7 +174,7 @@ fn read_line(alloc: Global, reader: Option<Reader>, line: &[&[u8]]) -> Result<Re
     ensures err { IfErr result (IsLineFault (read_line reader (texts line.now))) }
 {
     match reader {
-        None => Ok(Reader::Posing(header_of(alloc, line)?)),
+        None => header_line(alloc, line),
         Some(reader) => reader.add_line(alloc, line),
     }
 }
@@ -103,8 +196,8 @@ pub fn take_line(
     Ok(Some(read_line(alloc, reader, &tokens)?))
 }
 
-/// The script of all lines. Refused where the header, or every generator, is missing, or for want of
-/// memory.
+/// The script of all lines. Refused where the header is missing, or every generator of a script that
+/// is no presentation, or for want of memory.
 pub fn whole_of(alloc: Global, reader: Option<Reader>) -> Result<Script, LineFault>
     ensures ok { IfOk result (λ script. whole_of reader ≡ Ok script) }
     ensures err { IfErr result (IsLineFault (whole_of reader)) }

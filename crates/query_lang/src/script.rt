@@ -1,10 +1,12 @@
 // Scripts: a problem, and queries.
 ghost use Rattle.std.specs.Prelude.{◌≡◌, [], IfOk, IfErr, Ok, All};
+ghost use Rattle.problem.specs.Problem.{IsPosable};
 ghost use Rattle.query_lang.specs.Faults.{IsLineFault, IsScriptFault};
 ghost use Rattle.query_lang.specs.Query.{IsQueryOf};
 ghost use Rattle.query_lang.specs.Script.{asked, script_of};
 ghost use Rattle.query_lang.specs.Texts.{texts};
 
+use crate::cause::Cause;
 use crate::fault::{LineFault, ScriptFault};
 use crate::query_line::{QueryName, query_of};
 use crate::reader::{take_line, whole_of};
@@ -13,7 +15,7 @@ use std::alloc::Global;
 use std::marker::Model;
 use words::Word;
 
-/// A query of a script. Its words are not empty, and have the letters of the script's problem.
+/// A query of a script. Its words are elements, over the letters of the script's problem.
 #[derive(Drop)]
 pub enum Query {
     /// How many classes there are.
@@ -25,15 +27,16 @@ pub enum Query {
     /// The first `count` least words of classes, in short-lex order; where there is a word to come
     /// `after`, of those that are greater than it.
     Classes { count: usize, after: Option<Word> },
-    /// The reduced rewriting rules.
+    /// The reduced rewriting rules, where generators are given.
     RuleList,
-    /// The value of the word.
+    /// The value of the word, where generators are given.
     ElementOf(Word),
-    /// The Cayley graphs.
+    /// The Cayley graphs, where generators are given.
     Cayley,
 }
 
-/// A script: what it poses, and the queries. Contracts see both.
+/// A script: what it poses, and the queries. Contracts see both. The problem is one that scripts
+/// pose, and the queries are of it.
 #[derive(Drop)]
 pub struct Script {
     problem: Problem,
@@ -42,6 +45,7 @@ pub struct Script {
 
 impl Model for Script {
     ghost use Rattle.std.specs.Prelude.{All};
+    ghost use Rattle.problem.specs.Problem.{IsPosable};
     ghost use Rattle.query_lang.specs.Query.{IsQueryOf};
     ghost use Rattle.query_lang.specs.Asked.{ScriptOf};
 
@@ -49,12 +53,13 @@ impl Model for Script {
 
     ghost view = { λ s. record { problem = s.problem; queries = s.queries.items } };
 
-    ghost invariant = { λ s. All (IsQueryOf s.problem) s.queries.items };
+    ghost invariant = { λ s. IsPosable s.problem × All (IsQueryOf s.problem) s.queries.items };
 }
 
 impl Script {
     // The script with this problem, and no query.
     pub(crate) fn new(alloc: Global, problem: Problem) -> Script
+        requires { IsPosable problem }
         ensures problem { result.problem ≡ problem }
         ensures queries { result.queries ≡ [] }
     {
@@ -78,14 +83,19 @@ impl Script {
             problem,
             mut queries,
         } = self;
-        let query = query_of(alloc, problem.alphabet(), name, tokens)?;
+        if problem.is_presented() && name.needs_generators() {
+            return Err(LineFault::Refused(Cause::UnknownLine));
+        }
+        let allow_empty = problem.has_empty_word();
+        let query = query_of(alloc, problem.alphabet(), allow_empty, name, tokens)?;
         queries.push(query)?;
         Ok(Script { problem, queries })
     }
 
     /// What the script poses.
     pub fn problem(&self) -> &Problem
-        ensures { result.now ≡ self.now.problem }
+        ensures problem { result.now ≡ self.now.problem }
+        ensures posable { IsPosable self.now.problem }
     {
         &self.problem
     }
@@ -100,8 +110,8 @@ impl Script {
 }
 
 /// The script that the bytes are. Refused with `Bad` exactly where a line has a cause of refusal, at
-/// the first such line, or where the header or every generator is missing at the end, at the last
-/// line; with `NoMemory` only where memory is wanting.
+/// the first such line, or where the header is missing at the end, or every generator of a script
+/// that is no presentation, at the last line; with `NoMemory` only where memory is wanting.
 pub fn read_script(alloc: Global, bytes: &[u8]) -> Result<Script, ScriptFault>
     ensures ok { IfOk result (λ script. script_of bytes.now ≡ Ok script) }
     ensures err { IfErr result (IsScriptFault (script_of bytes.now)) }

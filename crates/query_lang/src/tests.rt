@@ -1,4 +1,5 @@
 use super::*;
+use presentation::Kind;
 use problem::Problem;
 use std::alloc::Global;
 use std::test::Fail;
@@ -26,7 +27,17 @@ fn lines_and_headers_are_read_or_refused(rt: HostRuntime) -> Result<(), Fail> {
         ("# no header\n\n", 3, 1),
         ("index\n", 1, 2),
         ("\nTrans 2\n", 2, 2),
-        ("monoid ab\n", 1, 2),
+        ("monoid ab\n", 0, 0),
+        ("semigroup z", 0, 0),
+        ("monoid\n", 1, 3),
+        ("semigroup\n", 1, 3),
+        ("monoid ab c\n", 1, 3),
+        ("monoid aB\n", 1, 5),
+        ("monoid aba\n", 1, 6),
+        ("monoid a1b1\n", 1, 5),
+        ("semigroup aaB\n", 1, 6),
+        ("semigroup 1\n", 1, 5),
+        ("monoids ab\n", 1, 2),
         ("trans\n", 1, 3),
         ("trans 2 2\n", 1, 3),
         ("bmat 2 2\n", 1, 3),
@@ -150,6 +161,87 @@ fn queries_are_read_or_refused(rt: HostRuntime) -> Result<(), Fail> {
 }
 
 #[test]
+fn presentations_are_read_or_refused(rt: HostRuntime) -> Result<(), Fail> {
+    let alloc = rt.alloc();
+    for (script, line, cause) in [
+        (
+            "monoid a\nequal 1 a\nnormal 1\nclasses 2 after 1\n",
+            0usize,
+            0u8,
+        ),
+        (
+            "monoid ab\nrel a 1\nrel b b\nright a 1\nright 1 b\nindex\n",
+            0,
+            0,
+        ),
+        (
+            "semigroup ab\nrel a ab\ntwosided a b\ntwosided b ba\nindex\n",
+            0,
+            0,
+        ),
+        ("semigroup a\nequal 1 a\n", 2, 15),
+        ("semigroup ab\nrel 1 a\n", 2, 15),
+        ("semigroup ab\nrel a 1\n", 2, 15),
+        ("semigroup ab\ntwosided a 1\n", 2, 15),
+        ("monoid ab\nrel ac a\n", 2, 13),
+        ("monoid ab\nrel a C\n", 2, 13),
+        ("monoid ab\nrel = a\n", 2, 13),
+        ("monoid ab\nequal = a\n", 2, 13),
+        ("monoid ab\nrel a\n", 2, 3),
+        ("monoid ab\nrel\n", 2, 3),
+        ("monoid ab\nrel a b c\n", 2, 3),
+        ("monoid ab\nright a\n", 2, 3),
+        ("monoid ab\nright a 1\nrel a b\n", 3, 8),
+        ("monoid ab\nright a 1\nrel a\n", 3, 8),
+        ("monoid ab\nindex\nright a 1\n", 3, 8),
+        ("monoid ab\nindex\nrel c\n", 3, 8),
+        ("monoid ab\nright a 1\ntwosided a 1\n", 3, 18),
+        ("monoid ab\ntwosided a 1\nright c d\n", 3, 18),
+        ("monoid ab\nright a 1\ntwosided a\n", 3, 3),
+        ("monoid ab\nleft a 1\n", 2, 7),
+        ("monoid ab\na = 0 1\n", 2, 7),
+        ("monoid ab\nindex\nmonoid ab\n", 3, 7),
+        ("monoid ab\nrules\n", 2, 7),
+        ("monoid ab\nelement a\n", 2, 7),
+        ("monoid ab\nindex\ncayley 1\n", 3, 7),
+        ("trans 2\nrel a a\n", 2, 7),
+        ("trans 2\na = 0 1\nrel a a\n", 3, 7),
+        ("trans 2\na = 0 1\nindex\nright a a\n", 4, 7),
+    ] {
+        assert_eq!(rt; fault_of(alloc, script)?, (line, cause), "{script}");
+    }
+    Ok(())
+}
+
+#[test]
+fn a_presentation_holds_what_was_read(rt: HostRuntime) -> Result<(), Fail> {
+    let alloc = rt.alloc();
+    for (script, monoid, relations, pairs, kind) in [
+        ("monoid ba", true, 0usize, 0usize, Kind::TwoSided),
+        ("monoid ba\nrel a 1\nright a b", true, 1, 1, Kind::Right),
+        (
+            "semigroup ba\ntwosided a b\nindex",
+            false,
+            0,
+            1,
+            Kind::TwoSided,
+        ),
+    ] {
+        let script = read_script(alloc, script.as_bytes())?;
+        let Problem::Presented(congruence) = script.problem() else {
+            return Err(Fail::new("a presentation"));
+        };
+        let presentation = congruence.presentation();
+        assert_eq!(rt; presentation.letters(), 2);
+        assert_eq!(rt; presentation.is_monoid(), monoid);
+        assert_eq!(rt; presentation.relations().len(), relations);
+        assert_eq!(rt; congruence.pairs().len(), pairs);
+        assert_eq!(rt; congruence.kind(), kind);
+    }
+    Ok(())
+}
+
+#[test]
 fn long_words_are_refused(rt: HostRuntime) -> Result<(), Fail> {
     let alloc = rt.alloc();
     for (length, last, cause) in [(4096, b'a', 0u8), (4097, b'a', 14), (4097, b'b', 14)] {
@@ -208,7 +300,8 @@ fn a_script_holds_what_was_read(rt: HostRuntime) -> Result<(), Fail> {
         assert_eq!(rt; text_of(alloc, script.problem(), query)?.as_str(), want);
     }
     assert_eq!(rt; cause_text(21), b"after expected".as_slice());
-    assert_eq!(rt; cause_text(16), b"".as_slice());
+    assert_eq!(rt; cause_text(18), b"mixed kinds of pairs".as_slice());
+    assert_eq!(rt; cause_text(19), b"".as_slice());
     Ok(())
 }
 
@@ -223,6 +316,7 @@ fn each_kind_holds_its_generators(rt: HostRuntime) -> Result<(), Fail> {
     ] {
         let script = read_script(alloc, script.as_bytes())?;
         let text = match script.problem() {
+            Problem::Presented(_) => Ok(Vec::new(alloc)),
             Problem::Transf(posed) => posed.generators()[1].print(alloc),
             Problem::PPerm(posed) => posed.generators()[1].print(alloc),
             Problem::BMat(posed) => posed.generators()[1].print(alloc),

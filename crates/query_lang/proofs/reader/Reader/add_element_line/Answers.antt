@@ -4,8 +4,8 @@ use Rattle.query_lang.specs.declared.cause.Cause.{Cause}
 use Rattle.query_lang.specs.declared.reader.Reader.{Reader}
 use Rattle.query_lang.specs.Faults.{IsLineFault}
 use Rattle.query_lang.proofs.LineLemmas.{is_query_line}
-use Rattle.query_lang.proofs.reader.Reader.add_line.Goals as goal
-use Rattle.query_lang.proofs.reader.Reader.add_line.Goals.{then-line-lt2, in-len2-up+else-is_word}
+use Rattle.query_lang.proofs.reader.Reader.add_element_line.Goals as goal
+use Rattle.query_lang.proofs.reader.Reader.add_element_line.Goals.{then-line-lt2, in-len2-up+else-is_word}
 
 pub returns-in-len1-up-clause-err : goal.returns-in-len1-up-clause-err
 returns-in-len1-up-clause-err c =

@@ -1,0 +1,18 @@
+use Rattle.std.proofs.Common.{◌≡◌, true, false, All, length, sym, ◌∙◌, subst, subst₂}
+use Rattle.std.proofs.lemmas.List.Elements.{All-push}
+use Rattle.problem.specs.Problem.{has_empty_word, is_presented, letters_of}
+use Rattle.query_lang.specs.Query.{IsQueryOf, IsQueryOver, needs_generators}
+use Rattle.query_lang.proofs.script.Script.with_query.Goals as goal
+use Rattle.query_lang.proofs.script.Script.with_query.Goals.{else-is_presented-via-then-is_presented+else-needs_generators, else-is_presented-via-else-is_presented}
+
+pub invariant_of-result : goal.invariant_of-result
+invariant_of-result c =
+    let p = c.self.inside.problem in
+    let query = c.in_ok-query.query in
+    let there : is_presented p ≡ true → needs_generators query ≡ false = λ presented. elim c.else-is_presented.branch [
+      | else-is_presented-via-then-is_presented+else-needs_generators w ↦ c.in_ok-query.ensures.needs ∙ sym w.needs_generators.ensures ∙ w.if-needs_generators.false
+      | else-is_presented-via-else-is_presented w ↦ let other : is_presented p ≡ false = cc in absurd (cc)
+    ] in
+    let over : IsQueryOver (has_empty_word p) (length (letters_of p)) query =
+    subst₂ (λ empty letters. IsQueryOver empty (length letters) query) c.has_empty_word-allow_empty.ensures c.alphabet.ensures.letters c.in_ok-query.ensures.over in
+    (c.self.invariant.0, subst (λ queries. All (IsQueryOf p) queries) (sym c.in_ok-push.ensures.items) (All-push (IsQueryOf p) c.self.inside.queries.items query c.self.invariant.1 (record { there = there; over = over })))
