@@ -1,5 +1,5 @@
 -- What the table of a problem says of its words.
-use Rattle.std.proofs.Common.{◌≡◌, ℕ, ◌<◌, ◌==◌, Bool, List, [], length, get_or, false, sym, subst, Option, Some, None, MatchOption, IsSomeAnd}
+use Rattle.std.proofs.Common.{◌≡◌, ℕ, ◌<◌, ◌==◌, Bool, List, [], length, get_or, false, refl, sym, subst, Option, Some, None, MatchOption, IsSomeAnd}
 use Rattle.std.specs.Cmp.Lexicographic.{pointwise}
 use Rattle.std.specs.Option.{option_eq}
 use Rattle.theory.specs.Word.{Word, IsElement}
@@ -18,9 +18,10 @@ use Rattle.elements.specs.MaxPlusLaws.{truncated_matrix_eq, truncated_products}
 use Rattle.froidure_pin.specs.Numbering.{TableOf, right_number, left_number, number_of}
 use Rattle.froidure_pin.specs.Rules.{IsWholeTable}
 use Rattle.froidure_pin.proofs.Starts.{values_length}
+use Rattle.problem.specs.declared.budgets.Budgets.{Budgets}
 use Rattle.problem.specs.declared.kinds.Problem.{Problem}
 use Rattle.problem.specs.declared.kinds.Problem.TheVariants as problem
-use Rattle.problem.specs.Problem.{SameElement, HasAtMost, HasMore, count_of, no_matrix, no_truncated_matrix}
+use Rattle.problem.specs.Problem.{SameClassOf, IsDecided, IsUndecided, count_of, has_empty_word, no_matrix, no_truncated_matrix}
 use Rattle.report.specs.declared.closure.Closure.{Closure}
 use Rattle.report.specs.declared.closure.Closure.TheVariants.{Transf, PPerm, BMat, MaxPlus}
 use Rattle.report.specs.Graph.{IsNumbered, AreCayleyGraphs}
@@ -56,7 +57,11 @@ module _ {V : Type 0} {product : V → V → V} {equal : V → V → Bool} (gene
   table_count : {shape : V → ℕ × ℕ} → (t : TableOf V) → IsWholeTable shape product equal generators unused t → length t.elements ≡ length t.words
   table_count t whole = sym (values_length equal (value_by product generators unused) t.words t.elements whole.found.values)
 
-pub closure_numbers : (p : Problem) (c : Closure) → IsClosureOf p c → AreNumbers (SameElement p) (count_of p) (words_of c) (right_of c) (left_of c) (number_in c)
+pub closure_numbers : (p : Problem) (c : Closure) → IsClosureOf p c → AreNumbers (SameClassOf p) (count_of p) (words_of c) (right_of c) (left_of c) (number_in c)
+closure_numbers (problem.Presented p) (Transf t) h = absurd h
+closure_numbers (problem.Presented p) (PPerm t) h = absurd h
+closure_numbers (problem.Presented p) (BMat t) h = absurd h
+closure_numbers (problem.Presented p) (MaxPlus t) h = absurd h
 closure_numbers (problem.Transf p) (Transf t) h = table_numbers p.generators [] composed_products t h
 closure_numbers (problem.Transf p) (PPerm t) h = absurd h
 closure_numbers (problem.Transf p) (BMat t) h = absurd h
@@ -75,6 +80,10 @@ closure_numbers (problem.MaxPlus p) (BMat t) h = absurd h
 closure_numbers (problem.MaxPlus p) (MaxPlus t) h = table_numbers p.generators no_truncated_matrix truncated_products t h
 
 pub closure_count : (p : Problem) (c : Closure) → IsClosureOf p c → count_in c ≡ length (words_of c)
+closure_count (problem.Presented p) (Transf t) h = absurd h
+closure_count (problem.Presented p) (PPerm t) h = absurd h
+closure_count (problem.Presented p) (BMat t) h = absurd h
+closure_count (problem.Presented p) (MaxPlus t) h = absurd h
 closure_count (problem.Transf p) (Transf t) h = table_count p.generators [] t h
 closure_count (problem.Transf p) (PPerm t) h = absurd h
 closure_count (problem.Transf p) (BMat t) h = absurd h
@@ -93,6 +102,10 @@ closure_count (problem.MaxPlus p) (BMat t) h = absurd h
 closure_count (problem.MaxPlus p) (MaxPlus t) h = table_count p.generators no_truncated_matrix t h
 
 pub closure_letters : (p : Problem) (c : Closure) → IsClosureOf p c → letters_in c ≡ count_of p
+closure_letters (problem.Presented p) (Transf t) h = absurd h
+closure_letters (problem.Presented p) (PPerm t) h = absurd h
+closure_letters (problem.Presented p) (BMat t) h = absurd h
+closure_letters (problem.Presented p) (MaxPlus t) h = absurd h
 closure_letters (problem.Transf p) (Transf t) h = h.numbers.letters
 closure_letters (problem.Transf p) (PPerm t) h = absurd h
 closure_letters (problem.Transf p) (BMat t) h = absurd h
@@ -116,40 +129,59 @@ AreRulesOf {V} shape product equal t rules =
     (generators : List V) (unused : V) → IsWholeTable shape product equal generators unused t → IsRuleList (SameValue (length generators) equal (value_by product generators unused)) rules
 
 module _ (rules : List (Word × Word)) where
-  pub transf_rules : (p : Problem) (t : TableOf (List ℕ)) → AreRulesOf (λ x. (length x, 0)) composed (pointwise ◌==◌) t rules → IsClosureOf p (Transf t) → IsRuleList (SameElement p) rules
+  pub transf_rules : (p : Problem) (t : TableOf (List ℕ)) → AreRulesOf (λ x. (length x, 0)) composed (pointwise ◌==◌) t rules → IsClosureOf p (Transf t) → IsRuleList (SameClassOf p) rules
+  transf_rules (problem.Presented p) t h m = absurd m
   transf_rules (problem.Transf p) t h m = h p.generators [] m
   transf_rules (problem.PPerm p) t h m = absurd m
   transf_rules (problem.BMat p) t h m = absurd m
   transf_rules (problem.MaxPlus p) t h m = absurd m
 
-  pub pperm_rules : (p : Problem) (t : TableOf (List (Option ℕ))) → AreRulesOf (λ x. (length x, 0)) partially_composed (pointwise (option_eq ◌==◌)) t rules → IsClosureOf p (PPerm t) → IsRuleList (SameElement p) rules
+  pub pperm_rules : (p : Problem) (t : TableOf (List (Option ℕ))) → AreRulesOf (λ x. (length x, 0)) partially_composed (pointwise (option_eq ◌==◌)) t rules → IsClosureOf p (PPerm t) → IsRuleList (SameClassOf p) rules
+  pperm_rules (problem.Presented p) t h m = absurd m
   pperm_rules (problem.Transf p) t h m = absurd m
   pperm_rules (problem.PPerm p) t h m = h p.generators [] m
   pperm_rules (problem.BMat p) t h m = absurd m
   pperm_rules (problem.MaxPlus p) t h m = absurd m
 
-  pub bmat_rules : (p : Problem) (t : TableOf BooleanMatrix) → AreRulesOf (λ m. (m.dimension, 0)) boolean_product boolean_matrix_eq t rules → IsClosureOf p (BMat t) → IsRuleList (SameElement p) rules
+  pub bmat_rules : (p : Problem) (t : TableOf BooleanMatrix) → AreRulesOf (λ m. (m.dimension, 0)) boolean_product boolean_matrix_eq t rules → IsClosureOf p (BMat t) → IsRuleList (SameClassOf p) rules
+  bmat_rules (problem.Presented p) t h m = absurd m
   bmat_rules (problem.Transf p) t h m = absurd m
   bmat_rules (problem.PPerm p) t h m = absurd m
   bmat_rules (problem.BMat p) t h m = h p.generators no_matrix m
   bmat_rules (problem.MaxPlus p) t h m = absurd m
 
-  pub max_plus_rules : (p : Problem) (t : TableOf TruncatedMatrix) → AreRulesOf (λ m. (m.dimension, m.bound)) truncated_product truncated_matrix_eq t rules → IsClosureOf p (MaxPlus t) → IsRuleList (SameElement p) rules
+  pub max_plus_rules : (p : Problem) (t : TableOf TruncatedMatrix) → AreRulesOf (λ m. (m.dimension, m.bound)) truncated_product truncated_matrix_eq t rules → IsClosureOf p (MaxPlus t) → IsRuleList (SameClassOf p) rules
+  max_plus_rules (problem.Presented p) t h m = absurd m
   max_plus_rules (problem.Transf p) t h m = absurd m
   max_plus_rules (problem.PPerm p) t h m = absurd m
   max_plus_rules (problem.BMat p) t h m = absurd m
   max_plus_rules (problem.MaxPlus p) t h m = h p.generators no_truncated_matrix m
 
 -- a problem's table is its closure
-pub closure_made : {V : Type 0} (wrap : TableOf V → Closure) (p q : Problem) (bound : ℕ) (found : Option (TableOf V)) (made result : Option Closure) → p ≡ q → made ≡ result
-    → MatchOption found (HasMore q bound) (λ t. HasAtMost q bound × IsClosureOf q (wrap t)) → MatchOption found (result ≡ None) (λ t. IsSomeAnd result (λ c. c ≡ wrap t))
-    → MatchOption made (HasMore p bound) (λ c. HasAtMost p bound × IsClosureOf p c)
-closure_made {V} wrap p q bound found made result same is h e =
-    subst (λ m. MatchOption m (HasMore p bound) (λ c. HasAtMost p bound × IsClosureOf p c)) (sym is)
-    (subst (λ r. MatchOption result (HasMore r bound) (λ c. HasAtMost r bound × IsClosureOf r c)) (sym same) (wrapped found result h e))
+pub closure_made : {V : Type 0} (wrap : TableOf V → Closure) (p q : Problem) (bound : ℕ) (found : Option (TableOf V)) (made result : Option Closure) (budgets : Budgets) → budgets.elements ≡ bound → p ≡ q → made ≡ result
+    → MatchOption found (IsUndecided q (record { defs = budgets.defs; elements = bound })) (λ t. IsDecided q (record { defs = budgets.defs; elements = bound }) × IsClosureOf q (wrap t))
+    → MatchOption found (result ≡ None) (λ t. IsSomeAnd result (λ c. c ≡ wrap t))
+    → MatchOption made (IsUndecided p budgets) (λ c. IsDecided p budgets × IsClosureOf p c)
+closure_made {V} wrap p q bound found made result budgets most same is h e =
+    subst (λ m. MatchOption m (IsUndecided p budgets) (λ c. IsDecided p budgets × IsClosureOf p c)) (sym is)
+    (subst (λ r. MatchOption result (IsUndecided r budgets) (λ c. IsDecided r budgets × IsClosureOf r c)) (sym same) (wrapped found result there e))
   where
-    wrapped : (found : Option (TableOf V)) (result : Option Closure) → MatchOption found (HasMore q bound) (λ t. HasAtMost q bound × IsClosureOf q (wrap t))
-        → MatchOption found (result ≡ None) (λ t. IsSomeAnd result (λ c. c ≡ wrap t)) → MatchOption result (HasMore q bound) (λ c. HasAtMost q bound × IsClosureOf q c)
-    wrapped None result h e = subst (λ m. MatchOption m (HasMore q bound) (λ c. HasAtMost q bound × IsClosureOf q c)) (sym e) h
+    there : MatchOption found (IsUndecided q budgets) (λ t. IsDecided q budgets × IsClosureOf q (wrap t))
+    there = subst (λ n. MatchOption found (IsUndecided q (record { defs = budgets.defs; elements = n })) (λ t. IsDecided q (record { defs = budgets.defs; elements = n }) × IsClosureOf q (wrap t))) (sym most) h
+
+    wrapped : (found : Option (TableOf V)) (result : Option Closure) → MatchOption found (IsUndecided q budgets) (λ t. IsDecided q budgets × IsClosureOf q (wrap t))
+        → MatchOption found (result ≡ None) (λ t. IsSomeAnd result (λ c. c ≡ wrap t)) → MatchOption result (IsUndecided q budgets) (λ c. IsDecided q budgets × IsClosureOf q c)
+    wrapped None result h e = subst (λ m. MatchOption m (IsUndecided q budgets) (λ c. IsDecided q budgets × IsClosureOf q c)) (sym e) h
     wrapped (Some t) None h e = absurd e
     wrapped (Some t) (Some c) h e = (h.0, subst (IsClosureOf q) (sym e) h.1)
+
+-- only a problem by generators has a closure, and the empty word is none of its elements
+pub closure_nonempty : (p : Problem) (c : Closure) → IsClosureOf p c → has_empty_word p ≡ false
+closure_nonempty (problem.Presented p) (Transf t) h = absurd h
+closure_nonempty (problem.Presented p) (PPerm t) h = absurd h
+closure_nonempty (problem.Presented p) (BMat t) h = absurd h
+closure_nonempty (problem.Presented p) (MaxPlus t) h = absurd h
+closure_nonempty (problem.Transf p) c h = refl
+closure_nonempty (problem.PPerm p) c h = refl
+closure_nonempty (problem.BMat p) c h = refl
+closure_nonempty (problem.MaxPlus p) c h = refl

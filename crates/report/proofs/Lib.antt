@@ -5,3 +5,5 @@ pub mod CayleyLemmas
 pub mod PageLemmas
 pub mod AnswerLemmas
 pub mod UniqueAnswer
+pub mod SolvedPages
+pub mod SolvedLemmas

@@ -13,7 +13,7 @@ use Rattle.theory.specs.Value.{IsProduct, HasAtMostValues, HasMoreValues}
 use Rattle.theory.proofs.Words.{before_irrefl}
 use Rattle.theory.proofs.Listings.{list_unique, page_unique}
 use Rattle.theory.proofs.Completeness.{normal_unique}
-use Rattle.theory.proofs.ClassLaws.{IsPartialEquivalence, shortlex_strict, rule_order}
+use Rattle.theory.proofs.ClassLaws.{IsPartialEquivalence, same_class_equivalence, shortlex_strict, rule_order}
 use Rattle.theory.proofs.ValueLaws.{values_bound}
 use Rattle.elements.specs.Generators.{value_by}
 use Rattle.elements.specs.TransfLaws.{composed_products}
@@ -24,7 +24,7 @@ use Rattle.froidure_pin.proofs.Starts.{in_at, start_ascending, start_has, ascend
 use Rattle.problem.specs.declared.budgets.Budgets.{Budgets}
 use Rattle.problem.specs.declared.kinds.Problem.{Problem}
 use Rattle.problem.specs.declared.kinds.Problem.TheVariants as problem
-use Rattle.problem.specs.Problem.{SameElement, HasAtMost, HasMore, letters_of, count_of, no_matrix, no_truncated_matrix}
+use Rattle.problem.specs.Problem.{SameClassOf, IsDecided, IsUndecided, letters_of, count_of, no_matrix, no_truncated_matrix}
 use Rattle.query_lang.specs.declared.script.Query.{Query}
 use Rattle.query_lang.specs.declared.script.Query.TheVariants.{Index, Equal, Normal, Classes, RuleList, ElementOf, Cayley}
 use Rattle.report.specs.Graph.{IsNumbered, AreCayleyGraphs}
@@ -85,21 +85,23 @@ module _ {V : Type 0} {product : V → V → V} {equal : V → V → Bool} (gene
       → HasAtMostValues (length generators) equal (value_by product generators unused) n → HasMoreValues (length generators) equal (value_by product generators unused) n → ⊥
   values_not_both {HasShape} laws n few more = let less = values_bound HasShape product equal laws (length generators) (value_by product generators unused) n n few more in omega arith
 
-problem_equivalence : (p : Problem) → IsPartialEquivalence (SameElement p)
+problem_equivalence : (p : Problem) → IsPartialEquivalence (SameClassOf p)
+problem_equivalence (problem.Presented p) = same_class_equivalence p.congruence
 problem_equivalence (problem.Transf p) = value_equivalence p.generators [] (composed_products (0, 0))
 problem_equivalence (problem.PPerm p) = value_equivalence p.generators [] (partial_products (0, 0))
 problem_equivalence (problem.BMat p) = value_equivalence p.generators no_matrix (boolean_products (0, 0))
 problem_equivalence (problem.MaxPlus p) = value_equivalence p.generators no_truncated_matrix (truncated_products (0, 0))
 
-not_both : (p : Problem) (n : ℕ) → HasAtMost p n → HasMore p n → ⊥
-not_both (problem.Transf p) = values_not_both p.generators [] (composed_products (0, 0))
-not_both (problem.PPerm p) = values_not_both p.generators [] (partial_products (0, 0))
-not_both (problem.BMat p) = values_not_both p.generators no_matrix (boolean_products (0, 0))
-not_both (problem.MaxPlus p) = values_not_both p.generators no_truncated_matrix (truncated_products (0, 0))
+not_both : (p : Problem) (budgets : Budgets) → IsDecided p budgets → IsUndecided p budgets → ⊥
+not_both (problem.Presented p) budgets ends never = never ends
+not_both (problem.Transf p) budgets few more = values_not_both p.generators [] (composed_products (0, 0)) budgets.elements few more
+not_both (problem.PPerm p) budgets few more = values_not_both p.generators [] (partial_products (0, 0)) budgets.elements few more
+not_both (problem.BMat p) budgets few more = values_not_both p.generators no_matrix (boolean_products (0, 0)) budgets.elements few more
+not_both (problem.MaxPlus p) budgets few more = values_not_both p.generators no_truncated_matrix (truncated_products (0, 0)) budgets.elements few more
 
 module _ (p : Problem) (bound : ℕ) where
   abbrev R : Word → Word → Type 0
-  R = SameElement p
+  R = SameClassOf p
 
   abbrev known : IsPartialEquivalence R
   known = problem_equivalence p
@@ -127,6 +129,6 @@ module _ (p : Problem) (bound : ℕ) where
 pub one_answer : (p : Problem) (budgets : Budgets) (bound : ℕ) (query : Query) (lines others : List (List ℕ)) (undecided other : Bool)
     → IsAnswer p budgets bound query lines undecided → IsAnswer p budgets bound query others other → (lines ≡ others) × (undecided ≡ other)
 one_answer p budgets bound query lines others false false h g = (one_lines p bound query lines others h.are_lines g.are_lines, refl)
-one_answer p budgets bound query lines others false true h g = absurd (not_both p budgets.elements (h.decided g.waiting) g.more)
-one_answer p budgets bound query lines others true false h g = absurd (not_both p budgets.elements (g.decided h.waiting) h.more)
+one_answer p budgets bound query lines others false true h g = absurd (not_both p budgets (h.decided g.waiting) g.undecided)
+one_answer p budgets bound query lines others true false h g = absurd (not_both p budgets (g.decided h.waiting) h.undecided)
 one_answer p budgets bound query lines others true true h g = (h.line ∙ sym g.line, refl)

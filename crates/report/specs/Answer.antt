@@ -7,7 +7,7 @@ use Rattle.theory.specs.Listing.{IsPage}
 use Rattle.theory.specs.Class.{IsLeast, IsNormal, HasIndex, IsRuleList}
 use Rattle.problem.specs.declared.budgets.Budgets.{Budgets}
 use Rattle.problem.specs.declared.kinds.Problem.{Problem}
-use Rattle.problem.specs.Problem.{SameElement, HasAtMost, HasMore, letters_of, count_of, value_text}
+use Rattle.problem.specs.Problem.{SameClassOf, IsDecided, IsUndecided, letters_of, count_of, value_text}
 use Rattle.query_lang.specs.declared.script.Query.{Query}
 use Rattle.query_lang.specs.declared.script.Query.TheVariants.{Index, Equal, Normal, Classes, RuleList, ElementOf, Cayley}
 use Rattle.report.specs.Graph.{AreCayleyGraphs}
@@ -19,15 +19,15 @@ cayley_lines letters k words right left = map (λ i. cayley_line letters k i (sl
 
 -- the lines of a query whose answer is defined, with the bound up to which an index is written out
 abbrev pub AreLines : Problem → ℕ → Query → List (List ℕ) → Type 0
-AreLines p bound Index lines = (n : ℕ) × HasIndex (SameElement p) n × (lines ≡ index_line bound n ∷ [])
-AreLines p bound (Equal u v) lines = (SameElement p u v × (lines ≡ equal_line true ∷ [])) ⊎ ((SameElement p u v → ⊥) × (lines ≡ equal_line false ∷ []))
-AreLines p bound (Normal u) lines = (w : Word) × IsNormal (SameElement p) u w × (lines ≡ normal_line (letters_of p) w ∷ [])
+AreLines p bound Index lines = (n : ℕ) × HasIndex (SameClassOf p) n × (lines ≡ index_line bound n ∷ [])
+AreLines p bound (Equal u v) lines = (SameClassOf p u v × (lines ≡ equal_line true ∷ [])) ⊎ ((SameClassOf p u v → ⊥) × (lines ≡ equal_line false ∷ []))
+AreLines p bound (Normal u) lines = (w : Word) × IsNormal (SameClassOf p) u w × (lines ≡ normal_line (letters_of p) w ∷ [])
 AreLines p bound (Classes count after) lines =
-    (words : List Word) × (more : Bool) × IsPage (IsLeast (SameElement p)) ◌≺◌ after count words more × (lines ≡ map (word_line (letters_of p)) words ++ end_line more ∷ [])
-AreLines p bound RuleList lines = (rules : List (Word × Word)) × IsRuleList (SameElement p) rules × (lines ≡ map (rule_line (letters_of p)) rules ++ end_line false ∷ [])
+    (words : List Word) × (more : Bool) × IsPage (IsLeast (SameClassOf p)) ◌≺◌ after count words more × (lines ≡ map (word_line (letters_of p)) words ++ end_line more ∷ [])
+AreLines p bound RuleList lines = (rules : List (Word × Word)) × IsRuleList (SameClassOf p) rules × (lines ≡ map (rule_line (letters_of p)) rules ++ end_line false ∷ [])
 AreLines p bound (ElementOf u) lines = lines ≡ element_line (value_text p u) ∷ []
 AreLines p bound Cayley lines =
-    (words : List Word) × (right : (ℕ → ℕ → ℕ)) × (left : (ℕ → ℕ → ℕ)) × AreCayleyGraphs (SameElement p) (count_of p) words right left
+    (words : List Word) × (right : (ℕ → ℕ → ℕ)) × (left : (ℕ → ℕ → ℕ)) × AreCayleyGraphs (SameClassOf p) (count_of p) words right left
     × (lines ≡ cayley_lines (letters_of p) (count_of p) words right left ++ end_line false ∷ [])
 
 -- whether a query is answered only where the problem is decided
@@ -40,18 +40,18 @@ waits RuleList = true
 waits (ElementOf u) = false
 waits Cayley = true
 
--- the answer of a query is defined: the problem is decided within the budget, where the query waits for that
+-- the answer of a query is defined: the problem is decided within the budgets, where the query waits for that
 pub record IsDefined (p : Problem) (budgets : Budgets) (bound : ℕ) (query : Query) (lines : List (List ℕ)) : Type 0 where
-  pub decided : IsTrue (waits query) → HasAtMost p budgets.elements
+  pub decided : IsTrue (waits query) → IsDecided p budgets
   pub are_lines : AreLines p bound query lines
 
--- the answer of a query is that the problem is not decided within the budget
-pub record IsUndecided (p : Problem) (budgets : Budgets) (query : Query) (lines : List (List ℕ)) : Type 0 where
+-- the answer of a query is that the problem is not decided within the budgets
+pub record IsLeftUndecided (p : Problem) (budgets : Budgets) (query : Query) (lines : List (List ℕ)) : Type 0 where
   pub waiting : IsTrue (waits query)
-  pub more : HasMore p budgets.elements
+  pub undecided : IsUndecided p budgets
   pub line : lines ≡ undecided_line ∷ []
 
 -- the lines of a query's answer, and whether it is left undecided
 abbrev pub IsAnswer : Problem → Budgets → ℕ → Query → List (List ℕ) → Bool → Type 0
 IsAnswer p budgets bound query lines false = IsDefined p budgets bound query lines
-IsAnswer p budgets bound query lines true = IsUndecided p budgets query lines
+IsAnswer p budgets bound query lines true = IsLeftUndecided p budgets query lines

@@ -19,6 +19,10 @@ use Rattle.report.specs.declared.closure.Closure.TheVariants.{Transf, PPerm, BMa
 
 -- the table is that of the problem's generators
 abbrev pub IsClosureOf : Problem → Closure → Type 0
+IsClosureOf (problem.Presented p) (Transf t) = ⊥
+IsClosureOf (problem.Presented p) (PPerm t) = ⊥
+IsClosureOf (problem.Presented p) (BMat t) = ⊥
+IsClosureOf (problem.Presented p) (MaxPlus t) = ⊥
 IsClosureOf (problem.Transf p) (Transf t) = IsWholeTable (λ x. (length x, 0)) composed (pointwise ◌==◌) p.generators [] t
 IsClosureOf (problem.Transf p) (PPerm t) = ⊥
 IsClosureOf (problem.Transf p) (BMat t) = ⊥

@@ -1,5 +1,5 @@
 -- The lines of a report; each ends with a line feed.
-use Rattle.std.specs.Prelude.{ℕ, Bool, List, ◌++◌, codes, decimal, nat_le, if◌then◌else◌}
+use Rattle.std.specs.Prelude.{ℕ, Bool, List, [], ◌∷◌, ◌++◌, map, codes, decimal, nat_le, if◌then◌else◌}
 use Rattle.std.specs.List.{flat_map, range_with_len}
 use Rattle.theory.specs.Word.{Word}
 use Rattle.words.specs.WordText.{text_of}
@@ -7,9 +7,17 @@ use Rattle.words.specs.WordText.{text_of}
 abbrev pub undecided_line : List ℕ
 undecided_line = codes "undecided\n"
 
+-- how many classes there are
+abbrev pub count_line : ℕ → List ℕ
+count_line n = codes "index " ++ (decimal n ++ codes "\n")
+
+-- that there are more classes than the bound
+abbrev pub over_line : ℕ → List ℕ
+over_line bound = codes "index over " ++ (decimal bound ++ codes "\n")
+
 -- how many classes there are, up to the bound
 abbrev pub index_line : ℕ → ℕ → List ℕ
-index_line bound n = if nat_le n bound then codes "index " ++ (decimal n ++ codes "\n") else codes "index over " ++ (decimal bound ++ codes "\n")
+index_line bound n = if nat_le n bound then count_line n else over_line bound
 
 abbrev pub equal_line : Bool → List ℕ
 equal_line same = if same then codes "equal yes\n" else codes "equal no\n"
@@ -31,6 +39,10 @@ module _ (letters : List ℕ) where
 
   abbrev pub word_line : Word → List ℕ
   word_line w = text_of letters w ++ codes "\n"
+
+  -- a page of words, and its end
+  abbrev pub page_lines : List Word → Bool → List (List ℕ)
+  page_lines words more = map word_line words ++ end_line more ∷ []
 
   abbrev pub rule_line : Word × Word → List ℕ
   rule_line p = text_of letters p.0 ++ (codes " " ++ (text_of letters p.1 ++ codes "\n"))

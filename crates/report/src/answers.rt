@@ -1,22 +1,24 @@
 // The answers of queries.
-ghost use Rattle.std.specs.Prelude.{◌≡◌, ◌≤◌, ◌⊎◌, ◌++◌, [], length, slice_index_or, codes, true, false, OnOk, OnErr, IfOk, IfSome, IsErrOf, IsTrue, MatchOption};
+ghost use Rattle.std.specs.Prelude.{◌≡◌, ◌<◌, ◌≤◌, ◌⊎◌, [], length, slice_index_or, true, false, OnOk, OnErr, IfOk, IfSome, IsErrOf, IsTrue, MatchOption};
 ghost use Rattle.ports.specs.Bytes.{Rose, TakesAll, TakesPrefix};
 ghost use Rattle.ports.specs.declared.fault.WriteFault.TheVariants as fault;
 ghost use Rattle.theory.specs.Word.{IsElement};
-ghost use Rattle.problem.specs.Problem.{count_of, letters_of, value_text};
+ghost use Rattle.problem.specs.Problem.{count_of, is_presented, letters_of, value_text};
 ghost use Rattle.query_lang.specs.Query.{IsQueryOf};
 ghost use Rattle.report.specs.Answer.{waits};
 ghost use Rattle.report.specs.Closed.{IsClosureOf, number_in, words_of};
 ghost use Rattle.report.specs.Gains.{GainsAnswer, GainsLines, GainsPart, GainsSome, is_undecided};
 ghost use Rattle.report.specs.Kept.{IsVerdictOf, KeepsSettings};
-ghost use Rattle.report.specs.Lines.{element_line, equal_line, index_line, normal_line};
+ghost use Rattle.report.specs.Lines.{element_line, index_line, normal_line};
 
 use crate::cayley::write_cayley;
+use crate::classes::write_solved;
 use crate::closure::Closure;
 use crate::line::Line;
 use crate::listings::{page_start, write_page, write_rules};
+use crate::single::{write_count, write_equal, write_normal_form, write_over};
 use crate::state::{State, Verdict};
-use ports::{NoMemory, Sink, WriteFault, write_all};
+use ports::{Sink, WriteFault, write_all};
 use problem::Problem;
 use query_lang::{Query, Script};
 use std::alloc::Global;
@@ -32,21 +34,6 @@ pub enum Answered {
     Undecided,
 }
 
-// The line of how many classes there are, or that there are more than the bound, without its end.
-fn index_text(alloc: Global, count: usize, bound: usize) -> Result<Line, NoMemory>
-    ensures { IfOk result (λ line. line ++ codes "\n" ≡ index_line bound count) }
-{
-    if count <= bound {
-        let mut line = Line::starting(alloc, b"index ")?;
-        line.number(count)?;
-        Ok(line)
-    } else {
-        let mut line = Line::starting(alloc, b"index over ")?;
-        line.number(bound)?;
-        Ok(line)
-    }
-}
-
 // Writes how many classes there are, or that there are more than the bound.
 fn write_index<O: Sink>(
     alloc: Global,
@@ -60,21 +47,10 @@ fn write_index<O: Sink>(
     ensures kept { O.faults sink.old ≤ O.faults sink.new }
     ensures quiet { OnOk result (O.faults sink.new ≡ O.faults sink.old) }
 {
-    index_text(alloc, count, bound)?.write(sink)
-}
-
-// Writes whether two words are related.
-fn write_equal<O: Sink>(same: bool, sink: &mut O) -> Result<(), WriteFault>
-    ensures written { OnOk result (TakesAll (O.taken sink.old) (O.taken sink.new) (equal_line same)) }
-    ensures part { OnErr result (TakesPrefix (O.taken sink.old) (O.taken sink.new) (equal_line same)) }
-    ensures failed { IsErrOf result WriteFault.Failed → Rose (O.faults sink.old) (O.faults sink.new) }
-    ensures kept { O.faults sink.old ≤ O.faults sink.new }
-    ensures quiet { OnOk result (O.faults sink.new ≡ O.faults sink.old) }
-{
-    if same {
-        write_all(sink, b"equal yes\n")
+    if count <= bound {
+        write_count(alloc, count, sink)
     } else {
-        write_all(sink, b"equal no\n")
+        write_over(alloc, bound, sink)
     }
 }
 
@@ -95,19 +71,18 @@ fn write_normal<O: Sink>(
     ensures quiet { OnOk result (O.faults sink.new ≡ O.faults sink.old) }
 {
     let normal = closure.word(closure.index_of(word))?;
-    let mut line = Line::starting(alloc, b"normal ")?;
-    line.word(alloc, problem.alphabet(), &normal)?;
-    line.write(sink)
+    write_normal_form(alloc, problem.alphabet(), &normal, sink)
 }
 
-// Writes the entries of a word's value.
+// Writes the entries of a word's value, where generators are given.
 fn write_element<O: Sink>(
     alloc: Global,
     problem: &Problem,
     word: &Word,
     sink: &mut O,
 ) -> Result<(), WriteFault>
-    requires { IsElement false (length (letters_of problem.now)) word.now }
+    requires generated { is_presented problem.now ≡ false }
+    requires word { IsElement false (length (letters_of problem.now)) word.now }
     ensures written { OnOk result (TakesAll (O.taken sink.old) (O.taken sink.new) (element_line (value_text problem.now word.now))) }
     ensures part { OnErr result (TakesPrefix (O.taken sink.old) (O.taken sink.new) (element_line (value_text problem.now word.now))) }
     ensures failed { IsErrOf result WriteFault.Failed → Rose (O.faults sink.old) (O.faults sink.new) }
@@ -177,6 +152,10 @@ fn write_decided<O: Sink>(
             write_known(alloc, problem, closure, query, state.classes(), sink)?;
             Ok(Answered::Defined)
         }
+        Some(Verdict::Solved(solved)) => {
+            write_solved(alloc, problem, solved, query, state.classes(), sink)?;
+            Ok(Answered::Defined)
+        }
         Some(Verdict::Undecided) => {
             write_all(sink, b"undecided\n")?;
             Ok(Answered::Undecided)
@@ -187,13 +166,14 @@ fn write_decided<O: Sink>(
 
 /// Writes the answer of a query of the script, each line as one piece, and tells whether it is
 /// defined. The value of a word is told whatever the budgets are; the other queries are answered where
-/// the problem is decided within them, and else with the line `undecided`.
+/// the problem is decided within them, and else with the line `undecided`. A problem by relations is
+/// decided with the number of workers of the state, at least one, which changes no answer.
 ///
 /// `Failed` comes only where the sink failed, and `NoMemory` for want of memory; the sink has then
 /// gained a prefix of the answer. What the state keeps is of this script's problem, and what it
 /// keeps afterwards too; nothing else in it changes.
 pub fn write_answer<R: Threads + Sync, O: Sink>(
-    _rt: &R,
+    rt: &R,
     alloc: Global,
     script: &Script,
     query: &Query,
@@ -202,6 +182,7 @@ pub fn write_answer<R: Threads + Sync, O: Sink>(
 ) -> Result<Answered, WriteFault>
     requires query { IsQueryOf script.now.problem query.now }
     requires kept { IfSome state.old.verdict (IsVerdictOf script.now.problem state.old.budgets) }
+    requires workers { 0 < state.old.workers }
     ensures kept { IfSome state.new.verdict (IsVerdictOf script.now.problem state.new.budgets) }
     ensures settings { KeepsSettings state.old state.new }
     ensures written { IfOk result (λ answered. GainsAnswer script.now.problem state.old.budgets state.old.classes query.now (is_undecided answered) (O.taken sink.old) (O.taken sink.new)) }
@@ -215,6 +196,6 @@ pub fn write_answer<R: Threads + Sync, O: Sink>(
         write_element(alloc, problem, word, sink)?;
         return Ok(Answered::Defined);
     }
-    state.decide(alloc, problem)?;
+    state.decide(rt, alloc, problem)?;
     write_decided(alloc, problem, query, state, sink)
 }

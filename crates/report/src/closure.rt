@@ -1,12 +1,13 @@
-// All elements of the semigroup that a problem poses.
-ghost use Rattle.std.specs.Prelude.{◌≡◌, ◌≢◌, ℕ, ◌<◌, ◌≤◌, Some, [], length, slice_get, vec_len, IfOk, MatchOption};
+// All elements of the semigroup that a problem poses by generators.
+ghost use Rattle.std.specs.Prelude.{◌≡◌, ◌≢◌, ℕ, ◌<◌, ◌≤◌, Some, [], false, length, slice_get, vec_len, IfOk, MatchOption};
 ghost use Rattle.theory.specs.Word.{Word, IsOver};
 ghost use Rattle.theory.specs.Class.{IsRuleList};
 ghost use Rattle.theory.specs.Value.{HasAtMostValues, HasMoreValues};
 ghost use Rattle.elements.specs.Generators.{HaveOneShape, value_by};
 ghost use Rattle.froidure_pin.specs.Rules.{IsWholeTable};
+ghost use Rattle.problem.specs.declared.budgets.Budgets.{Budgets};
 ghost use Rattle.problem.specs.declared.kinds.Problem.{Problem};
-ghost use Rattle.problem.specs.Problem.{SameElement, HasAtMost, HasMore, count_of};
+ghost use Rattle.problem.specs.Problem.{SameClassOf, IsDecided, IsUndecided, count_of, is_presented};
 ghost use Rattle.report.specs.Closed.{IsClosureOf, count_in, words_of, letters_in, right_of, left_of, number_in};
 
 use elements::{BMat, Element, MaxPlusTrunc, PPerm, Transf};
@@ -18,8 +19,8 @@ use std::marker::Brand;
 use std::sync::ledger::{Blank, Ledger};
 use words::{Letter, Word};
 
-/// All elements of the semigroup that a problem poses, numbered from 0 in short-lex order of their
-/// least words (Froidure and Pin 1997).
+/// All elements of the semigroup that a problem poses by generators, numbered from 0 in short-lex
+/// order of their least words (Froidure and Pin 1997).
 #[derive(Drop)]
 pub enum Closure {
     /// Of transformations.
@@ -87,12 +88,16 @@ fn table_of<E: Element>(
 }
 
 impl Closure {
-    /// The elements of a problem; none exactly where there are more than the bound. Only want of
-    /// memory refuses it.
+    /// The elements of a problem that is given by generators; none exactly where there are more than
+    /// the bound. Only want of memory refuses it.
     pub fn of(alloc: Global, problem: &Problem, bound: usize) -> Result<Option<Closure>, NoMemory>
-        ensures { IfOk result (λ found. MatchOption found (HasMore problem.now bound) (λ closure. HasAtMost problem.now bound × IsClosureOf problem.now closure)) }
+        requires { is_presented problem.now ≡ false }
+        ensures { IfOk result (λ found. (budgets : Budgets) → budgets.elements ≡ bound → MatchOption found
+            (IsUndecided problem.now budgets)
+            (λ closure. IsDecided problem.now budgets × IsClosureOf problem.now closure)) }
     {
         let closure = match problem {
+            Problem::Presented(_) => unreachable!(),
             Problem::Transf(posed) => {
                 table_of(alloc, posed.generators(), bound)?.map(Closure::Transf)
             }
@@ -154,7 +159,7 @@ impl Closure {
 
     /// The reduced rules, in short-lex order of their left sides. Only want of memory refuses it.
     pub fn rules(&self) -> Result<Vec<(Word, Word)>, NoMemory>
-        ensures { IfOk result (λ rules. (p : Problem) → IsClosureOf p self.now → IsRuleList (SameElement p) rules.items) }
+        ensures { IfOk result (λ rules. (p : Problem) → IsClosureOf p self.now → IsRuleList (SameClassOf p) rules.items) }
     {
         with_table!(self, table => table.rules())
     }

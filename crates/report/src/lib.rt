@@ -1,12 +1,15 @@
-//! The answers of a script's queries, as lines.
+//! The answers of a script's queries, as lines: from all elements of a semigroup that is given by
+//! generators, or from the congruence on one that is given by relations.
 #![tactic(auto)]
 
 mod answers;
 mod cayley;
+mod classes;
 mod closure;
 mod facts;
 mod line;
 mod listings;
+mod single;
 mod state;
 #[cfg(test)]
 mod tests;

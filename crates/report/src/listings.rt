@@ -77,8 +77,8 @@ fn write_words<O: Sink>(
     Ok(())
 }
 
-// Writes the line of a word.
-fn write_word<O: Sink>(
+/// Writes the line of a word.
+pub fn write_word<O: Sink>(
     alloc: Global,
     alphabet: &Alphabet,
     word: &Word,

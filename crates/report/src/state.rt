@@ -1,18 +1,23 @@
 // What is known while the queries of a script are answered.
-ghost use Rattle.std.specs.Prelude.{◌≡◌, None, Some, OnOk, IfOk, IfSome, MatchOption};
+ghost use Rattle.std.specs.Prelude.{◌≡◌, ◌<◌, None, Some, true, false, OnOk, IfOk, IfSome, MatchOption};
+ghost use Rattle.problem.specs.Problem.{IsPosable, is_presented};
 ghost use Rattle.report.specs.Kept.{IsVerdictOf, KeepsSettings};
 
 use super::closure::Closure;
+use congruence::{Solved, Verdict as Outcome, solve};
 use ports::NoMemory;
 use problem::{Budgets, Problem};
 use std::alloc::Global;
+use std::thread::Threads;
 
 /// What was found of a problem.
 #[derive(Drop)]
 pub enum Verdict {
-    /// All its elements.
+    /// All its elements, where generators are given.
     Known(Closure),
-    /// It has more elements than the budget allows.
+    /// Its congruence, where relations are given.
+    Solved(Solved),
+    /// The budgets did not suffice.
     Undecided,
 }
 
@@ -43,14 +48,21 @@ impl State {
     }
 
     // Finds out about the problem, where that was not done yet.
-    pub(crate) fn decide(&mut self, alloc: Global, problem: &Problem) -> Result<(), NoMemory>
-        requires { IfSome self.old.verdict (IsVerdictOf problem.now self.old.budgets) }
+    pub(crate) fn decide<R: Threads + Sync>(
+        &mut self,
+        rt: &R,
+        alloc: Global,
+        problem: &Problem,
+    ) -> Result<(), NoMemory>
+        requires posable { IsPosable problem.now }
+        requires workers { 0 < self.old.workers }
+        requires kept { IfSome self.old.verdict (IsVerdictOf problem.now self.old.budgets) }
         ensures kept { IfSome self.new.verdict (IsVerdictOf problem.now self.new.budgets) }
         ensures settings { KeepsSettings self.old self.new }
         ensures found { OnOk result (MatchOption self.new.verdict ⊥ (λ _. Unit {0})) }
     {
         if self.verdict.is_none() {
-            let verdict = verdict_of(alloc, problem, self.budgets)?;
+            let verdict = verdict_of(rt, alloc, problem, self.budgets, self.workers)?;
             self.verdict = Some(verdict);
         }
         Ok(())
@@ -71,8 +83,47 @@ impl State {
     }
 }
 
-// What is found of a problem within the budgets.
-fn verdict_of(alloc: Global, problem: &Problem, budgets: Budgets) -> Result<Verdict, NoMemory>
+// What is found of a problem within the budgets, by a number of workers.
+fn verdict_of<R: Threads + Sync>(
+    rt: &R,
+    alloc: Global,
+    problem: &Problem,
+    budgets: Budgets,
+    workers: usize,
+) -> Result<Verdict, NoMemory>
+    requires posable { IsPosable problem.now }
+    requires workers { 0 < workers }
+    ensures { IfOk result (IsVerdictOf problem.now budgets) }
+{
+    if problem.is_presented() {
+        solved_of(rt, alloc, problem, budgets, workers)
+    } else {
+        known_of(alloc, problem, budgets)
+    }
+}
+
+// What is found of a problem by relations.
+fn solved_of<R: Threads + Sync>(
+    rt: &R,
+    alloc: Global,
+    problem: &Problem,
+    budgets: Budgets,
+    workers: usize,
+) -> Result<Verdict, NoMemory>
+    requires presented { is_presented problem.now ≡ true }
+    requires posable { IsPosable problem.now }
+    requires workers { 0 < workers }
+    ensures { IfOk result (IsVerdictOf problem.now budgets) }
+{
+    match solve(rt, alloc, problem, &budgets, workers)? {
+        Outcome::Known(solved) => Ok(Verdict::Solved(solved)),
+        Outcome::Undecided => Ok(Verdict::Undecided),
+    }
+}
+
+// What is found of a problem by generators.
+fn known_of(alloc: Global, problem: &Problem, budgets: Budgets) -> Result<Verdict, NoMemory>
+    requires { is_presented problem.now ≡ false }
     ensures { IfOk result (IsVerdictOf problem.now budgets) }
 {
     match Closure::of(alloc, problem, budgets.elements)? {

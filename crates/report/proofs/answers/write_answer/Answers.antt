@@ -24,7 +24,7 @@ returns-in_err-write_element-clause-part g c =
       lines = line ∷ [];
       undecided = false;
       is_answer = element_answer p c.args.state.now.budgets c.args.state.now.classes c.args.query.now c.in-ElementOf.word c.in-ElementOf.is;
-      gained = subst (TakesPrefix (g.O.Sink.taken c.args.sink.now) (g.O.Sink.taken c.write_element.new.sink)) (ap (λ r. element_line (value_text r c.in-ElementOf.word)) c.problem-problem.ensures ∙ one_line line) c.in_err-write_element.ensures.part;
+      gained = subst (TakesPrefix (g.O.Sink.taken c.args.sink.now) (g.O.Sink.taken c.write_element.new.sink)) (ap (λ r. element_line (value_text r c.in-ElementOf.word)) c.problem-problem.ensures.problem ∙ one_line line) c.in_err-write_element.ensures.part;
     }))
 
 pub returns-in-ElementOf-clause-written : goal.returns-in-ElementOf-clause-written
@@ -34,5 +34,5 @@ returns-in-ElementOf-clause-written g c =
     record {
       lines = line ∷ [];
       is_answer = element_answer p c.args.state.now.budgets c.args.state.now.classes c.args.query.now c.in-ElementOf.word c.in-ElementOf.is;
-      gained = subst (TakesAll (g.O.Sink.taken c.args.sink.now) (g.O.Sink.taken c.write_element.new.sink)) (ap (λ r. element_line (value_text r c.in-ElementOf.word)) c.problem-problem.ensures ∙ one_line line) c.in_ok-write_element.ensures.written;
+      gained = subst (TakesAll (g.O.Sink.taken c.args.sink.now) (g.O.Sink.taken c.write_element.new.sink)) (ap (λ r. element_line (value_text r c.in-ElementOf.word)) c.problem-problem.ensures.problem ∙ one_line line) c.in_ok-write_element.ensures.written;
     }

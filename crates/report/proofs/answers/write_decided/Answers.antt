@@ -2,7 +2,7 @@ use Rattle.std.proofs.Common.{◌≡◌, true, [], ◌∷◌, Option, Some, Matc
 use Rattle.ports.specs.Bytes.{TakesPrefix}
 use Rattle.problem.specs.declared.budgets.Budgets.{Budgets}
 use Rattle.problem.specs.declared.kinds.Problem.{Problem}
-use Rattle.problem.specs.Problem.{HasMore}
+use Rattle.problem.specs.Problem.{IsUndecided}
 use Rattle.report.specs.declared.state.Verdict.{Verdict}
 use Rattle.report.specs.declared.state.Verdict.TheVariants.{Undecided}
 use Rattle.report.specs.Kept.{IsVerdictOf}
@@ -12,8 +12,8 @@ use Rattle.report.proofs.GainLemmas.{on_err}
 use Rattle.report.proofs.answers.write_decided.Goals as goal
 
 -- what an undecided verdict says
-more_elements : (p : Problem) (budgets : Budgets) (found : Option Verdict) (v : Verdict) → found ≡ Some v → v ≡ Undecided → MatchOption found ⊥ (IsVerdictOf p budgets) → HasMore p budgets.elements
-more_elements p budgets found v e is h = subst (IsVerdictOf p budgets) is (subst (λ o. MatchOption o ⊥ (IsVerdictOf p budgets)) e h)
+left_undecided : (p : Problem) (budgets : Budgets) (found : Option Verdict) (v : Verdict) → found ≡ Some v → v ≡ Undecided → MatchOption found ⊥ (IsVerdictOf p budgets) → IsUndecided p budgets
+left_undecided p budgets found v e is h = subst (IsVerdictOf p budgets) is (subst (λ o. MatchOption o ⊥ (IsVerdictOf p budgets)) e h)
 
 pub returns-in_err-write_all-in-Some-Undecided-clause-part : goal.returns-in_err-write_all-in-Some-Undecided-clause-part
 returns-in_err-write_all-in-Some-Undecided-clause-part g c =
@@ -22,7 +22,7 @@ returns-in_err-write_all-in-Some-Undecided-clause-part g c =
       undecided = true;
       is_answer = record {
         waiting = c.requires.waits;
-        more = more_elements c.args.problem.now c.args.state.now.budgets c.args.state.now.verdict c.in-Some-Undecided.field-0.now c.in-Some-Undecided.ensures c.in-Some-Undecided.field-0-is c.requires.kept;
+        undecided = left_undecided c.args.problem.now c.args.state.now.budgets c.args.state.now.verdict c.in-Some-Undecided.field-0.now c.in-Some-Undecided.ensures c.in-Some-Undecided.field-0-is c.requires.kept;
         line = refl;
       };
       gained = subst (TakesPrefix (g.O.Sink.taken c.args.sink.now) (g.O.Sink.taken c.write_all.new.sink)) (one_line undecided_line) c.in_err-write_all-in-Some-Undecided.ensures.prefix;

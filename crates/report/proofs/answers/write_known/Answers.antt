@@ -1,26 +1,16 @@
-use Rattle.std.proofs.Common.{◌≡◌, ℕ, Bool, false, List, [], ◌∷◌, ◌++◌, length, map, take, drop, nat_lt, get_or, ◌==◌, refl, sym, ap, ap₂, subst}
-use Rattle.theory.specs.Word.{Word, IsElement, IsOver}
+use Rattle.std.proofs.Common.{ℕ, Bool, false, List, [], ◌∷◌, ◌++◌, length, map, take, drop, nat_lt, get_or, ◌==◌, refl, ap, ap₂, subst}
+use Rattle.theory.specs.Word.{Word}
 use Rattle.problem.specs.declared.kinds.Problem.{Problem}
 use Rattle.problem.specs.Problem.{letters_of, count_of, value_text}
-use Rattle.query_lang.specs.Query.{IsQueryOf}
-use Rattle.query_lang.specs.declared.script.Query.{Query}
 use Rattle.query_lang.specs.declared.script.Query.TheVariants as query
 use Rattle.report.specs.declared.closure.Closure.{Closure}
 use Rattle.report.specs.Closed.{words_of, right_of, left_of, number_in}
-use Rattle.report.specs.Answer.{AreLines, cayley_lines}
+use Rattle.report.specs.Answer.{cayley_lines}
 use Rattle.report.specs.Lines.{index_line, equal_line, element_line, end_line, normal_line, word_line, rule_line}
 use Rattle.report.specs.Gains.{bytes_of}
 use Rattle.report.specs.Paging.{IsPageStart}
-use Rattle.report.proofs.AnswerLemmas.{known_index, known_equal, known_normal, known_page, known_rules, known_cayley, all_lines, some_lines, one_line, rules_over}
+use Rattle.report.proofs.AnswerLemmas.{known_index, known_equal, known_normal, known_page, known_rules, known_cayley, all_lines, some_lines, one_line, rules_over, lines_of, known_query}
 use Rattle.report.proofs.answers.write_known.Goals as goal
-
--- the query is what was matched
-lines_of : (p : Problem) (bound : ℕ) (lines : List (List ℕ)) (q r : Query) → q ≡ r → AreLines p bound r lines → AreLines p bound q lines
-lines_of p bound lines q r e = subst (λ s. AreLines p bound s lines) (sym e)
-
--- the words of the query are elements
-word_of_query : (p : Problem) (u : Word) → count_of p ≡ length (letters_of p) → IsElement false (length (letters_of p)) u → IsElement false (count_of p) u
-word_of_query p u e h = (h.0, subst (λ k. IsOver k u) (sym e) h.1)
 
 pub write_rules-requires : goal.write_rules-requires
 write_rules-requires g c =
@@ -44,37 +34,35 @@ returns-in-Index-clause-part g c =
 pub returns-in-Equal-clause-written : goal.returns-in-Equal-clause-written
 returns-in-Equal-clause-written g c =
     let p : Problem = c.args.problem.now in
-    let asked = subst (IsQueryOf p) c.in-Equal.is c.requires.query in
-    let one_each = c.alphabet-alphabet.ensures.one_each in
+    let asked = known_query p c.args.closure.now c.args.query.now (query.Equal c.in-Equal.left c.in-Equal.right) c.requires.closure c.alphabet-alphabet.ensures.one_each c.in-Equal.is c.requires.query in
     let same : Bool = c.index_of.result == c.index_of-in-Equal.result in
     let lines : List (List ℕ) = equal_line same ∷ [] in
-    all_lines p c.args.bound c.args.query.now lines (lines_of p c.args.bound lines c.args.query.now (query.Equal c.in-Equal.left c.in-Equal.right) c.in-Equal.is (known_equal p c.args.closure.now c.requires.closure c.args.bound c.in-Equal.left c.in-Equal.right same (word_of_query p c.in-Equal.left one_each asked.0) (word_of_query p c.in-Equal.right one_each asked.1) (ap₂ (λ m n. m == n) c.index_of.ensures.number c.index_of-in-Equal.ensures.number)))
+    all_lines p c.args.bound c.args.query.now lines (lines_of p c.args.bound lines c.args.query.now (query.Equal c.in-Equal.left c.in-Equal.right) c.in-Equal.is (known_equal p c.args.closure.now c.requires.closure c.args.bound c.in-Equal.left c.in-Equal.right same asked.0 asked.1 (ap₂ (λ m n. m == n) c.index_of.ensures.number c.index_of-in-Equal.ensures.number)))
     c.write_equal.result _ _ _ (one_line _) c.write_equal.ensures.written
 
 pub returns-in-Equal-clause-part : goal.returns-in-Equal-clause-part
 returns-in-Equal-clause-part g c =
     let p : Problem = c.args.problem.now in
-    let asked = subst (IsQueryOf p) c.in-Equal.is c.requires.query in
-    let one_each = c.alphabet-alphabet.ensures.one_each in
+    let asked = known_query p c.args.closure.now c.args.query.now (query.Equal c.in-Equal.left c.in-Equal.right) c.requires.closure c.alphabet-alphabet.ensures.one_each c.in-Equal.is c.requires.query in
     let same : Bool = c.index_of.result == c.index_of-in-Equal.result in
     let lines : List (List ℕ) = equal_line same ∷ [] in
-    some_lines p c.args.bound c.args.query.now lines (lines_of p c.args.bound lines c.args.query.now (query.Equal c.in-Equal.left c.in-Equal.right) c.in-Equal.is (known_equal p c.args.closure.now c.requires.closure c.args.bound c.in-Equal.left c.in-Equal.right same (word_of_query p c.in-Equal.left one_each asked.0) (word_of_query p c.in-Equal.right one_each asked.1) (ap₂ (λ m n. m == n) c.index_of.ensures.number c.index_of-in-Equal.ensures.number)))
+    some_lines p c.args.bound c.args.query.now lines (lines_of p c.args.bound lines c.args.query.now (query.Equal c.in-Equal.left c.in-Equal.right) c.in-Equal.is (known_equal p c.args.closure.now c.requires.closure c.args.bound c.in-Equal.left c.in-Equal.right same asked.0 asked.1 (ap₂ (λ m n. m == n) c.index_of.ensures.number c.index_of-in-Equal.ensures.number)))
     c.write_equal.result _ _ _ (one_line _) c.write_equal.ensures.part
 
 pub returns-in-Normal-clause-written : goal.returns-in-Normal-clause-written
 returns-in-Normal-clause-written g c =
     let p : Problem = c.args.problem.now in
-    let asked = subst (IsQueryOf p) c.in-Normal.is c.requires.query in
+    let asked = known_query p c.args.closure.now c.args.query.now (query.Normal c.in-Normal.word) c.requires.closure c.alphabet-alphabet.ensures.one_each c.in-Normal.is c.requires.query in
     let lines : List (List ℕ) = normal_line (letters_of p) (get_or (words_of c.args.closure.now) (number_in c.args.closure.now c.in-Normal.word) []) ∷ [] in
-    all_lines p c.args.bound c.args.query.now lines (lines_of p c.args.bound lines c.args.query.now (query.Normal c.in-Normal.word) c.in-Normal.is (known_normal p c.args.closure.now c.requires.closure c.args.bound c.in-Normal.word (word_of_query p c.in-Normal.word c.alphabet-alphabet.ensures.one_each asked)))
+    all_lines p c.args.bound c.args.query.now lines (lines_of p c.args.bound lines c.args.query.now (query.Normal c.in-Normal.word) c.in-Normal.is (known_normal p c.args.closure.now c.requires.closure c.args.bound c.in-Normal.word asked))
     c.write_normal.result (normal_line (letters_of p) (get_or (words_of c.args.closure.now) (number_in c.args.closure.now c.in-Normal.word) [])) _ _ (one_line _) c.write_normal.ensures.written
 
 pub returns-in-Normal-clause-part : goal.returns-in-Normal-clause-part
 returns-in-Normal-clause-part g c =
     let p : Problem = c.args.problem.now in
-    let asked = subst (IsQueryOf p) c.in-Normal.is c.requires.query in
+    let asked = known_query p c.args.closure.now c.args.query.now (query.Normal c.in-Normal.word) c.requires.closure c.alphabet-alphabet.ensures.one_each c.in-Normal.is c.requires.query in
     let lines : List (List ℕ) = normal_line (letters_of p) (get_or (words_of c.args.closure.now) (number_in c.args.closure.now c.in-Normal.word) []) ∷ [] in
-    some_lines p c.args.bound c.args.query.now lines (lines_of p c.args.bound lines c.args.query.now (query.Normal c.in-Normal.word) c.in-Normal.is (known_normal p c.args.closure.now c.requires.closure c.args.bound c.in-Normal.word (word_of_query p c.in-Normal.word c.alphabet-alphabet.ensures.one_each asked)))
+    some_lines p c.args.bound c.args.query.now lines (lines_of p c.args.bound lines c.args.query.now (query.Normal c.in-Normal.word) c.in-Normal.is (known_normal p c.args.closure.now c.requires.closure c.args.bound c.in-Normal.word asked))
     c.write_normal.result (normal_line (letters_of p) (get_or (words_of c.args.closure.now) (number_in c.args.closure.now c.in-Normal.word) [])) _ _ (one_line _) c.write_normal.ensures.part
 
 pub returns-in_ok-start-in-Classes-clause-written : goal.returns-in_ok-start-in-Classes-clause-written

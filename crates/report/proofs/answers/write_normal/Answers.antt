@@ -1,8 +1,6 @@
-use Rattle.std.proofs.Common.{◌≡◌, ℕ, List, [], ◌++◌, codes, get_or, slice_get, Some, sym, ap, subst, ◌∙◌}
+use Rattle.std.proofs.Common.{◌≡◌, ℕ, List, [], get_or, slice_get, Some, sym, ap, subst, ◌∙◌}
 use Rattle.std.proofs.lemmas.Option.{get_or_from_slice_get}
-use Rattle.std.proofs.lemmas.List.{append_assoc}
 use Rattle.theory.specs.Word.{Word, IsOver}
-use Rattle.words.specs.WordText.{text_of}
 use Rattle.ports.specs.Bytes.{TakesAll, TakesPrefix}
 use Rattle.problem.specs.Problem.{letters_of}
 use Rattle.report.specs.Closed.{words_of, number_in}
@@ -15,21 +13,20 @@ use Rattle.report.proofs.answers.write_normal.Goals as goal
 pub index_of-requires-clause-over : goal.index_of-requires-clause-over
 index_of-requires-clause-over g c = subst (λ k. IsOver k c.args.word.now) (sym (closure_letters c.args.problem.now c.args.closure.now c.requires.closure)) c.requires.word.1
 
-pub word-requires-2 : goal.word-requires-2
-word-requires-2 g c = word_over c.args.problem.now c.args.closure.now c.requires.closure c.index_of.result c.in_ok-normal.normal c.alphabet.result.now c.in_ok-normal.ensures c.alphabet.ensures.letters c.alphabet.ensures.one_each
+pub write_normal_form-requires : goal.write_normal_form-requires
+write_normal_form-requires g c = word_over c.args.problem.now c.args.closure.now c.requires.closure c.index_of.result c.in_ok-normal.normal c.alphabet.result.now c.in_ok-normal.ensures c.alphabet.ensures.letters c.alphabet.ensures.one_each
 
 -- the line of the word that was read
-line_of_word : (words : List Word) (n m : ℕ) (w : Word) (letters others l1 l2 : List ℕ) → n ≡ m → slice_get words n ≡ Some w → others ≡ letters → l1 ≡ codes "normal " → l2 ≡ l1 ++ text_of others w → l2 ++ codes "\n" ≡ normal_line letters (get_or words m [])
-line_of_word words n m w letters others l1 l2 e at same start line =
-    let here : w ≡ get_or words m [] = sym (get_or_from_slice_get words n w [] at) ∙ ap (λ k. get_or words k []) e in
-    ap (λ l. l ++ codes "\n") (line ∙ ap (λ l. l ++ text_of others w) start ∙ ap (λ ls. codes "normal " ++ text_of ls w) same ∙ ap (λ u. codes "normal " ++ text_of letters u) here) ∙ append_assoc (codes "normal ") (text_of letters (get_or words m [])) (codes "\n")
+line_of_word : (words : List Word) (n m : ℕ) (w : Word) (letters others : List ℕ) → n ≡ m → slice_get words n ≡ Some w → others ≡ letters → normal_line others w ≡ normal_line letters (get_or words m [])
+line_of_word words n m w letters others e at same =
+    ap (λ ls. normal_line ls w) same ∙ ap (normal_line letters) (sym (get_or_from_slice_get words n w [] at) ∙ ap (λ k. get_or words k []) e)
 
 pub returns-clause-written : goal.returns-clause-written
 returns-clause-written g c =
-    let line = line_of_word (words_of c.args.closure.now) c.index_of.result (number_in c.args.closure.now c.args.word.now) c.in_ok-normal.normal (letters_of c.args.problem.now) c.alphabet.result.now c.in_ok-line.line c.word-2.new.self c.index_of.ensures.number c.in_ok-normal.ensures c.alphabet.ensures.letters c.in_ok-line.ensures c.in_ok-word.ensures in
-    on_ok_so c.write.result _ _ (subst (TakesAll (g.O.Sink.taken c.args.sink.now) (g.O.Sink.taken c.write.new.sink)) line) c.write.ensures.all
+    let line = line_of_word (words_of c.args.closure.now) c.index_of.result (number_in c.args.closure.now c.args.word.now) c.in_ok-normal.normal (letters_of c.args.problem.now) c.alphabet.result.now c.index_of.ensures.number c.in_ok-normal.ensures c.alphabet.ensures.letters in
+    on_ok_so c.write_normal_form.result _ _ (subst (TakesAll (g.O.Sink.taken c.args.sink.now) (g.O.Sink.taken c.write_normal_form.new.sink)) line) c.write_normal_form.ensures.written
 
 pub returns-clause-part : goal.returns-clause-part
 returns-clause-part g c =
-    let line = line_of_word (words_of c.args.closure.now) c.index_of.result (number_in c.args.closure.now c.args.word.now) c.in_ok-normal.normal (letters_of c.args.problem.now) c.alphabet.result.now c.in_ok-line.line c.word-2.new.self c.index_of.ensures.number c.in_ok-normal.ensures c.alphabet.ensures.letters c.in_ok-line.ensures c.in_ok-word.ensures in
-    on_err_so c.write.result _ _ (subst (TakesPrefix (g.O.Sink.taken c.args.sink.now) (g.O.Sink.taken c.write.new.sink)) line) c.write.ensures.prefix
+    let line = line_of_word (words_of c.args.closure.now) c.index_of.result (number_in c.args.closure.now c.args.word.now) c.in_ok-normal.normal (letters_of c.args.problem.now) c.alphabet.result.now c.index_of.ensures.number c.in_ok-normal.ensures c.alphabet.ensures.letters in
+    on_err_so c.write_normal_form.result _ _ (subst (TakesPrefix (g.O.Sink.taken c.args.sink.now) (g.O.Sink.taken c.write_normal_form.new.sink)) line) c.write_normal_form.ensures.part

@@ -3,7 +3,7 @@ use Rattle.theory.specs.Class.{IsLeast}
 use Rattle.theory.specs.Listing.{IsAscending}
 use Rattle.theory.specs.ShortLex.{◌≺◌}
 use Rattle.problem.specs.declared.kinds.Problem.{Problem}
-use Rattle.problem.specs.Problem.{SameElement}
+use Rattle.problem.specs.Problem.{SameClassOf}
 use Rattle.report.specs.declared.closure.Closure.{Closure}
 use Rattle.report.specs.Closed.{IsClosureOf, words_of}
 use Rattle.report.proofs.ClosureLemmas.{closure_numbers, closure_count}
@@ -11,7 +11,7 @@ use Rattle.report.proofs.PageLemmas.{list_ascends, all_after, none_after, comes_
 use Rattle.report.proofs.listings.count_before.Goals as goal
 
 ascends : (p : Problem) (c : Closure) → IsClosureOf p c → IsAscending ◌≺◌ None (words_of c)
-ascends p c h = list_ascends (IsLeast (SameElement p)) None (words_of c) (closure_numbers p c h).graphs.listed
+ascends p c h = list_ascends (IsLeast (SameClassOf p)) None (words_of c) (closure_numbers p c h).graphs.listed
 
 pub loop-low-init : goal.loop-low-init
 loop-low-init c = record {

@@ -1,0 +1,94 @@
+// The answers where the problem's congruence is solved.
+ghost use Rattle.std.specs.Prelude.{◌≡◌, ◌≤◌, ◌⊎◌, [], length, IfOk, OnOk, OnErr, IsErrOf};
+ghost use Rattle.std.specs.Option.{option_copied};
+ghost use Rattle.ports.specs.Bytes.{Rose, TakesAll};
+ghost use Rattle.ports.specs.declared.fault.WriteFault.TheVariants as fault;
+ghost use Rattle.theory.specs.Class.{SameClass};
+ghost use Rattle.congruence.specs.Verdicts.{IsCongruenceIn};
+ghost use Rattle.query_lang.specs.Query.{IsQueryOf};
+ghost use Rattle.report.specs.Gains.{GainsLines, GainsPage, GainsSome, GainsSomePage};
+
+use crate::listings::{write_end, write_word};
+use crate::single::{write_count, write_equal, write_normal_form, write_over};
+use congruence::{Index, Solved};
+use ports::{NoMemory, Sink, WriteFault};
+use problem::Problem;
+use query_lang::Query;
+use std::alloc::Global;
+use words::{Alphabet, Word};
+
+// The cursor in memory of its own.
+fn copied(alloc: Global, cursor: Option<&Word>) -> Result<Option<Word>, NoMemory>
+    ensures { IfOk result (λ copy. copy ≡ option_copied cursor.entry) }
+{
+    match cursor {
+        Some(word) => Ok(Some(word.copy(alloc)?)),
+        None => Ok(None),
+    }
+}
+
+// Writes a page: at most so many least words after a cursor, each as it is found, and whether there
+// are more.
+fn write_classes<O: Sink>(
+    alloc: Global,
+    alphabet: &Alphabet,
+    solved: &Solved,
+    count: usize,
+    after: Option<&Word>,
+    sink: &mut O,
+) -> Result<(), WriteFault>
+    requires { solved.now.presentation.letters ≡ length alphabet.now }
+    ensures written { OnOk result (GainsPage (SameClass solved.now) alphabet.now (option_copied after.entry) count (O.taken sink.old) (O.taken sink.new)) }
+    ensures part { OnErr result (TakesAll (O.taken sink.old) (O.taken sink.new) [] ⊎ GainsSomePage (SameClass solved.now) alphabet.now (option_copied after.entry) count (O.taken sink.old) (O.taken sink.new)) }
+    ensures failed { IsErrOf result WriteFault.Failed → Rose (O.faults sink.old) (O.faults sink.new) }
+    ensures kept { O.faults sink.old ≤ O.faults sink.new }
+    ensures quiet { OnOk result (O.faults sink.new ≡ O.faults sink.old) }
+{
+    let mut cursor = copied(alloc, after)?;
+    for _ in 0..count {
+        match solved.next_after(cursor.as_ref())? {
+            Some(word) => {
+                write_word(alloc, alphabet, &word, sink)?;
+                cursor = Some(word);
+            }
+            None => return write_end(false, sink),
+        }
+    }
+    let next = solved.next_after(cursor.as_ref())?;
+    write_end(next.is_some(), sink)
+}
+
+/// Writes the answer of a query of a problem whose congruence is solved.
+pub fn write_solved<O: Sink>(
+    alloc: Global,
+    problem: &Problem,
+    solved: &Solved,
+    query: &Query,
+    bound: usize,
+    sink: &mut O,
+) -> Result<(), WriteFault>
+    requires solved { IsCongruenceIn problem.now solved.now }
+    requires query { IsQueryOf problem.now query.now }
+    ensures written { OnOk result (GainsLines problem.now bound query.now (O.taken sink.old) (O.taken sink.new)) }
+    ensures part { OnErr result (TakesAll (O.taken sink.old) (O.taken sink.new) [] ⊎ GainsSome problem.now bound query.now (O.taken sink.old) (O.taken sink.new)) }
+    ensures failed { IsErrOf result WriteFault.Failed → Rose (O.faults sink.old) (O.faults sink.new) }
+    ensures kept { O.faults sink.old ≤ O.faults sink.new }
+    ensures quiet { OnOk result (O.faults sink.new ≡ O.faults sink.old) }
+{
+    let alphabet = problem.alphabet();
+    match query {
+        Query::Index => match solved.index(bound)? {
+            Index::Finite(count) => write_count(alloc, count, sink),
+            Index::Over => write_over(alloc, bound, sink),
+        },
+        Query::Equal(left, right) => write_equal(solved.equal(left, right)?, sink),
+        Query::Normal(word) => {
+            let normal = solved.normal(word)?;
+            write_normal_form(alloc, alphabet, &normal, sink)
+        }
+        Query::Classes { count, after } => {
+            write_classes(alloc, alphabet, solved, *count, after.as_ref(), sink)
+        }
+        Query::RuleList | Query::ElementOf(_) | Query::Cayley => unreachable!(),
+    }
+}

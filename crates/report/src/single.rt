@@ -1,0 +1,71 @@
+// Answers of one line.
+ghost use Rattle.std.specs.Prelude.{◌≡◌, ◌≤◌, length, OnOk, OnErr, IsErrOf};
+ghost use Rattle.ports.specs.Bytes.{Rose, TakesAll, TakesPrefix};
+ghost use Rattle.ports.specs.declared.fault.WriteFault.TheVariants as fault;
+ghost use Rattle.theory.specs.Word.{IsOver};
+ghost use Rattle.report.specs.Lines.{count_line, over_line, equal_line, normal_line};
+
+use crate::line::Line;
+use ports::{Sink, WriteFault, write_all};
+use std::alloc::Global;
+use words::{Alphabet, Word};
+
+/// Writes how many classes there are.
+pub fn write_count<O: Sink>(alloc: Global, count: usize, sink: &mut O) -> Result<(), WriteFault>
+    ensures written { OnOk result (TakesAll (O.taken sink.old) (O.taken sink.new) (count_line count)) }
+    ensures part { OnErr result (TakesPrefix (O.taken sink.old) (O.taken sink.new) (count_line count)) }
+    ensures failed { IsErrOf result WriteFault.Failed → Rose (O.faults sink.old) (O.faults sink.new) }
+    ensures kept { O.faults sink.old ≤ O.faults sink.new }
+    ensures quiet { OnOk result (O.faults sink.new ≡ O.faults sink.old) }
+{
+    let mut line = Line::starting(alloc, b"index ")?;
+    line.number(count)?;
+    line.write(sink)
+}
+
+/// Writes that there are more classes than the bound.
+pub fn write_over<O: Sink>(alloc: Global, bound: usize, sink: &mut O) -> Result<(), WriteFault>
+    ensures written { OnOk result (TakesAll (O.taken sink.old) (O.taken sink.new) (over_line bound)) }
+    ensures part { OnErr result (TakesPrefix (O.taken sink.old) (O.taken sink.new) (over_line bound)) }
+    ensures failed { IsErrOf result WriteFault.Failed → Rose (O.faults sink.old) (O.faults sink.new) }
+    ensures kept { O.faults sink.old ≤ O.faults sink.new }
+    ensures quiet { OnOk result (O.faults sink.new ≡ O.faults sink.old) }
+{
+    let mut line = Line::starting(alloc, b"index over ")?;
+    line.number(bound)?;
+    line.write(sink)
+}
+
+/// Writes whether two words are related.
+pub fn write_equal<O: Sink>(same: bool, sink: &mut O) -> Result<(), WriteFault>
+    ensures written { OnOk result (TakesAll (O.taken sink.old) (O.taken sink.new) (equal_line same)) }
+    ensures part { OnErr result (TakesPrefix (O.taken sink.old) (O.taken sink.new) (equal_line same)) }
+    ensures failed { IsErrOf result WriteFault.Failed → Rose (O.faults sink.old) (O.faults sink.new) }
+    ensures kept { O.faults sink.old ≤ O.faults sink.new }
+    ensures quiet { OnOk result (O.faults sink.new ≡ O.faults sink.old) }
+{
+    if same {
+        write_all(sink, b"equal yes\n")
+    } else {
+        write_all(sink, b"equal no\n")
+    }
+}
+
+/// Writes a normal form.
+pub fn write_normal_form<O: Sink>(
+    alloc: Global,
+    alphabet: &Alphabet,
+    normal: &Word,
+    sink: &mut O,
+) -> Result<(), WriteFault>
+    requires { IsOver (length alphabet.now) normal.now }
+    ensures written { OnOk result (TakesAll (O.taken sink.old) (O.taken sink.new) (normal_line alphabet.now normal.now)) }
+    ensures part { OnErr result (TakesPrefix (O.taken sink.old) (O.taken sink.new) (normal_line alphabet.now normal.now)) }
+    ensures failed { IsErrOf result WriteFault.Failed → Rose (O.faults sink.old) (O.faults sink.new) }
+    ensures kept { O.faults sink.old ≤ O.faults sink.new }
+    ensures quiet { OnOk result (O.faults sink.new ≡ O.faults sink.old) }
+{
+    let mut line = Line::starting(alloc, b"normal ")?;
+    line.word(alloc, alphabet, normal)?;
+    line.write(sink)
+}
