@@ -32,7 +32,7 @@ is_undecided a = a.undecided
 
 -- what may be used up on a problem under these settings
 abbrev pub budgets_of : Settings → Budgets
-budgets_of settings = record { elements = settings.elements }
+budgets_of settings = record { defs = settings.defs; elements = settings.elements }
 
 -- the answer of a query
 abbrev pub IsAnswerOf : Settings → Problem → Query → Answer → Type 0
@@ -110,6 +110,7 @@ pub record GainsBeginning (settings : Settings) (input : List ℕ) (old new : Op
 pub record IsStateOf (settings : Settings) (problem : Problem) (state : State) : Type 0 where
   pub budgets : state.budgets ≡ budgets_of settings
   pub classes : state.classes ≡ settings.classes
+  pub workers : 0 < state.workers
   pub verdict : IfSome state.verdict (IsVerdictOf problem state.budgets)
 
 -- the sink gained this line, or a prefix of it where one of its two counts rose

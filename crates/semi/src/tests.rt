@@ -3,6 +3,7 @@ ghost use Rattle.std.specs.Prelude.{◌≡◌, IfOk};
 use super::adapters::{InputSource, OutputSink};
 use super::top::semi;
 use ports::{Failed, MemSink, MemSource, Sink, Source, WriteFault};
+use std::alloc::Global;
 use std::io;
 use std::io::{ErrorKind, Read, Write};
 use std::test::Fail;
@@ -155,6 +156,163 @@ fn scripts_get_their_report(rt: HostRuntime) -> Result<(), Fail> {
         assert_eq!(rt; ended.status, status, "{script}");
         assert_eq!(rt; ended.out.as_slice(), out.as_bytes(), "{script}");
         assert_eq!(rt; ended.err.as_slice(), err.as_bytes(), "{script}");
+    }
+    Ok(())
+}
+
+#[test]
+fn presentations_get_their_report(rt: HostRuntime) -> Result<(), Fail> {
+    const NAME: &[&str] = &["semi"];
+    for (words, script, status, out, err) in [
+        (
+            NAME,
+            "monoid ab\nrel aa 1\nrel bbb 1\nrel abab 1\nindex\nclasses 9\n\
+             classes 2 after aa\nclasses 0 after bb\nclasses 0\n",
+            0u8,
+            "index 6\n1\na\nb\nab\nba\nbb\nend\nab\nba\nmore\nend\nmore\n",
+            "",
+        ),
+        (
+            NAME,
+            "monoid ab\nrel aa 1\nrel bbb 1\nrel abab 1\nright a 1\n\
+             index\nclasses 9\nnormal aba\nequal aba ba\nequal ab 1\n",
+            0,
+            "index 3\n1\nb\nba\nend\nnormal ba\nequal yes\nequal no\n",
+            "",
+        ),
+        (
+            NAME,
+            "monoid ab\nrel aa 1\nrel bbb 1\nrel abab 1\ntwosided a 1\nindex\n",
+            0,
+            "index 1\n",
+            "",
+        ),
+        (
+            NAME,
+            "semigroup ab\nrel aa a\nrel bb b\nrel ab ba\nclasses 9\nnormal bab\n",
+            0,
+            "a\nb\nab\nend\nnormal ab\n",
+            "",
+        ),
+        (
+            &["semi", "--defs", "2"],
+            "monoid a\nrel aaa 1\nindex\n",
+            0,
+            "index 3\n",
+            "",
+        ),
+        (
+            &["semi", "--defs", "1"],
+            "monoid a\nrel aaa 1\nindex\nequal a a\n",
+            1,
+            "undecided\nundecided\n",
+            "",
+        ),
+        (
+            &["semi", "--defs", "0"],
+            "monoid a\nrel a 1\nindex\n",
+            0,
+            "index 1\n",
+            "",
+        ),
+        (
+            &["semi", "--classes", "5"],
+            "monoid ab\nrel aa 1\nrel bbb 1\nrel abab 1\nindex\n",
+            0,
+            "index over 5\n",
+            "",
+        ),
+        (
+            &["semi", "--classes", "6"],
+            "monoid ab\nrel aa 1\nrel bbb 1\nrel abab 1\nindex\n",
+            0,
+            "index 6\n",
+            "",
+        ),
+        (
+            &["semi", "--defs", "20"],
+            "monoid a\r\nindex",
+            1,
+            "undecided\n",
+            "",
+        ),
+        (NAME, "monoid a\n", 0, "", ""),
+        (
+            NAME,
+            "monoid ab\nrel ac a\n",
+            2,
+            "",
+            "semi: line 2: letter not in alphabet\n",
+        ),
+        (
+            NAME,
+            "semigroup ab\nrel 1 a\n",
+            2,
+            "",
+            "semi: line 2: empty word not allowed\n",
+        ),
+        (
+            NAME,
+            "monoid aba\n",
+            2,
+            "",
+            "semi: line 1: repeated letter\n",
+        ),
+        (
+            NAME,
+            "monoid ab\nright a 1\ntwosided b 1\n",
+            2,
+            "",
+            "semi: line 3: mixed kinds of pairs\n",
+        ),
+    ] {
+        let ended = run(&rt, words, script.as_bytes(), NONE)?;
+        assert_eq!(rt; ended.status, status, "{script}");
+        assert_eq!(rt; ended.out.as_slice(), out.as_bytes(), "{script}");
+        assert_eq!(rt; ended.err.as_slice(), err.as_bytes(), "{script}");
+    }
+    Ok(())
+}
+
+// A script that begins with one text, and goes on with another, so many times.
+fn repeated(alloc: Global, head: &str, text: &str, count: usize) -> Result<Vec<u8>, Fail> {
+    let mut script = head.as_bytes().to_vec(alloc)?;
+    for _ in 0..count {
+        script.extend_from_slice(text.as_bytes())?;
+    }
+    Ok(script)
+}
+
+#[test]
+fn limits_of_presentations(rt: HostRuntime) -> Result<(), Fail> {
+    const NORMAL: &str = "monoid a\nrel a 1\nnormal ";
+    for (head, text, count, status, out, err) in [
+        (NORMAL, "a", 4096usize, 0u8, "normal 1\n", ""),
+        (NORMAL, "a", 4097, 2, "", "semi: line 3: word too long\n"),
+        ("monoid a\n", "rel a a\n", 4096, 0, "", ""),
+        (
+            "monoid a\n",
+            "rel a a\n",
+            4097,
+            2,
+            "",
+            "semi: line 4098: too many relations\n",
+        ),
+        ("monoid a\n", "right a a\n", 4096, 0, "", ""),
+        (
+            "monoid a\n",
+            "right a a\n",
+            4097,
+            2,
+            "",
+            "semi: line 4098: too many pairs\n",
+        ),
+    ] {
+        let script = repeated(rt.alloc(), head, text, count)?;
+        let ended = run(&rt, &["semi"], script.as_slice(), NONE)?;
+        assert_eq!(rt; ended.status, status, "{err}");
+        assert_eq!(rt; ended.out.as_slice(), out.as_bytes(), "{err}");
+        assert_eq!(rt; ended.err.as_slice(), err.as_bytes(), "{err}");
     }
     Ok(())
 }

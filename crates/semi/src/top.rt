@@ -41,15 +41,16 @@ fn run<R: Threads + Sync, S: Source, O: Sink>(
     write_report(rt, alloc, settings, &script, out)
 }
 
-/// The program: reads the source as a script of elements and writes its report to `out`; gives the
-/// status.
+/// The program: reads the source as a script, of a presentation or of elements, and writes its report to
+/// `out`; gives the status.
 ///
 /// - 0: the whole report was written, and no answer is undecided. 1: the same, with one at least.
 /// - 2: the input, read in full, is longer than 1,048,576 bytes, or a line of it is faulty.
 /// - 3: the words are not those of the command; nothing is read.
 /// - 4: the source failed. 5: `out` failed. 6: memory is wanting.
 ///
-/// `err` gets one line at the statuses from 2 on; at 2 it tells the first faulty line and its cause. `words` begins with the program's name.
+/// `err` gets one line at the statuses from 2 on; at 2 it tells the first faulty line and its cause. `words`
+/// begins with the program's name.
 pub fn semi<R: Threads + Sync, S: Source, O: Sink, E: Sink>(
     rt: &R,
     alloc: Global,

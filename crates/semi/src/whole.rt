@@ -86,6 +86,7 @@ pub fn write_report<R: Threads + Sync, O: Sink>(
     ensures quiet { OnOk result (O.faults out.new ≡ O.faults out.old) }
 {
     let budgets = Budgets {
+        defs: settings.defs,
         elements: settings.elements,
     };
     let mut state = State::new(budgets, settings.classes, WORKERS);
