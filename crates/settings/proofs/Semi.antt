@@ -43,17 +43,18 @@ semi_defaults_pass = refl
 record HasOptions (a : App) : Type 0 where
   ready : is_ready a.top ≡ true
   leaves : list_all is_ready_leaf a.subs ≡ true
+  rows : has_number_option 1000000 (codes "rows") a.top.rules ≡ true
   defs : has_number_option 1000000 (codes "defs") a.top.rules ≡ true
   elements : has_number_option 10000000 (codes "elements") a.top.rules ≡ true
   classes : has_number_option 1000000 (codes "classes") a.top.rules ≡ true
 
 semi_has_options : HasOptions semi_app
 unfolding semi_app
-semi_has_options = record { ready = refl; leaves = refl; defs = refl; elements = refl; classes = refl }
+semi_has_options = record { ready = refl; leaves = refl; rows = refl; defs = refl; elements = refl; classes = refl }
 
 built_has_options : HasOptions (built semi_app)
 unfolding semi_app
-built_has_options = record { ready = refl; leaves = refl; defs = refl; elements = refl; classes = refl }
+built_has_options = record { ready = refl; leaves = refl; rows = refl; defs = refl; elements = refl; classes = refl }
 
 -- ---- for `matches_in`
 
@@ -78,6 +79,7 @@ numbers_at a c m options is parsed =
     let read : (most : ℕ) (id : Text) → (id ≡ [] → ⊥) → has_number_option most id a.top.rules ≡ true → HasNumber most id (rows_of (found_of m))
     = λ most id named has. number_found most a c (found_of m) (has_subcommand m) id is options.ready options.leaves named has parsed in
     record {
+      rows = read 1000000 (codes "rows") (λ e. cc) options.rows;
       defs = read 1000000 (codes "defs") (λ e. cc) options.defs;
       elements = read 10000000 (codes "elements") (λ e. cc) options.elements;
       classes = read 1000000 (codes "classes") (λ e. cc) options.classes;
@@ -103,13 +105,14 @@ unfolding semi_app
 matches_of-or_name [] = refl
 matches_of-or_name (word ∷ rest) = refl
 
-pub semi_reads : (words : List Text) (rows : List Row) (settings : Settings) → takes semi_app words ≡ true → rows ≡ matches_of semi_app words
-    → number_in (codes "defs") rows ≡ Some settings.defs → number_in (codes "elements") rows ≡ Some settings.elements → number_in (codes "classes") rows ≡ Some settings.classes
-    → Reads (or_name words) settings
-semi_reads words rows settings taken are defs elements classes =
-    let same : matches_of semi_app (or_name words) ≡ rows = matches_of-or_name words ∙ sym are in
+pub semi_reads : (words : List Text) (found : List Row) (settings : Settings) → takes semi_app words ≡ true → found ≡ matches_of semi_app words
+    → number_in (codes "rows") found ≡ Some settings.rows → number_in (codes "defs") found ≡ Some settings.defs → number_in (codes "elements") found ≡ Some settings.elements
+    → number_in (codes "classes") found ≡ Some settings.classes → Reads (or_name words) settings
+semi_reads words found settings taken are rows defs elements classes =
+    let same : matches_of semi_app (or_name words) ≡ found = matches_of-or_name words ∙ sym are in
     record {
       taken = takes-or_name words ∙ taken;
+      rows = ap (number_in (codes "rows")) same ∙ rows;
       defs = ap (number_in (codes "defs")) same ∙ defs;
       elements = ap (number_in (codes "elements")) same ∙ elements;
       classes = ap (number_in (codes "classes")) same ∙ classes;

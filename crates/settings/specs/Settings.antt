@@ -16,6 +16,9 @@ number_rule name most preset = record (new_rule name) {
   defaults = preset ∷ [];
 }
 
+abbrev pub rows_rule : Rule
+rows_rule = number_rule (codes "rows") 1000000 (codes "1000")
+
 abbrev pub defs_rule : Rule
 defs_rule = number_rule (codes "defs") 1000000 (codes "10000")
 
@@ -27,7 +30,9 @@ classes_rule = number_rule (codes "classes") 1000000 (codes "10000")
 
 -- the command
 unfoldable pub semi_app : App
-semi_app = with_rule (with_rule (with_rule (new_app (codes "semi")) defs_rule) elements_rule) classes_rule
+semi_app =
+    with_rule (with_rule (with_rule (with_rule (new_app (codes "semi"))
+    rows_rule) defs_rule) elements_rule) classes_rule
 
 -- a list with no word stands for the program's name alone
 abbrev pub or_name : List Text → List Text
@@ -50,6 +55,7 @@ number_in id rows =
 -- clap takes the words, and finds these settings in them
 pub record Reads (words : List Text) (settings : Settings) : Type 0 where
   pub taken : takes semi_app words ≡ true
+  pub rows : number_in (codes "rows") (matches_of semi_app words) ≡ Some settings.rows
   pub defs : number_in (codes "defs") (matches_of semi_app words) ≡ Some settings.defs
   pub elements : number_in (codes "elements") (matches_of semi_app words) ≡ Some settings.elements
   pub classes : number_in (codes "classes") (matches_of semi_app words) ≡ Some settings.classes
@@ -61,7 +67,8 @@ pub record HasNumber (most : ℕ) (id : Text) (rows : List Row) : Type 0 where
   pub number : IsUnsignedIn 0 most text
 
 -- and so for each option of the command
-pub record HasNumbers (rows : List Row) : Type 0 where
-  pub defs : HasNumber 1000000 (codes "defs") rows
-  pub elements : HasNumber 10000000 (codes "elements") rows
-  pub classes : HasNumber 1000000 (codes "classes") rows
+pub record HasNumbers (found : List Row) : Type 0 where
+  pub rows : HasNumber 1000000 (codes "rows") found
+  pub defs : HasNumber 1000000 (codes "defs") found
+  pub elements : HasNumber 10000000 (codes "elements") found
+  pub classes : HasNumber 1000000 (codes "classes") found

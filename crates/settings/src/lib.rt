@@ -15,6 +15,8 @@ use thiserror::Error;
 /// What may be used up on a problem, and how much is written out.
 #[derive(Clone, Copy, Debug, PartialEq, Eq)]
 pub struct Settings {
+    /// How many rows a coset enumeration by the strategy of Haselgrove, Leech and Trotter may make.
+    pub rows: usize,
     /// How many definitions a coset enumeration by Felsch's strategy may make.
     pub defs: usize,
     /// How many elements are listed at most.
@@ -27,7 +29,7 @@ pub struct Settings {
 #[derive(Clone, Copy, Debug, PartialEq, Eq, Error)]
 pub enum SettingsFault {
     /// The words are not those of the command.
-    #[error("usage: semi [--defs D] [--elements N] [--classes C]")]
+    #[error("usage: semi [--rows M] [--defs D] [--elements N] [--classes C]")]
     Refused,
     /// Memory ran out.
     #[error("out of memory")]
@@ -70,6 +72,7 @@ fn semi_command<'a>(alloc: Global) -> Result<Command<'a>, AllocError>
     ensures { IfOk result (λ command. app_of command ≡ semi_app) }
 {
     Command::new(alloc, "semi")
+        .arg(number_option(alloc, "rows", 1_000_000, "1000"))?
         .arg(number_option(alloc, "defs", 1_000_000, "10000"))?
         .arg(number_option(alloc, "elements", 10_000_000, "100000"))?
         .arg(number_option(alloc, "classes", 1_000_000, "10000"))
@@ -101,10 +104,12 @@ fn number_of(matches: &ArgMatches, id: &str) -> usize
 pub fn settings_of(alloc: Global, words: &Vec<String>) -> Result<Settings, SettingsFault>
     ensures ok { IfOk result (λ settings. Reads (or_name (map string_bytes words.now.items)) settings) }
     ensures refused { IsErrOf result SettingsFault.Refused → AreRefused (map string_bytes words.now.items) }
-    ensures bounded { IfOk result (λ settings. (settings.defs ≤ 1000000) × (settings.elements ≤ 10000000) × (settings.classes ≤ 1000000)) }
+    ensures bounded { IfOk result (λ settings. (settings.rows ≤ 1000000) × (settings.defs ≤ 1000000)
+        × (settings.elements ≤ 10000000) × (settings.classes ≤ 1000000)) }
 {
     let matches = matches_in(alloc, words.as_slice())?;
     Ok(Settings {
+        rows: number_of(&matches, "rows"),
         defs: number_of(&matches, "defs"),
         elements: number_of(&matches, "elements"),
         classes: number_of(&matches, "classes"),
