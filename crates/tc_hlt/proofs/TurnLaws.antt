@@ -12,7 +12,7 @@ use Rattle.theory.specs.Hlt.{HltFacts, HltStage, HltEnds, AllMet}
 use Rattle.theory.proofs.HltLaws.{hlt_all_defined, hlt_stage_fails}
 use Rattle.coincidence.specs.Marks.{AllMarked, IsFirstUnmarked}
 use Rattle.coincidence.specs.Table.{CosetTable, IsTable}
-use Rattle.tc_hlt.specs.Stage.{IsAtStage, HasRows, IsReady, Stands, TellsNext, IsRun, answer_of}
+use Rattle.tc_hlt.specs.Stage.{IsAtStage, IsAtEnd, HasRows, IsReady, Stands, TellsNext, IsRun, answer_of}
 use Rattle.tc_hlt.proofs.RowLaws.{met_same, first_unmet}
 
 pub at_stage : (t : CosetTable) (made : ℕ) → HasRows t made → IsAtStage t.congruence made t.graph
@@ -24,12 +24,12 @@ all_met t made rows all w defined =
     let at = (rows.shows w w).1 defined in
     (met_same t.graph (HltFacts t.congruence rows.words) rows.words w rows.shows).0 ((rows.marks w at.0 at.1).0 (all w at.0 at.1))
 
--- so the strategy has ended, and all words have a path
+-- so the strategy has ended
 pub ends_at : (t : CosetTable) (budget made : ℕ) → HasRows t made → made ≤ budget → AllMarked t.graph t.marked → HltEnds t.congruence budget
 ends_at t budget made rows within all = record { count = made; within = within; words = rows.words; stage = rows.stage; all = all_met t made rows all }
 
-pub all_there : (t : CosetTable) (made : ℕ) → HasRows t made → AllMarked t.graph t.marked → AllDefined t.congruence.presentation.letters (SameEnd t.graph)
-all_there t made rows all w over = (rows.shows w w).1 (hlt_all_defined t.congruence rows.words (all_met t made rows all) w over)
+pub at_end : (t : CosetTable) (made : ℕ) → HasRows t made → AllMarked t.graph t.marked → IsAtEnd t.congruence made t.graph
+at_end t made rows all = record { words = rows.words; stage = rows.stage; shows = rows.shows; all = all_met t made rows all }
 
 -- where one has none and the budget is used up, the strategy does not end
 pub fails_at : (t : CosetTable) (budget made node : ℕ) → IsReady t made node → made ≡ budget → HltEnds t.congruence budget → ⊥
@@ -37,16 +37,18 @@ fails_at t budget made node ready e ends =
     let least = first_unmet t made node ready in
     hlt_stage_fails t.congruence budget ready.rows.words ready.first.word (subst (λ n. HltStage t.congruence n ready.rows.words) e ready.rows.stage) least.defined least.unmet ends
 
--- a graph with the same equal paths is at the same stage, and has a path for the same words
-pub same_stage : (c : Congruence) (i : ℕ) (g h : Graph) → PathsRelate h (SameEnd g) → IsAtStage c i g → IsAtStage c i h
-same_stage c i g h same at = record {
+-- a graph with the same equal paths is at the same end
+pub same_end : (c : Congruence) (i : ℕ) (g h : Graph) → PathsRelate h (SameEnd g) → IsAtEnd c i g → IsAtEnd c i h
+same_end c i g h same at = record {
   words = at.words;
   stage = at.stage;
   shows = λ u v. (λ e. (at.shows u v).0 ((same u v).0 e), λ f. (same u v).1 ((at.shows u v).1 f));
+  all = at.all;
 }
 
-pub same_defined : (k : ℕ) (g h : Graph) → PathsRelate h (SameEnd g) → AllDefined k (SameEnd g) → AllDefined k (SameEnd h)
-same_defined k g h same all w over = (same w w).1 (all w over)
+-- at which all words have a path
+pub end_defines : (c : Congruence) (i : ℕ) (g : Graph) → IsAtEnd c i g → AllDefined c.presentation.letters (SameEnd g)
+end_defines c i g at w over = (at.shows w w).1 (hlt_all_defined c at.words at.all w over)
 
 lt_true : (m n : ℕ) → m < n → nat_lt m n ≡ true
 lt_true m n h = grind (arith, h)
@@ -69,7 +71,7 @@ module _ (new : CosetTable) (c : Congruence) (budget made : ℕ) (table : IsTabl
         table = table;
         congruence = same;
         decided = λ e. ends_at new budget made rows within all;
-        complete = λ e. all_there new made rows all;
+        finished = λ e. at_end new made rows all;
         spent = λ e. absurd (let bad : ⊥ = cc in bad);
         stage = λ n b. at_stage new made rows;
         within = λ n. within;
@@ -83,7 +85,7 @@ module _ (new : CosetTable) (c : Congruence) (budget made : ℕ) (table : IsTabl
         table = table;
         congruence = same;
         decided = λ e. absurd (let bad : ⊥ = cc in bad);
-        complete = λ e. absurd (let bad : ⊥ = cc in bad);
+        finished = λ e. absurd (let bad : ⊥ = cc in bad);
         spent = λ e. absurd (let bad : ⊥ = cc in bad);
         stage = λ n b. at_stage new made rows;
         within = λ n. within;
@@ -97,7 +99,7 @@ module _ (new : CosetTable) (c : Congruence) (budget made : ℕ) (table : IsTabl
         table = table;
         congruence = same;
         decided = λ e. absurd (let bad : ⊥ = cc in bad);
-        complete = λ e. absurd (let bad : ⊥ = cc in bad);
+        finished = λ e. absurd (let bad : ⊥ = cc in bad);
         spent = λ _. fails_at new budget made node (record { rows = rows; first = first }) e;
         stage = λ n b. at_stage new made rows;
         within = λ n. within;

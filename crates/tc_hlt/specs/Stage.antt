@@ -2,9 +2,8 @@
 use Rattle.std.specs.Prelude.{◌≡◌, ◌≢◌, ◌↔◌, ℕ, ◌-◌, ◌≤◌, nat_lt, Bool, true, false, List, [], ◌∷◌, cond, replicate, Option, None, Some, MatchOption}
 use Rattle.theory.specs.Word.{Word}
 use Rattle.theory.specs.Congruence.{Congruence}
-use Rattle.theory.specs.Facts.{AllDefined}
 use Rattle.theory.specs.Graph.{Graph, path, SameEnd, PathsRelate}
-use Rattle.theory.specs.Hlt.{HltFacts, HltStage, HltEnds, IsMet}
+use Rattle.theory.specs.Hlt.{HltFacts, HltStage, HltEnds, AllMet, IsMet}
 use Rattle.coincidence.specs.Live.{IsOn}
 use Rattle.coincidence.specs.Marks.{AllMarked, IsFirstUnmarked}
 use Rattle.coincidence.specs.Table.{CosetTable, IsTable}
@@ -30,6 +29,13 @@ pub record IsAtStage (c : Congruence) (made : ℕ) (g : Graph) : Type 0 where
   pub words : List Word
   pub stage : HltStage c made words
   pub shows : PathsRelate g (HltFacts c words)
+
+-- the graph shows the facts of the last stage, at which every defined word is related to one with a row
+pub record IsAtEnd (c : Congruence) (made : ℕ) (g : Graph) : Type 0 where
+  pub words : List Word
+  pub stage : HltStage c made words
+  pub shows : PathsRelate g (HltFacts c words)
+  pub all : AllMet c words
 
 -- rows left
 abbrev pub left_of : HltRun → ℕ
@@ -76,7 +82,7 @@ pub record IsRun (t : CosetTable) (c : Congruence) (budget made : ℕ) (begun : 
   pub table : IsTable t
   pub congruence : c ≡ t.congruence
   pub decided : said ≡ Decided → HltEnds t.congruence budget
-  pub complete : said ≡ Decided → AllDefined t.congruence.presentation.letters (SameEnd t.graph)
+  pub finished : said ≡ Decided → IsAtEnd t.congruence made t.graph
   pub spent : said ≡ Spent → HltEnds t.congruence budget → ⊥
   pub stage : said ≢ NoMemory → begun ≡ true → IsAtStage t.congruence made t.graph
   pub within : said ≢ NoMemory → made ≤ budget

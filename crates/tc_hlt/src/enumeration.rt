@@ -5,7 +5,7 @@ ghost use Rattle.theory.specs.Facts.{AllDefined};
 ghost use Rattle.theory.specs.Graph.{SameEnd, Shows, IsGraph};
 ghost use Rattle.word_graph.specs.Standard.{IsStandardGraph};
 ghost use Rattle.coincidence.specs.Table.{IsTable};
-ghost use Rattle.tc_hlt.specs.Stage.{IsAtStage, HasRows, IsReady, IsFresh, Stands, TellsNext, answer_of};
+ghost use Rattle.tc_hlt.specs.Stage.{IsAtEnd, IsAtStage, HasRows, IsReady, IsFresh, Stands, TellsNext, answer_of};
 
 use crate::rows::{make_row, trace};
 use coincidence::Table;
@@ -220,12 +220,13 @@ impl Hlt {
     }
 
     /// The graph of an enumeration that is decided: the standard one with the equal paths of the table, which shows the
-    /// facts of the last stage, at which each word is defined. Refused only where memory is wanting.
+    /// facts of the last stage, at which each word is defined and related to one with a row. Refused only where memory
+    /// is wanting.
     pub fn graph(&self) -> Result<WordGraph, NoMemory>
         requires { self.now.said ≡ Progress.Decided }
         ensures standard { IfOk result (λ g. IsStandardGraph self.now.congruence.presentation.letters g) }
         ensures shows { IfOk result (λ g. Shows g (SameEnd self.now.graph)) }
-        ensures stage { IfOk result (λ g. IsAtStage self.now.congruence self.now.made g) }
+        ensures end { IfOk result (λ g. IsAtEnd self.now.congruence self.now.made g) }
         ensures graph { IfOk result (λ g. IsGraph self.now.congruence.presentation.letters g) }
         ensures complete { IfOk result (λ g. AllDefined self.now.congruence.presentation.letters (SameEnd g)) }
     {

@@ -1,35 +1,27 @@
-use Rattle.std.proofs.Common.{◌≡◌, ◌≢◌, subst, sym, ◌∙◌, ap}
-use Rattle.race.specs.declared.engines.Progress.{Progress}
-use Rattle.race.specs.declared.engines.Progress.TheVariants.{Decided, More, NoMemory}
+use Rattle.std.proofs.Common.{◌≡◌, subst, ◌∙◌, ap}
+use Rattle.race.specs.declared.engines.Progress.TheVariants.{Decided}
 use Rattle.theory.specs.Facts.{AllDefined}
 use Rattle.theory.specs.Graph.{SameEnd, Shows, IsGraph}
 use Rattle.word_graph.specs.Standard.{IsStandardGraph}
-use Rattle.tc_hlt.specs.Stage.{HltRun, IsAtStage}
-use Rattle.tc_hlt.proofs.TurnLaws.{same_stage, same_defined}
+use Rattle.tc_hlt.specs.Stage.{HltRun, IsAtEnd}
+use Rattle.tc_hlt.proofs.TurnLaws.{same_end, end_defines}
 use Rattle.tc_hlt.proofs.enumeration.Hlt.graph.Goals as goal
-
-different : (p : Progress) → p ≡ Decided → p ≢ NoMemory
-different p e d = let bad : Decided ≡ NoMemory = sym e ∙ d in let no : ⊥ = cc in no
-
-not_more : (p : Progress) → p ≡ Decided → p ≢ More
-not_more p e d = let bad : Decided ≡ More = sym e ∙ d in let no : ⊥ = cc in no
 
 pub returns-clause-standard : goal.returns-clause-standard
 returns-clause-standard c =
     let said : c.self.inside.said ≡ Decided = ap (λ (f : HltRun). f.said) c.self.view_is ∙ c.requires in
     subst (λ (f : HltRun). IsStandardGraph f.congruence.presentation.letters c.in_ok-graph.graph) c.self.view_is
-    (c.in_ok-graph.ensures.standard (c.self.invariant.complete said))
+    (c.in_ok-graph.ensures.standard (end_defines c.self.inside.table.congruence c.self.inside.made c.self.inside.table.graph (c.self.invariant.finished said)))
 
 pub returns-clause-shows : goal.returns-clause-shows
 returns-clause-shows c =
     subst (λ (f : HltRun). Shows c.in_ok-graph.graph (SameEnd f.graph)) c.self.view_is c.in_ok-graph.ensures.shows
 
-pub returns-clause-stage : goal.returns-clause-stage
-returns-clause-stage c =
+pub returns-clause-end : goal.returns-clause-end
+returns-clause-end c =
     let said : c.self.inside.said ≡ Decided = ap (λ (f : HltRun). f.said) c.self.view_is ∙ c.requires in
-    subst (λ (f : HltRun). IsAtStage f.congruence f.made c.in_ok-graph.graph) c.self.view_is
-    (same_stage c.self.inside.table.congruence c.self.inside.made c.self.inside.table.graph c.in_ok-graph.graph c.in_ok-graph.ensures.shows.paths
-    (c.self.invariant.stage (different c.self.inside.said said) (c.self.invariant.ended (not_more c.self.inside.said said))))
+    subst (λ (f : HltRun). IsAtEnd f.congruence f.made c.in_ok-graph.graph) c.self.view_is
+    (same_end c.self.inside.table.congruence c.self.inside.made c.self.inside.table.graph c.in_ok-graph.graph c.in_ok-graph.ensures.shows.paths (c.self.invariant.finished said))
 
 pub returns-clause-graph : goal.returns-clause-graph
 returns-clause-graph c =
@@ -39,4 +31,5 @@ pub returns-clause-complete : goal.returns-clause-complete
 returns-clause-complete c =
     let said : c.self.inside.said ≡ Decided = ap (λ (f : HltRun). f.said) c.self.view_is ∙ c.requires in
     subst (λ (f : HltRun). AllDefined f.congruence.presentation.letters (SameEnd c.in_ok-graph.graph)) c.self.view_is
-    (same_defined c.self.inside.table.congruence.presentation.letters c.self.inside.table.graph c.in_ok-graph.graph c.in_ok-graph.ensures.shows.paths (c.self.invariant.complete said))
+    (end_defines c.self.inside.table.congruence c.self.inside.made c.in_ok-graph.graph
+    (same_end c.self.inside.table.congruence c.self.inside.made c.self.inside.table.graph c.in_ok-graph.graph c.in_ok-graph.ensures.shows.paths (c.self.invariant.finished said)))
