@@ -1,5 +1,5 @@
 -- The graph that coset enumeration ends with decides the congruence.
-use Rattle.std.proofs.Common.{◌≡◌, ℕ, List, subst, ◌⊎◌, inl, inr}
+use Rattle.std.proofs.Common.{◌≡◌, ℕ, List, ◌⊎◌, inl, inr}
 use Rattle.theory.specs.Word.{Word}
 use Rattle.theory.specs.Congruence.{Presentation, Congruence, IsWellFormed, IsRightSided, as_right}
 use Rattle.theory.specs.declared.Kind.{Kind}
@@ -7,15 +7,17 @@ use Rattle.theory.specs.declared.Kind.TheVariants.{TwoSided, Right, Left}
 use Rattle.theory.specs.Facts.{AllDefined}
 use Rattle.theory.specs.Graph.{Graph, SameEnd, Shows, IsGraph}
 use Rattle.theory.proofs.FelschLaws.{felsch_related}
-use Rattle.theory.proofs.KindLaws.{as_right_related, as_right_sided, as_right_well_formed}
+use Rattle.theory.proofs.HltLaws.{hlt_related}
+use Rattle.theory.proofs.KindLaws.{as_right_related}
 use Rattle.word_graph.specs.Standard.{IsStandardGraph}
-use Rattle.tc_felsch.specs.Stage.{IsAtStage}
+use Rattle.tc_felsch.specs.Stage as felsch
+use Rattle.tc_hlt.specs.Stage as hlt
 use Rattle.congruence.specs.Solution.{IsGraphOf}
 
--- the graph of the last stage
-stage_graph : (c : Congruence) (made : ℕ) (g h : Graph) → IsWellFormed c → IsRightSided c → IsStandardGraph c.presentation.letters g
-    → Shows g (SameEnd h) → IsAtStage c made g → IsGraph c.presentation.letters g → AllDefined c.presentation.letters (SameEnd g) → IsGraphOf c g
-stage_graph c made g h well sided standard shows at graph all = record {
+-- the graph that Felsch's strategy ends with
+pub felsch_graph : (c : Congruence) (made : ℕ) (g h : Graph) → IsWellFormed c → IsRightSided c → IsStandardGraph c.presentation.letters g
+    → Shows g (SameEnd h) → felsch.IsAtStage c made g → IsGraph c.presentation.letters g → AllDefined c.presentation.letters (SameEnd g) → IsGraphOf c g
+felsch_graph c made g h well sided standard shows at graph all = record {
   graph = graph;
   reached = shows.reached;
   standard = standard;
@@ -24,15 +26,19 @@ stage_graph c made g h well sided standard shows at graph all = record {
       (λ r. (at.shows u v).1 (facts.1 r), λ e. facts.0 ((at.shows u v).0 e));
 }
 
--- so the graph of an enumeration that ended decides the right congruence that stands for c
-pub enumerated_graph : (c d : Congruence) (made : ℕ) (g h : Graph) → IsWellFormed c → d ≡ as_right c → IsStandardGraph d.presentation.letters g
-    → Shows g (SameEnd h) → IsAtStage d made g → IsGraph d.presentation.letters g → AllDefined d.presentation.letters (SameEnd g)
-    → IsGraphOf (as_right c) g
-enumerated_graph c d made g h well same standard shows at graph all =
-    subst (λ (e : Congruence). IsWellFormed e → IsRightSided e → IsGraphOf e g) same
-    (λ w s. stage_graph d made g h w s standard shows at graph all) (as_right_well_formed c well) (as_right_sided c)
+-- the graph that the strategy of rows ends with
+pub hlt_graph : (c : Congruence) (made : ℕ) (g h : Graph) → IsWellFormed c → IsRightSided c → IsStandardGraph c.presentation.letters g
+    → Shows g (SameEnd h) → hlt.IsAtEnd c made g → IsGraph c.presentation.letters g → IsGraphOf c g
+hlt_graph c made g h well sided standard shows at graph = record {
+  graph = graph;
+  reached = shows.reached;
+  standard = standard;
+  decides = λ u v over.
+      let facts = hlt_related c at.words well sided at.all u v over in
+      (λ r. (at.shows u v).1 (facts.1 r), λ e. facts.0 ((at.shows u v).0 e));
+}
 
--- which relates the same words, where the pairs are no left pairs
+-- a graph that decides the right congruence that stands for a congruence decides the congruence, where its pairs are no left pairs
 pub same_graph : (c : Congruence) (g : Graph) → (c.kind ≡ TwoSided) ⊎ (c.kind ≡ Right) → IsGraphOf (as_right c) g → IsGraphOf c g
 same_graph c g sided is = go c.presentation c.kind c.pairs sided is
   where

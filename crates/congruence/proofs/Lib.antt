@@ -3,3 +3,4 @@ pub mod SolutionLaws
 pub mod AnswerLaws
 pub mod PlaceLaws
 pub mod GraphLaws
+pub mod LaneLaws

@@ -1,3 +1,4 @@
+pub mod Engines
 pub mod Solution
 pub mod Indexes
 pub mod Verdicts

@@ -8,6 +8,13 @@ use Rattle.theory.specs.Class.{SameClass, IsLeast}
 use Rattle.theory.specs.Listing.{IsAfter}
 use Rattle.theory.specs.Graph.{Graph, path, SameEnd, IsGraph}
 use Rattle.word_graph.specs.Standard.{IsStandardGraph}
+use Rattle.race.specs.declared.lanes.Lane.{Lane}
+use Rattle.congruence.specs.declared.engine.Engine.{Engine}
+
+-- what is known of a congruence, and the lanes that raced for it
+pub record Solution : Type 0 where
+  pub congruence : Congruence
+  pub lanes : List (Lane Engine)
 
 -- a standard graph whose equal paths are the congruence
 pub record IsGraphOf (c : Congruence) (g : Graph) : Type 0 where

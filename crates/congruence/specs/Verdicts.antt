@@ -1,11 +1,12 @@
 -- What a verdict says.
 use Rattle.std.specs.Prelude.{◌≡◌, ℕ}
-use Rattle.theory.specs.Congruence.{Congruence, as_right}
-use Rattle.theory.specs.Felsch.{FelschEnds}
+use Rattle.theory.specs.Congruence.{Congruence}
 use Rattle.problem.specs.declared.budgets.Budgets.{Budgets}
 use Rattle.problem.specs.declared.kinds.Problem.{Problem}
 use Rattle.problem.specs.declared.kinds.Problem.TheVariants.{Presented, Transf, PPerm, BMat, MaxPlus}
-use Rattle.problem.specs.Problem.{IsDecided, IsUndecided}
+use Rattle.problem.specs.Problem.{EnumerationEnds}
+use Rattle.race.specs.declared.playing.Outcome.TheVariants.{Won, AllSpent}
+use Rattle.congruence.specs.Engines.{IsEndOf}
 use Rattle.congruence.specs.declared.solving.Verdict.{Verdict}
 use Rattle.congruence.specs.declared.solving.Verdict.TheVariants.{Known, Undecided}
 
@@ -17,12 +18,15 @@ IsCongruenceIn (PPerm p) c = ⊥
 IsCongruenceIn (BMat p) c = ⊥
 IsCongruenceIn (MaxPlus p) c = ⊥
 
--- a known verdict is of a problem that is decided within the budgets, and has its congruence
-abbrev pub IsVerdictOf : Problem → Budgets → Verdict → Type 0
-IsVerdictOf p budgets (Known solved) = IsDecided p budgets × IsCongruenceIn p solved
-IsVerdictOf p budgets Undecided = IsUndecided p budgets
+-- a known verdict is of the congruence, for which a strategy ends within its budget, and keeps the lanes of a race that one of them won; else each is spent
+abbrev pub Decides : Congruence → Budgets → Verdict → Type 0
+Decides c b (Known solved) = EnumerationEnds c b × (solved.congruence ≡ c) × ((winner : ℕ) × IsEndOf c b (Won winner) solved.lanes)
+Decides c b (Undecided lanes) = (EnumerationEnds c b → ⊥) × IsEndOf c b AllSpent lanes
 
--- a known verdict is of the congruence, for which so many definitions suffice
-abbrev pub IsFelschVerdict : Congruence → ℕ → Verdict → Type 0
-IsFelschVerdict c defs (Known solved) = FelschEnds (as_right c) defs × (solved ≡ c)
-IsFelschVerdict c defs Undecided = FelschEnds (as_right c) defs → ⊥
+-- a verdict is of the problem's congruence
+abbrev pub IsVerdictOf : Problem → Budgets → Verdict → Type 0
+IsVerdictOf (Presented p) b verdict = Decides p.congruence b verdict
+IsVerdictOf (Transf p) b verdict = ⊥
+IsVerdictOf (PPerm p) b verdict = ⊥
+IsVerdictOf (BMat p) b verdict = ⊥
+IsVerdictOf (MaxPlus p) b verdict = ⊥

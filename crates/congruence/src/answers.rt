@@ -8,6 +8,7 @@ ghost use Rattle.theory.specs.Listing.{IsLast, IsNext};
 ghost use Rattle.congruence.specs.Indexes.{GoesOnOrEnds, IsIndexWithin};
 ghost use Rattle.congruence.specs.Solution.{IsGraphOf, first_class, AreAscending, IsPlaceAfter};
 
+use crate::engine::Ended;
 use ports::NoMemory;
 use presentation::Congruence;
 use std::alloc::Global;
@@ -32,15 +33,15 @@ pub struct Solved {
     congruence: Congruence,
     graph: WordGraph,
     least: Vec<(usize, Word)>,
+    lanes: Ended,
 }
 
 impl Model for Solved {
-    ghost use Rattle.theory.specs.Congruence.{Congruence as Generated};
-    ghost use Rattle.congruence.specs.Solution.{IsSolution};
+    ghost use Rattle.congruence.specs.Solution.{IsSolution, Solution};
 
-    ghost Value = { Generated };
+    ghost Value = { Solution };
 
-    ghost view = { λ s. s.congruence.congruence };
+    ghost view = { λ s. record { congruence = s.congruence.congruence; lanes = s.lanes } };
 
     ghost invariant = { λ s. IsSolution s.congruence.congruence s.graph s.least.items };
 }
@@ -82,9 +83,10 @@ impl Solved {
         alloc: Global,
         congruence: &Congruence,
         graph: WordGraph,
+        lanes: Ended,
     ) -> Result<Solved, NoMemory>
         requires { IsGraphOf congruence.now.congruence graph }
-        ensures { IfOk result (λ s. s ≡ congruence.now.congruence) }
+        ensures { IfOk result (λ s. s ≡ record { congruence = congruence.now.congruence; lanes = lanes }) }
     {
         let _presentation = congruence.presentation();
         let congruence = congruence.copy(alloc)?;
@@ -94,12 +96,20 @@ impl Solved {
             congruence,
             graph,
             least,
+            lanes,
         })
+    }
+
+    /// The lanes of the race for the congruence, as it left them.
+    pub fn lanes(&self) -> &Ended
+        ensures { result.now ≡ self.now.lanes }
+    {
+        &self.lanes
     }
 
     // The place of the first class: in a semigroup the root is none.
     fn first_class(&self) -> usize
-        ensures { result ≡ first_class self.now.presentation.is_monoid }
+        ensures { result ≡ first_class self.now.congruence.presentation.is_monoid }
     {
         if self.congruence.presentation().is_monoid() {
             0
@@ -110,7 +120,7 @@ impl Solved {
 
     /// The number of classes, if it is at most the bound. Refused only where memory is wanting.
     pub fn index(&self, bound: usize) -> Result<Index, NoMemory>
-        ensures { IfOk result (IsIndexWithin (SameClass self.now) bound) }
+        ensures { IfOk result (IsIndexWithin (SameClass self.now.congruence) bound) }
     {
         let classes = self.least.len() - self.first_class();
         if classes <= bound {
@@ -122,9 +132,9 @@ impl Solved {
 
     /// Whether the two words, which are elements, are of one class. Refused only where memory is wanting.
     pub fn equal(&self, u: &Word, v: &Word) -> Result<bool, NoMemory>
-        requires left { IsElement self.now.presentation.is_monoid self.now.presentation.letters u.now }
-        requires right { IsElement self.now.presentation.is_monoid self.now.presentation.letters v.now }
-        ensures { IfOk result (λ same. IsTrue same ↔ SameClass self.now u.now v.now) }
+        requires left { IsElement self.now.congruence.presentation.is_monoid self.now.congruence.presentation.letters u.now }
+        requires right { IsElement self.now.congruence.presentation.is_monoid self.now.congruence.presentation.letters v.now }
+        ensures { IfOk result (λ same. IsTrue same ↔ SameClass self.now.congruence u.now v.now) }
     {
         Ok(self.graph.path(0, u) == self.graph.path(0, v))
     }
@@ -132,8 +142,8 @@ impl Solved {
     /// The normal form of the word, which is an element: the least word of its class in short-lex order. Refused only
     /// where memory is wanting.
     pub fn normal(&self, u: &Word) -> Result<Word, NoMemory>
-        requires { IsElement self.now.presentation.is_monoid self.now.presentation.letters u.now }
-        ensures { IfOk result (IsNormal (SameClass self.now) u.now) }
+        requires { IsElement self.now.congruence.presentation.is_monoid self.now.congruence.presentation.letters u.now }
+        ensures { IfOk result (IsNormal (SameClass self.now.congruence) u.now) }
     {
         let node = self.graph.path(0, u).unwrap_or(0);
         let word = self.least[node].1.copy(self.alloc)?;
@@ -144,10 +154,10 @@ impl Solved {
     /// need not be the least word of its class. What holds of every decided congruence is told here: after each cursor
     /// comes a next class, or none. Refused only where memory is wanting.
     pub fn next_after(&self, after: Option<&Word>) -> Result<Option<Word>, NoMemory>
-        ensures goes_on { GoesOnOrEnds (SameClass self.now) }
+        ensures goes_on { GoesOnOrEnds (SameClass self.now.congruence) }
         ensures next { IfOk result (λ next. MatchOption next
-            (IsLast (IsLeast (SameClass self.now)) ◌≺◌ (option_copied after.entry))
-            (IsNext (IsLeast (SameClass self.now)) ◌≺◌ (option_copied after.entry))) }
+            (IsLast (IsLeast (SameClass self.now.congruence)) ◌≺◌ (option_copied after.entry))
+            (IsNext (IsLeast (SameClass self.now.congruence)) ◌≺◌ (option_copied after.entry))) }
     {
         let first = self.first_class();
         let place = place_after(self.least.as_slice(), first, after);

@@ -1,26 +1,29 @@
-// Congruences decided by Felsch's coset enumeration.
-ghost use Rattle.std.specs.Prelude.{◌≡◌, ◌≢◌, true, ◌<◌, IfOk};
+// Congruences decided by a race of coset enumerations.
+ghost use Rattle.std.specs.Prelude.{◌≡◌, true, ◌<◌, length, IfOk};
 ghost use Rattle.theory.specs.Congruence.{as_right, IsWellFormed};
-ghost use Rattle.theory.specs.Felsch.{FelschEnds};
 ghost use Rattle.problem.specs.Problem.{is_presented, IsPosable, IsSolvable};
-ghost use Rattle.congruence.specs.Verdicts.{IsFelschVerdict, IsVerdictOf};
+ghost use Rattle.race.specs.Machine.{Starts, tasks};
+ghost use Rattle.congruence.specs.Engines.{as_racer, tasks_for, HasDecided};
+ghost use Rattle.congruence.specs.Verdicts.{Decides, IsVerdictOf};
 
 use crate::answers::Solved;
+use crate::engine::{Ended, Engine};
 use ports::NoMemory;
 use presentation::{Congruence, Kind, Pairs};
 use problem::{Budgets, Problem};
-use race::{Progress, Racer};
+use race::{Lane, Outcome, play};
 use std::alloc::Global;
 use std::thread::Threads;
 use tc_felsch::Felsch;
+use tc_hlt::Hlt;
 
 /// What was found of a problem.
 #[derive(Drop)]
 pub enum Verdict {
     /// It was decided.
     Known(Solved),
-    /// The budgets did not suffice.
-    Undecided,
+    /// The budgets did not suffice. The lanes of the race for it.
+    Undecided(Ended),
 }
 
 // The right congruence that stands for the congruence: two-sided pairs become relations.
@@ -40,44 +43,65 @@ fn as_right(alloc: Global, congruence: &Congruence) -> Result<Congruence, NoMemo
     }
 }
 
-// Turns, until one gives something else than `More`.
-fn finish(felsch: &mut Felsch) -> Progress
-    ensures ended { result ≢ Progress.More }
-    ensures said { felsch.new.said ≡ result }
-    ensures congruence { felsch.new.congruence ≡ felsch.old.congruence }
-    ensures decided { result ≡ Progress.Decided → FelschEnds felsch.old.congruence felsch.old.budget }
-    ensures spent { result ≡ Progress.Spent → ¬ (FelschEnds felsch.old.congruence felsch.old.budget) }
-{
-    loop {
-        match felsch.advance() {
-            Progress::More => {}
-            ended => return ended,
-        }
-    }
-}
-
-// Decides the congruence with a budget of so many definitions.
-fn decide(alloc: Global, congruence: &Congruence, defs: usize) -> Result<Verdict, NoMemory>
+// The lanes for the congruence: Felsch's strategy, and the strategy of rows.
+fn lanes_for(
+    alloc: Global,
+    congruence: &Congruence,
+    budgets: &Budgets,
+) -> Result<Vec<Lane<Engine>>, NoMemory>
     requires { IsSolvable congruence.now.congruence }
-    ensures { IfOk result (IsFelschVerdict congruence.now.congruence defs) }
+    ensures starts { IfOk result (λ lanes. Starts as_racer lanes.items) }
+    ensures count { IfOk result (λ lanes. length lanes.items ≡ 2) }
+    ensures tasks { IfOk result (λ lanes. tasks as_racer lanes.items ≡ tasks_for congruence.now.congruence budgets.now) }
+    ensures well_formed { IsWellFormed congruence.now.congruence }
 {
     let task = as_right(alloc, congruence)?;
-    let mut felsch = Felsch::new(alloc, &task, defs)?;
-    match finish(&mut felsch) {
-        Progress::Decided => {
-            let graph = felsch.graph()?;
-            let solved = Solved::new(alloc, congruence, graph)?;
+    let felsch = Felsch::new(alloc, &task, budgets.defs)?;
+    let hlt = Hlt::new(alloc, &task, budgets.rows)?;
+    let mut lanes = Vec::new(alloc);
+    lanes.push(Lane::new(0, Engine::Felsch(felsch)))?;
+    lanes.push(Lane::new(1, Engine::Hlt(hlt)))?;
+    Ok(lanes)
+}
+
+// What is known of the congruence by the lane that has decided it.
+fn known(
+    alloc: Global,
+    congruence: &Congruence,
+    lanes: Vec<Lane<Engine>>,
+    winner: usize,
+) -> Result<Solved, NoMemory>
+    requires well_formed { IsWellFormed congruence.now.congruence }
+    requires solvable { IsSolvable congruence.now.congruence }
+    requires decided { HasDecided (as_right congruence.now.congruence) lanes.items winner }
+    ensures { IfOk result (λ s. s ≡ record { congruence = congruence.now.congruence; lanes = lanes.items }) }
+{
+    let graph = lanes[winner].racer().graph()?;
+    Solved::new(alloc, congruence, graph, Ended::new(lanes))
+}
+
+// Decides the congruence within the budgets.
+fn decide(alloc: Global, congruence: &Congruence, budgets: &Budgets) -> Result<Verdict, NoMemory>
+    requires { IsSolvable congruence.now.congruence }
+    ensures { IfOk result (Decides congruence.now.congruence budgets.now) }
+{
+    let mut lanes = lanes_for(alloc, congruence, budgets)?;
+    let schedule = Vec::new(alloc);
+    match play(&mut lanes, &schedule) {
+        Outcome::Won(winner) => {
+            let solved = known(alloc, congruence, lanes, winner)?;
             Ok(Verdict::Known(solved))
         }
-        Progress::Spent => Ok(Verdict::Undecided),
-        _ => Err(NoMemory),
+        Outcome::AllSpent => Ok(Verdict::Undecided(Ended::new(lanes))),
+        Outcome::Starved(_) => Err(NoMemory),
     }
 }
 
-/// Decides the problem, which is given by relations, by Felsch's strategy of coset enumeration with the budget `defs`
-/// of definitions, and a number of workers that changes no answer (Felsch 1961; Sims 1994, 5.2; libsemigroups,
-/// `ToddCoxeter`). The pairs of its congruence are two-sided or right pairs. `Undecided` exactly where the budget does
-/// not suffice. Refused only where memory is wanting.
+/// Decides the problem, which is given by relations, by coset enumerations that race: Felsch's strategy with the budget
+/// `defs` of definitions, and that of Haselgrove, Leech and Trotter with the budget `rows` of rows (Felsch 1961; Sims
+/// 1994, 5.2; libsemigroups, `ToddCoxeter`). The number of workers changes no answer. The pairs of its congruence are
+/// two-sided or right pairs. `Undecided` exactly where neither budget suffices; the lanes are kept as the race left
+/// them. Refused only where memory is wanting.
 pub fn solve<R: Threads + Sync>(
     _rt: &R,
     alloc: Global,
@@ -92,7 +116,7 @@ pub fn solve<R: Threads + Sync>(
 {
     let _workers = workers;
     match problem {
-        Problem::Presented(congruence) => decide(alloc, congruence, budgets.defs),
+        Problem::Presented(congruence) => decide(alloc, congruence, budgets),
         _ => unreachable!(),
     }
 }

@@ -5,6 +5,7 @@ ghost use Rattle.theory.specs.Word.{IsOver};
 use super::*;
 use presentation::{Congruence, Kind, Pairs, Presentation};
 use problem::{Budgets, Problem};
+use race::LaneState;
 use std::alloc::Global;
 use std::process::Abort;
 use std::test::Fail;
@@ -46,23 +47,28 @@ fn presented(
     Ok(presentation)
 }
 
-// What is known of the congruence, if so many definitions suffice.
+// What is known of the congruence, if so many definitions, or so many rows, suffice.
 fn known<R: Abort + Threads + Sync>(
     rt: &R,
     alloc: Global,
     congruence: Congruence,
     defs: usize,
+    rows: usize,
 ) -> Result<Option<Solved>, Fail>
     requires { (congruence.congruence.kind ≡ Kind.TwoSided) ⊎ (congruence.congruence.kind ≡ Kind.Right) }
-    ensures { IfOk result (λ known. IfSome known (λ s. s ≡ congruence.congruence)) }
+    ensures { IfOk result (λ known. IfSome known (λ s. s.congruence ≡ congruence.congruence)) }
 {
     assert!(rt; congruence.presentation().relations().len() < 10);
     assert!(rt; congruence.pairs().len() < 10);
     let problem = Problem::Presented(congruence);
-    let budgets = Budgets { defs, elements: 1 };
+    let budgets = Budgets {
+        defs,
+        rows,
+        elements: 1,
+    };
     match solve(rt, alloc, &problem, &budgets, 1)? {
         Verdict::Known(solved) => Ok(Some(solved)),
-        Verdict::Undecided => Ok(None),
+        Verdict::Undecided(_) => Ok(None),
     }
 }
 
@@ -111,8 +117,8 @@ fn collapsed(rt: &impl Abort, alloc: Global, kind: Kind) -> Result<Congruence, F
 
 // The first letter a is left out at the front.
 fn check_words(rt: &impl Abort, alloc: Global, solved: &Solved) -> Result<(), Fail>
-    requires monoid { solved.now.presentation.is_monoid ≡ true }
-    requires letters { solved.now.presentation.letters ≡ 2 }
+    requires monoid { solved.now.congruence.presentation.is_monoid ≡ true }
+    requires letters { solved.now.congruence.presentation.letters ≡ 2 }
 {
     let alphabet = Alphabet::new(alloc, b"ab")?;
     let long = word(alloc, &alphabet, "aba")?;
@@ -136,7 +142,7 @@ fn check_cursor(rt: &impl Abort, alloc: Global, solved: &Solved) -> Result<(), F
 #[test]
 fn right_pairs_hold_at_the_front(rt: HostRuntime) -> Result<(), Fail> {
     let alloc = rt.alloc();
-    if let Some(solved) = known(&rt, alloc, collapsed(&rt, alloc, Kind::Right)?, 50)? {
+    if let Some(solved) = known(&rt, alloc, collapsed(&rt, alloc, Kind::Right)?, 50, 0)? {
         check_classes(&rt, alloc, &solved, &["1", "b", "ba"])?;
         check_words(&rt, alloc, &solved)?;
         check_cursor(&rt, alloc, &solved)?;
@@ -150,7 +156,7 @@ fn right_pairs_hold_at_the_front(rt: HostRuntime) -> Result<(), Fail> {
 #[test]
 fn two_sided_pairs_hold_anywhere(rt: HostRuntime) -> Result<(), Fail> {
     let alloc = rt.alloc();
-    match known(&rt, alloc, collapsed(&rt, alloc, Kind::TwoSided)?, 50)? {
+    match known(&rt, alloc, collapsed(&rt, alloc, Kind::TwoSided)?, 0, 50)? {
         Some(solved) => check_classes(&rt, alloc, &solved, &["1"]),
         None => panic!(rt; "undecided"),
     }
@@ -162,19 +168,67 @@ fn the_empty_word_is_no_class_of_a_semigroup(rt: HostRuntime) -> Result<(), Fail
     let relations = [("aa", "a"), ("bb", "b"), ("ab", "ba")];
     let presentation = presented(alloc, "ab", false, &relations)?;
     let congruence = Congruence::new(presentation, Kind::TwoSided, Pairs::new(alloc));
-    match known(&rt, alloc, congruence, 50)? {
+    match known(&rt, alloc, congruence, 50, 50)? {
         Some(solved) => check_classes(&rt, alloc, &solved, &["a", "b", "ab"]),
         None => panic!(rt; "undecided"),
     }
 }
 
 #[test]
-fn the_budget_decides(rt: HostRuntime) -> Result<(), Fail> {
+fn either_budget_suffices(rt: HostRuntime) -> Result<(), Fail> {
     let alloc = rt.alloc();
-    for (defs, decided) in [(1, false), (2, true)] {
+    for (defs, rows, decided) in [(1, 2, false), (2, 0, true), (0, 3, true)] {
         let presentation = presented(alloc, "a", true, &[("aaa", "")])?;
         let congruence = Congruence::new(presentation, Kind::TwoSided, Pairs::new(alloc));
-        assert_eq!(rt; known(&rt, alloc, congruence, defs)?.is_some(), decided);
+        assert_eq!(rt;
+            known(&rt, alloc, congruence, defs, rows)?.is_some(),
+            decided
+        );
+    }
+    Ok(())
+}
+
+// How two lanes have ended.
+fn states(rt: &impl Abort, ended: &Ended) -> Result<(LaneState, LaneState), Fail> {
+    let lanes = ended.lanes();
+    assert!(rt; lanes.len() == 2);
+    Ok((lanes[0].state(), lanes[1].state()))
+}
+
+// How the lanes of a race for the cyclic monoid of order three end.
+fn cyclic_race<R: Abort + Threads + Sync>(
+    rt: &R,
+    alloc: Global,
+    defs: usize,
+    rows: usize,
+) -> Result<(LaneState, LaneState), Fail> {
+    let presentation = presented(alloc, "a", true, &[("aaa", "")])?;
+    let congruence = Congruence::new(presentation, Kind::TwoSided, Pairs::new(alloc));
+    assert!(rt; congruence.presentation().relations().len() < 10);
+    let budgets = Budgets {
+        defs,
+        rows,
+        elements: 1,
+    };
+    match solve(rt, alloc, &Problem::Presented(congruence), &budgets, 1)? {
+        Verdict::Known(solved) => states(rt, solved.lanes()),
+        Verdict::Undecided(ended) => states(rt, &ended),
+    }
+}
+
+#[test]
+fn the_lanes_are_kept_as_the_race_left_them(rt: HostRuntime) -> Result<(), Fail> {
+    let alloc = rt.alloc();
+    let races = [
+        (2, 3, LaneState::Won, LaneState::Lost(0)),
+        (2, 2, LaneState::Won, LaneState::Spent),
+        (1, 3, LaneState::Spent, LaneState::Won),
+        (1, 2, LaneState::Spent, LaneState::Spent),
+    ];
+    for (defs, rows, first, second) in races {
+        let ended = cyclic_race(&rt, alloc, defs, rows)?;
+        assert!(rt; ended.0 == first);
+        assert!(rt; ended.1 == second);
     }
     Ok(())
 }

@@ -8,6 +8,7 @@ use Rattle.theory.specs.Word.{Word}
 use Rattle.theory.specs.Congruence.{Congruence, as_right}
 use Rattle.theory.specs.Class.{SameClass}
 use Rattle.theory.specs.Felsch.{FelschEnds}
+use Rattle.theory.specs.Hlt.{HltEnds}
 use Rattle.theory.specs.Value.{SameValue, HasAtMostValues, HasMoreValues}
 use Rattle.elements.specs.Generators.{value_by}
 use Rattle.elements.specs.Fields.{decimal_or_dash}
@@ -81,17 +82,21 @@ IsPosable (PPerm p) = Unit {0}
 IsPosable (BMat p) = Unit {0}
 IsPosable (MaxPlus p) = Unit {0}
 
--- the problem is decided within the budgets: Felsch's strategy ends, or the words have no more values than may be
+-- a strategy of coset enumeration ends within its budget
+abbrev pub EnumerationEnds : Congruence → Budgets → Type 0
+EnumerationEnds c b = FelschEnds (as_right c) b.defs ⊎ HltEnds (as_right c) b.rows
+
+-- the problem is decided within the budgets: a strategy ends, or the words have no more values than may be
 abbrev pub IsDecided : Problem → Budgets → Type 0
-IsDecided (Presented p) b = FelschEnds (as_right p.congruence) b.defs
+IsDecided (Presented p) b = EnumerationEnds p.congruence b
 IsDecided (Transf p) b = HasAtMostValues (length p.generators) (pointwise ◌==◌) (value_by composed p.generators []) b.elements
 IsDecided (PPerm p) b = HasAtMostValues (length p.generators) (pointwise (option_eq ◌==◌)) (value_by partially_composed p.generators []) b.elements
 IsDecided (BMat p) b = HasAtMostValues (length p.generators) boolean_matrix_eq (value_by boolean_product p.generators no_matrix) b.elements
 IsDecided (MaxPlus p) b = HasAtMostValues (length p.generators) truncated_matrix_eq (value_by truncated_product p.generators no_truncated_matrix) b.elements
 
--- the problem is not decided within the budgets: Felsch's strategy does not end, or the words have more values
+-- the problem is not decided within the budgets: no strategy ends, or the words have more values
 abbrev pub IsUndecided : Problem → Budgets → Type 0
-IsUndecided (Presented p) b = FelschEnds (as_right p.congruence) b.defs → ⊥
+IsUndecided (Presented p) b = EnumerationEnds p.congruence b → ⊥
 IsUndecided (Transf p) b = HasMoreValues (length p.generators) (pointwise ◌==◌) (value_by composed p.generators []) b.elements
 IsUndecided (PPerm p) b = HasMoreValues (length p.generators) (pointwise (option_eq ◌==◌)) (value_by partially_composed p.generators []) b.elements
 IsUndecided (BMat p) b = HasMoreValues (length p.generators) boolean_matrix_eq (value_by boolean_product p.generators no_matrix) b.elements

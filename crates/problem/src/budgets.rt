@@ -5,6 +5,8 @@
 pub struct Budgets {
     /// How many definitions a coset enumeration by Felsch's strategy may make.
     pub defs: usize,
+    /// How many rows a coset enumeration by the strategy of Haselgrove, Leech and Trotter may make.
+    pub rows: usize,
     /// How many elements the generators may have at most.
     pub elements: usize,
 }

@@ -1,0 +1,65 @@
+-- The engines of a race for a congruence, and the ends of such races.
+use Rattle.std.specs.Prelude.{◌≡◌, ℕ, List, [], ◌∷◌, Some, slice_get}
+use Rattle.theory.specs.Congruence.{Congruence, as_right}
+use Rattle.theory.specs.Felsch.{FelschEnds}
+use Rattle.theory.specs.Hlt.{HltEnds}
+use Rattle.problem.specs.declared.budgets.Budgets.{Budgets}
+use Rattle.race.specs.declared.engines.Progress.{Progress}
+use Rattle.race.specs.declared.engines.Progress.TheVariants.{Decided}
+use Rattle.race.specs.declared.engines.Racer.{Ghosts}
+use Rattle.race.specs.declared.lanes.Lane.{Lane}
+use Rattle.race.specs.declared.playing.Outcome.{Outcome}
+use Rattle.race.specs.Machine.{IsEnd, IsSound, outcome_of, state_at, tasks}
+use Rattle.tc_felsch.specs.Stage.{FelschTask}
+use Rattle.tc_felsch.specs.Stage as felsch
+use Rattle.tc_hlt.specs.Stage.{HltTask}
+use Rattle.tc_hlt.specs.Stage as hlt
+use Rattle.congruence.specs.declared.engine.Engine.{Engine}
+use Rattle.congruence.specs.declared.engine.Engine.TheVariants.{Felsch, Hlt}
+
+-- whether a strategy ends for a right congruence within a budget
+pub data EngineTask : Type 0 where
+  Definitions : FelschTask → EngineTask
+  Rows : HltTask → EngineTask
+
+abbrev pub ends_within : EngineTask → Type 0
+ends_within (Definitions t) = FelschEnds t.congruence t.budget
+ends_within (Rows t) = HltEnds t.congruence t.budget
+
+abbrev pub congruence_in : EngineTask → Congruence
+congruence_in (Definitions t) = t.congruence
+congruence_in (Rows t) = t.congruence
+
+abbrev pub task_of : Engine → EngineTask
+task_of (Felsch f) = Definitions (record { congruence = f.congruence; budget = f.budget })
+task_of (Hlt h) = Rows (record { congruence = h.congruence; budget = h.budget })
+
+abbrev pub said_of : Engine → Progress
+said_of (Felsch f) = f.said
+said_of (Hlt h) = h.said
+
+abbrev pub left_of : Engine → ℕ
+left_of (Felsch f) = felsch.left_of f
+left_of (Hlt h) = hlt.left_of h
+
+abbrev pub as_racer : Ghosts Engine
+as_racer = record { Task = EngineTask; task = task_of; condition = ends_within; measure = left_of; said = said_of }
+
+-- the tasks of the lanes for a congruence: Felsch's strategy, and the strategy of rows
+abbrev pub tasks_for : Congruence → Budgets → List EngineTask
+tasks_for c b = Definitions (record { congruence = as_right c; budget = b.defs }) ∷ Rows (record { congruence = as_right c; budget = b.rows }) ∷ []
+
+-- the lanes for a congruence, at the end of a race with this outcome
+pub record IsEndOf (c : Congruence) (b : Budgets) (outcome : Outcome) (lanes : List (Lane Engine)) : Type 0 where
+  pub tasks : tasks as_racer lanes ≡ tasks_for c b
+  pub word : ℕ
+  pub sound : IsSound as_racer (state_at word lanes)
+  pub ended : IsEnd (state_at word lanes)
+  pub is : outcome ≡ outcome_of (state_at word lanes)
+
+-- the lane of this number has decided the congruence
+pub record HasDecided (c : Congruence) (lanes : List (Lane Engine)) (number : ℕ) : Type 0 where
+  pub lane : Lane Engine
+  pub at : slice_get lanes number ≡ Some lane
+  pub decided : said_of lane.racer ≡ Decided
+  pub congruence : congruence_in (task_of lane.racer) ≡ c
