@@ -12,7 +12,7 @@ use Rattle.report.specs.declared.state.Verdict.TheVariants.{Known, Solved, Undec
 -- this was found of the problem within the budgets
 abbrev pub IsVerdictOf : Problem → Budgets → Verdict → Type 0
 IsVerdictOf p budgets (Known closure) = IsDecided p budgets × IsClosureOf p closure
-IsVerdictOf p budgets (Solved solved) = IsDecided p budgets × IsCongruenceIn p solved
+IsVerdictOf p budgets (Solved solved) = IsDecided p budgets × IsCongruenceIn p solved.congruence
 IsVerdictOf p budgets Undecided = IsUndecided p budgets
 
 -- the state differs at most in what it keeps of the problem

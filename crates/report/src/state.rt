@@ -117,7 +117,7 @@ fn solved_of<R: Threads + Sync>(
 {
     match solve(rt, alloc, problem, &budgets, workers)? {
         Outcome::Known(solved) => Ok(Verdict::Solved(solved)),
-        Outcome::Undecided => Ok(Verdict::Undecided),
+        Outcome::Undecided(_) => Ok(Verdict::Undecided),
     }
 }
 

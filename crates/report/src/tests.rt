@@ -14,7 +14,15 @@ fn answer<R: Threads + Sync + AllocGlobal>(
 ) -> Result<(Option<Answered>, Vec<u8>), Fail> {
     let alloc = rt.alloc();
     let script = read_script(alloc, script.as_bytes())?;
-    let mut state = State::new(Budgets { defs: 10, elements }, 2, 1);
+    let mut state = State::new(
+        Budgets {
+            defs: 10,
+            rows: 0,
+            elements,
+        },
+        2,
+        1,
+    );
     let mut sink = MemSink::new(alloc, 3, Vec::new(alloc));
     let answered = match script.queries() {
         [query] => Some(write_answer(rt, alloc, &script, query, &mut state, &mut sink)?),

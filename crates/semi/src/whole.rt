@@ -87,6 +87,7 @@ pub fn write_report<R: Threads + Sync, O: Sink>(
 {
     let budgets = Budgets {
         defs: settings.defs,
+        rows: settings.rows,
         elements: settings.elements,
     };
     let mut state = State::new(budgets, settings.classes, WORKERS);

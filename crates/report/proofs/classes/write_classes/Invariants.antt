@@ -6,6 +6,6 @@ use Rattle.report.proofs.classes.write_classes.Given as goal
 
 abbrev pub invariant-loop : goal.invariant-loop
 invariant-loop g l = record {
-  begun : IsBegun (SameClass l.solved) l.alphabet (option_copied l.after) l.cursor l.counter (g.O.Sink.taken l.fn.sink) (g.O.Sink.taken l.sink);
+  begun : IsBegun (SameClass l.solved.congruence) l.alphabet (option_copied l.after) l.cursor l.counter (g.O.Sink.taken l.fn.sink) (g.O.Sink.taken l.sink);
   quiet : g.O.Sink.faults l.sink ≡ g.O.Sink.faults l.fn.sink;
 }

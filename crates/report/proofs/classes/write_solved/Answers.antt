@@ -13,28 +13,28 @@ pub returns-in-Finite-clause-written : goal.returns-in-Finite-clause-written
 returns-in-Finite-clause-written g c =
     let p : Problem = c.args.problem.now in
     let lines : List (List ℕ) = count_line c.in-Finite.count ∷ [] in
-    all_lines p c.args.bound c.args.query.now lines (lines_of p c.args.bound lines c.args.query.now query.Index c.in-Index.is (solved_count p c.args.solved.now c.requires.solved c.args.bound c.in_ok-count-in-Index.field-0 c.in-Finite.count c.in-Finite.is c.in_ok-count-in-Index.ensures))
+    all_lines p c.args.bound c.args.query.now lines (lines_of p c.args.bound lines c.args.query.now query.Index c.in-Index.is (solved_count p c.args.solved.now.congruence c.requires.solved c.args.bound c.in_ok-count-in-Index.field-0 c.in-Finite.count c.in-Finite.is c.in_ok-count-in-Index.ensures))
     c.write_count.result _ _ _ (one_line (count_line c.in-Finite.count)) c.write_count.ensures.written
 
 pub returns-in-Finite-clause-part : goal.returns-in-Finite-clause-part
 returns-in-Finite-clause-part g c =
     let p : Problem = c.args.problem.now in
     let lines : List (List ℕ) = count_line c.in-Finite.count ∷ [] in
-    some_lines p c.args.bound c.args.query.now lines (lines_of p c.args.bound lines c.args.query.now query.Index c.in-Index.is (solved_count p c.args.solved.now c.requires.solved c.args.bound c.in_ok-count-in-Index.field-0 c.in-Finite.count c.in-Finite.is c.in_ok-count-in-Index.ensures))
+    some_lines p c.args.bound c.args.query.now lines (lines_of p c.args.bound lines c.args.query.now query.Index c.in-Index.is (solved_count p c.args.solved.now.congruence c.requires.solved c.args.bound c.in_ok-count-in-Index.field-0 c.in-Finite.count c.in-Finite.is c.in_ok-count-in-Index.ensures))
     c.write_count.result _ _ _ (one_line (count_line c.in-Finite.count)) c.write_count.ensures.part
 
 pub returns-in-Over-clause-written : goal.returns-in-Over-clause-written
 returns-in-Over-clause-written g c =
     let p : Problem = c.args.problem.now in
     let lines : List (List ℕ) = over_line c.args.bound ∷ [] in
-    all_lines p c.args.bound c.args.query.now lines (lines_of p c.args.bound lines c.args.query.now query.Index c.in-Index.is (solved_over p c.args.solved.now c.requires.solved c.args.bound c.in_ok-count-in-Index.field-0 c.in-Over.is c.in_ok-count-in-Index.ensures))
+    all_lines p c.args.bound c.args.query.now lines (lines_of p c.args.bound lines c.args.query.now query.Index c.in-Index.is (solved_over p c.args.solved.now.congruence c.requires.solved c.args.bound c.in_ok-count-in-Index.field-0 c.in-Over.is c.in_ok-count-in-Index.ensures))
     c.write_over.result _ _ _ (one_line (over_line c.args.bound)) c.write_over.ensures.written
 
 pub returns-in-Over-clause-part : goal.returns-in-Over-clause-part
 returns-in-Over-clause-part g c =
     let p : Problem = c.args.problem.now in
     let lines : List (List ℕ) = over_line c.args.bound ∷ [] in
-    some_lines p c.args.bound c.args.query.now lines (lines_of p c.args.bound lines c.args.query.now query.Index c.in-Index.is (solved_over p c.args.solved.now c.requires.solved c.args.bound c.in_ok-count-in-Index.field-0 c.in-Over.is c.in_ok-count-in-Index.ensures))
+    some_lines p c.args.bound c.args.query.now lines (lines_of p c.args.bound lines c.args.query.now query.Index c.in-Index.is (solved_over p c.args.solved.now.congruence c.requires.solved c.args.bound c.in_ok-count-in-Index.field-0 c.in-Over.is c.in_ok-count-in-Index.ensures))
     c.write_over.result _ _ _ (one_line (over_line c.args.bound)) c.write_over.ensures.part
 
 pub returns-in_ok-equal-in-Equal-clause-written : goal.returns-in_ok-equal-in-Equal-clause-written
@@ -42,7 +42,7 @@ returns-in_ok-equal-in-Equal-clause-written g c =
     let p : Problem = c.args.problem.now in
     let same : Bool = c.in_ok-equal-in-Equal.field-0 in
     let lines : List (List ℕ) = equal_line same ∷ [] in
-    all_lines p c.args.bound c.args.query.now lines (lines_of p c.args.bound lines c.args.query.now (query.Equal c.in-Equal.left c.in-Equal.right) c.in-Equal.is (solved_equal p c.args.solved.now c.requires.solved c.args.bound c.in-Equal.left c.in-Equal.right same c.in_ok-equal-in-Equal.ensures))
+    all_lines p c.args.bound c.args.query.now lines (lines_of p c.args.bound lines c.args.query.now (query.Equal c.in-Equal.left c.in-Equal.right) c.in-Equal.is (solved_equal p c.args.solved.now.congruence c.requires.solved c.args.bound c.in-Equal.left c.in-Equal.right same c.in_ok-equal-in-Equal.ensures))
     c.write_equal.result _ _ _ (one_line (equal_line same)) c.write_equal.ensures.written
 
 pub returns-in_ok-equal-in-Equal-clause-part : goal.returns-in_ok-equal-in-Equal-clause-part
@@ -50,7 +50,7 @@ returns-in_ok-equal-in-Equal-clause-part g c =
     let p : Problem = c.args.problem.now in
     let same : Bool = c.in_ok-equal-in-Equal.field-0 in
     let lines : List (List ℕ) = equal_line same ∷ [] in
-    some_lines p c.args.bound c.args.query.now lines (lines_of p c.args.bound lines c.args.query.now (query.Equal c.in-Equal.left c.in-Equal.right) c.in-Equal.is (solved_equal p c.args.solved.now c.requires.solved c.args.bound c.in-Equal.left c.in-Equal.right same c.in_ok-equal-in-Equal.ensures))
+    some_lines p c.args.bound c.args.query.now lines (lines_of p c.args.bound lines c.args.query.now (query.Equal c.in-Equal.left c.in-Equal.right) c.in-Equal.is (solved_equal p c.args.solved.now.congruence c.requires.solved c.args.bound c.in-Equal.left c.in-Equal.right same c.in_ok-equal-in-Equal.ensures))
     c.write_equal.result _ _ _ (one_line (equal_line same)) c.write_equal.ensures.part
 
 pub returns-in_ok-normal-in-Normal-clause-written : goal.returns-in_ok-normal-in-Normal-clause-written
@@ -58,7 +58,7 @@ returns-in_ok-normal-in-Normal-clause-written g c =
     let p : Problem = c.args.problem.now in
     let normal : Word = c.in_ok-normal-in-Normal.normal in
     let lines : List (List ℕ) = normal_line (letters_of p) normal ∷ [] in
-    all_lines p c.args.bound c.args.query.now lines (lines_of p c.args.bound lines c.args.query.now (query.Normal c.in-Normal.word) c.in-Normal.is (solved_normal p c.args.solved.now c.requires.solved c.args.bound c.in-Normal.word normal c.in_ok-normal-in-Normal.ensures))
+    all_lines p c.args.bound c.args.query.now lines (lines_of p c.args.bound lines c.args.query.now (query.Normal c.in-Normal.word) c.in-Normal.is (solved_normal p c.args.solved.now.congruence c.requires.solved c.args.bound c.in-Normal.word normal c.in_ok-normal-in-Normal.ensures))
     c.write_normal_form.result _ _ _ (ap (λ letters. normal_line letters normal) c.alphabet-alphabet.ensures.letters ∙ one_line (normal_line (letters_of p) normal)) c.write_normal_form.ensures.written
 
 pub returns-in_ok-normal-in-Normal-clause-part : goal.returns-in_ok-normal-in-Normal-clause-part
@@ -66,15 +66,15 @@ returns-in_ok-normal-in-Normal-clause-part g c =
     let p : Problem = c.args.problem.now in
     let normal : Word = c.in_ok-normal-in-Normal.normal in
     let lines : List (List ℕ) = normal_line (letters_of p) normal ∷ [] in
-    some_lines p c.args.bound c.args.query.now lines (lines_of p c.args.bound lines c.args.query.now (query.Normal c.in-Normal.word) c.in-Normal.is (solved_normal p c.args.solved.now c.requires.solved c.args.bound c.in-Normal.word normal c.in_ok-normal-in-Normal.ensures))
+    some_lines p c.args.bound c.args.query.now lines (lines_of p c.args.bound lines c.args.query.now (query.Normal c.in-Normal.word) c.in-Normal.is (solved_normal p c.args.solved.now.congruence c.requires.solved c.args.bound c.in-Normal.word normal c.in_ok-normal-in-Normal.ensures))
     c.write_normal_form.result _ _ _ (ap (λ letters. normal_line letters normal) c.alphabet-alphabet.ensures.letters ∙ one_line (normal_line (letters_of p) normal)) c.write_normal_form.ensures.part
 
 pub returns-in-Classes-clause-written : goal.returns-in-Classes-clause-written
 returns-in-Classes-clause-written g c =
-    solved_page c.args.problem.now c.args.solved.now c.requires.solved c.args.bound c.write_classes.result c.args.query.now c.in-Classes.count c.in-Classes.after (option_copied c.as_ref.result) c.alphabet-alphabet.result.now
+    solved_page c.args.problem.now c.args.solved.now.congruence c.requires.solved c.args.bound c.write_classes.result c.args.query.now c.in-Classes.count c.in-Classes.after (option_copied c.as_ref.result) c.alphabet-alphabet.result.now
     c.in-Classes.is c.as_ref.ensures.value c.alphabet-alphabet.ensures.letters _ _ c.write_classes.ensures.written
 
 pub returns-in-Classes-clause-part : goal.returns-in-Classes-clause-part
 returns-in-Classes-clause-part g c =
-    solved_part c.args.problem.now c.args.solved.now c.requires.solved c.args.bound c.write_classes.result c.args.query.now c.in-Classes.count c.in-Classes.after (option_copied c.as_ref.result) c.alphabet-alphabet.result.now
+    solved_part c.args.problem.now c.args.solved.now.congruence c.requires.solved c.args.bound c.write_classes.result c.args.query.now c.in-Classes.count c.in-Classes.after (option_copied c.as_ref.result) c.alphabet-alphabet.result.now
     c.in-Classes.is c.as_ref.ensures.value c.alphabet-alphabet.ensures.letters _ _ c.write_classes.ensures.part
