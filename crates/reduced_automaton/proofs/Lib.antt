@@ -1,0 +1,10 @@
+pub mod Ranks
+pub mod Standing
+pub mod Reducing
+pub mod StateLaws
+pub mod StateLists
+pub mod EdgeSteps
+pub mod Searches
+pub mod DepthLaws
+pub mod NextPaths
+pub mod ReadingLaws

@@ -1,0 +1,26 @@
+-- Lists of rewriting rules (Knuth and Bendix 1970; Sims 1994, ch. 2).
+use Rattle.std.specs.Prelude.{◌≡◌, ℕ, ◌+◌, ◌<◌, List, [], ◌++◌, length, take, drop, slice_index_or, All}
+use Rattle.theory.specs.Word.{Word, IsOver}
+use Rattle.theory.specs.ShortLex.{◌≺◌}
+
+-- each rule leads to a lesser word
+abbrev pub AreFalling : List (Word × Word) → Type 0
+AreFalling = All (λ r. r.1 ≺ r.0)
+
+-- the sides of each rule are words over the first k letters
+abbrev pub AreOver : ℕ → List (Word × Word) → Type 0
+AreOver k = All (λ r. IsOver k r.0 × IsOver k r.1)
+
+-- f stands in u, from the place on
+pub record StandsAt (f u : Word) (place : ℕ) : Type 0 where
+  pub after : Word
+  pub is : u ≡ take place u ++ (f ++ after)
+
+-- the left side of the rule of this number stands in u, from the place on
+pub record AppliesAt (rules : List (Word × Word)) (u : Word) (place number : ℕ) : Type 0 where
+  pub within : number < length rules
+  pub stands : StandsAt (slice_index_or rules number ([], [])).0 u place
+
+-- u with so many letters from the place on replaced by v
+abbrev pub replaced : Word → ℕ → ℕ → Word → Word
+replaced u place count v = take place u ++ (v ++ drop (place + count) u)

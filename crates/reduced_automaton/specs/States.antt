@@ -1,0 +1,66 @@
+-- The states of the automaton: the proper prefixes of left sides (Aho and Corasick 1975; Sims 1994, 3.5).
+use Rattle.std.specs.Prelude.{◌≡◌, ℕ, ◌<◌, ◌≤◌, List, [], ◌∷◌, ◌++◌, length, take, slice_index_or, Contains, Option, None, Some}
+use Rattle.theory.specs.Word.{Word}
+use Rattle.theory.specs.Completion.{Listed}
+use Rattle.theory.specs.Graph.{Graph, IsGraph, target}
+use Rattle.word_graph.specs.Walk.{IsBefore}
+
+-- a left side stands at the end of u
+pub record HasEnd (rules : List (Word × Word)) (u : Word) : Type 0 where
+  pub left : Word
+  pub right : Word
+  pub before : Word
+  pub listed : Listed rules left right
+  pub is : u ≡ before ++ left
+
+-- the left side of the rule of this number stands at the end of u
+pub record EndsAt (rules : List (Word × Word)) (u : Word) (number : ℕ) : Type 0 where
+  pub within : number < length rules
+  pub before : Word
+  pub is : u ≡ before ++ (slice_index_or rules number ([], [])).0
+
+-- the state at the place stands at the end of u, and no longer one does
+pub record IsLongest (states : List Word) (u : Word) (place : ℕ) : Type 0 where
+  pub within : place < length states
+  pub before : Word
+  pub is : u ≡ before ++ slice_index_or states place []
+  pub longest : (x s : Word) → u ≡ x ++ s → Contains states s → length s ≤ length (slice_index_or states place [])
+
+-- where u leads: nowhere if a left side stands at its end, and else to the longest state that does
+abbrev pub Leads : List (Word × Word) → List Word → Word → Option ℕ → Type 0
+Leads rules states u None = HasEnd rules u
+Leads rules states u (Some place) = (HasEnd rules u → ⊥) × IsLongest states u place
+
+-- the empty word first, and with each word that without its last letter
+pub record ArePrefixes (states : List Word) : Type 0 where
+  pub some : 0 < length states
+  pub root : slice_index_or states 0 [] ≡ []
+  pub closed : (p : Word) (a : ℕ) → Contains states (p ++ a ∷ []) → Contains states p
+
+-- the prefixes of u with fewer letters than the count are there
+abbrev pub HavePrefixes : List Word → Word → ℕ → Type 0
+HavePrefixes states u count = (c : ℕ) → c < count → Contains states (take c u)
+
+-- the proper prefixes of the first left sides are there, so many
+pub record AreStatesTo (rules : List (Word × Word)) (number : ℕ) (states : List Word) : Type 0 where
+  pub prefixes : ArePrefixes states
+  pub lefts : (n : ℕ)
+      → n < number → n < length rules
+      → HavePrefixes states (slice_index_or rules n ([], [])).0 (length (slice_index_or rules n ([], [])).0)
+
+abbrev pub AreStates : List (Word × Word) → List Word → Type 0
+AreStates rules = AreStatesTo rules (length rules)
+
+-- the words after states have grown: the old words, and the shorter prefixes of u
+pub record Grown (old : List Word) (u : Word) (count : ℕ) (states : List Word) : Type 0 where
+  pub prefixes : ArePrefixes states
+  pub kept : (w : Word) → Contains old w → Contains states w
+  pub added : HavePrefixes states u count
+
+-- the edges before the row of the node and the letter are there, and no other
+pub record IsFilledTo (k : ℕ) (rules : List (Word × Word)) (states : List Word) (g : Graph) (node letter : ℕ) : Type 0 where
+  pub graph : IsGraph k g
+  pub count : length g ≡ length states
+  pub filled : (n b : ℕ)
+      → n < length states → b < k → IsBefore n b node letter → Leads rules states (slice_index_or states n [] ++ b ∷ []) (target g n b)
+  pub free : (n b : ℕ) → (IsBefore n b node letter → ⊥) → target g n b ≡ None

@@ -1,0 +1,20 @@
+//! Rewriting of words by finite lists of rules, and the words to which no rule applies.
+//!
+//! [`Rules`] rewrite a word until none of them applies. An [`Automaton`] reads just the words that are reduced: it finds
+//! whether they are infinitely many, and lists them in short-lex order (Sims, *Computation with finitely presented
+//! groups*, 1994, 3.5; libsemigroups, `KnuthBendix` and its Gilman graph).
+#![tactic(auto)]
+
+mod automata;
+mod depths;
+mod readers;
+mod rewriting;
+mod rule_lists;
+mod states;
+
+pub use automata::Automaton;
+pub use rewriting::{has_factor, replaced};
+pub use rule_lists::Rules;
+
+#[cfg(test)]
+mod tests;

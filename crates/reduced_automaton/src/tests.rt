@@ -1,0 +1,284 @@
+ghost use Rattle.std.specs.Prelude.{◌≡◌, length, IfOk, OnOk};
+ghost use Rattle.theory.specs.Word.{IsOver};
+ghost use Rattle.reduced_automaton.specs.Rules.{AreOver};
+
+use super::*;
+use ports::NoMemory;
+use std::alloc::Global;
+use std::test::Fail;
+use words::{Alphabet, Word, shortlex};
+
+// Rules of the symmetric group of degree 3, where a has order 2 and b order 3.
+const SYMMETRIC: [(&[u8], &[u8]); 6] = [
+    (b"aa", b""),
+    (b"aba", b"bb"),
+    (b"abb", b"ba"),
+    (b"bab", b"a"),
+    (b"bba", b"ab"),
+    (b"bbb", b""),
+];
+
+// The rule of the bicyclic monoid.
+const BICYCLIC: [(&[u8], &[u8]); 1] = [(b"bc", b"")];
+
+// Rules of the free semilattice.
+const SEMILATTICE: [(&[u8], &[u8]); 3] = [(b"aa", b"a"), (b"ba", b"ab"), (b"bb", b"b")];
+
+// The alphabet of the letters.
+fn alphabet(alloc: Global, letters: &[u8]) -> Result<Alphabet, NoMemory> {
+    match Alphabet::new(alloc, letters) {
+        Ok(alphabet) => Ok(alphabet),
+        Err(_) => Err(NoMemory),
+    }
+}
+
+// The word of the text.
+fn word(alphabet: &Alphabet, alloc: Global, text: &[u8]) -> Result<Word, NoMemory>
+    ensures { IfOk result (IsOver (length alphabet.now)) }
+{
+    match alphabet.read_word(alloc, text, true) {
+        Ok(word) => Ok(word),
+        Err(_) => Err(NoMemory),
+    }
+}
+
+// Adds the rule of the two texts, if it falls.
+fn add(
+    rules: &mut Rules,
+    alphabet: &Alphabet,
+    alloc: Global,
+    left: &[u8],
+    right: &[u8],
+) -> Result<(), NoMemory>
+    requires { AreOver (length alphabet.now) rules.old }
+    ensures { OnOk result (AreOver (length alphabet.now) rules.new) }
+{
+    let left = word(alphabet, alloc, left)?;
+    let right = word(alphabet, alloc, right)?;
+    if shortlex(&right, &left).is_lt() {
+        rules.push(left, right)?;
+    }
+    Ok(())
+}
+
+// The rules of the texts.
+fn rules_of(alloc: Global, alphabet: &Alphabet, texts: &[(&[u8], &[u8])]) -> Result<Rules, NoMemory>
+    ensures { IfOk result (AreOver (length alphabet.now)) }
+{
+    let mut rules = Rules::new(alloc);
+    for text in texts {
+        add(&mut rules, alphabet, alloc, text.0, text.1)?;
+    }
+    Ok(rules)
+}
+
+// Puts the text of the word and a full stop at the end.
+fn write(text: &mut Vec<u8>, alphabet: &Alphabet, word: &Word) -> Result<(), NoMemory> {
+    for letter in word.letters() {
+        if letter.number() < alphabet.len() {
+            text.push(alphabet.byte(*letter))?;
+        }
+    }
+    text.push(b'.')?;
+    Ok(())
+}
+
+// The reduced words after the cursor, so many at most.
+fn listed(
+    alphabet: &Alphabet,
+    alloc: Global,
+    automaton: &Automaton,
+    after: Option<Word>,
+    most: usize,
+) -> Result<Vec<u8>, NoMemory> {
+    let mut text = Vec::new(alloc);
+    let mut cursor = after;
+    for _ in 0..most {
+        cursor = automaton.next_after(cursor.as_ref())?;
+        match &cursor {
+            Some(next) => write(&mut text, alphabet, next)?,
+            None => return Ok(text),
+        }
+    }
+    Ok(text)
+}
+
+// Whether the reduced words are infinitely many, and the first of them.
+fn reading(
+    alloc: Global,
+    letters: &[u8],
+    rules: &[(&[u8], &[u8])],
+    most: usize,
+) -> Result<(bool, Vec<u8>), NoMemory> {
+    let alphabet = alphabet(alloc, letters)?;
+    let rules = rules_of(alloc, &alphabet, rules)?;
+    let automaton = Automaton::build(alloc, alphabet.len(), &rules)?;
+    let text = listed(&alphabet, alloc, &automaton, None, most)?;
+    Ok((automaton.is_infinite(), text))
+}
+
+#[test]
+fn lists_the_symmetric_group(rt: HostRuntime) -> Result<(), Fail> {
+    let read = reading(rt.alloc(), b"ab", &SYMMETRIC, 9)?;
+    assert!(rt; !read.0);
+    assert_eq!(rt; read.1.as_slice(), b".a.b.ab.ba.bb.".as_slice());
+    Ok(())
+}
+
+#[test]
+fn lists_the_bicyclic_monoid(rt: HostRuntime) -> Result<(), Fail> {
+    let read = reading(rt.alloc(), b"bc", &BICYCLIC, 9)?;
+    assert!(rt; read.0);
+    assert_eq!(rt; read.1.as_slice(), b".b.c.bb.cb.cc.bbb.cbb.ccb.".as_slice());
+    Ok(())
+}
+
+#[test]
+fn lists_free_words(rt: HostRuntime) -> Result<(), Fail> {
+    let read = reading(rt.alloc(), b"a", &[], 4)?;
+    assert!(rt; read.0);
+    assert_eq!(rt; read.1.as_slice(), b".a.aa.aaa.".as_slice());
+    Ok(())
+}
+
+#[test]
+fn lists_a_semilattice(rt: HostRuntime) -> Result<(), Fail> {
+    let read = reading(rt.alloc(), b"ab", &SEMILATTICE, 9)?;
+    assert!(rt; !read.0);
+    assert_eq!(rt; read.1.as_slice(), b".a.b.ab.".as_slice());
+    Ok(())
+}
+
+// Behind b there is no reduced word, and the cycle is at the root.
+#[test]
+fn the_root_tells_what_is_infinite(rt: HostRuntime) -> Result<(), Fail> {
+    let read = reading(rt.alloc(), b"ab", &[(b"ba", b"a"), (b"bb", b"b")], 6)?;
+    assert!(rt; read.0);
+    assert_eq!(rt; read.1.as_slice(), b".a.b.aa.ab.aaa.".as_slice());
+    Ok(())
+}
+
+// The word that follows the text, if there is one.
+fn next(
+    alloc: Global,
+    letters: &[u8],
+    rules: &[(&[u8], &[u8])],
+    after: &[u8],
+) -> Result<Vec<u8>, NoMemory> {
+    let alphabet = alphabet(alloc, letters)?;
+    let rules = rules_of(alloc, &alphabet, rules)?;
+    let automaton = Automaton::build(alloc, alphabet.len(), &rules)?;
+    let after = word(&alphabet, alloc, after)?;
+    listed(&alphabet, alloc, &automaton, Some(after), 1)
+}
+
+#[test]
+fn a_cursor_need_not_be_reduced(rt: HostRuntime) -> Result<(), Fail> {
+    let behind = next(rt.alloc(), b"bc", &BICYCLIC, b"cbcb")?;
+    assert_eq!(rt; behind.as_slice(), b"ccbb.".as_slice());
+    let none = next(rt.alloc(), b"ab", &SYMMETRIC, b"bba")?;
+    assert!(rt; none.is_empty());
+    Ok(())
+}
+
+// The text to which the rules lead, and which the automaton finds too.
+fn reduced(
+    alloc: Global,
+    letters: &[u8],
+    rules: &[(&[u8], &[u8])],
+    text: &[u8],
+) -> Result<Vec<u8>, NoMemory> {
+    let alphabet = alphabet(alloc, letters)?;
+    let rules = rules_of(alloc, &alphabet, rules)?;
+    let automaton = Automaton::build(alloc, alphabet.len(), &rules)?;
+    let word = word(&alphabet, alloc, text)?;
+    let mut text = Vec::new(alloc);
+    write(&mut text, &alphabet, &rules.reduce(&word)?)?;
+    write(&mut text, &alphabet, &automaton.reduce(&word)?)?;
+    if rules.is_reduced(&word) && automaton.is_reduced(&word) {
+        text.push(b'!')?;
+    }
+    Ok(text)
+}
+
+#[test]
+fn reduces_words(rt: HostRuntime) -> Result<(), Fail> {
+    let text = reduced(rt.alloc(), b"ab", &SYMMETRIC, b"abba")?;
+    assert_eq!(rt; text.as_slice(), b"b.b.".as_slice());
+    let text = reduced(rt.alloc(), b"bc", &BICYCLIC, b"cbbcc")?;
+    assert_eq!(rt; text.as_slice(), b"c.c.".as_slice());
+    let text = reduced(rt.alloc(), b"bc", &BICYCLIC, b"ccb")?;
+    assert_eq!(rt; text.as_slice(), b"ccb.ccb.!".as_slice());
+    Ok(())
+}
+
+// Gives the first rule another right side, if it falls then.
+fn set_first(rules: &mut Rules, right: Word) {
+    if rules.len() > 0 && shortlex(&right, &rules.rule(0).0).is_lt() {
+        rules.set_right(0, right);
+    }
+}
+
+// Each rule, its sides one after the other.
+fn written(alloc: Global, alphabet: &Alphabet, rules: Rules) -> Result<Vec<u8>, NoMemory> {
+    let again = Rules::from_vec(alloc, rules.into_vec());
+    let mut text = Vec::new(alloc);
+    for place in 0..again.len() {
+        write(&mut text, alphabet, &again.rule(place).0)?;
+        write(&mut text, alphabet, &again.rule(place).1)?;
+    }
+    Ok(text)
+}
+
+#[test]
+fn changes_a_right_side(rt: HostRuntime) -> Result<(), Fail> {
+    let alphabet = alphabet(rt.alloc(), b"ab")?;
+    let mut rules = rules_of(rt.alloc(), &alphabet, &SEMILATTICE)?;
+    let copied = rules.copy(rt.alloc())?;
+    set_first(&mut rules, Word::new(rt.alloc()));
+    assert!(rt; !rules.is_empty());
+    let text = written(rt.alloc(), &alphabet, rules)?;
+    assert_eq!(rt; text.as_slice(), b"aa..ba.ab.bb.b.".as_slice());
+    let text = written(rt.alloc(), &alphabet, copied)?;
+    assert_eq!(rt; text.as_slice(), b"aa.a.ba.ab.bb.b.".as_slice());
+    Ok(())
+}
+
+// Whether the factor stands in the text.
+fn has(alloc: Global, text: &[u8], factor: &[u8]) -> Result<bool, NoMemory> {
+    let alphabet = alphabet(alloc, b"ab")?;
+    let text = word(&alphabet, alloc, text)?;
+    let factor = word(&alphabet, alloc, factor)?;
+    Ok(has_factor(&text, &factor))
+}
+
+#[test]
+fn finds_factors(rt: HostRuntime) -> Result<(), Fail> {
+    assert!(rt; has(rt.alloc(), b"aabb", b"bb")?);
+    assert!(rt; has(rt.alloc(), b"", b"")?);
+    assert!(rt; !has(rt.alloc(), b"bb", b"bbb")?);
+    Ok(())
+}
+
+// The text with two letters from its second on replaced by another.
+fn replacing(alloc: Global, text: &[u8], by: &[u8]) -> Result<Vec<u8>, NoMemory> {
+    let alphabet = alphabet(alloc, b"ab")?;
+    let long = word(&alphabet, alloc, text)?;
+    let by = word(&alphabet, alloc, by)?;
+    let mut text = Vec::new(alloc);
+    if long.len() > 2 {
+        write(
+            &mut text,
+            &alphabet,
+            &replaced(alloc, long.letters(), 1, 2, by.letters())?,
+        )?;
+    }
+    Ok(text)
+}
+
+#[test]
+fn replaces_a_factor(rt: HostRuntime) -> Result<(), Fail> {
+    let text = replacing(rt.alloc(), b"abba", b"a")?;
+    assert_eq!(rt; text.as_slice(), b"aaa.".as_slice());
+    Ok(())
+}
