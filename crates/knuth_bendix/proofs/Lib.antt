@@ -1,0 +1,14 @@
+pub mod LinkLaws
+pub mod ListedRules
+pub mod FallingRules
+pub mod BoundedConfluence
+pub mod Endings
+pub mod RemainingLaws
+pub mod ClearLists
+pub mod OverlapSteps
+pub mod JoinedOverlaps
+pub mod AddedRules
+pub mod ShortRelations
+pub mod Turns
+pub mod SortedRules
+pub mod RuleChanges

@@ -1,0 +1,249 @@
+-- Joining overlaps, step by step.
+use Rattle.std.proofs.Common.{◌≡◌, ℕ, add-one, ◌+◌, ◌-◌, ◌*◌, ◌<◌, ◌≤◌, Bool, true, false, not, List, [], ◌∷◌, ◌++◌, length, take, drop, refl, sym, ◌∙◌, ap, ap₂, subst, subst₂, arith, inl, inr, eqb, length-append, Option, None, IsTrue, MatchBool, ◌↔◌}
+use Rattle.std.specs.Cmp.Lexicographic.{pointwise}
+use Rattle.std.proofs.lemmas.Bool.Decides.{Decides-eqb}
+use Rattle.std.proofs.Math.Nat.{suc-mul}
+use Rattle.std.proofs.lemmas.Bool.{cases_lt}
+use Rattle.std.proofs.lemmas.List.{take_rest}
+use Rattle.std.proofs.lemmas.List.Elements.{All-get_or, Contains-append_left, Contains-push, Contains-push_cases}
+use Rattle.std.proofs.lemmas.Slice.Eq.{slice_eq-Decides}
+use Rattle.theory.specs.Word.{Word}
+use Rattle.theory.specs.Completion.{Listed}
+use Rattle.theory.proofs.Counting.{contains_from_in, in_from_contains}
+use Rattle.theory.proofs.WithinDecides.{word_decides}
+use Rattle.knuth_bendix.specs.Overlaps.{AreJoined, AreShort, Gains, IsJoinedBy, IsOverlap, IsSplit, ReducesTo, critical_pair, overlaps_by, rule_at}
+
+-- a test whether the last letters of a word are the first of another
+pub overlap_tested : (f g f' g' : Word) (shared n : ℕ) (r : Bool) → f' ≡ f → g' ≡ g → n ≡ length f
+    → r ≡ pointwise eqb (take (length f' - (n - shared)) (drop (n - shared) f')) (take shared g') → IsTrue r ↔ overlaps_by f g shared
+overlap_tested f g f' g' shared n r ef eg en e =
+    slice_eq-Decides Decides-eqb (drop (length f - shared) f) (take shared g) r
+    (e ∙ ap (λ w. pointwise eqb w (take shared g')) (take_rest f' (n - shared))
+    ∙ ap (λ w. pointwise eqb w (take shared g')) (ap₂ (λ (m : ℕ) (w : Word). drop (m - shared) w) en ef)
+    ∙ ap (λ w. pointwise eqb (drop (length f - shared) f) (take shared w)) eg)
+
+-- the old equations alone
+pub gains_none : (limit : Option ℕ) (rules equations : List (Word × Word)) (most : ℕ) → Gains limit rules equations equations most
+gains_none limit rules equations most = record { older = λ u v m. m; newer = λ u v m. inl m; few = omega arith }
+
+-- one more
+pub gains_one : (limit : Option ℕ) (rules equations : List (Word × Word)) (l r : Word) → IsSplit limit rules l r
+    → Gains limit rules equations (equations ++ (l, r) ∷ []) 1
+gains_one limit rules equations l r split =
+    record {
+      older = λ u v m. Contains-append_left equations ((l, r) ∷ []) (u, v) m;
+      newer = λ u v m. elim (Contains-push_cases equations (l, r) (u, v) m) [ inl n ↦ inl n | inr e ↦ inr (is u v e) ];
+      few = omega (arith, length-append equations ((l, r) ∷ []));
+    }
+  where
+    is : (u v : Word) → ◌≡◌ {A = Word × Word} (l, r) (u, v) → IsSplit limit rules u v
+    is u v e = subst (λ (q : Word × Word). IsSplit limit rules q.0 q.1) e split
+
+pub gains_trans : (limit : Option ℕ) (rules a b c : List (Word × Word)) (m n : ℕ) → Gains limit rules a b m → Gains limit rules b c n
+    → Gains limit rules a c (m + n)
+gains_trans limit rules a b c m n g h =
+    record {
+      older = λ u v k. h.older u v (g.older u v k);
+      newer = λ u v k. elim (h.newer u v k) [ inl j ↦ g.newer u v j | inr s ↦ inr s ];
+      few = omega (arith, g.few, h.few);
+    }
+
+pub gains_more : (limit : Option ℕ) (rules a b : List (Word × Word)) (m n : ℕ) → m ≤ n → Gains limit rules a b m → Gains limit rules a b n
+gains_more limit rules a b m n h g = record { older = g.older; newer = g.newer; few = omega (arith, g.few, h) }
+
+-- what is joined stays so
+pub joined_more : (rules a b : List (Word × Word)) (u v : Word) → ((l r : Word) → Listed a l r → Listed b l r) → IsJoinedBy rules a u v
+    → IsJoinedBy rules b u v
+joined_more rules a b u v older j =
+    record {
+      left = j.left;
+      right = j.right;
+      down_left = j.down_left;
+      down_right = j.down_right;
+      met = elim j.met [ inl e ↦ inl e | inr m ↦ inr (older j.left j.right m) ];
+    }
+
+pub all_joined_more : (limit : Option ℕ) (rules a b : List (Word × Word)) (p q : Word × Word) → ((l r : Word) → Listed a l r → Listed b l r)
+    → AreJoined limit rules a p q → AreJoined limit rules b p q
+all_joined_more limit rules a b p q older j shared o =
+    joined_more rules a b (critical_pair p q shared).0 (critical_pair p q shared).1 older (j shared o)
+
+-- they come of the overlap where they differ
+pub split_at : (limit : Option ℕ) (rules : List (Word × Word)) (first second shared : ℕ) (left right : Word)
+    → first < length rules → second < length rules → IsOverlap limit (rule_at rules first) (rule_at rules second) shared
+    → ReducesTo rules first second shared left right → (left ≡ right → ⊥) → IsSplit limit rules left right
+split_at limit rules first second shared left right f s o to differ =
+    record {
+      first = first;
+      second = second;
+      first_within = f;
+      second_within = s;
+      apart = record {
+        shared = shared;
+        overlap = o;
+        down_left = to.down_left;
+        down_right = to.down_right;
+        end_left = to.end_left;
+        end_right = to.end_right;
+        differ = differ;
+      };
+    }
+
+pub joined_by_one : (rules equations : List (Word × Word)) (first second shared : ℕ) (left right : Word)
+    → ReducesTo rules first second shared left right
+    → IsJoinedBy rules (equations ++ (left, right) ∷ []) (critical_pair (rule_at rules first) (rule_at rules second) shared).0 (critical_pair (rule_at rules first) (rule_at rules second) shared).1
+joined_by_one rules equations first second shared left right to =
+    record {
+      left = left;
+      right = right;
+      down_left = to.down_left;
+      down_right = to.down_right;
+      met = inr (Contains-push equations (left, right));
+    }
+
+pub joined_at_once : (rules equations : List (Word × Word)) (first second shared : ℕ) (left right : Word)
+    → ReducesTo rules first second shared left right → left ≡ right
+    → IsJoinedBy rules equations (critical_pair (rule_at rules first) (rule_at rules second) shared).0 (critical_pair (rule_at rules first) (rule_at rules second) shared).1
+joined_at_once rules equations first second shared left right to e =
+    record { left = left; right = right; down_left = to.down_left; down_right = to.down_right; met = inl e }
+
+-- a test whether two words differ
+pub different_tested : (u v u' v' : Word) (r : Bool) → u' ≡ u → v' ≡ v → r ≡ not (pointwise eqb u' v')
+    → (r ≡ true → u ≡ v → ⊥) × (r ≡ false → u ≡ v)
+different_tested u v u' v' r eu ev e =
+    let decides = slice_eq-Decides Decides-eqb u v (pointwise eqb u v) refl in
+    let is : r ≡ not (pointwise eqb u v) = e ∙ ap₂ (λ (a b : Word). not (pointwise eqb a b)) eu ev in (
+      λ t same. let bad : pointwise eqb u v ≡ true = decides.1 same in differ (pointwise eqb u v) r is t bad,
+      λ f. decides.0 (equal (pointwise eqb u v) r is f),
+    )
+  where
+    differ : (b r : Bool) → r ≡ not b → r ≡ true → b ≡ true → ⊥
+    differ true r e t b = cc
+    differ false r e t b = cc
+
+    equal : (b r : Bool) → r ≡ not b → r ≡ false → b ≡ true
+    equal true r e f = refl
+    equal false r e f = cc
+
+-- what pushing the words of an overlap does to the equations
+pub record Pushes (old new : List (Word × Word)) (left right : Word) : Type 0 where
+  pub same : left ≡ right → new ≡ old
+  pub different : (left ≡ right → ⊥) → new ≡ old ++ (left, right) ∷ []
+
+pub overlap_gains : (rules old new : List (Word × Word)) (first second shared : ℕ) (left right : Word)
+    → first < length rules → second < length rules → ReducesTo rules first second shared left right → Pushes old new left right
+    → (limit : Option ℕ) → IsOverlap limit (rule_at rules first) (rule_at rules second) shared → Gains limit rules old new 1
+overlap_gains rules old new first second shared left right f s to h limit o = elim (word_decides left right) [
+  | inl e ↦ subst (λ (es : List (Word × Word)). Gains limit rules old es 1) (sym (h.same e)) (gains_none limit rules old 1)
+  | inr n ↦
+      subst (λ (es : List (Word × Word)). Gains limit rules old es 1) (sym (h.different n))
+      (gains_one limit rules old left right (split_at limit rules first second shared left right f s o to n))
+]
+
+pub overlap_joined : (rules old new : List (Word × Word)) (first second shared : ℕ) (left right : Word)
+    → ReducesTo rules first second shared left right → Pushes old new left right
+    → IsJoinedBy rules new (critical_pair (rule_at rules first) (rule_at rules second) shared).0 (critical_pair (rule_at rules first) (rule_at rules second) shared).1
+overlap_joined rules old new first second shared left right to h = elim (word_decides left right) [
+  | inl e ↦ joined_at_once rules new first second shared left right to e
+  | inr n ↦
+      subst (λ (es : List (Word × Word)). IsJoinedBy rules es (critical_pair (rule_at rules first) (rule_at rules second) shared).0 (critical_pair (rule_at rules first) (rule_at rules second) shared).1)
+      (sym (h.different n)) (joined_by_one rules old first second shared left right to)
+]
+
+-- the overlaps of two rules that share fewer letters are joined
+pub record IsJoinedTo (limit : Option ℕ) (rules old new : List (Word × Word)) (first second bound : ℕ) : Type 0 where
+  pub gains : Gains limit rules old new (bound - 1)
+  pub joined : (shared : ℕ) → shared < bound → IsOverlap limit (rule_at rules first) (rule_at rules second) shared
+      → IsJoinedBy rules new (critical_pair (rule_at rules first) (rule_at rules second) shared).0 (critical_pair (rule_at rules first) (rule_at rules second) shared).1
+
+pub joined_step : (limit : Option ℕ) (rules old new newer : List (Word × Word)) (first second shared : ℕ) → 0 < shared
+    → IsJoinedTo limit rules old new first second shared
+    → Gains limit rules new newer 1
+    → (IsOverlap limit (rule_at rules first) (rule_at rules second) shared → IsJoinedBy rules newer (critical_pair (rule_at rules first) (rule_at rules second) shared).0 (critical_pair (rule_at rules first) (rule_at rules second) shared).1)
+    → IsJoinedTo limit rules old newer first second (shared + 1)
+joined_step limit rules old new newer first second shared some to gains joins =
+    record {
+      gains =
+          gains_more limit rules old newer (shared - 1 + 1) (shared + 1 - 1) (omega arith)
+          (gains_trans limit rules old new newer (shared - 1) 1 to.gains gains);
+      joined = λ k less o. elim (cases_lt k shared) [
+        | inl before ↦
+            joined_more rules new newer (critical_pair (rule_at rules first) (rule_at rules second) k).0 (critical_pair (rule_at rules first) (rule_at rules second) k).1
+            gains.older (to.joined k before o)
+        | inr here ↦
+            let same : shared ≡ k = omega arith in
+            subst (λ (n : ℕ). IsJoinedBy rules newer (critical_pair (rule_at rules first) (rule_at rules second) n).0 (critical_pair (rule_at rules first) (rule_at rules second) n).1)
+            same (joins (subst (λ (n : ℕ). IsOverlap limit (rule_at rules first) (rule_at rules second) n) (sym same) o))
+      ];
+    }
+
+-- a loop's step at so many shared letters, whether they are an overlap or not
+pub joined_there : (limit : Option ℕ) (rules old new newer : List (Word × Word)) (first second shared : ℕ) (p q : Word × Word) (tested : Bool)
+    → p ≡ rule_at rules first → q ≡ rule_at rules second → IsTrue tested ↔ IsOverlap limit p q shared → tested ≡ true
+    → ((limit : Option ℕ) → IsOverlap limit (rule_at rules first) (rule_at rules second) shared → Gains limit rules new newer 1)
+    → IsJoinedBy rules newer (critical_pair (rule_at rules first) (rule_at rules second) shared).0 (critical_pair (rule_at rules first) (rule_at rules second) shared).1
+    → 0 < shared → IsJoinedTo limit rules old new first second shared → IsJoinedTo limit rules old newer first second (shared + 1)
+joined_there limit rules old new newer first second shared p q tested ep eq is met gains joined some to =
+    let o : IsOverlap limit (rule_at rules first) (rule_at rules second) shared =
+    subst₂ (λ (p q : Word × Word). IsOverlap limit p q shared) ep eq (is.0 met) in
+    joined_step limit rules old new newer first second shared some to (gains limit o) (λ _. joined)
+
+pub joined_elsewhere : (limit : Option ℕ) (rules old new : List (Word × Word)) (first second shared : ℕ) (p q : Word × Word) (tested : Bool)
+    → p ≡ rule_at rules first → q ≡ rule_at rules second → IsTrue tested ↔ IsOverlap limit p q shared → tested ≡ false
+    → 0 < shared → IsJoinedTo limit rules old new first second shared → IsJoinedTo limit rules old new first second (shared + 1)
+joined_elsewhere limit rules old new first second shared p q tested ep eq is unmet some to =
+    joined_step limit rules old new new first second shared some to (gains_none limit rules new 1)
+    (λ o. let met : tested ≡ true = is.1 (subst₂ (λ (p q : Word × Word). IsOverlap limit p q shared) (sym ep) (sym eq) o) in let bad : ⊥ = cc in absurd bad)
+
+-- the overlaps of a rule with the first ones, on both sides, are joined
+pub record IsJoinedWith (limit : Option ℕ) (rules old new : List (Word × Word)) (newest count : ℕ) : Type 0 where
+  pub gains : (most : ℕ) → AreShort most rules → Gains limit rules old new (count * (most + most))
+  pub joined : (other : ℕ) → other < count
+      → AreJoined limit rules new (rule_at rules newest) (rule_at rules other) × AreJoined limit rules new (rule_at rules other) (rule_at rules newest)
+
+pub with_step : (limit : Option ℕ) (rules old new middle newer : List (Word × Word)) (newest count : ℕ) → newest < length rules → count < length rules
+    → IsJoinedWith limit rules old new newest count
+    → Gains limit rules new middle (length (rule_at rules newest).0) → AreJoined limit rules middle (rule_at rules newest) (rule_at rules count)
+    → Gains limit rules middle newer (length (rule_at rules count).0) → AreJoined limit rules newer (rule_at rules count) (rule_at rules newest)
+    → IsJoinedWith limit rules old newer newest (count + 1)
+with_step limit rules old new middle newer newest count newest_in count_in to first first_joined second second_joined =
+    record {
+      gains = λ most short.
+          let near : length (rule_at rules newest).0 ≤ most = (All-get_or (λ r. (length r.0 ≤ most) × (length r.1 ≤ most)) rules newest ([], []) newest_in short).0 in
+          let there : length (rule_at rules count).0 ≤ most = (All-get_or (λ r. (length r.0 ≤ most) × (length r.1 ≤ most)) rules count ([], []) count_in short).0 in
+          let grown : (count + 1) * (most + most) ≡ count * (most + most) + (most + most) = rw add-one (suc-mul count (most + most)) in
+          gains_more limit rules old newer (count * (most + most) + length (rule_at rules newest).0 + length (rule_at rules count).0) ((count + 1) * (most + most))
+          (omega (arith, near, there, grown))
+          (gains_trans limit rules old middle newer (count * (most + most) + length (rule_at rules newest).0) (length (rule_at rules count).0)
+          (gains_trans limit rules old new middle (count * (most + most)) (length (rule_at rules newest).0) (to.gains most short) first) second);
+      joined = λ other less. elim (cases_lt other count) [
+        | inl before ↦
+            let both = to.joined other before in (
+              later (rule_at rules newest) (rule_at rules other) both.0,
+              later (rule_at rules other) (rule_at rules newest) both.1,
+            )
+        | inr here ↦
+            let same : count ≡ other = omega arith in
+            subst (λ (k : ℕ). AreJoined limit rules newer (rule_at rules newest) (rule_at rules k) × AreJoined limit rules newer (rule_at rules k) (rule_at rules newest)) same
+            (all_joined_more limit rules middle newer (rule_at rules newest) (rule_at rules count) second.older first_joined, second_joined)
+      ];
+    }
+  where
+    later : (p q : Word × Word) → AreJoined limit rules new p q → AreJoined limit rules newer p q
+    later p q j = all_joined_more limit rules middle newer p q second.older (all_joined_more limit rules new middle p q first.older j)
+
+pub with_end : (limit : Option ℕ) (rules old new : List (Word × Word)) (newest count : ℕ) → count ≡ length rules
+    → IsJoinedWith limit rules old new newest count → IsJoinedWith limit rules old new newest (length rules)
+with_end limit rules old new newest count e to = subst (λ (n : ℕ). IsJoinedWith limit rules old new newest n) e to
+
+-- the last test of two rules: no equation is left, or one that the rules do not join
+pub tested_pair : (rules new : List (Word × Word)) (p q : Word × Word) (most : ℕ) (none : Bool)
+    → IsTrue none ↔ (new ≡ []) → Gains None rules [] new most → AreJoined None rules new p q
+    → MatchBool none (AreJoined None rules [] p q) ((u : Word) × (v : Word) × IsSplit None rules u v)
+tested_pair rules new p q most true is gains joined = subst (λ (es : List (Word × Word)). AreJoined None rules es p q) (is.0 refl) joined
+tested_pair rules [] p q most false is gains joined = let bad : false ≡ true = is.1 refl in absurd cc
+tested_pair rules (e ∷ new) p q most false is gains joined =
+    elim (gains.newer e.0 e.1 (contains_from_in e (e ∷ new) (inl refl))) [
+      | inl none ↦ absurd (in_from_contains (e.0, e.1) [] none)
+      | inr split ↦ (e.0, e.1, split)
+    ]

@@ -1,0 +1,20 @@
+use Rattle.std.proofs.Common.{ap}
+use Rattle.knuth_bendix.specs.Runs.{CompletionRun}
+use Rattle.knuth_bendix.proofs.Turns.{Leaves, turn_leaves}
+use Rattle.knuth_bendix.proofs.completions.CompletionRacer.advance.Goals as goal
+
+after_turn : (c : goal.After-said-1)
+    → Leaves c.args.self.now.left c.self.inside.presentation.presentation c.self.inside.length c.left_by-rules.result.0 c.go_on-turn.new.equations c.left_by-rules.result.1
+after_turn c =
+    turn_leaves c.args.self.now.left c.self.inside.presentation.presentation c.self.inside.length c.replace-rules.result c.self.inside.rules c.self.inside.equations
+    c.go_on-turn.new.equations c.go_on-turn.result c.left_by-rules.result c.replace-rules.ensures.value (ap (λ (r : CompletionRun). r.left) c.self.view_is)
+    c.go_on-turn.ensures c.left_by-rules.ensures
+
+pub invariant_of-self : goal.invariant_of-self
+invariant_of-self c = record { elements = c.self.invariant.elements; run = (after_turn c).run }
+
+pub returns-clause-more : goal.returns-clause-more
+returns-clause-more c = (after_turn c).nearer
+
+pub returns-clause-short : goal.returns-clause-short
+returns-clause-short c = (after_turn c).run.short

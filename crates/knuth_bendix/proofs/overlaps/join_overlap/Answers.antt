@@ -1,0 +1,14 @@
+use Rattle.knuth_bendix.proofs.OverlapSteps.{overlap_gains, overlap_joined}
+use Rattle.knuth_bendix.proofs.overlaps.join_overlap.Goals as goal
+
+pub returns-clause-gains : goal.returns-clause-gains
+returns-clause-gains c =
+    overlap_gains c.args.rules.now c.args.equations.now c.push_different.new.equations c.args.first c.args.second c.args.shared c.in_ok-left.left c.in_ok-left.right
+    c.requires.first c.requires.second c.in_ok-left.ensures
+    (record { same = c.in_ok-push_different.ensures.same; different = c.in_ok-push_different.ensures.different })
+
+pub returns-clause-joined : goal.returns-clause-joined
+returns-clause-joined c =
+    overlap_joined c.args.rules.now c.args.equations.now c.push_different.new.equations c.args.first c.args.second c.args.shared c.in_ok-left.left c.in_ok-left.right
+    c.in_ok-left.ensures
+    (record { same = c.in_ok-push_different.ensures.same; different = c.in_ok-push_different.ensures.different })

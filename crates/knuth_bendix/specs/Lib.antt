@@ -1,0 +1,6 @@
+pub mod Links
+pub mod Remaining
+pub mod Held
+pub mod Overlaps
+pub mod Changes
+pub mod Runs

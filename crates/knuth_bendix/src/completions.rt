@@ -1,0 +1,233 @@
+// Completion, an equation at a time.
+ghost use Rattle.std.specs.Prelude.{◌≡◌, ◌≢◌, ◌≤◌, ◌<◌, ◌⊎◌, ◌↔◌, All, [], cond, length, IfOk, IsTrue, MatchBool, MatchResult};
+ghost use Rattle.theory.specs.Word.{Word as Letters};
+ghost use Rattle.theory.specs.Congruence.{of_presentation};
+ghost use Rattle.theory.specs.Class.{IsRuleList, SameClass};
+ghost use Rattle.theory.specs.Completion.{AreRules, CompletionEnds, Listed, Rule};
+ghost use Rattle.knuth_bendix.specs.Held.{IsSound};
+ghost use Rattle.knuth_bendix.specs.Overlaps.{AreShort};
+ghost use Rattle.knuth_bendix.specs.Runs.{AreShortRelations, CompletionRun, IsTurn};
+
+use crate::confluence::are_joined;
+use crate::equations::Equations;
+use crate::rule_changes::join;
+use ports::NoMemory;
+use presentation::{Pairs, Presentation};
+use race::{Progress, Racer};
+use reduced_automaton::Rules;
+use std::alloc::Global;
+use std::marker::Model;
+use std::mem;
+use words::{Word, shortlex};
+
+/// A completion of a presentation within a bound on the length of words: an engine that decides whether it ends there,
+/// as `CompletionEnds` of `theory` says. The rules that it holds have no longer side.
+#[derive(Drop)]
+pub struct Completion {
+    alloc: Global,
+    presentation: Presentation,
+    length: usize,
+    rules: Rules,
+    equations: Equations,
+    said: Progress,
+}
+
+impl Model for Completion {
+    ghost use Rattle.knuth_bendix.specs.Runs.{CompletionRun, IsCompletion, left_of};
+
+    ghost Value = { CompletionRun };
+
+    ghost view = { λ c. record { presentation = c.presentation.presentation; length = c.length; rules = c.rules; left = left_of c.presentation.presentation c.length c.rules c.equations; said = c.said } };
+
+    ghost invariant = { λ c. IsCompletion c.presentation.presentation c.length c.rules c.equations c.said };
+}
+
+// Whether neither side of the relation has more letters than the bound.
+fn is_short(relation: &(Word, Word), bound: usize) -> bool
+    ensures { IsTrue result ↔ ((length relation.now.0 ≤ bound) × (length relation.now.1 ≤ bound)) }
+{
+    relation.0.len() <= bound && relation.1.len() <= bound
+}
+
+// The relations both of whose sides are within the bound.
+fn short_relations(alloc: Global, relations: &Pairs, bound: usize) -> Result<Equations, NoMemory>
+    ensures { IfOk result (AreShortRelations bound relations.now) }
+{
+    let mut equations = Equations::new(alloc);
+    for place in 0..relations.len() {
+        let relation = relations.pair(place);
+        if is_short(relation, bound) {
+            equations.push(relation.0.copy(alloc)?, relation.1.copy(alloc)?)?;
+        }
+    }
+    Ok(equations)
+}
+
+// Whether both sides of each relation are within the bound.
+fn are_short(relations: &Pairs, bound: usize) -> bool
+    ensures { IsTrue result ↔ All (λ r. (length r.0 ≤ bound) × (length r.1 ≤ bound)) relations.now }
+{
+    for place in 0..relations.len() {
+        if !is_short(relations.pair(place), bound) {
+            return false;
+        }
+    }
+    true
+}
+
+// Whether completion ends, once no equation is left: each relation is within the length, and each overlap leads to one
+// word.
+fn ends(
+    alloc: Global,
+    presentation: &Presentation,
+    length: usize,
+    rules: &Rules,
+) -> Result<bool, NoMemory>
+    requires { IsSound presentation.now.presentation length (record { rules = rules.now; equations = [] }) }
+    ensures { IfOk result (λ ends. MatchBool ends (CompletionEnds presentation.now.presentation length) (CompletionEnds presentation.now.presentation length → ⊥)) }
+{
+    if !are_short(presentation.relations(), length) {
+        return Ok(false);
+    }
+    let joined = are_joined(alloc, rules)?;
+    Ok(joined)
+}
+
+// What the last turn tells.
+fn last_answer(ends: bool) -> Progress
+    ensures { result ≡ cond ends Progress.Decided Progress.Spent }
+{
+    if ends {
+        Progress::Decided
+    } else {
+        Progress::Spent
+    }
+}
+
+// One turn: an equation is joined, or if none is left, it is decided whether completion ends.
+fn go_on(
+    alloc: Global,
+    presentation: &Presentation,
+    length: usize,
+    rules: Rules,
+    equations: &mut Equations,
+) -> Result<(Rules, Progress), NoMemory>
+    requires { IsSound presentation.now.presentation length (record { rules = rules; equations = equations.old }) }
+    ensures { IfOk result (λ turn. IsTurn presentation.now.presentation length rules equations.old turn.0 equations.new turn.1) }
+{
+    match equations.pop() {
+        Some(pair) => {
+            let rules = join(alloc, rules, &pair, length, equations)?;
+            Ok((rules, Progress::More))
+        }
+        None => {
+            let ends = ends(alloc, presentation, length, &rules)?;
+            Ok((rules, last_answer(ends)))
+        }
+    }
+}
+
+// What a turn leaves: after want of memory no rules are held.
+fn left_by(alloc: Global, turn: Result<(Rules, Progress), NoMemory>) -> (Rules, Progress)
+    ensures { MatchResult turn (λ t. result ≡ t) (λ _. (result.0 ≡ []) × (result.1 ≡ Progress.NoMemory)) }
+{
+    match turn {
+        Ok(turn) => turn,
+        Err(NoMemory) => (Rules::new(alloc), Progress::NoMemory),
+    }
+}
+
+impl Racer for Completion {
+    ghost use Rattle.std.specs.Prelude.{◌≡◌, ◌⊎◌, ℕ, ◌<◌};
+    ghost use Rattle.race.specs.declared.engines.Progress.{Progress as Answer};
+    ghost use Rattle.theory.specs.Completion.{AreRules, CompletionEnds};
+    ghost use Rattle.knuth_bendix.specs.Overlaps.{AreShort};
+    ghost use Rattle.knuth_bendix.specs.Runs.{CompletionTask};
+
+    ghost Task = { CompletionTask };
+
+    ghost task = { λ c. record { presentation = c.presentation; length = c.length } };
+
+    ghost condition = { λ t. CompletionEnds t.presentation t.length };
+
+    ghost measure = { λ c. c.left };
+
+    ghost said = { λ c. c.said };
+
+    /// Joins one pair of words that are related: a relation, or the words to which an overlap leads. Where none is left
+    /// that fits, the last turn tests the overlaps of any length. After it two words within the length have one normal
+    /// form exactly where the relation of that length relates them. No rule that is held has a longer side.
+    fn advance(&mut self) -> Progress
+        ensures task { (self.new.presentation ≡ self.old.presentation) × (self.new.length ≡ self.old.length) }
+        ensures said { self.new.said ≡ result }
+        ensures decided { result ≡ Answer.Decided → CompletionEnds self.new.presentation self.new.length }
+        ensures spent { result ≡ Answer.Spent → ¬ (CompletionEnds self.new.presentation self.new.length) }
+        ensures more { result ≡ Answer.More → self.new.left < self.old.left }
+        ensures stays_decided { self.old.said ≡ Answer.Decided → (result ≡ Answer.Decided) × (self.new ≡ self.old) }
+        ensures stays_spent { self.old.said ≡ Answer.Spent → (result ≡ Answer.Spent) × (self.new ≡ self.old) }
+        ensures stays_out_of_memory { self.old.said ≡ Answer.NoMemory → result ≡ Answer.NoMemory }
+        ensures rules { (result ≡ Answer.Decided) ⊎ (result ≡ Answer.Spent) → AreRules self.new.presentation self.new.length self.new.rules }
+        ensures short { AreShort self.new.length self.new.rules }
+    {
+        let Progress::More = self.said else {
+            return self.said;
+        };
+        let rules = mem::replace(&mut self.rules, Rules::new(self.alloc));
+        let turn = go_on(
+            self.alloc,
+            &self.presentation,
+            self.length,
+            rules,
+            &mut self.equations,
+        );
+        let (rules, said) = left_by(self.alloc, turn);
+        self.rules = rules;
+        self.said = said;
+        said
+    }
+}
+
+impl Completion {
+    /// The completion of the presentation within so many letters. No turn has been made. Refused only where memory is
+    /// wanting.
+    pub fn new(
+        alloc: Global,
+        presentation: &Presentation,
+        length: usize,
+    ) -> Result<Completion, NoMemory>
+        ensures presentation { IfOk result (λ c. c.presentation ≡ presentation.now.presentation) }
+        ensures length { IfOk result (λ c. c.length ≡ length) }
+        ensures rules { IfOk result (λ c. c.rules ≡ []) }
+        ensures said { IfOk result (λ c. c.said ≡ Progress.More) }
+    {
+        let equations = short_relations(alloc, presentation.relations(), length)?;
+        Ok(Completion {
+            alloc,
+            presentation: presentation.copy(alloc)?,
+            length,
+            rules: Rules::new(alloc),
+            equations,
+            said: Progress::More,
+        })
+    }
+
+    /// Whether a turn has given `Decided`.
+    pub fn is_decided(&self) -> bool
+        ensures { IsTrue result ↔ (self.now.said ≡ Progress.Decided) }
+    {
+        self.said == Progress::Decided
+    }
+
+    /// The rules of a completion that has decided: the reduced rules of the presentation's congruence, in short-lex order
+    /// of their left sides (Sims 1994, 2.6; libsemigroups, `active_rules`). Refused only where memory is wanting.
+    pub fn rules(&self) -> Result<Rules, NoMemory>
+        requires { self.now.said ≡ Progress.Decided }
+        ensures list { IfOk result (IsRuleList (SameClass (of_presentation self.now.presentation))) }
+        ensures rules { IfOk result (λ r. (u v : Letters) → Listed r u v ↔ Rule self.now.presentation self.now.length u v) }
+        ensures ends { CompletionEnds self.now.presentation self.now.length }
+    {
+        let mut rules = self.rules.copy(self.alloc)?.into_vec();
+        rules.sort_by(|first, second| shortlex(&first.0, &second.0))?;
+        Ok(Rules::from_vec(self.alloc, rules))
+    }
+}

@@ -1,0 +1,158 @@
+// Overlaps of left sides, and the pairs of words to which they lead.
+ghost use Rattle.std.specs.Prelude.{◌≡◌, ℕ, ◌+◌, ◌-◌, ◌*◌, ◌<◌, ◌≤◌, [], ◌∷◌, ◌++◌, length, IfOk, OnOk, IsTrue, ◌↔◌, Option};
+ghost use Rattle.reduced_automaton.specs.Automaton.{Allows};
+ghost use Rattle.knuth_bendix.specs.Overlaps.{AreJoined, AreShort, Gains, IsJoinedBy, IsOverlap, ReducesTo, critical_pair, overlaps_by, rule_at};
+
+use crate::equations::Equations;
+use ports::NoMemory;
+use reduced_automaton::{Rules, replaced};
+use std::alloc::Global;
+use words::Word;
+
+// Whether the last letters of the first word, so many, are the first letters of the second.
+fn overlap(first: &Word, second: &Word, shared: usize) -> bool
+    requires first { shared ≤ length first.now }
+    requires second { shared ≤ length second.now }
+    ensures { IsTrue result ↔ overlaps_by first.now second.now shared }
+{
+    let start = first.len() - shared;
+    first.letters()[start..] == second.letters()[..shared]
+}
+
+// Whether a word of so many letters is within the limit, if there is one.
+fn is_within(limit: Option<usize>, first: usize, rest: usize) -> bool
+    ensures { IsTrue result ↔ Allows limit (first + rest) }
+{
+    match limit {
+        None => true,
+        Some(most) => first <= most && rest <= most - first,
+    }
+}
+
+// Whether the left sides share so many letters, in a word within the limit.
+fn is_overlap(
+    limit: Option<usize>,
+    first: &(Word, Word),
+    second: &(Word, Word),
+    shared: usize,
+) -> bool
+    requires some { 0 < shared }
+    requires first { shared < length first.now.0 }
+    requires second { shared < length second.now.0 }
+    ensures { IsTrue result ↔ IsOverlap limit first.now second.now shared }
+{
+    is_within(limit, first.0.len(), second.0.len() - shared) && overlap(&first.0, &second.0, shared)
+}
+
+// The words to which two rules lead from the word in which their left sides share so many letters.
+fn critical_pair(
+    alloc: Global,
+    first: &(Word, Word),
+    second: &(Word, Word),
+    shared: usize,
+) -> Result<(Word, Word), NoMemory>
+    requires first { shared ≤ length first.now.0 }
+    requires second { shared ≤ length second.now.0 }
+    ensures { IfOk result (λ pair. pair ≡ critical_pair first.now second.now shared) }
+{
+    let start = first.0.len() - shared;
+    let left = replaced(alloc, second.0.letters(), 0, shared, first.1.letters())?;
+    let right = replaced(alloc, first.0.letters(), start, shared, second.1.letters())?;
+    Ok((left, right))
+}
+
+// The reduced words to which an overlap of two rules leads.
+fn reduced_pair(
+    alloc: Global,
+    rules: &Rules,
+    first: usize,
+    second: usize,
+    shared: usize,
+) -> Result<(Word, Word), NoMemory>
+    requires first { first < length rules.now }
+    requires second { second < length rules.now }
+    requires shared_first { shared ≤ length (rule_at rules.now first).0 }
+    requires shared_second { shared ≤ length (rule_at rules.now second).0 }
+    ensures { IfOk result (λ pair. ReducesTo rules.now first second shared pair.0 pair.1) }
+{
+    let pair = critical_pair(alloc, rules.rule(first), rules.rule(second), shared)?;
+    let left = rules.reduce(&pair.0)?;
+    let right = rules.reduce(&pair.1)?;
+    Ok((left, right))
+}
+
+// Puts the words to which an overlap leads at the end of the equations, where they differ.
+fn push_different(left: Word, right: Word, equations: &mut Equations) -> Result<(), NoMemory>
+    ensures same { OnOk result (left ≡ right → equations.new ≡ equations.old) }
+    ensures different { OnOk result ((left ≡ right → ⊥) → equations.new ≡ equations.old ++ (left, right) ∷ []) }
+{
+    if left.letters() != right.letters() {
+        equations.push(left, right)?;
+    }
+    Ok(())
+}
+
+// Joins the words to which an overlap of two rules leads: where the rules lead them to different words, these become an
+// equation.
+fn join_overlap(
+    alloc: Global,
+    rules: &Rules,
+    first: usize,
+    second: usize,
+    shared: usize,
+    equations: &mut Equations,
+) -> Result<(), NoMemory>
+    requires first { first < length rules.now }
+    requires second { second < length rules.now }
+    requires shared_first { shared ≤ length (rule_at rules.now first).0 }
+    requires shared_second { shared ≤ length (rule_at rules.now second).0 }
+    ensures gains { OnOk result ((limit : Option ℕ) → IsOverlap limit (rule_at rules.now first) (rule_at rules.now second) shared → Gains limit rules.now equations.old equations.new 1) }
+    ensures joined { OnOk result (IsJoinedBy rules.now equations.new (critical_pair (rule_at rules.now first) (rule_at rules.now second) shared).0 (critical_pair (rule_at rules.now first) (rule_at rules.now second) shared).1) }
+{
+    let (left, right) = reduced_pair(alloc, rules, first, second, shared)?;
+    push_different(left, right, equations)?;
+    Ok(())
+}
+
+// Joins the overlaps of two rules whose words are within the limit.
+pub fn join_overlaps(
+    alloc: Global,
+    rules: &Rules,
+    first: usize,
+    second: usize,
+    limit: Option<usize>,
+    equations: &mut Equations,
+) -> Result<(), NoMemory>
+    requires first { first < length rules.now }
+    requires second { second < length rules.now }
+    ensures gains { OnOk result (Gains limit rules.now equations.old equations.new (length (rule_at rules.now first).0)) }
+    ensures joined { OnOk result (AreJoined limit rules.now equations.new (rule_at rules.now first) (rule_at rules.now second)) }
+{
+    let shortest = rules.rule(first).0.len().min(rules.rule(second).0.len());
+    for shared in 1..shortest {
+        if is_overlap(limit, rules.rule(first), rules.rule(second), shared) {
+            join_overlap(alloc, rules, first, second, shared, equations)?;
+        }
+    }
+    Ok(())
+}
+
+// Joins the overlaps of a rule with each rule, on both sides, whose words are within the limit.
+pub fn join_all(
+    alloc: Global,
+    rules: &Rules,
+    newest: usize,
+    limit: Option<usize>,
+    equations: &mut Equations,
+) -> Result<(), NoMemory>
+    requires { newest < length rules.now }
+    ensures gains { OnOk result ((most : ℕ) → AreShort most rules.now → Gains limit rules.now equations.old equations.new (length rules.now * (most + most))) }
+    ensures joined { OnOk result ((other : ℕ) → other < length rules.now
+        → AreJoined limit rules.now equations.new (rule_at rules.now newest) (rule_at rules.now other) × AreJoined limit rules.now equations.new (rule_at rules.now other) (rule_at rules.now newest)) }
+{
+    for other in 0..rules.len() {
+        join_overlaps(alloc, rules, newest, other, limit, equations)?;
+        join_overlaps(alloc, rules, other, newest, limit, equations)?;
+    }
+    Ok(())
+}

@@ -1,0 +1,118 @@
+// Adding a rule, and what it changes in the rules that are there.
+ghost use Rattle.std.specs.Prelude.{◌≡◌, ℕ, ◌<◌, [], ◌∷◌, ◌++◌, length, not, IfOk, OnOk};
+ghost use Rattle.std.specs.List.{filter};
+ghost use Rattle.theory.specs.Word.{IsFactor, Word as Letters};
+ghost use Rattle.theory.specs.ShortLex.{◌≺◌};
+ghost use Rattle.theory.specs.Completion.{IsReduced, Listed};
+ghost use Rattle.knuth_bendix.specs.Changes.{AddsRule, IsDone, Joins, Rewrites, SetsAside};
+ghost use Rattle.knuth_bendix.specs.Overlaps.{rule_at};
+ghost use Rattle.knuth_bendix.specs.Remaining.{stands_in};
+
+use crate::equations::Equations;
+use crate::overlaps::join_all;
+use ports::NoMemory;
+use reduced_automaton::{Rules, has_factor};
+use std::alloc::Global;
+use std::cmp::Ordering;
+use words::{Word, shortlex};
+
+// Puts a rule at the end of the equations where the word stands in its left side, and else at the end of the rules.
+fn set_one_aside(
+    rule: (Word, Word),
+    left: &Word,
+    kept: &mut Rules,
+    equations: &mut Equations,
+) -> Result<(), NoMemory>
+    requires { rule.1 ≺ rule.0 }
+    ensures kept { OnOk result (kept.new ≡ kept.old ++ filter (λ r. not (stands_in left.now r.0)) (rule ∷ [])) }
+    ensures equations { OnOk result (equations.new ≡ equations.old ++ filter (λ r. stands_in left.now r.0) (rule ∷ [])) }
+{
+    if has_factor(&rule.0, left) {
+        equations.push(rule.0, rule.1)
+    } else {
+        kept.push(rule.0, rule.1)
+    }
+}
+
+// The rules in whose left sides the word does not stand. The others become equations.
+fn set_aside(
+    alloc: Global,
+    rules: Rules,
+    left: &Word,
+    equations: &mut Equations,
+) -> Result<Rules, NoMemory>
+    ensures { IfOk result (λ kept. SetsAside left.now rules kept equations.old equations.new) }
+{
+    let mut kept = Rules::new(alloc);
+    for rule in rules.into_vec() {
+        set_one_aside(rule, left, &mut kept, equations)?;
+    }
+    Ok(kept)
+}
+
+// Rewrites the right side of the rule at a place, if the left side of the newest rule stands in it.
+fn rewrite_right(rules: &mut Rules, place: usize, newest: usize) -> Result<(), NoMemory>
+    requires place { place < length rules.old }
+    requires newest { newest < length rules.old }
+    ensures rewrites { OnOk result (Rewrites rules.old rules.new) }
+    ensures others { OnOk result ((i : ℕ) → i < length rules.old → (i ≡ place → ⊥) → rule_at rules.new i ≡ rule_at rules.old i) }
+    ensures done { OnOk result (IsDone (rule_at rules.old newest).0 rules.old rules.new place) }
+{
+    if has_factor(&rules.rule(place).1, &rules.rule(newest).0) {
+        let right = rules.reduce(&rules.rule(place).1)?;
+        rules.set_right(place, right);
+    }
+    Ok(())
+}
+
+// Rewrites the right sides in which the left side of the newest rule stands.
+fn rewrite_rights(rules: &mut Rules, newest: usize) -> Result<(), NoMemory>
+    requires { newest < length rules.old }
+    ensures rewrites { OnOk result (Rewrites rules.old rules.new) }
+    ensures done { OnOk result ((i : ℕ) → i < length rules.new → IsDone (rule_at rules.old newest).0 rules.old rules.new i) }
+{
+    for place in 0..rules.len() {
+        rewrite_right(rules, place, newest)?;
+    }
+    Ok(())
+}
+
+// The rules with one more, which leads from the one word to the other. Rules in which its left side stands become
+// equations, and so do the words to which its overlaps within the length lead where no rules join them.
+fn add_rule(
+    alloc: Global,
+    rules: Rules,
+    left: Word,
+    right: Word,
+    length: usize,
+    equations: &mut Equations,
+) -> Result<Rules, NoMemory>
+    requires { right ≺ left }
+    ensures { IfOk result (λ new. AddsRule length left right rules equations.old new equations.new) }
+{
+    let mut rules = set_aside(alloc, rules, &left, equations)?;
+    let newest = rules.len();
+    rules.push(left, right)?;
+    rewrite_rights(&mut rules, newest)?;
+    join_all(alloc, &rules, newest, Some(length), equations)?;
+    Ok(rules)
+}
+
+// Makes the rules join the two words: where they lead to different words, a rule is added.
+pub fn join(
+    alloc: Global,
+    rules: Rules,
+    pair: &(Word, Word),
+    length: usize,
+    equations: &mut Equations,
+) -> Result<Rules, NoMemory>
+    ensures { IfOk result (λ new. Joins length pair.now.0 pair.now.1 rules equations.old new equations.new) }
+{
+    let left = rules.reduce(&pair.0)?;
+    let right = rules.reduce(&pair.1)?;
+    match shortlex(&left, &right) {
+        Ordering::Equal => Ok(rules),
+        Ordering::Less => add_rule(alloc, rules, right, left, length, equations),
+        Ordering::Greater => add_rule(alloc, rules, left, right, length, equations),
+    }
+}
