@@ -9,24 +9,12 @@ use Rattle.theory.specs.Completion.{Within, same, symmetric, transitive, relatio
 use Rattle.theory.specs.declared.Kind.TheVariants.{TwoSided}
 use Rattle.theory.proofs.Words.{cut_between, before_context, before_no_longer, before_trans, shortlex_induction}
 use Rattle.theory.proofs.Chains.{joined_refl, joined_trans, joined_one, step_at}
-use Rattle.theory.proofs.Completeness.{joinable_context, joinable_symm, joinable_refl, step_falls, reduced_stays}
+use Rattle.theory.proofs.Completeness.{joinable_context, joinable_symm, joinable_refl, parts_behind, parts_before, parts_left, parts_right, step_falls, reduced_stays}
 use Rattle.theory.proofs.CompletionLaws.{within_left}
 use Rattle.knuth_bendix.specs.Links.{LinkStep, Linked, IsBelow, IsShort, IsLinkedUp}
 use Rattle.knuth_bendix.proofs.LinkLaws.{linked_trans, linked_symm, linked_one, linked_context}
 
 -- regroupings of a word in parts
-parts_behind : (x r m y z : Word) → z ≡ m ++ y → (x ++ (r ++ m)) ++ y ≡ x ++ (r ++ z)
-parts_behind x r m y z e = rw e (simp append_assoc)
-
-parts_before : (x l m y z w : Word) → w ≡ x ++ z → z ≡ l ++ m → x ++ (l ++ (m ++ y)) ≡ w ++ y
-parts_before x l m y z w e d = rw (e, d) (simp append_assoc)
-
-parts_left : (x r n y z : Word) → z ≡ n ++ y → x ++ ((r ++ n) ++ y) ≡ x ++ (r ++ z)
-parts_left x r n y z e = rw e (simp append_assoc)
-
-parts_right : (x z r y w : Word) → w ≡ x ++ z → x ++ ((z ++ r) ++ y) ≡ w ++ (r ++ y)
-parts_right x z r y w e = rw e (simp append_assoc)
-
 parts_overlap : (x z m n y l s : Word) → l ≡ z ++ m → s ≡ n ++ y → x ++ ((z ++ (m ++ n)) ++ y) ≡ x ++ (l ++ s)
 parts_overlap x z m n y l s e d = rw (e, d) (simp append_assoc)
 

@@ -38,7 +38,7 @@ fn row_is_joined(alloc: Global, rules: &Rules, first: usize) -> Result<bool, NoM
     Ok(true)
 }
 
-// Whether each overlap of the rules, however long, leads to one word.
+/// Whether each overlap of the rules, however long, leads to one word (Sims 1994, 2.3). Refused only where memory is wanting.
 pub fn are_joined(alloc: Global, rules: &Rules) -> Result<bool, NoMemory>
     ensures { IfOk result (λ joined. MatchBool joined ((first second : ℕ) → first < length rules.now → second < length rules.now → AreJoined None rules.now [] (rule_at rules.now first) (rule_at rules.now second)) ((u : Letters) × (v : Letters) × IsSplit None rules.now u v)) }
 {

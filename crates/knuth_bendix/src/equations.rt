@@ -23,7 +23,7 @@ impl Model for Equations {
 }
 
 impl Equations {
-    // No pair.
+    /// No pair.
     pub fn new(alloc: Global) -> Equations
         ensures { result ≡ [] }
     {
@@ -32,14 +32,14 @@ impl Equations {
         }
     }
 
-    // Whether there is no pair.
+    /// Whether there is no pair.
     pub fn is_empty(&self) -> bool
         ensures { IsTrue result ↔ (self.now ≡ []) }
     {
         self.pairs.is_empty()
     }
 
-    // Puts a pair at the end.
+    /// Puts a pair at the end. Refused only where memory is wanting.
     pub fn push(&mut self, left: Word, right: Word) -> Result<(), NoMemory>
         ensures { OnOk result (self.new ≡ self.old ++ (left, right) ∷ []) }
     {
@@ -47,7 +47,7 @@ impl Equations {
         Ok(())
     }
 
-    // Takes the first pair.
+    /// Takes the first pair; `None` exactly where there is none.
     pub fn pop(&mut self) -> Option<(Word, Word)>
         ensures { MatchOption result ((self.old ≡ []) × (self.new ≡ [])) (λ pair. self.old ≡ pair ∷ self.new) }
     {

@@ -114,7 +114,8 @@ fn join_overlap(
     Ok(())
 }
 
-// Joins the overlaps of two rules whose words are within the limit.
+/// Joins the overlaps of two rules, by their places, whose words have no more letters than the limit, or all of them:
+/// where the two ways to rewrite one lead to different words, these become an equation. Refused only where memory is wanting.
 pub fn join_overlaps(
     alloc: Global,
     rules: &Rules,
@@ -137,7 +138,7 @@ pub fn join_overlaps(
     Ok(())
 }
 
-// Joins the overlaps of a rule with each rule, on both sides, whose words are within the limit.
+/// Joins the overlaps of a rule, by its place, with each rule, itself among them, on both sides. Refused only where memory is wanting.
 pub fn join_all(
     alloc: Global,
     rules: &Rules,

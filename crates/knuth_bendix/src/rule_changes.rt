@@ -98,7 +98,8 @@ fn add_rule(
     Ok(rules)
 }
 
-// Makes the rules join the two words: where they lead to different words, a rule is added.
+/// The rules made to join the two words: where they lead to different words, a rule is added. Its overlaps whose words
+/// have at most `length` letters are joined too, or become equations. Refused only where memory is wanting.
 pub fn join(
     alloc: Global,
     rules: Rules,

@@ -1,6 +1,6 @@
 // Congruences given by pairs.
 ghost use Rattle.std.specs.Prelude.{◌≡◌, List, length, IfOk};
-ghost use Rattle.theory.specs.Congruence.{AreElements, IsWellFormed};
+ghost use Rattle.theory.specs.Congruence.{AreElements, IsWellFormed, is_two_sided};
 ghost use Rattle.presentation.specs.Presented.{IsPosed};
 
 use crate::pair_lists::Pairs;
@@ -64,6 +64,16 @@ impl Congruence {
         ensures { result.now ≡ self.now.congruence.pairs }
     {
         &self.pairs
+    }
+
+    /// Whether it is generated as a two-sided congruence: its pairs are two-sided, or there are none.
+    pub fn is_two_sided(&self) -> bool
+        ensures { result ≡ is_two_sided self.now.congruence }
+    {
+        match self.kind {
+            Kind::TwoSided => true,
+            Kind::Right | Kind::Left => self.pairs.is_empty(),
+        }
     }
 
     /// The same congruence in memory of its own. Refused only where memory is wanting.

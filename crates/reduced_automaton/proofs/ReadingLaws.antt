@@ -8,13 +8,13 @@ use Rattle.theory.specs.Word.{Word, IsOver}
 use Rattle.theory.specs.ShortLex.{◌≺◌}
 use Rattle.theory.specs.Graph.{Graph, target, path, IsGraph}
 use Rattle.theory.specs.Completion.{IsReduced, Listed}
-use Rattle.theory.specs.Listing.{IsLast, IsNext, IsStartOf}
+use Rattle.theory.specs.Listing.{IsLast, IsListOf, IsNext, IsStartOf, AreFinite, AreInfinite, GoesOnOrEnds}
 use Rattle.theory.proofs.Words.{shorter_first}
 use Rattle.theory.proofs.Listings.{endless}
 use Rattle.theory.proofs.ClassLaws.{shortlex_strict}
 use Rattle.word_graph.proofs.EdgeLaws.{target_in}
-use Rattle.reduced_automaton.specs.Automaton.{Allows, AreDepths, AreInfinite, GoesOn, GoesOnOrEnds, HasPath, IsLastOfLength, IsLeastPath, IsReader, IsReducedWord, Reading}
-use Rattle.reduced_automaton.proofs.DepthLaws.{goes_as}
+use Rattle.reduced_automaton.specs.Automaton.{Allows, AreDepths, GoesOn, HasPath, IsLastOfLength, IsLeastPath, IsReader, IsReducedWord, Reading}
+use Rattle.reduced_automaton.proofs.DepthLaws.{goes_as, option_cases}
 use Rattle.reduced_automaton.proofs.NextPaths.{IsLeastEdge, IsWithoutEdge, IsNextOfLength, goes_path, last_here, last_nil, last_of_all, least_behind, least_is, least_nil, next_as_long, next_behind, next_first, next_here, next_longer, without_ends}
 use Rattle.reduced_automaton.proofs.Reducing.{over_more}
 use Rattle.reduced_automaton.proofs.Ranks.{rank, rank_below}
@@ -36,6 +36,10 @@ module _ {A : Type 0} (P Q : A → Type 0) (Less : A → A → Type 0) (same : (
   pub start_same : (cursor : Option A) (xs : List A) → IsStartOf P Less cursor xs → IsStartOf Q Less cursor xs
   start_same cursor [] h = tt
   start_same cursor (x ∷ xs) h = (next_same cursor x h.0, start_same (Some x) xs h.1)
+
+  pub list_same : (cursor : Option A) (xs : List A) → IsListOf P Less cursor xs → IsListOf Q Less cursor xs
+  list_same cursor [] h = last_same cursor h
+  list_same cursor (x ∷ xs) h = (next_same cursor x h.0, list_same (Some x) xs h.1)
 
 allows_or : (o : Option ℕ) (n : ℕ) → Allows o n ⊎ (Allows o n → ⊥)
 allows_or None n = inl tt
@@ -143,7 +147,7 @@ module _ (k : ℕ) (g : Graph) (depths : List (Option ℕ)) (graph : IsGraph k g
       further None last = let h = goes 0 in last h.word h.has tt
       further (Some u) last = let h = goes (length u + 1) in last h.word h.has (shorter_first u h.word (omega (arith, h.long)))
 
-  pub endless_infinite : get_or depths 0 None ≡ None → AreInfinite (HasPath k g 0)
+  pub endless_infinite : get_or depths 0 None ≡ None → AreInfinite (HasPath k g 0) ◌≺◌
   endless_infinite e n =
       let r = endless (HasPath k g 0) ◌≺◌ (shortlex_strict (HasPath k g 0)) (next_always e) None (n + 1) in
       (r.0, r.1, omega (arith, r.2))
@@ -160,22 +164,42 @@ module _ (k : ℕ) (g : Graph) (depths : List (Option ℕ)) (graph : IsGraph k g
         rank_below (suc k) u (replicate (most + 1) 0) (over_more k (suc k) u (omega arith) h.over) (over_replicate (suc k) 0 (omega arith) (most + 1))
         (shorter_first u (replicate (most + 1) 0) (omega (arith, length-replicate {A = ℕ} (most + 1) 0)))
 
+    higher : (cursor x : Word) → HasPath k g 0 cursor → IsNext (HasPath k g 0) ◌≺◌ (Some cursor) x → rank (suc k) cursor < rank (suc k) x
+    higher cursor x h next =
+        rank_below (suc k) cursor x (over_more k (suc k) cursor (omega arith) h.over) (over_more k (suc k) x (omega arith) next.has.over) next.after
+
     few_after : (cursor : Word) → HasPath k g 0 cursor → (xs : List Word) → IsStartOf (HasPath k g 0) ◌≺◌ (Some cursor) xs
         → rank (suc k) cursor + length xs < bound
     few_after cursor h [] start = let less = below_bound cursor h in omega (arith, less)
     few_after cursor h (x ∷ xs) start =
         let rest = few_after x start.0.has xs start.1 in
-        let higher =
-        rank_below (suc k) cursor x (over_more k (suc k) cursor (omega arith) h.over) (over_more k (suc k) x (omega arith) start.0.has.over)
-        start.0.after in
-        omega (arith, rest, higher)
+        let more = higher cursor x h start.0 in
+        omega (arith, rest, more)
 
     few : (xs : List Word) → IsStartOf (HasPath k g 0) ◌≺◌ None xs → length xs ≤ bound
     few [] start = omega arith
     few (x ∷ xs) start = let rest = few_after x start.0.has xs start.1 in omega (arith, rest)
 
-    pub ended_finite : AreInfinite (HasPath k g 0) → ⊥
+    pub ended_finite : AreInfinite (HasPath k g 0) ◌≺◌ → ⊥
     ended_finite infinite = let r = infinite bound in let less = few r.0 r.1 in omega (arith, less, r.2)
+
+    -- the words behind one with a path, where at most so many places are left
+    list_after : (left : ℕ) (cursor : Word) → HasPath k g 0 cursor → bound ≤ rank (suc k) cursor + left
+        → (xs : List Word) × IsListOf (HasPath k g 0) ◌≺◌ (Some cursor) xs
+    list_after zero cursor h all = let less = below_bound cursor h in absurd (omega (arith, less))
+    list_after (suc left) cursor h all = elim (next_or_last (Some cursor)) [
+      | inl last ↦ ([], last)
+      | inr next ↦
+          let more = higher cursor next.0 h next.1 in
+          let rest = list_after left next.0 next.1.has (omega (arith, more)) in
+          (next.0 ∷ rest.0, (next.1, rest.1))
+    ]
+
+    pub list_of_all : AreFinite (HasPath k g 0) ◌≺◌
+    list_of_all = elim (next_or_last None) [
+      | inl last ↦ ([], last)
+      | inr next ↦ let rest = list_after bound next.0 next.1.has (omega arith) in (next.0 ∷ rest.0, (next.1, rest.1))
+    ]
 
 -- The automaton of rules.
 module _ (a : Reading) (g : Graph) (reader : IsReader a.letters a.rules g) where
@@ -193,26 +217,34 @@ module _ (a : Reading) (g : Graph) (reader : IsReader a.letters a.rules g) where
   next_reduced = answer_same (HasPath a.letters g 0) (IsReducedWord a) ◌≺◌ reads
 
   module _ (depths : List (Option ℕ)) (is : AreDepths a.letters g depths) where
-    pub goes_on : GoesOnOrEnds a
+    pub goes_on : GoesOnOrEnds (IsReducedWord a) ◌≺◌
     goes_on cursor = elim (next_or_last a.letters g depths reader.graph is cursor) [
       | inl last ↦ inl (last_same (HasPath a.letters g 0) (IsReducedWord a) ◌≺◌ reads cursor last)
       | inr next ↦ inr (next.0, next_same (HasPath a.letters g 0) (IsReducedWord a) ◌≺◌ reads cursor next.0 next.1)
     ]
 
-    pub infinite_from : get_or depths 0 None ≡ None → AreInfinite (IsReducedWord a)
+    pub infinite_from : get_or depths 0 None ≡ None → AreInfinite (IsReducedWord a) ◌≺◌
     infinite_from e n =
         let r = endless_infinite a.letters g depths reader.graph is e n in
         (r.0, start_same (HasPath a.letters g 0) (IsReducedWord a) ◌≺◌ reads None r.0 r.1, r.2)
 
-    pub infinite_depth : AreInfinite (IsReducedWord a) → get_or depths 0 None ≡ None
+    pub infinite_depth : AreInfinite (IsReducedWord a) ◌≺◌ → get_or depths 0 None ≡ None
     infinite_depth infinite = go (get_or depths 0 None) refl
       where
-        paths : AreInfinite (HasPath a.letters g 0)
+        paths : AreInfinite (HasPath a.letters g 0) ◌≺◌
         paths n = let r = infinite n in (r.0, start_same (IsReducedWord a) (HasPath a.letters g 0) ◌≺◌ reads_back None r.0 r.1, r.2)
 
         go : (o : Option ℕ) → get_or depths 0 None ≡ o → o ≡ None
         go None e = refl
         go (Some most) e = absurd (ended_finite a.letters g depths reader.graph is most e paths)
+
+    pub finite_from : (get_or depths 0 None ≡ None → ⊥) → AreFinite (IsReducedWord a) ◌≺◌
+    finite_from some = elim (option_cases (get_or depths 0 None)) [
+      | inl none ↦ absurd (some none)
+      | inr most ↦
+          let r = list_of_all a.letters g depths reader.graph is most.0 most.1 in
+          (r.0, list_same (HasPath a.letters g 0) (IsReducedWord a) ◌≺◌ reads None r.0 r.1)
+    ]
 
   -- a path there, or none
   pub reduced_is : (u : Word) → IsOver a.letters u → (there : Bool) → there ≡ is_some (path g 0 u) → (there ≡ true) ↔ IsReduced (Listed a.rules) u

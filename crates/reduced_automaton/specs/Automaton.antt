@@ -1,10 +1,10 @@
 -- Reduced words, and the automaton that reads them (Sims 1994, 3.5).
-use Rattle.std.specs.Prelude.{◌≡◌, ◌↔◌, ℕ, ◌+◌, ◌<◌, ◌≤◌, ◌⊎◌, Bool, true, false, List, ◌∷◌, ◌++◌, length, take, slice_index, slice_index_or, Option, None, Some}
+use Rattle.std.specs.Prelude.{◌≡◌, ◌↔◌, ℕ, ◌+◌, ◌<◌, ◌≤◌, Bool, true, false, List, ◌∷◌, ◌++◌, length, take, slice_index, slice_index_or, Option, None, Some}
 use Rattle.theory.specs.Word.{Word, IsOver}
 use Rattle.theory.specs.ShortLex.{◌≺◌}
 use Rattle.theory.specs.Completion.{IsReduced, Listed}
 use Rattle.theory.specs.Graph.{Graph, IsGraph, path, target}
-use Rattle.theory.specs.Listing.{IsLast, IsNext, IsStartOf}
+use Rattle.theory.specs.Listing.{IsNext}
 use Rattle.word_graph.specs.Gaps.{count_none}
 
 -- words over so many letters, and rules for them
@@ -16,14 +16,6 @@ pub record Reading : Type 0 where
 pub record IsReducedWord (a : Reading) (u : Word) : Type 0 where
   pub over : IsOver a.letters u
   pub reduced : IsReduced (Listed a.rules) u
-
--- infinitely many words have the property: more than n, for each n
-abbrev pub AreInfinite : (Word → Type 0) → Type 0
-AreInfinite P = (n : ℕ) → (words : List Word) × IsStartOf P ◌≺◌ None words × (n < length words)
-
--- after each cursor comes a next reduced word, or none
-abbrev pub GoesOnOrEnds : Reading → Type 0
-GoesOnOrEnds a = (cursor : Option Word) → IsLast (IsReducedWord a) ◌≺◌ cursor ⊎ ((u : Word) × IsNext (IsReducedWord a) ◌≺◌ cursor u)
 
 -- a word over the first k letters that has a path from the node
 pub record HasPath (k : ℕ) (g : Graph) (node : ℕ) (u : Word) : Type 0 where

@@ -1,12 +1,12 @@
 // The automaton of a list of rules.
-ghost use Rattle.std.specs.Prelude.{◌≡◌, ◌≤◌, ◌↔◌, IfOk, IsTrue, MatchOption};
+ghost use Rattle.std.specs.Prelude.{◌≡◌, ◌≤◌, ◌↔◌, false, IfOk, IsTrue, MatchOption};
 ghost use Rattle.std.specs.Option.{option_copied};
 ghost use Rattle.theory.specs.Word.{IsOver};
 ghost use Rattle.theory.specs.ShortLex.{◌≺◌};
 ghost use Rattle.theory.specs.Completion.{IsReduced, Listed, Reduces};
-ghost use Rattle.theory.specs.Listing.{IsLast, IsNext};
+ghost use Rattle.theory.specs.Listing.{IsLast, IsNext, AreFinite, AreInfinite, GoesOnOrEnds};
 ghost use Rattle.reduced_automaton.specs.Rules.{AreOver};
-ghost use Rattle.reduced_automaton.specs.Automaton.{AreInfinite, GoesOnOrEnds, IsReducedWord};
+ghost use Rattle.reduced_automaton.specs.Automaton.{IsReducedWord};
 
 use crate::depths::depths_of;
 use crate::readers::next_path;
@@ -59,6 +59,13 @@ impl Automaton {
         })
     }
 
+    /// The rules.
+    pub fn rules(&self) -> &Rules
+        ensures { result.now ≡ self.now.rules }
+    {
+        &self.rules
+    }
+
     /// Whether no rule applies to the word, which is over the letters. It takes no memory.
     pub fn is_reduced(&self, word: &Word) -> bool
         requires { IsOver self.now.letters word.now }
@@ -67,9 +74,10 @@ impl Automaton {
         self.graph.path(0, word).is_some()
     }
 
-    /// Whether infinitely many words over the letters are reduced. It takes no memory.
+    /// Whether infinitely many words over the letters are reduced; else they have a list. It takes no memory.
     pub fn is_infinite(&self) -> bool
-        ensures { IsTrue result ↔ AreInfinite (IsReducedWord self.now) }
+        ensures infinite { IsTrue result ↔ AreInfinite (IsReducedWord self.now) ◌≺◌ }
+        ensures finite { result ≡ false → AreFinite (IsReducedWord self.now) ◌≺◌ }
     {
         self.depths[0].is_none()
     }
@@ -78,7 +86,7 @@ impl Automaton {
     /// none. The cursor may be any word. What holds of every automaton is told here: after each cursor comes a next
     /// reduced word, or none. Refused only where memory is wanting.
     pub fn next_after(&self, after: Option<&Word>) -> Result<Option<Word>, NoMemory>
-        ensures goes_on { GoesOnOrEnds self.now }
+        ensures goes_on { GoesOnOrEnds (IsReducedWord self.now) ◌≺◌ }
         ensures next { IfOk result (λ next. MatchOption next
             (IsLast (IsReducedWord self.now) ◌≺◌ (option_copied after.entry))
             (IsNext (IsReducedWord self.now) ◌≺◌ (option_copied after.entry))) }
@@ -86,7 +94,7 @@ impl Automaton {
         next_path(self.alloc, &self.graph, self.depths.as_slice(), after)
     }
 
-    /// The word to which the rules lead from the word, and to which none applies. Refused only where memory is wanting.
+    /// A word to which the rules lead from the word, and to which none applies. Refused only where memory is wanting.
     pub fn reduce(&self, word: &Word) -> Result<Word, NoMemory>
         ensures reached { IfOk result (λ w. Reduces (Listed self.now.rules) word.now w) }
         ensures reduced { IfOk result (λ w. IsReduced (Listed self.now.rules) w) }

@@ -39,7 +39,8 @@ fn led_to(
     }
 }
 
-// The least letter, from a number on, that leads to a node from which so many letters can follow, and that node.
+/// The least letter, from a number on, that leads to a node from which `count` letters can follow, and that node;
+/// `None` exactly where there is none.
 pub fn least_letter(
     graph: &WordGraph,
     depths: &[Option<usize>],
@@ -106,7 +107,8 @@ fn settle_all(graph: &WordGraph, depths: &mut Vec<Option<usize>>, round: usize) 
     changed
 }
 
-// The greatest length of a path from each node; none where there are paths of every length.
+/// The greatest length of a path from each node, in letters; `None` where there are paths of every length. Refused only
+/// where memory is wanting.
 pub fn depths_of(alloc: Global, graph: &WordGraph) -> Result<Vec<Option<usize>>, NoMemory>
     ensures { IfOk result (λ depths. (k : ℕ) → IsGraph k graph.now → AreDepths k graph.now depths.items) }
 {

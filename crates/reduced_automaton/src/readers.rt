@@ -147,7 +147,8 @@ fn path_after(
     Ok(Some(next))
 }
 
-// The least word with a path from the root that comes after the cursor, or the least at all.
+/// The least word in short-lex order with a path from the root that comes after the cursor, or the least at all; `None`
+/// exactly where there is none. Refused only where memory is wanting.
 pub fn next_path(
     alloc: Global,
     graph: &WordGraph,

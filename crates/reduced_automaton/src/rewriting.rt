@@ -93,8 +93,7 @@ impl Rules {
         self.first_rule(word.letters()).is_none()
     }
 
-    /// The word to which rewriting leads, at the first place and by the first rule that applies there, until none
-    /// applies. Refused only where memory is wanting.
+    /// A word to which the rules lead from the word, and to which none applies. Refused only where memory is wanting.
     pub fn reduce(&self, word: &Word) -> Result<Word, NoMemory>
         ensures reached { IfOk result (λ w. Reduces (Listed self.now) word.now w) }
         ensures reduced { IfOk result (λ w. IsReduced (Listed self.now) w) }

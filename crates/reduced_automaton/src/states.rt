@@ -140,7 +140,8 @@ fn add_row(
     Ok(())
 }
 
-// The graph that has a path for just the words over so many letters to which no rule applies.
+/// The graph that has a path from its root for just the words over so many letters to which no rule applies (Sims 1994,
+/// 3.5). Refused only where memory is wanting.
 pub fn reader_of(alloc: Global, letters: usize, rules: &Rules) -> Result<WordGraph, NoMemory>
     requires few { letters ≤ 256 }
     requires over { AreOver letters rules.now }

@@ -36,16 +36,16 @@ pub joinable_refl : (R : Word → Word → Type 0) (u : Word) → Joinable R u u
 joinable_refl R u = record { word = u; left = joined_refl (Step R TwoSided) u; right = joined_refl (Step R TwoSided) u }
 
 -- regroupings of a word in parts
-parts_behind : (x r m y z : Word) → z ≡ m ++ y → (x ++ (r ++ m)) ++ y ≡ x ++ (r ++ z)
+pub parts_behind : (x r m y z : Word) → z ≡ m ++ y → (x ++ (r ++ m)) ++ y ≡ x ++ (r ++ z)
 parts_behind x r m y z e = rw e (simp append_assoc)
 
-parts_before : (x l m y z w : Word) → w ≡ x ++ z → z ≡ l ++ m → x ++ (l ++ (m ++ y)) ≡ w ++ y
+pub parts_before : (x l m y z w : Word) → w ≡ x ++ z → z ≡ l ++ m → x ++ (l ++ (m ++ y)) ≡ w ++ y
 parts_before x l m y z w e d = rw (e, d) (simp append_assoc)
 
-parts_left : (x r n y z : Word) → z ≡ n ++ y → x ++ ((r ++ n) ++ y) ≡ x ++ (r ++ z)
+pub parts_left : (x r n y z : Word) → z ≡ n ++ y → x ++ ((r ++ n) ++ y) ≡ x ++ (r ++ z)
 parts_left x r n y z e = rw e (simp append_assoc)
 
-parts_right : (x z r y w : Word) → w ≡ x ++ z → x ++ ((z ++ r) ++ y) ≡ w ++ (r ++ y)
+pub parts_right : (x z r y w : Word) → w ≡ x ++ z → x ++ ((z ++ r) ++ y) ≡ w ++ (r ++ y)
 parts_right x z r y w e = rw e (simp append_assoc)
 
 -- a step by rules that fall leads to a lesser word

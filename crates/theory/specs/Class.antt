@@ -1,9 +1,9 @@
 -- Classes of words, their least words, and the index (Sims 1994; Froidure and Pin 1997).
 -- R relates the elements alone: a word is an element where R relates it to itself.
-use Rattle.std.specs.Prelude.{◌≡◌, ℕ, ◌<◌, List, length, None, Contains}
+use Rattle.std.specs.Prelude.{◌≡◌, ℕ, List, length, None, Contains}
 use Rattle.theory.specs.Word.{Word, IsElement, IsProperFactor}
 use Rattle.theory.specs.ShortLex.{◌≺◌}
-use Rattle.theory.specs.Listing.{IsListOf, IsStartOf}
+use Rattle.theory.specs.Listing.{IsListOf, HaveMoreThan, AreInfinite}
 use Rattle.theory.specs.Congruence.{Congruence}
 use Rattle.theory.specs.Chain.{Related}
 
@@ -37,11 +37,11 @@ HasIndex R n = (words : List Word) × IsClassList R words × (length words ≡ n
 
 -- there are more than n classes
 abbrev pub HasMoreThan : (Word → Word → Type 0) → ℕ → Type 0
-HasMoreThan R n = (words : List Word) × IsStartOf (IsLeast R) ◌≺◌ None words × (n < length words)
+HasMoreThan R = HaveMoreThan (IsLeast R) ◌≺◌
 
 -- there are infinitely many classes
 abbrev pub IsInfinite : (Word → Word → Type 0) → Type 0
-IsInfinite R = (n : ℕ) → HasMoreThan R n
+IsInfinite R = AreInfinite (IsLeast R) ◌≺◌
 
 -- (u, v) is a reduced rule: u is not least, v is the least of its class, and each proper factor of u that is an element is least
 pub record IsReducedRule (R : Word → Word → Type 0) (u v : Word) : Type 0 where

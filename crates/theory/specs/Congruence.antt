@@ -1,5 +1,5 @@
 -- Presentations, and congruences given by pairs (Sims 1994, ch. 1 and 2; libsemigroups: Presentation, Congruence).
-use Rattle.std.specs.Prelude.{◌≡◌, ℕ, Bool, List, [], ◌++◌, All, Contains, ◌⊎◌, reverse}
+use Rattle.std.specs.Prelude.{◌≡◌, ℕ, ◌==◌, Bool, true, List, [], ◌++◌, length, All, Contains, ◌⊎◌, reverse}
 use Rattle.theory.specs.Word.{Word, IsElement, reversed_pairs}
 use Rattle.theory.specs.declared.Kind.{Kind}
 use Rattle.theory.specs.declared.Kind.TheVariants.{TwoSided, Right, Left}
@@ -49,6 +49,10 @@ as_right c =
 -- c is generated as a two-sided congruence: its pairs are two-sided, or there are none
 abbrev pub IsTwoSided : Congruence → Type 0
 IsTwoSided c = (c.kind ≡ TwoSided) ⊎ (c.pairs ≡ [])
+
+-- the same, as a truth value
+abbrev pub is_two_sided : Congruence → Bool
+is_two_sided c = elim c.kind [ TwoSided ↦ true | Right ↦ length c.pairs == 0 | Left ↦ length c.pairs == 0 ]
 
 -- c is generated as a right congruence: its pairs are right pairs, or there are none
 abbrev pub IsRightSided : Congruence → Type 0
