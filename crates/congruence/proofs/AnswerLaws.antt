@@ -5,7 +5,7 @@ use Rattle.std.proofs.lemmas.Bool.{cases_lt, eqb-true, eq-eqb}
 use Rattle.std.proofs.lemmas.List.{length-map, length-drop, get_or-map, get_or-drop}
 use Rattle.theory.specs.Word.{Word, IsElement}
 use Rattle.theory.specs.ShortLex.{◌≺◌}
-use Rattle.theory.specs.Listing.{IsAfter, IsNext, IsLast, IsListOf}
+use Rattle.theory.specs.Listing.{IsAfter, IsNext, IsLast, IsListOf, GoesOnOrEnds}
 use Rattle.theory.specs.Congruence.{Congruence}
 use Rattle.theory.specs.Class.{SameClass, IsLeast, IsNormal, HasIndex}
 use Rattle.theory.specs.Graph.{Graph, path}
@@ -13,7 +13,6 @@ use Rattle.theory.proofs.Words.{before_irrefl, before_trans, order_cases}
 use Rattle.theory.proofs.Chains.{related_congruence}
 use Rattle.theory.proofs.Related.{element_over}
 use Rattle.theory.proofs.ClassLaws.{same_least}
-use Rattle.congruence.specs.Indexes.{GoesOnOrEnds}
 use Rattle.congruence.specs.Solution.{word_at, first_class, IsSolution, IsPlaceAfter}
 
 after_later : (cursor : Option Word) (x y : Word) → IsAfter ◌≺◌ cursor x → x ≺ y → IsAfter ◌≺◌ cursor y
@@ -98,7 +97,7 @@ module _ (c : Congruence) (g : Graph) (least : List (ℕ × Word)) (is : IsSolut
       (at.1, record { related = at.2; least = is.classes node at.0 at.1 })
 
   -- each least word has a place
-  place_of : (y : Word) → IsLeast (SameClass c) y → (i : ℕ) × (first_class c.presentation.is_monoid ≤ i) × (i < length least) × (word_at least i ≡ y)
+  pub place_of : (y : Word) → IsLeast (SameClass c) y → (i : ℕ) × (first_class c.presentation.is_monoid ≤ i) × (i < length least) × (word_at least i ≡ y)
   place_of y h =
       let p = leads y h.element.left in
       let at = is.reached y p.0 h.element.left p.1 in
@@ -161,7 +160,7 @@ module _ (c : Congruence) (g : Graph) (least : List (ℕ × Word)) (is : IsSolut
   ]
 
   -- after each cursor comes a next class, or none
-  pub goes_on : GoesOnOrEnds (SameClass c)
+  pub goes_on : GoesOnOrEnds (IsLeast (SameClass c)) ◌≺◌
   goes_on cursor =
       let at = place_from cursor (length least - first_class c.presentation.is_monoid) (first_class c.presentation.is_monoid)
       (omega (arith, is.some)) (omega arith) (λ i h l a. omega (arith, h, l)) in

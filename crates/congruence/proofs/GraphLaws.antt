@@ -1,5 +1,5 @@
 -- The graph that coset enumeration ends with decides the congruence.
-use Rattle.std.proofs.Common.{◌≡◌, ℕ, List, ◌⊎◌, inl, inr}
+use Rattle.std.proofs.Common.{◌≡◌, ℕ, sym, subst, List, ◌⊎◌, inl, inr}
 use Rattle.theory.specs.Word.{Word}
 use Rattle.theory.specs.Congruence.{Presentation, Congruence, IsWellFormed, IsRightSided, as_right}
 use Rattle.theory.specs.declared.Kind.{Kind}
@@ -8,14 +8,14 @@ use Rattle.theory.specs.Facts.{AllDefined}
 use Rattle.theory.specs.Graph.{Graph, SameEnd, Shows, IsGraph}
 use Rattle.theory.proofs.FelschLaws.{felsch_related}
 use Rattle.theory.proofs.HltLaws.{hlt_related}
-use Rattle.theory.proofs.KindLaws.{as_right_related}
+use Rattle.theory.proofs.KindLaws.{as_right_related, as_right_sided, as_right_well_formed}
 use Rattle.word_graph.specs.Standard.{IsStandardGraph}
 use Rattle.tc_felsch.specs.Stage as felsch
 use Rattle.tc_hlt.specs.Stage as hlt
 use Rattle.congruence.specs.Solution.{IsGraphOf}
 
 -- the graph that Felsch's strategy ends with
-pub felsch_graph : (c : Congruence) (made : ℕ) (g h : Graph) → IsWellFormed c → IsRightSided c → IsStandardGraph c.presentation.letters g
+felsch_graph : (c : Congruence) (made : ℕ) (g h : Graph) → IsWellFormed c → IsRightSided c → IsStandardGraph c.presentation.letters g
     → Shows g (SameEnd h) → felsch.IsAtStage c made g → IsGraph c.presentation.letters g → AllDefined c.presentation.letters (SameEnd g) → IsGraphOf c g
 felsch_graph c made g h well sided standard shows at graph all = record {
   graph = graph;
@@ -27,7 +27,7 @@ felsch_graph c made g h well sided standard shows at graph all = record {
 }
 
 -- the graph that the strategy of rows ends with
-pub hlt_graph : (c : Congruence) (made : ℕ) (g h : Graph) → IsWellFormed c → IsRightSided c → IsStandardGraph c.presentation.letters g
+hlt_graph : (c : Congruence) (made : ℕ) (g h : Graph) → IsWellFormed c → IsRightSided c → IsStandardGraph c.presentation.letters g
     → Shows g (SameEnd h) → hlt.IsAtEnd c made g → IsGraph c.presentation.letters g → IsGraphOf c g
 hlt_graph c made g h well sided standard shows at graph = record {
   graph = graph;
@@ -39,7 +39,7 @@ hlt_graph c made g h well sided standard shows at graph = record {
 }
 
 -- a graph that decides the right congruence that stands for a congruence decides the congruence, where its pairs are no left pairs
-pub same_graph : (c : Congruence) (g : Graph) → (c.kind ≡ TwoSided) ⊎ (c.kind ≡ Right) → IsGraphOf (as_right c) g → IsGraphOf c g
+same_graph : (c : Congruence) (g : Graph) → (c.kind ≡ TwoSided) ⊎ (c.kind ≡ Right) → IsGraphOf (as_right c) g → IsGraphOf c g
 same_graph c g sided is = go c.presentation c.kind c.pairs sided is
   where
     go : (p : Presentation) (kind : Kind) (pairs : List (Word × Word)) → (kind ≡ TwoSided) ⊎ (kind ≡ Right)
@@ -56,3 +56,20 @@ same_graph c g sided is = go c.presentation c.kind c.pairs sided is
     go p Right pairs sided is = is
     go p Left pairs (inl e) is = cc
     go p Left pairs (inr e) is = cc
+
+-- the strategies' graphs for the right congruence that stands for a congruence
+module _ (c k : Congruence) (well : IsWellFormed c) (sided : (c.kind ≡ TwoSided) ⊎ (c.kind ≡ Right)) (task : k ≡ as_right c) (made : ℕ) (g h : Graph)
+    (standard : IsStandardGraph k.presentation.letters g) (shows : Shows g (SameEnd h)) (graph : IsGraph k.presentation.letters g) where
+  is_well_formed : IsWellFormed k
+  is_well_formed = subst IsWellFormed (sym task) (as_right_well_formed c well)
+
+  is_right_sided : IsRightSided k
+  is_right_sided = subst IsRightSided (sym task) (as_right_sided c)
+
+  pub by_definitions : felsch.IsAtStage k made g → AllDefined k.presentation.letters (SameEnd g) → IsGraphOf c g
+  by_definitions at all =
+      same_graph c g sided (subst (λ (r : Congruence). IsGraphOf r g) task (felsch_graph k made g h is_well_formed is_right_sided standard shows at graph all))
+
+  pub by_rows : hlt.IsAtEnd k made g → IsGraphOf c g
+  by_rows at =
+      same_graph c g sided (subst (λ (r : Congruence). IsGraphOf r g) task (hlt_graph k made g h is_well_formed is_right_sided standard shows at graph))

@@ -1,25 +1,89 @@
--- What the lanes of a race for a congruence know at its end.
-use Rattle.std.proofs.Common.{◌≡◌, ℕ, zero, suc, refl, sym, ◌∙◌, ap, subst, ◌⊎◌, inl, inr, List, [], ◌∷◌, Option, Some}
-use Rattle.std.specs.Prelude.{slice_get, map}
-use Rattle.theory.specs.Congruence.{Congruence, as_right}
+-- What the lanes of a race for a congruence know at its start and at its end.
+use Rattle.std.proofs.Common.{◌≡◌, ℕ, zero, suc, refl, sym, ◌∙◌, ap, ap₂, subst, inl, inr, Bool, true, false, cond, List, [], ◌∷◌, ◌++◌, length, Some}
+use Rattle.std.specs.Prelude.{slice_get}
+use Rattle.theory.specs.Word.{Word}
+use Rattle.theory.specs.Congruence.{Presentation, Congruence, IsTwoSided, as_right, is_two_sided}
+use Rattle.theory.specs.Completion.{CompletionEnds}
+use Rattle.theory.specs.declared.Kind.{Kind}
+use Rattle.theory.specs.declared.Kind.TheVariants.{TwoSided, Right, Left}
 use Rattle.problem.specs.declared.budgets.Budgets.{Budgets}
-use Rattle.problem.specs.Problem.{EnumerationEnds}
-use Rattle.race.specs.Machine.{EndsAs, IsEnd, Tells, tasks}
+use Rattle.problem.specs.Problem.{IsCongruenceDecided}
+use Rattle.race.specs.Lanes.{fresh}
+use Rattle.race.specs.Machine.{EndsAs, LaneFits, Starts, Tells, tasks}
 use Rattle.race.specs.declared.lanes.Lane.{Lane}
+use Rattle.race.specs.declared.lanes.LaneState.TheVariants.{Running}
 use Rattle.race.specs.declared.playing.Outcome.{Outcome}
 use Rattle.race.specs.declared.playing.Outcome.TheVariants.{Won, AllSpent}
+use Rattle.congruence.proofs.RewrittenRules.{two_sided}
 use Rattle.congruence.specs.declared.engine.Engine.{Engine}
-use Rattle.congruence.specs.Engines.{EngineTask, Definitions, Rows, HasDecided, IsEndOf, as_racer, congruence_in, ends_within, task_of, tasks_for}
+use Rattle.congruence.specs.Engines.{EngineTask, Definitions, Rows, Rewriting, HasDecided, IsEndOf, IsTaskFor, as_racer, ends_within, related_presentation, task_of, tasks_for}
 
--- a task of the congruence
-record IsTaskFor (c : Congruence) (b : Budgets) (t : EngineTask) : Type 0 where
-  pub congruence : congruence_in t ≡ as_right c
-  pub ends : ends_within t → EnumerationEnds c b
+test_from_two_sided : (c : Congruence) → IsTwoSided c → is_two_sided c ≡ true
+test_from_two_sided c = go c.presentation c.kind c.pairs
+  where
+    go : (p : Presentation) (kind : Kind) (pairs : List (Word × Word))
+        → IsTwoSided (record { presentation = p; kind = kind; pairs = pairs })
+        → is_two_sided (record { presentation = p; kind = kind; pairs = pairs }) ≡ true
+    go p TwoSided pairs h = refl
+    go p Right pairs (inl e) = cc
+    go p Right [] (inr e) = refl
+    go p Right (x ∷ xs) (inr e) = cc
+    go p Left pairs (inl e) = cc
+    go p Left [] (inr e) = refl
+    go p Left (x ∷ xs) (inr e) = cc
 
-each_task : (c : Congruence) (b : Budgets) (t : EngineTask) (i : ℕ) → slice_get (tasks_for c b) i ≡ Some t → IsTaskFor c b t
-each_task c b t zero at = subst (λ s. IsTaskFor c b s) (let e : Definitions (record { congruence = as_right c; budget = b.defs }) ≡ t = cc in e) (record { congruence = refl; ends = λ h. inl h })
-each_task c b t (suc zero) at = subst (λ s. IsTaskFor c b s) (let e : Rows (record { congruence = as_right c; budget = b.rows }) ≡ t = cc in e) (record { congruence = refl; ends = λ h. inr h })
-each_task c b t (suc (suc i)) at = cc
+-- a lane that has had no turn, at its place
+fresh_fits : (i : ℕ) (e : Engine) (l : Lane Engine) → fresh i e ≡ l → LaneFits as_racer 0 i l × (l.state ≡ Running)
+fresh_fits i e l same =
+    subst (λ (m : Lane Engine). LaneFits as_racer 0 i m × (m.state ≡ Running)) same (record { number = refl; step = λ h. cc; state = tt }, refl)
+
+two_start : (f h : Engine) → Starts as_racer (fresh 0 f ∷ fresh 1 h ∷ [])
+two_start f h zero l at = let e : fresh 0 f ≡ l = cc in fresh_fits 0 f l e
+two_start f h (suc zero) l at = let e : fresh 1 h ≡ l = cc in fresh_fits 1 h l e
+two_start f h (suc (suc i)) l at = cc
+
+three_start : (f h k : Engine) → Starts as_racer (fresh 0 f ∷ fresh 1 h ∷ fresh 2 k ∷ [])
+three_start f h k zero l at = let e : fresh 0 f ≡ l = cc in fresh_fits 0 f l e
+three_start f h k (suc zero) l at = let e : fresh 1 h ≡ l = cc in fresh_fits 1 h l e
+three_start f h k (suc (suc zero)) l at = let e : fresh 2 k ≡ l = cc in fresh_fits 2 k l e
+three_start f h k (suc (suc (suc i))) l at = cc
+
+-- lanes that were pushed one after another
+module _ (none one two : List (Lane Engine)) (a b : Lane Engine) (f h : Engine) (begun : none ≡ []) (first : one ≡ none ++ a ∷ []) (second : two ≡ one ++ b ∷ [])
+    (at_zero : a ≡ fresh 0 f) (at_one : b ≡ fresh 1 h) where
+  two_are : two ≡ fresh 0 f ∷ fresh 1 h ∷ []
+  two_are = second ∙ ap (λ (ls : List (Lane Engine)). ls ++ b ∷ []) (first ∙ ap (λ (ls : List (Lane Engine)). ls ++ a ∷ []) begun)
+      ∙ ap₂ (λ (l m : Lane Engine). l ∷ m ∷ []) at_zero at_one
+
+  pub two_pushed : (all : List (Lane Engine)) → all ≡ two → Starts as_racer all
+  two_pushed all same = subst (λ (ls : List (Lane Engine)). Starts as_racer ls) (sym (same ∙ two_are)) (two_start f h)
+
+  pub three_pushed : (three all : List (Lane Engine)) (d : Lane Engine) (k : Engine) → three ≡ two ++ d ∷ [] → d ≡ fresh 2 k → all ≡ three → Starts as_racer all
+  three_pushed three all d k third at_two same =
+      subst (λ (ls : List (Lane Engine)). Starts as_racer ls)
+      (sym (same ∙ third ∙ ap₂ (λ (ls : List (Lane Engine)) (m : Lane Engine). ls ++ m ∷ []) two_are at_two)) (three_start f h k)
+
+-- a task of the congruence within the budgets
+record IsTaskWithin (c : Congruence) (b : Budgets) (t : EngineTask) : Type 0 where
+  pub task : IsTaskFor c t
+  pub ends : ends_within t → IsCongruenceDecided c b
+
+-- the task of a list that has it where the test holds
+where_test : (test : Bool) (r t : EngineTask) (i : ℕ) → slice_get (cond test (r ∷ []) []) i ≡ Some t → (test ≡ true) × (r ≡ t)
+where_test true r t zero at = (refl, cc)
+where_test true r t (suc i) at = cc
+where_test false r t i at = cc
+
+each_task : (c : Congruence) (b : Budgets) (t : EngineTask) (i : ℕ) → slice_get (tasks_for c b) i ≡ Some t → IsTaskWithin c b t
+each_task c b t zero at =
+    subst (λ s. IsTaskWithin c b s) (let e : Definitions (record { congruence = as_right c; budget = b.defs }) ≡ t = cc in e)
+    (record { task = refl; ends = λ h. inl (inl h) })
+each_task c b t (suc zero) at =
+    subst (λ s. IsTaskWithin c b s) (let e : Rows (record { congruence = as_right c; budget = b.rows }) ≡ t = cc in e)
+    (record { task = refl; ends = λ h. inl (inr h) })
+each_task c b t (suc (suc i)) at =
+    let found = where_test (is_two_sided c) (Rewriting (record { presentation = related_presentation c; length = b.length })) t i at in
+    subst (λ s. IsTaskWithin c b s) found.1 (record { task = (found.0, refl); ends = λ h. inr (two_sided c found.0, h) })
 
 -- the task of a lane stands in the list of tasks
 task_at : (ls : List (Lane Engine)) (i : ℕ) (l : Lane Engine) → slice_get ls i ≡ Some l → slice_get (tasks as_racer ls) i ≡ Some (task_of l.racer)
@@ -35,25 +99,31 @@ lane_at (m ∷ ls) zero t at = (m, refl, cc)
 lane_at (m ∷ ls) (suc i) t at = lane_at ls i t at
 
 module _ (c : Congruence) (b : Budgets) (lanes : List (Lane Engine)) (same : tasks as_racer lanes ≡ tasks_for c b) where
-  of_lane : (i : ℕ) (l : Lane Engine) → slice_get lanes i ≡ Some l → IsTaskFor c b (task_of l.racer)
+  of_lane : (i : ℕ) (l : Lane Engine) → slice_get lanes i ≡ Some l → IsTaskWithin c b (task_of l.racer)
   of_lane i l at = each_task c b (task_of l.racer) i (subst (λ ts. slice_get ts i ≡ Some (task_of l.racer)) same (task_at lanes i l at))
 
   -- the lane that has won has decided the congruence
-  pub won_decided : (i : ℕ) → Tells as_racer (Won i) lanes → HasDecided (as_right c) lanes i
-  won_decided i (l, at, state, decided) = record { lane = l; at = at; decided = decided.answered; congruence = (of_lane i l at).congruence }
+  pub won_decided : (i : ℕ) → Tells as_racer (Won i) lanes → HasDecided c lanes i
+  won_decided i (l, at, state, decided) = record { lane = l; at = at; decided = decided.answered; task = (of_lane i l at).task }
 
-  pub won_ends : (i : ℕ) → Tells as_racer (Won i) lanes → EnumerationEnds c b
+  pub won_ends : (i : ℕ) → Tells as_racer (Won i) lanes → IsCongruenceDecided c b
   won_ends i (l, at, state, decided) = (of_lane i l at).ends decided.holds
 
-  -- where each lane is spent, no strategy ends
+  -- where each lane is spent, no engine decides
   fails_at : (i : ℕ) (t : EngineTask) → Tells as_racer AllSpent lanes → slice_get (tasks_for c b) i ≡ Some t → ends_within t → ⊥
   fails_at i t told at ends =
       let found = lane_at lanes i t (subst (λ ts. slice_get ts i ≡ Some t) (sym same) at) in
       (told i found.0 found.1).1.fails (subst ends_within (sym found.2) ends)
 
-  pub spent_never : Tells as_racer AllSpent lanes → EnumerationEnds c b → ⊥
-  spent_never told (inl ends) = fails_at 0 (Definitions (record { congruence = as_right c; budget = b.defs })) told refl ends
-  spent_never told (inr ends) = fails_at 1 (Rows (record { congruence = as_right c; budget = b.rows })) told refl ends
+  rewriting_fails : Tells as_racer AllSpent lanes → is_two_sided c ≡ true → CompletionEnds (related_presentation c) b.length → ⊥
+  rewriting_fails told test ends =
+      let task : EngineTask = Rewriting (record { presentation = related_presentation c; length = b.length }) in
+      fails_at 2 task told (ap (λ two. slice_get (cond two (task ∷ []) []) 0) test) ends
+
+  pub spent_never : Tells as_racer AllSpent lanes → IsCongruenceDecided c b → ⊥
+  spent_never told (inl (inl ends)) = fails_at 0 (Definitions (record { congruence = as_right c; budget = b.defs })) told refl ends
+  spent_never told (inl (inr ends)) = fails_at 1 (Rows (record { congruence = as_right c; budget = b.rows })) told refl ends
+  spent_never told (inr (two, ends)) = rewriting_fails told (test_from_two_sided c two) ends
 
 -- lanes that have ended are those of the congruence, at an end
 pub end_of : (c : Congruence) (b : Budgets) (old new : List (Lane Engine)) (outcome : Outcome) → tasks as_racer old ≡ tasks_for c b → EndsAs as_racer old outcome new

@@ -1,6 +1,12 @@
 pub mod OrderedWords
 pub mod SolutionLaws
+pub mod ViewLaws
 pub mod AnswerLaws
 pub mod PlaceLaws
 pub mod GraphLaws
 pub mod LaneLaws
+pub mod RewrittenRules
+pub mod RewrittenWords
+pub mod RewrittenCounts
+pub mod CosetRuleLists
+pub mod CosetRuleLaws

@@ -62,7 +62,7 @@ appears_before s (row ∷ rows) (suc p) a i j h e less more =
         let f = entry_of s row i (numbered_front s row (entries rows) h) less here in
         (0, f.0, inl (omega arith), f.1)
 
-no_later_empty : (w : Word) → NoLater w [] → w ≡ []
+pub no_later_empty : (w : Word) → NoLater w [] → w ≡ []
 no_later_empty w (inl l) = nil w (before_no_longer w [] l)
   where
     nil : (w : Word) → length w ≤ 0 → w ≡ []

@@ -1,5 +1,6 @@
 -- What the graph of a congruence and the least words of its nodes answer.
 use Rattle.std.proofs.Common.{◌≡◌, ℕ, zero, suc, ◌<◌, ◌≤◌, Bool, true, false, List, [], ◌∷◌, length, get_or, refl, sym, ◌∙◌, ap, subst, arith, inl, inr, Option, Some, None, option_and_then}
+use Rattle.std.specs.Option.{unwrap_or}
 use Rattle.std.proofs.lemmas.Bool.{cases_lt}
 use Rattle.theory.specs.Word.{Word, IsOver, IsElement}
 use Rattle.theory.specs.ShortLex.{◌≺◌}
@@ -12,8 +13,8 @@ use Rattle.word_graph.specs.Walk.{NoLater, IsLeastWord, AreLeastWords}
 use Rattle.word_graph.proofs.EdgeLaws.{target_in}
 use Rattle.word_graph.proofs.StandardLaws.{path_in}
 use Rattle.word_graph.proofs.WalkLaws.{some_same}
-use Rattle.congruence.specs.Solution.{IsGraphOf, word_at, first_class, IsSolution}
-use Rattle.congruence.proofs.OrderedWords.{ascend}
+use Rattle.congruence.specs.Solution.{IsGraphOf, word_at, node_of, first_class, IsSolution}
+use Rattle.congruence.proofs.OrderedWords.{ascend, no_later_empty}
 
 -- a path is over the letters
 pub path_over : (k : ℕ) (g : Graph) → IsGraph k g → (u : Word) (n m : ℕ) → path g n u ≡ Some m → IsOver k u
@@ -61,7 +62,7 @@ module _ (list : List (ℕ × Word)) (count : ℕ)
   pub is_place : (i : ℕ) → i < length list → (get_or list i (0, [])).0 ≡ i
   is_place i l = places_to (suc i) i (omega arith) l
 
-first_small : (b : Bool) (n : ℕ) → 0 < n → first_class b ≤ n
+pub first_small : (b : Bool) (n : ℕ) → 0 < n → first_class b ≤ n
 first_small true n h = omega arith
 first_small false n h = omega arith
 
@@ -110,8 +111,16 @@ module _ (c : Congruence) (g : Graph) (least : List (ℕ × Word)) (well : IsWel
       class_element c.presentation.is_monoid c.presentation.letters i (word_at least i) first (over_at i h)
       (λ e. let root : 0 ≡ i = some_same 0 i (ap (path g 0) (sym e) ∙ (least_at i h).leads) in sym root)
 
+  node_in : (u : Word) (o : Option ℕ) → path g 0 u ≡ o → unwrap_or o 0 < length g
+  node_in u None e = is.graph.rooted
+  node_in u (Some node) e = inside node u e
+
   pub solution : IsSolution c g least
   solution = record {
+    graph = is.graph;
+    root = no_later_empty (word_at least 0) ((least_at 0 (listed 0 is.graph.rooted)).least [] refl);
+    listed = λ u. listed (node_of g u) (node_in u (path g 0 u) refl);
+    over = over_at;
     decides = is.decides;
     some = first_small c.presentation.is_monoid (length least) (listed 0 is.graph.rooted);
     ascending = λ i j less h.

@@ -1,5 +1,5 @@
 -- Graphs that decide congruences, and the least words of their nodes.
-use Rattle.std.specs.Prelude.{◌↔◌, ◌≡◌, ℕ, ◌<◌, ◌≤◌, Bool, List, [], length, slice_index_or, cond, Option, Some}
+use Rattle.std.specs.Prelude.{◌↔◌, ◌≡◌, ℕ, ◌<◌, ◌≤◌, Bool, List, [], length, slice_index_or, cond, Option, Some, unwrap_or}
 use Rattle.theory.specs.Word.{Word, IsOver, IsElement}
 use Rattle.theory.specs.ShortLex.{◌≺◌}
 use Rattle.theory.specs.Congruence.{Congruence}
@@ -35,8 +35,20 @@ first_class is_monoid = cond is_monoid 0 1
 abbrev pub AreAscending : List (ℕ × Word) → Type 0
 AreAscending least = (i j : ℕ) → i < j → j < length least → word_at least i ≺ word_at least j
 
+-- the node to which a word leads, or the root
+abbrev pub node_of : Graph → Word → ℕ
+node_of g u = unwrap_or (path g 0 u) 0
+
+-- the nodes to which words lead have places
+abbrev pub AreListed : Graph → List (ℕ × Word) → Type 0
+AreListed g least = (u : Word) → node_of g u < length least
+
 -- the graph decides the congruence, and from the first class on the words are the least of all classes, in order
 pub record IsSolution (c : Congruence) (g : Graph) (least : List (ℕ × Word)) : Type 0 where
+  pub graph : IsGraph c.presentation.letters g
+  pub root : word_at least 0 ≡ []
+  pub listed : AreListed g least
+  pub over : (i : ℕ) → i < length least → IsOver c.presentation.letters (word_at least i)
   pub decides : (u v : Word) → IsOver c.presentation.letters u → Related c u v ↔ SameEnd g u v
   pub some : first_class c.presentation.is_monoid ≤ length least
   pub ascending : AreAscending least

@@ -4,7 +4,7 @@ use Rattle.theory.specs.Congruence.{Congruence}
 use Rattle.problem.specs.declared.budgets.Budgets.{Budgets}
 use Rattle.problem.specs.declared.kinds.Problem.{Problem}
 use Rattle.problem.specs.declared.kinds.Problem.TheVariants.{Presented, Transf, PPerm, BMat, MaxPlus}
-use Rattle.problem.specs.Problem.{EnumerationEnds}
+use Rattle.problem.specs.Problem.{IsCongruenceDecided}
 use Rattle.race.specs.declared.playing.Outcome.TheVariants.{Won, AllSpent}
 use Rattle.congruence.specs.Engines.{IsEndOf}
 use Rattle.congruence.specs.declared.solving.Verdict.{Verdict}
@@ -18,10 +18,10 @@ IsCongruenceIn (PPerm p) c = ⊥
 IsCongruenceIn (BMat p) c = ⊥
 IsCongruenceIn (MaxPlus p) c = ⊥
 
--- a known verdict is of the congruence, for which a strategy ends within its budget, and keeps the lanes of a race that one of them won; else each is spent
+-- a known verdict is of the congruence, which some engine decides within its budget, and keeps the lanes of a race that one of them won; else each is spent
 abbrev pub Decides : Congruence → Budgets → Verdict → Type 0
-Decides c b (Known solved) = EnumerationEnds c b × (solved.congruence ≡ c) × ((winner : ℕ) × IsEndOf c b (Won winner) solved.lanes)
-Decides c b (Undecided lanes) = (EnumerationEnds c b → ⊥) × IsEndOf c b AllSpent lanes
+Decides c b (Known solved) = IsCongruenceDecided c b × (solved.congruence ≡ c) × ((winner : ℕ) × IsEndOf c b (Won winner) solved.lanes)
+Decides c b (Undecided lanes) = (IsCongruenceDecided c b → ⊥) × IsEndOf c b AllSpent lanes
 
 -- a verdict is of the problem's congruence
 abbrev pub IsVerdictOf : Problem → Budgets → Verdict → Type 0

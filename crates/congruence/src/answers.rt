@@ -1,103 +1,63 @@
-// Answers from the graph of a congruence and the least words of its nodes.
-ghost use Rattle.std.specs.Prelude.{◌≡◌, ℕ, ◌<◌, ◌≤◌, ◌↔◌, length, IfOk, IsTrue, MatchOption, Some};
+// Answers about a congruence that was decided.
+ghost use Rattle.std.specs.Prelude.{◌≡◌, ◌↔◌, true, IfOk, IsTrue, MatchOption};
 ghost use Rattle.std.specs.Option.{option_copied};
 ghost use Rattle.theory.specs.Word.{IsElement};
 ghost use Rattle.theory.specs.ShortLex.{◌≺◌};
-ghost use Rattle.theory.specs.Class.{SameClass, IsLeast, IsNormal};
-ghost use Rattle.theory.specs.Listing.{IsLast, IsNext};
-ghost use Rattle.congruence.specs.Indexes.{GoesOnOrEnds, IsIndexWithin};
-ghost use Rattle.congruence.specs.Solution.{IsGraphOf, first_class, AreAscending, IsPlaceAfter};
+ghost use Rattle.theory.specs.Class.{SameClass, IsLeast, IsNormal, IsRuleList};
+ghost use Rattle.theory.specs.Listing.{IsLast, IsNext, GoesOnOrEnds};
+ghost use Rattle.theory.specs.Congruence.{is_two_sided};
+ghost use Rattle.congruence.specs.Indexes.{IsIndexWithin};
+ghost use Rattle.congruence.specs.Classes.{congruence_of};
 
+use crate::cosets::CosetClasses;
 use crate::engine::Ended;
+use crate::reduced_words::ReducedClasses;
 use ports::NoMemory;
-use presentation::Congruence;
-use std::alloc::Global;
+use reduced_automaton::Rules;
 use std::marker::Model;
-use word_graph::WordGraph;
-use words::{Word, shortlex};
+use words::Word;
 
 /// How many classes there are, up to a bound.
 #[derive(Clone, Copy, Debug, PartialEq, Eq)]
 pub enum Index {
     /// So many.
     Finite(usize),
+    /// Infinitely many.
+    Infinite,
     /// Finitely many, and more than the bound.
     Over,
+}
+
+/// How the classes are known: by the graph of the cosets, or by the reduced words of rewriting rules.
+#[derive(Drop)]
+pub enum Classes {
+    Cosets(CosetClasses),
+    Reduced(ReducedClasses),
 }
 
 /// What is known of a congruence that was decided (libsemigroups, `Congruence`). The empty word counts as a class of a
 /// monoid, and is no element of a semigroup.
 #[derive(Drop)]
 pub struct Solved {
-    alloc: Global,
-    congruence: Congruence,
-    graph: WordGraph,
-    least: Vec<(usize, Word)>,
+    classes: Classes,
     lanes: Ended,
 }
 
 impl Model for Solved {
-    ghost use Rattle.congruence.specs.Solution.{IsSolution, Solution};
+    ghost use Rattle.congruence.specs.Classes.{congruence_of};
+    ghost use Rattle.congruence.specs.Solution.{Solution};
 
     ghost Value = { Solution };
 
-    ghost view = { λ s. record { congruence = s.congruence.congruence; lanes = s.lanes } };
-
-    ghost invariant = { λ s. IsSolution s.congruence.congruence s.graph s.least.items };
-}
-
-// The first place, from that of the first class on, whose word comes after the cursor.
-fn place_behind(least: &[(usize, Word)], first: usize, cursor: &Word) -> usize
-    requires first { first ≤ length least.now }
-    requires ascending { AreAscending least.now }
-    ensures { IsPlaceAfter first least.now (Some cursor.now) result }
-{
-    let mut low = first;
-    let mut high = least.len();
-    while low < high {
-        let middle = low + (high - low) / 2;
-        if shortlex(cursor, &least[middle].1).is_lt() {
-            high = middle;
-        } else {
-            low = middle + 1;
-        }
-    }
-    low
-}
-
-// The place of the first class after the cursor, or of the first at all.
-fn place_after(least: &[(usize, Word)], first: usize, after: Option<&Word>) -> usize
-    requires first { first ≤ length least.now }
-    requires ascending { AreAscending least.now }
-    ensures { IsPlaceAfter first least.now (option_copied after.entry) result }
-{
-    match after {
-        None => first,
-        Some(cursor) => place_behind(least, first, cursor),
-    }
+    ghost view = { λ s. record { congruence = congruence_of s.classes; lanes = s.lanes } };
 }
 
 impl Solved {
-    /// The answers that a graph gives whose equal paths are the congruence. Refused only where memory is wanting.
-    pub(crate) fn new(
-        alloc: Global,
-        congruence: &Congruence,
-        graph: WordGraph,
-        lanes: Ended,
-    ) -> Result<Solved, NoMemory>
-        requires { IsGraphOf congruence.now.congruence graph }
-        ensures { IfOk result (λ s. s ≡ record { congruence = congruence.now.congruence; lanes = lanes }) }
+    // The answers by the classes that an engine gave, with the lanes of the race.
+    pub(crate) fn new(classes: Classes, lanes: Ended) -> Solved
+        ensures { result ≡ record { congruence = congruence_of classes; lanes = lanes } }
     {
-        let _presentation = congruence.presentation();
-        let congruence = congruence.copy(alloc)?;
-        let least = graph.least_words(alloc)?;
-        Ok(Solved {
-            alloc,
-            congruence,
-            graph,
-            least,
-            lanes,
-        })
+        Solved { classes, lanes }
     }
 
     /// The lanes of the race for the congruence, as it left them.
@@ -107,26 +67,13 @@ impl Solved {
         &self.lanes
     }
 
-    // The place of the first class: in a semigroup the root is none.
-    fn first_class(&self) -> usize
-        ensures { result ≡ first_class self.now.congruence.presentation.is_monoid }
-    {
-        if self.congruence.presentation().is_monoid() {
-            0
-        } else {
-            1
-        }
-    }
-
     /// The number of classes, if it is at most the bound. Refused only where memory is wanting.
     pub fn index(&self, bound: usize) -> Result<Index, NoMemory>
         ensures { IfOk result (IsIndexWithin (SameClass self.now.congruence) bound) }
     {
-        let classes = self.least.len() - self.first_class();
-        if classes <= bound {
-            Ok(Index::Finite(classes))
-        } else {
-            Ok(Index::Over)
+        match &self.classes {
+            Classes::Cosets(classes) => classes.index(bound),
+            Classes::Reduced(classes) => classes.index(bound),
         }
     }
 
@@ -136,7 +83,10 @@ impl Solved {
         requires right { IsElement self.now.congruence.presentation.is_monoid self.now.congruence.presentation.letters v.now }
         ensures { IfOk result (λ same. IsTrue same ↔ SameClass self.now.congruence u.now v.now) }
     {
-        Ok(self.graph.path(0, u) == self.graph.path(0, v))
+        match &self.classes {
+            Classes::Cosets(classes) => classes.equal(u, v),
+            Classes::Reduced(classes) => classes.equal(u, v),
+        }
     }
 
     /// The normal form of the word, which is an element: the least word of its class in short-lex order. Refused only
@@ -145,28 +95,36 @@ impl Solved {
         requires { IsElement self.now.congruence.presentation.is_monoid self.now.congruence.presentation.letters u.now }
         ensures { IfOk result (IsNormal (SameClass self.now.congruence) u.now) }
     {
-        let node = self.graph.path(0, u).unwrap_or(0);
-        let word = self.least[node].1.copy(self.alloc)?;
-        Ok(word)
+        match &self.classes {
+            Classes::Cosets(classes) => classes.normal(u),
+            Classes::Reduced(classes) => classes.normal(u),
+        }
     }
 
     /// The first least word of a class after the cursor, or the first at all; `None` where there is none. The cursor
     /// need not be the least word of its class. What holds of every decided congruence is told here: after each cursor
     /// comes a next class, or none. Refused only where memory is wanting.
     pub fn next_after(&self, after: Option<&Word>) -> Result<Option<Word>, NoMemory>
-        ensures goes_on { GoesOnOrEnds (SameClass self.now.congruence) }
+        ensures goes_on { GoesOnOrEnds (IsLeast (SameClass self.now.congruence)) ◌≺◌ }
         ensures next { IfOk result (λ next. MatchOption next
             (IsLast (IsLeast (SameClass self.now.congruence)) ◌≺◌ (option_copied after.entry))
             (IsNext (IsLeast (SameClass self.now.congruence)) ◌≺◌ (option_copied after.entry))) }
     {
-        let first = self.first_class();
-        let place = place_after(self.least.as_slice(), first, after);
-        match self.least.get(place) {
-            None => Ok(None),
-            Some(pair) => {
-                let word = pair.1.copy(self.alloc)?;
-                Ok(Some(word))
-            }
+        match &self.classes {
+            Classes::Cosets(classes) => classes.next_after(after),
+            Classes::Reduced(classes) => classes.next_after(after),
+        }
+    }
+
+    /// The reduced rules of a two-sided congruence, in short-lex order of their left sides (Froidure and Pin 1997).
+    /// Refused only where memory is wanting.
+    pub fn rules(&self) -> Result<Rules, NoMemory>
+        requires { is_two_sided self.now.congruence ≡ true }
+        ensures { IfOk result (IsRuleList (SameClass self.now.congruence)) }
+    {
+        match &self.classes {
+            Classes::Cosets(classes) => classes.rules(),
+            Classes::Reduced(classes) => classes.rules(),
         }
     }
 }

@@ -1,23 +1,31 @@
 // The engines that race for a congruence.
 ghost use Rattle.std.specs.Prelude.{◌≡◌, IfOk};
-ghost use Rattle.theory.specs.Congruence.{IsRightSided, IsWellFormed};
-ghost use Rattle.congruence.specs.Engines.{congruence_in, said_of, task_of};
-ghost use Rattle.congruence.specs.Solution.{IsGraphOf};
+ghost use Rattle.theory.specs.Congruence.{IsWellFormed};
+ghost use Rattle.problem.specs.Problem.{IsSolvable};
+ghost use Rattle.congruence.specs.Engines.{IsTaskFor, said_of, task_of};
+ghost use Rattle.congruence.specs.Classes.{congruence_of};
 
+use crate::answers::Classes;
+use crate::cosets::CosetClasses;
+use crate::reduced_words::ReducedClasses;
+use knuth_bendix::Completion;
 use ports::NoMemory;
+use presentation::Congruence;
 use race::{Lane, Progress, Racer};
+use std::alloc::Global;
 use std::marker::Model;
 use tc_felsch::Felsch;
 use tc_hlt::Hlt;
-use word_graph::WordGraph;
 
-/// An engine that decides a right congruence within a budget.
+/// An engine that decides a congruence within a budget.
 #[derive(Drop)]
 pub enum Engine {
     /// Coset enumeration by Felsch's strategy.
     Felsch(Felsch),
     /// Coset enumeration by the strategy of Haselgrove, Leech and Trotter.
     Hlt(Hlt),
+    /// Completion by rewriting rules, of a two-sided congruence.
+    Completion(Completion),
 }
 
 impl Racer for Engine {
@@ -38,21 +46,37 @@ impl Racer for Engine {
         match self {
             Engine::Felsch(felsch) => felsch.advance(),
             Engine::Hlt(hlt) => hlt.advance(),
+            Engine::Completion(completion) => completion.advance(),
         }
     }
 }
 
 impl Engine {
-    // The graph of an engine that has decided. Its equal paths are the congruence.
-    pub(crate) fn graph(&self) -> Result<WordGraph, NoMemory>
+    // The classes of the congruence that the engine has decided.
+    pub(crate) fn classes(
+        &self,
+        alloc: Global,
+        congruence: &Congruence,
+    ) -> Result<Classes, NoMemory>
         requires decided { said_of self.now ≡ Progress.Decided }
-        requires well_formed { IsWellFormed (congruence_in (task_of self.now)) }
-        requires sided { IsRightSided (congruence_in (task_of self.now)) }
-        ensures { IfOk result (IsGraphOf (congruence_in (task_of self.now))) }
+        requires well_formed { IsWellFormed congruence.now.congruence }
+        requires solvable { IsSolvable congruence.now.congruence }
+        requires task { IsTaskFor congruence.now.congruence (task_of self.now) }
+        ensures { IfOk result (λ classes. congruence_of classes ≡ congruence.now.congruence) }
     {
         match self {
-            Engine::Felsch(felsch) => felsch.graph(),
-            Engine::Hlt(hlt) => hlt.graph(),
+            Engine::Felsch(felsch) => {
+                let cosets = CosetClasses::new(alloc, congruence, felsch.graph()?)?;
+                Ok(Classes::Cosets(cosets))
+            }
+            Engine::Hlt(hlt) => {
+                let cosets = CosetClasses::new(alloc, congruence, hlt.graph()?)?;
+                Ok(Classes::Cosets(cosets))
+            }
+            Engine::Completion(completion) => {
+                let words = ReducedClasses::new(alloc, congruence, &completion.rules()?)?;
+                Ok(Classes::Reduced(words))
+            }
         }
     }
 }

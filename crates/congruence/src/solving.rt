@@ -1,13 +1,14 @@
-// Congruences decided by a race of coset enumerations.
-ghost use Rattle.std.specs.Prelude.{◌≡◌, true, ◌<◌, length, IfOk};
+// Congruences decided by a race of engines.
+ghost use Rattle.std.specs.Prelude.{◌≡◌, true, ◌<◌, ◌≤◌, length, IfOk};
 ghost use Rattle.theory.specs.Congruence.{as_right, IsWellFormed};
 ghost use Rattle.problem.specs.Problem.{is_presented, IsPosable, IsSolvable};
 ghost use Rattle.race.specs.Machine.{Starts, tasks};
-ghost use Rattle.congruence.specs.Engines.{as_racer, tasks_for, HasDecided};
+ghost use Rattle.congruence.specs.Engines.{as_racer, tasks_for, HasDecided, IsCompletionFor};
 ghost use Rattle.congruence.specs.Verdicts.{Decides, IsVerdictOf};
 
 use crate::answers::Solved;
 use crate::engine::{Ended, Engine};
+use knuth_bendix::Completion;
 use ports::NoMemory;
 use presentation::{Congruence, Kind, Pairs};
 use problem::{Budgets, Problem};
@@ -43,7 +44,21 @@ fn as_right(alloc: Global, congruence: &Congruence) -> Result<Congruence, NoMemo
     }
 }
 
-// The lanes for the congruence: Felsch's strategy, and the strategy of rows.
+// The completion of the presentation with the pairs as relations.
+fn completion_of(
+    alloc: Global,
+    congruence: &Congruence,
+    length: usize,
+) -> Result<Completion, NoMemory>
+    requires { IsSolvable congruence.now.congruence }
+    ensures { IfOk result (IsCompletionFor congruence.now.congruence length) }
+{
+    let presentation = congruence.presentation();
+    let relations = presentation.with_pairs(alloc, congruence.pairs())?;
+    Completion::new(alloc, &relations, length)
+}
+
+// The lanes for the congruence: Felsch's strategy, the strategy of rows, and completion where it is two-sided.
 fn lanes_for(
     alloc: Global,
     congruence: &Congruence,
@@ -51,7 +66,7 @@ fn lanes_for(
 ) -> Result<Vec<Lane<Engine>>, NoMemory>
     requires { IsSolvable congruence.now.congruence }
     ensures starts { IfOk result (λ lanes. Starts as_racer lanes.items) }
-    ensures count { IfOk result (λ lanes. length lanes.items ≡ 2) }
+    ensures count { IfOk result (λ lanes. length lanes.items ≤ 64) }
     ensures tasks { IfOk result (λ lanes. tasks as_racer lanes.items ≡ tasks_for congruence.now.congruence budgets.now) }
     ensures well_formed { IsWellFormed congruence.now.congruence }
 {
@@ -61,6 +76,10 @@ fn lanes_for(
     let mut lanes = Vec::new(alloc);
     lanes.push(Lane::new(0, Engine::Felsch(felsch)))?;
     lanes.push(Lane::new(1, Engine::Hlt(hlt)))?;
+    if congruence.is_two_sided() {
+        let completion = completion_of(alloc, congruence, budgets.length)?;
+        lanes.push(Lane::new(2, Engine::Completion(completion)))?;
+    }
     Ok(lanes)
 }
 
@@ -73,21 +92,26 @@ fn known(
 ) -> Result<Solved, NoMemory>
     requires well_formed { IsWellFormed congruence.now.congruence }
     requires solvable { IsSolvable congruence.now.congruence }
-    requires decided { HasDecided (as_right congruence.now.congruence) lanes.items winner }
+    requires decided { HasDecided congruence.now.congruence lanes.items winner }
     ensures { IfOk result (λ s. s ≡ record { congruence = congruence.now.congruence; lanes = lanes.items }) }
 {
-    let graph = lanes[winner].racer().graph()?;
-    Solved::new(alloc, congruence, graph, Ended::new(lanes))
+    let classes = lanes[winner].racer().classes(alloc, congruence)?;
+    Ok(Solved::new(classes, Ended::new(lanes)))
 }
 
-// Decides the congruence within the budgets.
-fn decide(alloc: Global, congruence: &Congruence, budgets: &Budgets) -> Result<Verdict, NoMemory>
+/// Decides the congruence within the budgets by a race on one thread, whose lanes take turns by the schedule and then in
+/// rotation. No schedule changes an answer. Refused only where memory is wanting.
+pub fn decide(
+    alloc: Global,
+    congruence: &Congruence,
+    budgets: &Budgets,
+    schedule: &Vec<usize>,
+) -> Result<Verdict, NoMemory>
     requires { IsSolvable congruence.now.congruence }
     ensures { IfOk result (Decides congruence.now.congruence budgets.now) }
 {
     let mut lanes = lanes_for(alloc, congruence, budgets)?;
-    let schedule = Vec::new(alloc);
-    match play(&mut lanes, &schedule) {
+    match play(&mut lanes, schedule) {
         Outcome::Won(winner) => {
             let solved = known(alloc, congruence, lanes, winner)?;
             Ok(Verdict::Known(solved))
@@ -97,11 +121,12 @@ fn decide(alloc: Global, congruence: &Congruence, budgets: &Budgets) -> Result<V
     }
 }
 
-/// Decides the problem, which is given by relations, by coset enumerations that race: Felsch's strategy with the budget
-/// `defs` of definitions, and that of Haselgrove, Leech and Trotter with the budget `rows` of rows (Felsch 1961; Sims
-/// 1994, 5.2; libsemigroups, `ToddCoxeter`). The number of workers changes no answer. The pairs of its congruence are
-/// two-sided or right pairs. `Undecided` exactly where neither budget suffices; the lanes are kept as the race left
-/// them. Refused only where memory is wanting.
+/// Decides the problem, which is given by relations, by engines that race: coset enumeration by Felsch's strategy with the
+/// budget `defs` of definitions, and by that of Haselgrove, Leech and Trotter with the budget `rows` of rows, and where the
+/// congruence is two-sided completion with words of at most `length` letters (Felsch 1961; Knuth and Bendix 1970; Sims
+/// 1994, 2.5 and 5.2; libsemigroups, `ToddCoxeter`, `KnuthBendix`). The number of workers changes no answer. The pairs of
+/// its congruence are two-sided or right pairs. `Undecided` exactly where no budget suffices; the lanes are kept as the
+/// race left them. Refused only where memory is wanting.
 pub fn solve<R: Threads + Sync>(
     _rt: &R,
     alloc: Global,
@@ -116,7 +141,7 @@ pub fn solve<R: Threads + Sync>(
 {
     let _workers = workers;
     match problem {
-        Problem::Presented(congruence) => decide(alloc, congruence, budgets),
+        Problem::Presented(congruence) => decide(alloc, congruence, budgets, &Vec::new(alloc)),
         _ => unreachable!(),
     }
 }

@@ -1,8 +1,10 @@
-// Congruences on the symmetric group of degree three, on a semilattice and on a cyclic group.
+// Congruences on the symmetric group of degree three, on a semilattice, on a cyclic group and on the bicyclic monoid.
 ghost use Rattle.std.specs.Prelude.{◌≡◌, ◌⊎◌, true, length, IfOk, IfSome};
 ghost use Rattle.theory.specs.Word.{IsOver};
+ghost use Rattle.theory.specs.Congruence.{is_two_sided};
 
 use super::*;
+use crate::solving::decide;
 use presentation::{Congruence, Kind, Pairs, Presentation};
 use problem::{Budgets, Problem};
 use race::LaneState;
@@ -11,6 +13,9 @@ use std::process::Abort;
 use std::test::Fail;
 use std::thread::Threads;
 use words::{Alphabet, Word};
+
+// The symmetric group of degree three.
+const RELATIONS: [(&str, &str); 3] = [("aa", ""), ("bbb", ""), ("abab", "")];
 
 // The word of a text.
 fn word(alloc: Global, alphabet: &Alphabet, text: &str) -> Result<Word, Fail>
@@ -47,13 +52,22 @@ fn presented(
     Ok(presentation)
 }
 
-// What is known of the congruence, if so many definitions, or so many rows, suffice.
+// So many definitions, so many rows, and words of so many letters.
+fn budgets(defs: usize, rows: usize, length: usize) -> Budgets {
+    Budgets {
+        defs,
+        rows,
+        length,
+        elements: 1,
+    }
+}
+
+// What is known of the congruence, if the budgets suffice.
 fn known<R: Abort + Threads + Sync>(
     rt: &R,
     alloc: Global,
     congruence: Congruence,
-    defs: usize,
-    rows: usize,
+    budgets: &Budgets,
 ) -> Result<Option<Solved>, Fail>
     requires { (congruence.congruence.kind ≡ Kind.TwoSided) ⊎ (congruence.congruence.kind ≡ Kind.Right) }
     ensures { IfOk result (λ known. IfSome known (λ s. s.congruence ≡ congruence.congruence)) }
@@ -61,12 +75,7 @@ fn known<R: Abort + Threads + Sync>(
     assert!(rt; congruence.presentation().relations().len() < 10);
     assert!(rt; congruence.pairs().len() < 10);
     let problem = Problem::Presented(congruence);
-    let budgets = Budgets {
-        defs,
-        rows,
-        elements: 1,
-    };
-    match solve(rt, alloc, &problem, &budgets, 1)? {
+    match solve(rt, alloc, &problem, budgets, 1)? {
         Verdict::Known(solved) => Ok(Some(solved)),
         Verdict::Undecided(_) => Ok(None),
     }
@@ -105,8 +114,7 @@ fn collapsed(rt: &impl Abort, alloc: Global, kind: Kind) -> Result<Congruence, F
     ensures monoid { IfOk result (λ c. c.congruence.presentation.is_monoid ≡ true) }
     ensures letters { IfOk result (λ c. c.congruence.presentation.letters ≡ 2) }
 {
-    let relations = [("aa", ""), ("bbb", ""), ("abab", "")];
-    let presentation = presented(alloc, "ab", true, &relations)?;
+    let presentation = presented(alloc, "ab", true, &RELATIONS)?;
     assert!(rt; presentation.is_monoid());
     assert!(rt; presentation.letters() == 2);
     let left = word(alloc, presentation.alphabet(), "a")?;
@@ -130,11 +138,17 @@ fn check_words(rt: &impl Abort, alloc: Global, solved: &Solved) -> Result<(), Fa
     Ok(())
 }
 
-// A cursor need not be a least word.
-fn check_cursor(rt: &impl Abort, alloc: Global, solved: &Solved) -> Result<(), Fail> {
+// The class after the one text, which need not be a least word, is that of the other.
+fn check_after(
+    rt: &impl Abort,
+    alloc: Global,
+    solved: &Solved,
+    cursor: &str,
+    next: &str,
+) -> Result<(), Fail> {
     let alphabet = Alphabet::new(alloc, b"ab")?;
-    let cursor = word(alloc, &alphabet, "a")?;
-    let next = word(alloc, &alphabet, "b")?;
+    let cursor = word(alloc, &alphabet, cursor)?;
+    let next = word(alloc, &alphabet, next)?;
     assert!(rt; next_is(solved, Some(&cursor), &next)?);
     Ok(())
 }
@@ -142,10 +156,11 @@ fn check_cursor(rt: &impl Abort, alloc: Global, solved: &Solved) -> Result<(), F
 #[test]
 fn right_pairs_hold_at_the_front(rt: HostRuntime) -> Result<(), Fail> {
     let alloc = rt.alloc();
-    if let Some(solved) = known(&rt, alloc, collapsed(&rt, alloc, Kind::Right)?, 50, 0)? {
+    let congruence = collapsed(&rt, alloc, Kind::Right)?;
+    if let Some(solved) = known(&rt, alloc, congruence, &budgets(50, 0, 9))? {
         check_classes(&rt, alloc, &solved, &["1", "b", "ba"])?;
         check_words(&rt, alloc, &solved)?;
-        check_cursor(&rt, alloc, &solved)?;
+        check_after(&rt, alloc, &solved, "a", "b")?;
         assert_eq!(rt; solved.index(2)?, Index::Over);
     } else {
         panic!(rt; "undecided");
@@ -156,7 +171,8 @@ fn right_pairs_hold_at_the_front(rt: HostRuntime) -> Result<(), Fail> {
 #[test]
 fn two_sided_pairs_hold_anywhere(rt: HostRuntime) -> Result<(), Fail> {
     let alloc = rt.alloc();
-    match known(&rt, alloc, collapsed(&rt, alloc, Kind::TwoSided)?, 0, 50)? {
+    let congruence = collapsed(&rt, alloc, Kind::TwoSided)?;
+    match known(&rt, alloc, congruence, &budgets(0, 50, 0))? {
         Some(solved) => check_classes(&rt, alloc, &solved, &["1"]),
         None => panic!(rt; "undecided"),
     }
@@ -168,49 +184,187 @@ fn the_empty_word_is_no_class_of_a_semigroup(rt: HostRuntime) -> Result<(), Fail
     let relations = [("aa", "a"), ("bb", "b"), ("ab", "ba")];
     let presentation = presented(alloc, "ab", false, &relations)?;
     let congruence = Congruence::new(presentation, Kind::TwoSided, Pairs::new(alloc));
-    match known(&rt, alloc, congruence, 50, 50)? {
+    match known(&rt, alloc, congruence, &budgets(50, 50, 0))? {
         Some(solved) => check_classes(&rt, alloc, &solved, &["a", "b", "ab"]),
         None => panic!(rt; "undecided"),
     }
 }
 
 #[test]
-fn either_budget_suffices(rt: HostRuntime) -> Result<(), Fail> {
+fn each_budget_suffices(rt: HostRuntime) -> Result<(), Fail> {
     let alloc = rt.alloc();
-    for (defs, rows, decided) in [(1, 2, false), (2, 0, true), (0, 3, true)] {
+    for (defs, rows, length, decided) in [
+        (1, 2, 2, false),
+        (2, 0, 0, true),
+        (0, 3, 0, true),
+        (0, 0, 3, true),
+    ] {
         let presentation = presented(alloc, "a", true, &[("aaa", "")])?;
         let congruence = Congruence::new(presentation, Kind::TwoSided, Pairs::new(alloc));
-        assert_eq!(rt;
-            known(&rt, alloc, congruence, defs, rows)?.is_some(),
-            decided
-        );
+        let known = known(&rt, alloc, congruence, &budgets(defs, rows, length))?;
+        assert_eq!(rt; known.is_some(), decided);
     }
     Ok(())
 }
 
-// How two lanes have ended.
-fn states(rt: &impl Abort, ended: &Ended) -> Result<(LaneState, LaneState), Fail> {
+// What is known of the monoid or semigroup of the relations, if the budgets suffice.
+fn decided<R: Abort + Threads + Sync>(
+    rt: &R,
+    alloc: Global,
+    presentation: Presentation,
+    budgets: &Budgets,
+) -> Result<Option<Solved>, Fail>
+    ensures { IfOk result (λ known. IfSome known (λ s. is_two_sided s.congruence ≡ true)) }
+{
+    let congruence = Congruence::new(presentation, Kind::TwoSided, Pairs::new(alloc));
+    known(rt, alloc, congruence, budgets)
+}
+
+// Whether the rule leads from the one text to the other.
+fn leads(
+    alloc: Global,
+    alphabet: &Alphabet,
+    rule: &(Word, Word),
+    texts: &(&str, &str),
+) -> Result<bool, Fail> {
+    let left = word(alloc, alphabet, texts.0)?;
+    let right = word(alloc, alphabet, texts.1)?;
+    Ok(rule.0.letters() == left.letters() && rule.1.letters() == right.letters())
+}
+
+// The reduced rules are those of the texts, in order.
+fn check_rules(
+    rt: &impl Abort,
+    alloc: Global,
+    solved: &Solved,
+    texts: &[(&str, &str)],
+) -> Result<(), Fail>
+    requires { is_two_sided solved.now.congruence ≡ true }
+{
+    let alphabet = Alphabet::new(alloc, b"ab")?;
+    let rules = solved.rules()?.into_vec();
+    assert_eq!(rt; rules.len(), texts.len());
+    for (rule, pair) in rules.iter().zip(texts) {
+        assert!(rt; leads(alloc, &alphabet, rule, pair)?);
+    }
+    Ok(())
+}
+
+// The classes and the reduced rules are those of the symmetric group of degree three.
+fn check_symmetric(rt: &impl Abort, alloc: Global, solved: &Solved) -> Result<(), Fail>
+    requires { is_two_sided solved.now.congruence ≡ true }
+{
+    let rules = [
+        ("aa", ""),
+        ("aba", "bb"),
+        ("abb", "ba"),
+        ("bab", "a"),
+        ("bba", "ab"),
+        ("bbb", ""),
+    ];
+    check_classes(rt, alloc, solved, &["", "a", "b", "ab", "ba", "bb"])?;
+    check_rules(rt, alloc, solved, &rules)?;
+    assert_eq!(rt; solved.index(5)?, Index::Over);
+    Ok(())
+}
+
+#[test]
+fn answers_do_not_tell_which_lane_won(rt: HostRuntime) -> Result<(), Fail> {
+    let alloc = rt.alloc();
+    for budgets in [budgets(50, 0, 0), budgets(0, 50, 0), budgets(0, 0, 6)] {
+        let presentation = presented(alloc, "ab", true, &RELATIONS)?;
+        match decided(&rt, alloc, presentation, &budgets)? {
+            Some(solved) => check_symmetric(&rt, alloc, &solved)?,
+            None => panic!(rt; "undecided"),
+        }
+    }
+    Ok(())
+}
+
+#[test]
+fn no_schedule_changes_an_answer(rt: HostRuntime) -> Result<(), Fail> {
+    let alloc = rt.alloc();
+    let schedules: [&[usize]; 3] = [&[0, 0, 0, 0], &[2, 1, 0, 2, 1, 0], &[]];
+    for schedule in schedules {
+        let presentation = presented(alloc, "ab", true, &RELATIONS)?;
+        let congruence = Congruence::new(presentation, Kind::TwoSided, Pairs::new(alloc));
+        assert!(rt; congruence.presentation().relations().len() < 10);
+        let turns = schedule.to_vec(alloc)?;
+        match decide(alloc, &congruence, &budgets(10_000, 1_000, 12), &turns)? {
+            Verdict::Known(solved) => check_symmetric(&rt, alloc, &solved)?,
+            Verdict::Undecided(_) => panic!(rt; "undecided"),
+        }
+    }
+    Ok(())
+}
+
+// Whether completion within the length decides the monoid of the relations on a and b.
+fn completes<R: Abort + Threads + Sync>(
+    rt: &R,
+    alloc: Global,
+    relations: &[(&str, &str)],
+    length: usize,
+) -> Result<bool, Fail> {
+    let presentation = presented(alloc, "ab", true, relations)?;
+    let known = decided(rt, alloc, presentation, &budgets(0, 0, length))?;
+    Ok(known.is_some())
+}
+
+#[test]
+fn completion_ends_within_its_length(rt: HostRuntime) -> Result<(), Fail> {
+    let alloc = rt.alloc();
+    let semilattice = [("aa", "a"), ("bb", "b"), ("ab", "ba")];
+    for length in 0..5 {
+        assert_eq!(rt; completes(&rt, alloc, &[("aaa", "")], length)?, length >= 3);
+        assert_eq!(rt; completes(&rt, alloc, &semilattice, length)?, length >= 2);
+        assert_eq!(rt; completes(&rt, alloc, &[], length)?, true);
+    }
+    Ok(())
+}
+
+#[test]
+fn long_overlaps_end_no_completion(rt: HostRuntime) -> Result<(), Fail> {
+    assert!(rt; !completes(&rt, rt.alloc(), &[("aba", "bab")], 3)?);
+    Ok(())
+}
+
+// There are infinitely many classes, and the one rule leads from ab to the empty word.
+fn check_bicyclic(rt: &impl Abort, alloc: Global, solved: &Solved) -> Result<(), Fail>
+    requires { is_two_sided solved.now.congruence ≡ true }
+{
+    assert_eq!(rt; solved.index(0)?, Index::Infinite);
+    assert_eq!(rt; solved.index(3)?, Index::Infinite);
+    check_after(rt, alloc, solved, "abb", "baa")?;
+    check_rules(rt, alloc, solved, &[("ab", "")])
+}
+
+#[test]
+fn the_bicyclic_monoid_is_infinite(rt: HostRuntime) -> Result<(), Fail> {
+    let alloc = rt.alloc();
+    let presentation = presented(alloc, "ab", true, &[("ab", "")])?;
+    match decided(&rt, alloc, presentation, &budgets(9, 9, 2))? {
+        Some(solved) => check_bicyclic(&rt, alloc, &solved),
+        None => panic!(rt; "undecided"),
+    }
+}
+
+// How the lanes have ended.
+fn states(rt: &impl Abort, ended: &Ended) -> Result<(LaneState, LaneState, LaneState), Fail> {
     let lanes = ended.lanes();
-    assert!(rt; lanes.len() == 2);
-    Ok((lanes[0].state(), lanes[1].state()))
+    assert!(rt; lanes.len() == 3);
+    Ok((lanes[0].state(), lanes[1].state(), lanes[2].state()))
 }
 
 // How the lanes of a race for the cyclic monoid of order three end.
 fn cyclic_race<R: Abort + Threads + Sync>(
     rt: &R,
     alloc: Global,
-    defs: usize,
-    rows: usize,
-) -> Result<(LaneState, LaneState), Fail> {
+    budgets: &Budgets,
+) -> Result<(LaneState, LaneState, LaneState), Fail> {
     let presentation = presented(alloc, "a", true, &[("aaa", "")])?;
     let congruence = Congruence::new(presentation, Kind::TwoSided, Pairs::new(alloc));
     assert!(rt; congruence.presentation().relations().len() < 10);
-    let budgets = Budgets {
-        defs,
-        rows,
-        elements: 1,
-    };
-    match solve(rt, alloc, &Problem::Presented(congruence), &budgets, 1)? {
+    match solve(rt, alloc, &Problem::Presented(congruence), budgets, 1)? {
         Verdict::Known(solved) => states(rt, solved.lanes()),
         Verdict::Undecided(ended) => states(rt, &ended),
     }
@@ -220,15 +374,37 @@ fn cyclic_race<R: Abort + Threads + Sync>(
 fn the_lanes_are_kept_as_the_race_left_them(rt: HostRuntime) -> Result<(), Fail> {
     let alloc = rt.alloc();
     let races = [
-        (2, 3, LaneState::Won, LaneState::Lost(0)),
-        (2, 2, LaneState::Won, LaneState::Spent),
-        (1, 3, LaneState::Spent, LaneState::Won),
-        (1, 2, LaneState::Spent, LaneState::Spent),
+        (2, 3, 2, LaneState::Won, LaneState::Lost(0)),
+        (2, 2, 2, LaneState::Won, LaneState::Spent),
+        (1, 3, 2, LaneState::Spent, LaneState::Won),
+        (0, 0, 3, LaneState::Spent, LaneState::Spent),
+        (1, 2, 2, LaneState::Spent, LaneState::Spent),
     ];
-    for (defs, rows, first, second) in races {
-        let ended = cyclic_race(&rt, alloc, defs, rows)?;
+    for (defs, rows, length, first, second) in races {
+        let ended = cyclic_race(&rt, alloc, &budgets(defs, rows, length))?;
         assert!(rt; ended.0 == first);
         assert!(rt; ended.1 == second);
+    }
+    Ok(())
+}
+
+#[test]
+fn completion_wins_or_is_spent(rt: HostRuntime) -> Result<(), Fail> {
+    let alloc = rt.alloc();
+    for (length, third) in [(3, LaneState::Won), (2, LaneState::Spent)] {
+        let ended = cyclic_race(&rt, alloc, &budgets(0, 0, length))?;
+        assert!(rt; ended.2 == third);
+    }
+    Ok(())
+}
+
+#[test]
+fn completion_is_no_lane_for_right_pairs(rt: HostRuntime) -> Result<(), Fail> {
+    let alloc = rt.alloc();
+    let congruence = collapsed(&rt, alloc, Kind::Right)?;
+    match known(&rt, alloc, congruence, &budgets(50, 50, 9))? {
+        Some(solved) => assert_eq!(rt; solved.lanes().lanes().len(), 2),
+        None => panic!(rt; "undecided"),
     }
     Ok(())
 }

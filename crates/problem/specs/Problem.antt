@@ -5,10 +5,11 @@ use Rattle.std.specs.List.{join_by}
 use Rattle.std.specs.Option.{option_eq}
 use Rattle.theory.specs.declared.Kind.TheVariants as kind
 use Rattle.theory.specs.Word.{Word}
-use Rattle.theory.specs.Congruence.{Congruence, as_right}
+use Rattle.theory.specs.Congruence.{Congruence, as_right, is_two_sided}
 use Rattle.theory.specs.Class.{SameClass}
 use Rattle.theory.specs.Felsch.{FelschEnds}
 use Rattle.theory.specs.Hlt.{HltEnds}
+use Rattle.theory.specs.Decided.{CompletionDecides}
 use Rattle.theory.specs.Value.{SameValue, HasAtMostValues, HasMoreValues}
 use Rattle.elements.specs.Generators.{value_by}
 use Rattle.elements.specs.Fields.{decimal_or_dash}
@@ -74,6 +75,14 @@ pub record IsSolvable (c : Congruence) : Type 0 where
   pub few : length c.presentation.relations + length c.pairs ≤ 8192
   pub sided : (c.kind ≡ kind.TwoSided) ⊎ (c.kind ≡ kind.Right)
 
+-- whether reduced rules may be asked for: elements have them, and classes of a two-sided congruence
+abbrev pub allows_rules : Problem → Bool
+allows_rules (Presented p) = is_two_sided p.congruence
+allows_rules (Transf p) = true
+allows_rules (PPerm p) = true
+allows_rules (BMat p) = true
+allows_rules (MaxPlus p) = true
+
 -- a problem that scripts pose
 abbrev pub IsPosable : Problem → Type 0
 IsPosable (Presented p) = IsSolvable p.congruence
@@ -86,17 +95,21 @@ IsPosable (MaxPlus p) = Unit {0}
 abbrev pub EnumerationEnds : Congruence → Budgets → Type 0
 EnumerationEnds c b = FelschEnds (as_right c) b.defs ⊎ HltEnds (as_right c) b.rows
 
--- the problem is decided within the budgets: a strategy ends, or the words have no more values than may be
+-- some engine decides the congruence within its budget: a strategy of coset enumeration, or completion where it is two-sided
+abbrev pub IsCongruenceDecided : Congruence → Budgets → Type 0
+IsCongruenceDecided c b = EnumerationEnds c b ⊎ CompletionDecides c b.length
+
+-- the problem is decided within the budgets: some engine decides it, or the words have no more values than may be
 abbrev pub IsDecided : Problem → Budgets → Type 0
-IsDecided (Presented p) b = EnumerationEnds p.congruence b
+IsDecided (Presented p) b = IsCongruenceDecided p.congruence b
 IsDecided (Transf p) b = HasAtMostValues (length p.generators) (pointwise ◌==◌) (value_by composed p.generators []) b.elements
 IsDecided (PPerm p) b = HasAtMostValues (length p.generators) (pointwise (option_eq ◌==◌)) (value_by partially_composed p.generators []) b.elements
 IsDecided (BMat p) b = HasAtMostValues (length p.generators) boolean_matrix_eq (value_by boolean_product p.generators no_matrix) b.elements
 IsDecided (MaxPlus p) b = HasAtMostValues (length p.generators) truncated_matrix_eq (value_by truncated_product p.generators no_truncated_matrix) b.elements
 
--- the problem is not decided within the budgets: no strategy ends, or the words have more values
+-- the problem is not decided within the budgets: no engine decides it, or the words have more values
 abbrev pub IsUndecided : Problem → Budgets → Type 0
-IsUndecided (Presented p) b = EnumerationEnds p.congruence b → ⊥
+IsUndecided (Presented p) b = IsCongruenceDecided p.congruence b → ⊥
 IsUndecided (Transf p) b = HasMoreValues (length p.generators) (pointwise ◌==◌) (value_by composed p.generators []) b.elements
 IsUndecided (PPerm p) b = HasMoreValues (length p.generators) (pointwise (option_eq ◌==◌)) (value_by partially_composed p.generators []) b.elements
 IsUndecided (BMat p) b = HasMoreValues (length p.generators) boolean_matrix_eq (value_by boolean_product p.generators no_matrix) b.elements

@@ -7,6 +7,8 @@ pub struct Budgets {
     pub defs: usize,
     /// How many rows a coset enumeration by the strategy of Haselgrove, Leech and Trotter may make.
     pub rows: usize,
+    /// How many letters a word of a completion may have at most.
+    pub length: usize,
     /// How many elements the generators may have at most.
     pub elements: usize,
 }

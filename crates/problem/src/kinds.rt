@@ -1,7 +1,7 @@
 // The kinds of problems.
 ghost use Rattle.std.specs.Prelude.{◌≡◌, ◌≢◌, [], length, false, IfOk};
 ghost use Rattle.theory.specs.Word.{IsOver};
-ghost use Rattle.problem.specs.Problem.{count_of, has_empty_word, is_presented, letters_of, value_text};
+ghost use Rattle.problem.specs.Problem.{allows_rules, count_of, has_empty_word, is_presented, letters_of, value_text};
 
 use super::posing::Posed;
 use elements::{BMat, MaxPlusTrunc, PPerm, Transf};
@@ -55,6 +55,17 @@ impl Problem {
         match self {
             Problem::Presented(congruence) => congruence.presentation().is_monoid(),
             _ => false,
+        }
+    }
+
+    /// Whether reduced rules may be asked for: elements have them, and classes of a two-sided
+    /// congruence.
+    pub fn allows_rules(&self) -> bool
+        ensures { result ≡ allows_rules self.now }
+    {
+        match self {
+            Problem::Presented(congruence) => congruence.is_two_sided(),
+            _ => true,
         }
     }
 

@@ -62,10 +62,29 @@ fn presentations_are_told_apart(rt: HostRuntime) -> Result<(), Fail> {
         let problem = Problem::Presented(congruence);
         assert_eq!(rt; problem.alphabet().len(), 2);
         assert!(rt; problem.is_presented());
+        assert!(rt; problem.allows_rules());
         assert!(rt; problem.has_empty_word() == monoid);
     }
     let transf = Transf::read(alloc, 1, &[Field::Number(0)])?;
     let generated = Problem::Transf(posed(alloc, transf)?);
     assert!(rt; !generated.is_presented() && !generated.has_empty_word());
+    assert!(rt; generated.allows_rules());
+    Ok(())
+}
+
+#[test]
+fn rules_are_allowed_with_two_sided_pairs(rt: HostRuntime) -> Result<(), Fail> {
+    let alloc = rt.alloc();
+    for (kind, allowed) in [
+        (Kind::TwoSided, true),
+        (Kind::Right, false),
+        (Kind::Left, false),
+    ] {
+        let presentation = Presentation::new(alloc, Alphabet::new(alloc, b"a")?, true);
+        let mut pairs = Pairs::new(alloc);
+        pairs.push(Word::new(alloc), Word::new(alloc))?;
+        let congruence = Congruence::new(presentation, kind, pairs);
+        assert!(rt; Problem::Presented(congruence).allows_rules() == allowed);
+    }
     Ok(())
 }

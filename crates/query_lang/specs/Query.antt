@@ -1,8 +1,8 @@
 -- Queries, and the words in them.
-use Rattle.std.specs.Prelude.{◌≡◌, ℕ, Bool, true, false, length, Some, None}
+use Rattle.std.specs.Prelude.{◌≡◌, ℕ, Bool, true, false, not, ◌||◌, length, Some, None}
 use Rattle.theory.specs.Word.{IsElement}
 use Rattle.problem.specs.declared.kinds.Problem.{Problem}
-use Rattle.problem.specs.Problem.{has_empty_word, is_presented, letters_of}
+use Rattle.problem.specs.Problem.{allows_rules, has_empty_word, is_presented, letters_of}
 use Rattle.query_lang.specs.declared.script.Query.{Query}
 use Rattle.query_lang.specs.declared.script.Query.TheVariants.{Index, Equal, Normal, Classes, RuleList, ElementOf, Cayley}
 
@@ -23,11 +23,26 @@ needs_generators Index = false
 needs_generators (Equal u v) = false
 needs_generators (Normal u) = false
 needs_generators (Classes count after) = false
-needs_generators RuleList = true
+needs_generators RuleList = false
 needs_generators (ElementOf u) = true
 needs_generators Cayley = true
 
--- the query is one of this problem: it is there for it, and each of its words is an element
+-- whether the query asks for the rules
+abbrev pub is_rule_list : Query → Bool
+is_rule_list Index = false
+is_rule_list (Equal u v) = false
+is_rule_list (Normal u) = false
+is_rule_list (Classes count after) = false
+is_rule_list RuleList = true
+is_rule_list (ElementOf u) = false
+is_rule_list Cayley = false
+
+-- whether the problem has what the query asks for: rules are allowed, or it asks for none
+abbrev pub is_allowed : Problem → Query → Bool
+is_allowed p query = not (is_rule_list query) || allows_rules p
+
+-- the query is one of this problem: it is there for it, rules are allowed where it asks for them, and each of its words is an element
 pub record IsQueryOf (p : Problem) (query : Query) : Type 0 where
   pub there : is_presented p ≡ true → needs_generators query ≡ false
+  pub allowed : is_rule_list query ≡ true → allows_rules p ≡ true
   pub over : IsQueryOver (has_empty_word p) (length (letters_of p)) query

@@ -30,7 +30,7 @@ name_needs_generators name.Index = false
 name_needs_generators name.Equal = false
 name_needs_generators name.Normal = false
 name_needs_generators name.Classes = false
-name_needs_generators name.Rules = true
+name_needs_generators name.Rules = false
 name_needs_generators name.Element = true
 name_needs_generators name.Cayley = true
 

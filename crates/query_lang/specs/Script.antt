@@ -8,23 +8,30 @@ use Rattle.presentation.specs.Presented.{Posed}
 use Rattle.problem.specs.declared.kinds.Problem.TheVariants.{Presented}
 use Rattle.problem.specs.Problem.{has_empty_word, is_presented, letters_of}
 use Rattle.query_lang.specs.declared.cause.Cause.{Cause}
-use Rattle.query_lang.specs.declared.cause.Cause.TheVariants.{HeaderMissing, UnknownHeader, UnknownLine, LineOutOfOrder}
+use Rattle.query_lang.specs.declared.cause.Cause.TheVariants.{HeaderMissing, UnknownHeader, UnknownLine, LineOutOfOrder, QueryNotAllowed}
 use Rattle.query_lang.specs.declared.query_line.QueryName.{QueryName}
 use Rattle.query_lang.specs.declared.reader.Reader.{Reader}
 use Rattle.query_lang.specs.declared.reader.Reader.TheVariants.{Posing, Relating, Asking}
+use Rattle.query_lang.specs.declared.script.Query.{Query}
 use Rattle.query_lang.specs.Outcome.{and_then}
 use Rattle.query_lang.specs.Token.{Token, Line, tokens_of, is_kept, cut_lines, is_word}
 use Rattle.query_lang.specs.Fields.{field_of}
 use Rattle.query_lang.specs.Generators.{draft_with, problem_of}
 use Rattle.query_lang.specs.Header.{header_of, outline_of}
 use Rattle.query_lang.specs.Outline.{with_pair, with_relation}
+use Rattle.query_lang.specs.Query.{is_allowed}
 use Rattle.query_lang.specs.QueryLines.{name_needs_generators, query_name_of, query_of}
+
+-- the query behind the others, if the problem allows it
+abbrev pub with_asked : ScriptOf → Query → Result ScriptOf Cause
+with_asked s query =
+    if is_allowed s.problem query then Ok (record s { queries = s.queries ++ query ∷ [] }) else Err QueryNotAllowed
 
 -- one query more; one that needs generators is unknown in a presentation
 abbrev pub asked : ScriptOf → QueryName → List Token → Result ScriptOf Cause
 asked s name tokens =
     if is_presented s.problem && name_needs_generators name then Err UnknownLine
-    else and_then (λ q. Ok (record s { queries = s.queries ++ q ∷ [] })) (query_of (letters_of s.problem) (has_empty_word s.problem) name tokens)
+    else and_then (with_asked s) (query_of (letters_of s.problem) (has_empty_word s.problem) name tokens)
 
 -- whether the script is a presentation
 abbrev pub is_presentation : Reader → Bool

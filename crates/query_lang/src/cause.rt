@@ -42,6 +42,8 @@ pub enum Cause {
     TooManyPairs = 17,
     /// A pair is of another kind than the first one.
     MixedKinds = 18,
+    /// The rules are asked for, and the script has right pairs.
+    QueryNotAllowed = 19,
     /// The token in the place of `after` is another.
     AfterExpected = 21,
 }
@@ -78,6 +80,7 @@ pub fn cause_text(number: u8) -> &'static [u8]
         16 => b"too many relations",
         17 => b"too many pairs",
         18 => b"mixed kinds of pairs",
+        19 => b"query not allowed with pairs",
         21 => b"after expected",
         _ => b"",
     }

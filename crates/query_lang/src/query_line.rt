@@ -39,8 +39,12 @@ impl QueryName {
         ensures { result ≡ name_needs_generators self }
     {
         match self {
-            QueryName::Index | QueryName::Equal | QueryName::Normal | QueryName::Classes => false,
-            QueryName::Rules | QueryName::Element | QueryName::Cayley => true,
+            QueryName::Index
+            | QueryName::Equal
+            | QueryName::Normal
+            | QueryName::Classes
+            | QueryName::Rules => false,
+            QueryName::Element | QueryName::Cayley => true,
         }
     }
 }

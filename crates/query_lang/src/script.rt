@@ -2,7 +2,7 @@
 ghost use Rattle.std.specs.Prelude.{◌≡◌, [], IfOk, IfErr, Ok, All};
 ghost use Rattle.problem.specs.Problem.{IsPosable};
 ghost use Rattle.query_lang.specs.Faults.{IsLineFault, IsScriptFault};
-ghost use Rattle.query_lang.specs.Query.{IsQueryOf};
+ghost use Rattle.query_lang.specs.Query.{IsQueryOf, is_allowed};
 ghost use Rattle.query_lang.specs.Script.{asked, script_of};
 ghost use Rattle.query_lang.specs.Texts.{texts};
 
@@ -27,12 +27,25 @@ pub enum Query {
     /// The first `count` least words of classes, in short-lex order; where there is a word to come
     /// `after`, of those that are greater than it.
     Classes { count: usize, after: Option<Word> },
-    /// The reduced rewriting rules, where generators are given.
+    /// The reduced rewriting rules, where generators are given, or relations with two-sided pairs or
+    /// none.
     RuleList,
     /// The value of the word, where generators are given.
     ElementOf(Word),
     /// The Cayley graphs, where generators are given.
     Cayley,
+}
+
+impl Query {
+    // Whether the problem has what it asks for: rules are not there with right pairs.
+    fn is_allowed(&self, problem: &Problem) -> bool
+        ensures { result ≡ is_allowed problem.now self.now }
+    {
+        match self {
+            Query::RuleList => problem.allows_rules(),
+            _ => true,
+        }
+    }
 }
 
 /// A script: what it poses, and the queries. Contracts see both. The problem is one that scripts
@@ -88,6 +101,9 @@ impl Script {
         }
         let allow_empty = problem.has_empty_word();
         let query = query_of(alloc, problem.alphabet(), allow_empty, name, tokens)?;
+        if !query.is_allowed(&problem) {
+            return Err(LineFault::Refused(Cause::QueryNotAllowed));
+        }
         queries.push(query)?;
         Ok(Script { problem, queries })
     }

@@ -201,7 +201,15 @@ fn presentations_are_read_or_refused(rt: HostRuntime) -> Result<(), Fail> {
         ("monoid ab\nleft a 1\n", 2, 7),
         ("monoid ab\na = 0 1\n", 2, 7),
         ("monoid ab\nindex\nmonoid ab\n", 3, 7),
-        ("monoid ab\nrules\n", 2, 7),
+        ("monoid ab\nrules\n", 0, 0),
+        ("monoid ab\nrel a 1\ntwosided b a\nindex\nrules\n", 0, 0),
+        ("monoid ab\nright a 1\nindex\nequal a 1\n", 0, 0),
+        ("monoid ab\nright a 1\nrules\n", 3, 19),
+        ("semigroup ab\nright a b\nindex\nrules\n", 4, 19),
+        ("monoid ab\nright a 1\nrules x\n", 3, 3),
+        ("monoid ab\nrules x\n", 2, 3),
+        ("monoid ab\nrules\nright a 1\n", 3, 8),
+        ("monoid ab\nright a 1\nelement a\n", 3, 7),
         ("monoid ab\nelement a\n", 2, 7),
         ("monoid ab\nindex\ncayley 1\n", 3, 7),
         ("trans 2\nrel a a\n", 2, 7),
@@ -301,7 +309,8 @@ fn a_script_holds_what_was_read(rt: HostRuntime) -> Result<(), Fail> {
     }
     assert_eq!(rt; cause_text(21), b"after expected".as_slice());
     assert_eq!(rt; cause_text(18), b"mixed kinds of pairs".as_slice());
-    assert_eq!(rt; cause_text(19), b"".as_slice());
+    assert_eq!(rt; cause_text(19), b"query not allowed with pairs".as_slice());
+    assert_eq!(rt; cause_text(20), b"".as_slice());
     Ok(())
 }
 

@@ -39,7 +39,7 @@ same_page words count start n e =
 
 module _ (p : Problem) (c : Closure) (closed : IsClosureOf p c) (bound : ℕ) where
   pub known_index : (n : ℕ) → n ≡ count_in c → AreLines p bound query.Index (index_line bound n ∷ [])
-  known_index n e = (n, (words_of c, (closure_numbers p c closed).graphs.listed, sym (closure_count p c closed) ∙ sym e), refl)
+  known_index n e = inl (n, (words_of c, (closure_numbers p c closed).graphs.listed, sym (closure_count p c closed) ∙ sym e), refl)
 
   pub known_normal : (u : Word) → IsElement false (count_of p) u → AreLines p bound (query.Normal u) (normal_line (letters_of p) (get_or (words_of c) (number_in c u) []) ∷ [])
   known_normal u element =

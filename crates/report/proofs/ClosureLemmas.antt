@@ -159,7 +159,7 @@ module _ (rules : List (Word × Word)) where
 
 -- a problem's table is its closure
 pub closure_made : {V : Type 0} (wrap : TableOf V → Closure) (p q : Problem) (bound : ℕ) (found : Option (TableOf V)) (made result : Option Closure) (budgets : Budgets) → budgets.elements ≡ bound → p ≡ q → made ≡ result
-    → MatchOption found (IsUndecided q (record { defs = budgets.defs; rows = budgets.rows; elements = bound })) (λ t. IsDecided q (record { defs = budgets.defs; rows = budgets.rows; elements = bound }) × IsClosureOf q (wrap t))
+    → MatchOption found (IsUndecided q (record { defs = budgets.defs; rows = budgets.rows; elements = bound; length = budgets.length })) (λ t. IsDecided q (record { defs = budgets.defs; rows = budgets.rows; elements = bound; length = budgets.length }) × IsClosureOf q (wrap t))
     → MatchOption found (result ≡ None) (λ t. IsSomeAnd result (λ c. c ≡ wrap t))
     → MatchOption made (IsUndecided p budgets) (λ c. IsDecided p budgets × IsClosureOf p c)
 closure_made {V} wrap p q bound found made result budgets most same is h e =
@@ -167,7 +167,7 @@ closure_made {V} wrap p q bound found made result budgets most same is h e =
     (subst (λ r. MatchOption result (IsUndecided r budgets) (λ c. IsDecided r budgets × IsClosureOf r c)) (sym same) (wrapped found result there e))
   where
     there : MatchOption found (IsUndecided q budgets) (λ t. IsDecided q budgets × IsClosureOf q (wrap t))
-    there = subst (λ n. MatchOption found (IsUndecided q (record { defs = budgets.defs; rows = budgets.rows; elements = n })) (λ t. IsDecided q (record { defs = budgets.defs; rows = budgets.rows; elements = n }) × IsClosureOf q (wrap t))) (sym most) h
+    there = subst (λ n. MatchOption found (IsUndecided q (record { defs = budgets.defs; rows = budgets.rows; elements = n; length = budgets.length })) (λ t. IsDecided q (record { defs = budgets.defs; rows = budgets.rows; elements = n; length = budgets.length }) × IsClosureOf q (wrap t))) (sym most) h
 
     wrapped : (found : Option (TableOf V)) (result : Option Closure) → MatchOption found (IsUndecided q budgets) (λ t. IsDecided q budgets × IsClosureOf q (wrap t))
         → MatchOption found (result ≡ None) (λ t. IsSomeAnd result (λ c. c ≡ wrap t)) → MatchOption result (IsUndecided q budgets) (λ c. IsDecided q budgets × IsClosureOf q c)

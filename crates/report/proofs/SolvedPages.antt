@@ -6,11 +6,10 @@ use Rattle.ports.specs.Bytes.{TakesAll, TakesPrefix}
 use Rattle.ports.proofs.BytesLemmas.{TakesAll-append}
 use Rattle.theory.specs.Word.{Word}
 use Rattle.theory.specs.ShortLex.{◌≺◌}
-use Rattle.theory.specs.Listing.{IsPage, IsLast, IsNext, IsStartOf, last_of}
+use Rattle.theory.specs.Listing.{IsPage, IsLast, IsNext, IsStartOf, last_of, GoesOnOrEnds}
 use Rattle.theory.specs.Class.{IsLeast}
 use Rattle.theory.proofs.Listings.{start_push, last_of_push, page_from_next, page_from_last}
 use Rattle.theory.proofs.ClassLaws.{shortlex_strict}
-use Rattle.congruence.specs.Indexes.{GoesOnOrEnds}
 use Rattle.report.specs.Lines.{word_line, end_line}
 use Rattle.report.specs.Gains.{GainsPage, GainsSomePage}
 use Rattle.report.proofs.GainLemmas.{gains_nothing, prefix_more, prefix_after}
@@ -32,7 +31,7 @@ page_after_start P cursor (x ∷ xs) n ys more p q = rw suc-add (p.0, page_after
 
 module _ (R : Word → Word → Type 0) where
   -- there is a page of each size, where after each cursor comes a next word, or none
-  some_page : GoesOnOrEnds R → (cursor : Option Word) (count : ℕ) → (words : List Word) × (more : Bool) × IsPage (IsLeast R) ◌≺◌ cursor count words more
+  some_page : GoesOnOrEnds (IsLeast R) ◌≺◌ → (cursor : Option Word) (count : ℕ) → (words : List Word) × (more : Bool) × IsPage (IsLeast R) ◌≺◌ cursor count words more
   some_page goes_on cursor zero = elim (goes_on cursor) [ inl last ↦ ([], false, last) | inr next ↦ ([], true, next) ]
   some_page goes_on cursor (suc count) = elim (goes_on cursor) [
     | inl last ↦ ([], false, last)
@@ -105,7 +104,7 @@ module _ (R : Word → Word → Type 0) where
         gained = listing_ending line b.words (end_line more) old mid new b.gained end;
       }
 
-      module _ (goes_on : GoesOnOrEnds R) (count : ℕ) where
+      module _ (goes_on : GoesOnOrEnds (IsLeast R) ◌≺◌) (count : ℕ) where
         -- the first words, and further ones from the cursor on
         begun : (n : ℕ) (ys : List Word) (more : Bool) (new : Option (List ℕ)) → turns + n ≡ count → IsPage (IsLeast R) ◌≺◌ cursor n ys more → TakesPrefix mid new (flat_map line ys)
             → GainsSomePage R letters after count old new

@@ -8,10 +8,10 @@ use Rattle.std.proofs.Math.Nat.{eq-or-lt_of_le}
 use Rattle.theory.specs.Word.{Word}
 use Rattle.theory.specs.ShortLex.{◌≺◌}
 use Rattle.theory.specs.Listing.{IsListOf, IsStartOf}
-use Rattle.theory.specs.Class.{IsLeast, HasIndex, IsClassList, IsReducedRule, RuleBefore}
+use Rattle.theory.specs.Class.{IsLeast, HasIndex, IsClassList, IsInfinite, IsReducedRule, RuleBefore}
 use Rattle.theory.specs.Value.{IsProduct, HasAtMostValues, HasMoreValues}
 use Rattle.theory.proofs.Words.{before_irrefl}
-use Rattle.theory.proofs.Listings.{list_unique, page_unique}
+use Rattle.theory.proofs.Listings.{list_unique, page_unique, start_no_longer}
 use Rattle.theory.proofs.Completeness.{normal_unique}
 use Rattle.theory.proofs.ClassLaws.{IsPartialEquivalence, same_class_equivalence, shortlex_strict, rule_order}
 use Rattle.theory.proofs.ValueLaws.{values_bound}
@@ -53,6 +53,12 @@ module _ (R : Word → Word → Type 0) (known : IsPartialEquivalence R) where
 
   one_index : (m n : ℕ) → HasIndex R m → HasIndex R n → m ≡ n
   one_index m n p q = sym p.2 ∙ ap length (one_list p.0 q.0 p.1 q.1) ∙ q.2
+
+  -- finitely many classes are not infinitely many
+  not_infinite : (n : ℕ) → HasIndex R n → IsInfinite R → ⊥
+  not_infinite n h g =
+      let more = g n in
+      omega (arith, start_no_longer (IsLeast R) ◌≺◌ (shortlex_strict (IsLeast R)) None h.0 more.0 h.1 more.1, h.2, more.2)
 
   -- a class has one number
   one_number : (words : List Word) → IsClassList R words → (i j : ℕ) (u : Word) → IsNumbered R words i u → IsNumbered R words j u → i ≡ j
@@ -107,7 +113,10 @@ module _ (p : Problem) (bound : ℕ) where
   known = problem_equivalence p
 
   one_lines : (query : Query) (lines others : List (List ℕ)) → AreLines p bound query lines → AreLines p bound query others → lines ≡ others
-  one_lines Index lines others h g = h.2 ∙ ap (λ n. index_line bound n ∷ []) (one_index R known h.0 g.0 h.1 g.1) ∙ sym g.2
+  one_lines Index lines others (inl h) (inl g) = h.2 ∙ ap (λ n. index_line bound n ∷ []) (one_index R known h.0 g.0 h.1 g.1) ∙ sym g.2
+  one_lines Index lines others (inl h) (inr g) = absurd (not_infinite R known h.0 h.1 g.0)
+  one_lines Index lines others (inr h) (inl g) = absurd (not_infinite R known g.0 g.1 h.0)
+  one_lines Index lines others (inr h) (inr g) = h.1 ∙ sym g.1
   one_lines (Equal u v) lines others (inl h) (inl g) = h.1 ∙ sym g.1
   one_lines (Equal u v) lines others (inl h) (inr g) = absurd (g.0 h.0)
   one_lines (Equal u v) lines others (inr h) (inl g) = absurd (h.0 g.0)

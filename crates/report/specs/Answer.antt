@@ -4,14 +4,14 @@ use Rattle.std.specs.List.{range_with_len}
 use Rattle.theory.specs.Word.{Word}
 use Rattle.theory.specs.ShortLex.{◌≺◌}
 use Rattle.theory.specs.Listing.{IsPage}
-use Rattle.theory.specs.Class.{IsLeast, IsNormal, HasIndex, IsRuleList}
+use Rattle.theory.specs.Class.{IsLeast, IsNormal, HasIndex, IsInfinite, IsRuleList}
 use Rattle.problem.specs.declared.budgets.Budgets.{Budgets}
 use Rattle.problem.specs.declared.kinds.Problem.{Problem}
 use Rattle.problem.specs.Problem.{SameClassOf, IsDecided, IsUndecided, letters_of, count_of, value_text}
 use Rattle.query_lang.specs.declared.script.Query.{Query}
 use Rattle.query_lang.specs.declared.script.Query.TheVariants.{Index, Equal, Normal, Classes, RuleList, ElementOf, Cayley}
 use Rattle.report.specs.Graph.{AreCayleyGraphs}
-use Rattle.report.specs.Lines.{undecided_line, index_line, equal_line, element_line, end_line, normal_line, word_line, rule_line, cayley_line}
+use Rattle.report.specs.Lines.{undecided_line, index_line, infinite_line, equal_line, element_line, end_line, normal_line, word_line, rule_line, cayley_line}
 
 -- the lines of all rows of the Cayley graphs
 abbrev pub cayley_lines : List ℕ → ℕ → List Word → (ℕ → ℕ → ℕ) → (ℕ → ℕ → ℕ) → List (List ℕ)
@@ -19,7 +19,7 @@ cayley_lines letters k words right left = map (λ i. cayley_line letters k i (sl
 
 -- the lines of a query whose answer is defined, with the bound up to which an index is written out
 abbrev pub AreLines : Problem → ℕ → Query → List (List ℕ) → Type 0
-AreLines p bound Index lines = (n : ℕ) × HasIndex (SameClassOf p) n × (lines ≡ index_line bound n ∷ [])
+AreLines p bound Index lines = ((n : ℕ) × HasIndex (SameClassOf p) n × (lines ≡ index_line bound n ∷ [])) ⊎ (IsInfinite (SameClassOf p) × (lines ≡ infinite_line ∷ []))
 AreLines p bound (Equal u v) lines = (SameClassOf p u v × (lines ≡ equal_line true ∷ [])) ⊎ ((SameClassOf p u v → ⊥) × (lines ≡ equal_line false ∷ []))
 AreLines p bound (Normal u) lines = (w : Word) × IsNormal (SameClassOf p) u w × (lines ≡ normal_line (letters_of p) w ∷ [])
 AreLines p bound (Classes count after) lines =

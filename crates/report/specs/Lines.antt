@@ -15,6 +15,10 @@ count_line n = codes "index " ++ (decimal n ++ codes "\n")
 abbrev pub over_line : ℕ → List ℕ
 over_line bound = codes "index over " ++ (decimal bound ++ codes "\n")
 
+-- there are infinitely many classes
+abbrev pub infinite_line : List ℕ
+infinite_line = codes "index infinite\n"
+
 -- how many classes there are, up to the bound
 abbrev pub index_line : ℕ → ℕ → List ℕ
 index_line bound n = if nat_le n bound then count_line n else over_line bound

@@ -8,8 +8,8 @@ ghost use Rattle.congruence.specs.Verdicts.{IsCongruenceIn};
 ghost use Rattle.query_lang.specs.Query.{IsQueryOf};
 ghost use Rattle.report.specs.Gains.{GainsLines, GainsPage, GainsSome, GainsSomePage};
 
-use crate::listings::{write_end, write_word};
-use crate::single::{write_count, write_equal, write_normal_form, write_over};
+use crate::listings::{write_end, write_rules, write_word};
+use crate::single::{write_count, write_equal, write_infinite, write_normal_form, write_over};
 use congruence::{Index, Solved};
 use ports::{NoMemory, Sink, WriteFault};
 use problem::Problem;
@@ -79,6 +79,7 @@ pub fn write_solved<O: Sink>(
     match query {
         Query::Index => match solved.index(bound)? {
             Index::Finite(count) => write_count(alloc, count, sink),
+            Index::Infinite => write_infinite(sink),
             Index::Over => write_over(alloc, bound, sink),
         },
         Query::Equal(left, right) => write_equal(solved.equal(left, right)?, sink),
@@ -89,6 +90,10 @@ pub fn write_solved<O: Sink>(
         Query::Classes { count, after } => {
             write_classes(alloc, alphabet, solved, *count, after.as_ref(), sink)
         }
-        Query::RuleList | Query::ElementOf(_) | Query::Cayley => unreachable!(),
+        Query::RuleList => {
+            let rules = solved.rules()?.into_vec();
+            write_rules(alloc, alphabet, &rules, sink)
+        }
+        Query::ElementOf(_) | Query::Cayley => unreachable!(),
     }
 }

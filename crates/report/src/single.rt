@@ -3,7 +3,7 @@ ghost use Rattle.std.specs.Prelude.{◌≡◌, ◌≤◌, length, OnOk, OnErr, I
 ghost use Rattle.ports.specs.Bytes.{Rose, TakesAll, TakesPrefix};
 ghost use Rattle.ports.specs.declared.fault.WriteFault.TheVariants as fault;
 ghost use Rattle.theory.specs.Word.{IsOver};
-ghost use Rattle.report.specs.Lines.{count_line, over_line, equal_line, normal_line};
+ghost use Rattle.report.specs.Lines.{count_line, over_line, infinite_line, equal_line, normal_line};
 
 use crate::line::Line;
 use ports::{Sink, WriteFault, write_all};
@@ -34,6 +34,17 @@ pub fn write_over<O: Sink>(alloc: Global, bound: usize, sink: &mut O) -> Result<
     let mut line = Line::starting(alloc, b"index over ")?;
     line.number(bound)?;
     line.write(sink)
+}
+
+/// Writes that there are infinitely many classes.
+pub fn write_infinite<O: Sink>(sink: &mut O) -> Result<(), WriteFault>
+    ensures written { OnOk result (TakesAll (O.taken sink.old) (O.taken sink.new) infinite_line) }
+    ensures part { OnErr result (TakesPrefix (O.taken sink.old) (O.taken sink.new) infinite_line) }
+    ensures failed { IsErrOf result WriteFault.Failed → Rose (O.faults sink.old) (O.faults sink.new) }
+    ensures kept { O.faults sink.old ≤ O.faults sink.new }
+    ensures quiet { OnOk result (O.faults sink.new ≡ O.faults sink.old) }
+{
+    write_all(sink, b"index infinite\n")
 }
 
 /// Writes whether two words are related.

@@ -10,6 +10,7 @@ use std::thread::Threads;
 fn answer<R: Threads + Sync + AllocGlobal>(
     rt: &R,
     script: &str,
+    length: usize,
     elements: usize,
 ) -> Result<(Option<Answered>, Vec<u8>), Fail> {
     let alloc = rt.alloc();
@@ -18,6 +19,7 @@ fn answer<R: Threads + Sync + AllocGlobal>(
         Budgets {
             defs: 10,
             rows: 0,
+            length,
             elements,
         },
         2,
@@ -52,12 +54,49 @@ fn each_query_is_answered(rt: HostRuntime) -> Result<(), Fail> {
         ),
     ] {
         let script = format!(in rt.alloc(); "{swap}{query}")?;
-        let (answered, out) = answer(&rt, script.as_str(), 2)?;
+        let (answered, out) = answer(&rt, script.as_str(), 0, 2)?;
         assert_eq!(rt; answered, Some(Answered::Defined), "{query}");
         assert_eq!(rt; out.as_slice(), lines.as_bytes(), "{query}");
-        let (answered, _) = answer(&rt, script.as_str(), 1)?;
+        let (answered, _) = answer(&rt, script.as_str(), 0, 1)?;
         let waits = !query.starts_with("element");
         assert_eq!(rt; answered == Some(Answered::Undecided), waits, "{query}");
+    }
+    Ok(())
+}
+
+#[test]
+fn an_infinite_monoid_is_answered(rt: HostRuntime) -> Result<(), Fail> {
+    // The bicyclic monoid.
+    let bicyclic = "monoid bc\nrel bc 1\n";
+    for (query, lines) in [
+        ("index", "index infinite\n"),
+        ("equal bbcc 1", "equal yes\n"),
+        ("equal bc cb", "equal no\n"),
+        ("normal cbbcc", "normal c\n"),
+        ("classes 2", "1\nb\nmore\n"),
+        ("classes 3 after bcc", "cbb\nccb\nccc\nmore\n"),
+        ("rules", "bc 1\nend\n"),
+    ] {
+        let script = format!(in rt.alloc(); "{bicyclic}{query}")?;
+        let (answered, out) = answer(&rt, script.as_str(), 2, 0)?;
+        assert_eq!(rt; answered, Some(Answered::Defined), "{query}");
+        assert_eq!(rt; out.as_slice(), lines.as_bytes(), "{query}");
+        let (answered, out) = answer(&rt, script.as_str(), 1, 0)?;
+        assert_eq!(rt; answered, Some(Answered::Undecided), "{query}");
+        assert_eq!(rt; out.as_slice(), b"undecided\n".as_slice(), "{query}");
+    }
+    Ok(())
+}
+
+#[test]
+fn rules_do_not_tell_which_engine_won(rt: HostRuntime) -> Result<(), Fail> {
+    // The semilattice of two generators: ten definitions suffice, and completion within two letters.
+    for length in [0, 2] {
+        let script = "semigroup ab\nrel aa a\nrel bb b\nrel ab ba\nrules";
+        let (answered, out) = answer(&rt, script, length, 0)?;
+        assert_eq!(rt; answered, Some(Answered::Defined));
+        let lines = "aa a\nba ab\nbb b\nend\n";
+        assert_eq!(rt; out.as_slice(), lines.as_bytes());
     }
     Ok(())
 }

@@ -32,7 +32,7 @@ is_undecided a = a.undecided
 
 -- what may be used up on a problem under these settings
 abbrev pub budgets_of : Settings → Budgets
-budgets_of settings = record { defs = settings.defs; rows = settings.rows; elements = settings.elements }
+budgets_of settings = record { defs = settings.defs; rows = settings.rows; length = settings.length; elements = settings.elements }
 
 -- the answer of a query
 abbrev pub IsAnswerOf : Settings → Problem → Query → Answer → Type 0

@@ -195,35 +195,35 @@ fn presentations_get_their_report(rt: HostRuntime) -> Result<(), Fail> {
             "",
         ),
         (
-            &["semi", "--rows", "0", "--defs", "2"],
+            &["semi", "--rows", "0", "--length", "0", "--defs", "2"],
             "monoid a\nrel aaa 1\nindex\n",
             0,
             "index 3\n",
             "",
         ),
         (
-            &["semi", "--rows", "0", "--defs", "1"],
+            &["semi", "--rows", "0", "--defs", "1", "--length", "2"],
             "monoid a\nrel aaa 1\nindex\nequal a a\n",
             1,
             "undecided\nundecided\n",
             "",
         ),
         (
-            &["semi", "--rows", "3", "--defs", "0"],
+            &["semi", "--rows", "3", "--length", "0", "--defs", "0"],
             "monoid a\nrel aaa 1\nindex\n",
             0,
             "index 3\n",
             "",
         ),
         (
-            &["semi", "--rows", "2", "--defs", "0"],
+            &["semi", "--rows", "2", "--defs", "0", "--length", "0"],
             "monoid a\nrel aaa 1\nindex\n",
             1,
             "undecided\n",
             "",
         ),
         (
-            &["semi", "--rows", "0", "--defs", "0"],
+            &["semi", "--rows", "0", "--defs", "0", "--length", "0"],
             "monoid a\nrel a 1\nindex\n",
             0,
             "index 1\n",
@@ -245,12 +245,19 @@ fn presentations_get_their_report(rt: HostRuntime) -> Result<(), Fail> {
         ),
         (
             &["semi", "--defs", "20", "--rows", "20"],
-            "monoid a\r\nindex",
-            1,
-            "undecided\n",
+            "monoid a\r\nright aa a\nindex",
+            0,
+            "index 2\n",
             "",
         ),
         (NAME, "monoid a\n", 0, "", ""),
+        (
+            NAME,
+            "monoid ab\nright a 1\nrules\n",
+            2,
+            "",
+            "semi: line 3: query not allowed with pairs\n",
+        ),
         (
             NAME,
             "monoid ab\nrel ac a\n",
@@ -284,6 +291,81 @@ fn presentations_get_their_report(rt: HostRuntime) -> Result<(), Fail> {
         assert_eq!(rt; ended.status, status, "{script}");
         assert_eq!(rt; ended.out.as_slice(), out.as_bytes(), "{script}");
         assert_eq!(rt; ended.err.as_slice(), err.as_bytes(), "{script}");
+    }
+    Ok(())
+}
+
+#[test]
+fn completion_decides_presentations(rt: HostRuntime) -> Result<(), Fail> {
+    const NAME: &[&str] = &["semi"];
+    for (words, script, status, out) in [
+        (
+            NAME,
+            "monoid ab\nrel aa 1\nrel bbb 1\nrel abab 1\nindex\nclasses 9\nrules\n",
+            0u8,
+            "index 6\n1\na\nb\nab\nba\nbb\nend\n\
+             aa 1\naba bb\nabb ba\nbab a\nbba ab\nbbb 1\nend\n",
+        ),
+        (
+            NAME,
+            "monoid bc\nrel bc 1\nindex\nclasses 6\nequal bbcc 1\nnormal cbbc\nrules\n",
+            0,
+            "index infinite\n1\nb\nc\nbb\ncb\ncc\nmore\nequal yes\nnormal cb\nbc 1\nend\n",
+        ),
+        (
+            &["semi", "--classes", "0"],
+            "monoid bc\nrel bc 1\nindex\n",
+            0,
+            "index infinite\n",
+        ),
+        (NAME, "monoid a\r\nindex", 0, "index infinite\n"),
+        (
+            NAME,
+            "semigroup a\nindex\nclasses 2 after aa\nrules\n",
+            0,
+            "index infinite\naaa\naaaa\nmore\nend\n",
+        ),
+        (
+            &["semi", "--rows", "0", "--defs", "0", "--length", "2"],
+            "semigroup ab\nrel aa a\nrel bb b\nrel ab ba\nclasses 9\nrules\n",
+            0,
+            "a\nb\nab\nend\naa a\nba ab\nbb b\nend\n",
+        ),
+        (
+            &["semi", "--rows", "0", "--defs", "0", "--length", "1"],
+            "semigroup ab\nrel aa a\nrel bb b\nrel ab ba\nclasses 9\nrules\n",
+            1,
+            "undecided\nundecided\n",
+        ),
+        (
+            &["semi", "--rows", "0", "--defs", "0", "--length", "3"],
+            "monoid a\nrel aaa 1\nindex\n",
+            0,
+            "index 3\n",
+        ),
+        (
+            &["semi", "--defs", "30", "--rows", "9", "--length", "3"],
+            "monoid ab\nrel aba bab\nindex\n",
+            1,
+            "undecided\n",
+        ),
+        (
+            &["semi", "--defs", "30", "--rows", "9"],
+            "monoid bc\nrel bc 1\nright c 1\nindex\n",
+            1,
+            "undecided\n",
+        ),
+        (
+            &["semi", "--rows", "0", "--defs", "0", "--classes", "5"],
+            "monoid ab\nrel aa 1\ntwosided bbb 1\ntwosided abab 1\nindex\n",
+            0,
+            "index over 5\n",
+        ),
+    ] {
+        let ended = run(&rt, words, script.as_bytes(), NONE)?;
+        assert_eq!(rt; ended.status, status, "{script}");
+        assert_eq!(rt; ended.out.as_slice(), out.as_bytes(), "{script}");
+        assert!(rt; ended.err.is_empty(), "{script}");
     }
     Ok(())
 }
@@ -353,6 +435,44 @@ fn examples_give_their_output(rt: HostRuntime) -> Result<(), Fail> {
     ] {
         let ended = run(&rt, &["semi"], script.as_bytes(), NONE)?;
         assert_eq!(rt; ended.status, status, "{script}");
+        assert_eq!(rt; ended.out.as_slice(), out.as_bytes(), "{script}");
+    }
+    Ok(())
+}
+
+#[test]
+fn examples_of_presentations_give_their_output(rt: HostRuntime) -> Result<(), Fail> {
+    for (script, out) in [
+        (
+            "# The bicyclic monoid: infinitely many classes, so completion alone decides it.\n\
+             monoid bc\nrel bc 1\nindex\nequal bbcc 1\nequal cb 1\nnormal bbcb\nclasses 6\n\
+             classes 3 after ccb\nrules\n",
+            "index infinite\nequal yes\nequal no\nnormal bb\n1\nb\nc\nbb\ncb\ncc\nmore\nccc\n\
+             bbbb\ncbbb\nmore\nbc 1\nend\n",
+        ),
+        (
+            "# The plactic monoid of rank 3: Knuth's relations for a < b < c.\nmonoid abc\n\
+             rel baa aba\nrel bba bab\nrel bca bac\nrel caa aca\nrel cab acb\nrel cbb bcb\n\
+             rel cca cac\nrel ccb cbc\n\n# The column cba commutes with each letter.\n\
+             equal cbaa acba\nequal cbab bcba\nequal cbac ccba\nindex\nclasses 5 after ccc\n\
+             rules\n",
+            "equal yes\nequal yes\nequal yes\nindex infinite\naaaa\naaab\naaac\naaba\naabb\n\
+             more\nbaa aba\nbba bab\nbca bac\ncaa aca\ncab acb\ncbb bcb\ncca cac\nccb cbc\n\
+             cbab bcba\ncbaca cacba\ncbcba cbacb\nend\n",
+        ),
+        (
+            "# The Coxeter group of type H3, of order 120.\nmonoid abc\nrel aa 1\nrel bb 1\n\
+             rel cc 1\nrel bab aba\nrel ca ac\nrel cbcbc bcbcb\nindex\n\n\
+             # The Coxeter element abc has order 10, and its fifth power is the longest element.\n\
+             equal abcabcabcabcabcabcabcabcabcabc 1\nnormal abcabcabcabcabc\n\
+             classes 1 after abacbacbacbacbc\nrules\n",
+            "index 120\nequal yes\nnormal abacbacbacbacbc\nend\naa 1\nbb 1\nca ac\ncc 1\n\
+             bab aba\ncbcbc bcbcb\ncbcbac bcbcba\ncbacbacbcb bcbacbacbc\n\
+             cbacbacbacba bcbacbacbacb\nend\n",
+        ),
+    ] {
+        let ended = run(&rt, &["semi"], script.as_bytes(), NONE)?;
+        assert_eq!(rt; ended.status, 0u8, "{script}");
         assert_eq!(rt; ended.out.as_slice(), out.as_bytes(), "{script}");
     }
     Ok(())

@@ -88,6 +88,7 @@ pub fn write_report<R: Threads + Sync, O: Sink>(
     let budgets = Budgets {
         defs: settings.defs,
         rows: settings.rows,
+        length: settings.length,
         elements: settings.elements,
     };
     let mut state = State::new(budgets, settings.classes, WORKERS);

@@ -45,16 +45,17 @@ record HasOptions (a : App) : Type 0 where
   leaves : list_all is_ready_leaf a.subs ≡ true
   rows : has_number_option 1000000 (codes "rows") a.top.rules ≡ true
   defs : has_number_option 1000000 (codes "defs") a.top.rules ≡ true
+  length : has_number_option 64 (codes "length") a.top.rules ≡ true
   elements : has_number_option 10000000 (codes "elements") a.top.rules ≡ true
   classes : has_number_option 1000000 (codes "classes") a.top.rules ≡ true
 
 semi_has_options : HasOptions semi_app
 unfolding semi_app
-semi_has_options = record { ready = refl; leaves = refl; rows = refl; defs = refl; elements = refl; classes = refl }
+semi_has_options = record { ready = refl; leaves = refl; rows = refl; defs = refl; length = refl; elements = refl; classes = refl }
 
 built_has_options : HasOptions (built semi_app)
 unfolding semi_app
-built_has_options = record { ready = refl; leaves = refl; rows = refl; defs = refl; elements = refl; classes = refl }
+built_has_options = record { ready = refl; leaves = refl; rows = refl; defs = refl; length = refl; elements = refl; classes = refl }
 
 -- ---- for `matches_in`
 
@@ -81,6 +82,7 @@ numbers_at a c m options is parsed =
     record {
       rows = read 1000000 (codes "rows") (λ e. cc) options.rows;
       defs = read 1000000 (codes "defs") (λ e. cc) options.defs;
+      length = read 64 (codes "length") (λ e. cc) options.length;
       elements = read 10000000 (codes "elements") (λ e. cc) options.elements;
       classes = read 1000000 (codes "classes") (λ e. cc) options.classes;
     }
@@ -106,14 +108,15 @@ matches_of-or_name [] = refl
 matches_of-or_name (word ∷ rest) = refl
 
 pub semi_reads : (words : List Text) (found : List Row) (settings : Settings) → takes semi_app words ≡ true → found ≡ matches_of semi_app words
-    → number_in (codes "rows") found ≡ Some settings.rows → number_in (codes "defs") found ≡ Some settings.defs → number_in (codes "elements") found ≡ Some settings.elements
-    → number_in (codes "classes") found ≡ Some settings.classes → Reads (or_name words) settings
-semi_reads words found settings taken are rows defs elements classes =
+    → number_in (codes "rows") found ≡ Some settings.rows → number_in (codes "defs") found ≡ Some settings.defs → number_in (codes "length") found ≡ Some settings.length
+    → number_in (codes "elements") found ≡ Some settings.elements → number_in (codes "classes") found ≡ Some settings.classes → Reads (or_name words) settings
+semi_reads words found settings taken are rows defs length elements classes =
     let same : matches_of semi_app (or_name words) ≡ found = matches_of-or_name words ∙ sym are in
     record {
       taken = takes-or_name words ∙ taken;
       rows = ap (number_in (codes "rows")) same ∙ rows;
       defs = ap (number_in (codes "defs")) same ∙ defs;
+      length = ap (number_in (codes "length")) same ∙ length;
       elements = ap (number_in (codes "elements")) same ∙ elements;
       classes = ap (number_in (codes "classes")) same ∙ classes;
     }

@@ -22,6 +22,9 @@ rows_rule = number_rule (codes "rows") 1000000 (codes "1000")
 abbrev pub defs_rule : Rule
 defs_rule = number_rule (codes "defs") 1000000 (codes "10000")
 
+abbrev pub length_rule : Rule
+length_rule = number_rule (codes "length") 64 (codes "12")
+
 abbrev pub elements_rule : Rule
 elements_rule = number_rule (codes "elements") 10000000 (codes "100000")
 
@@ -31,8 +34,8 @@ classes_rule = number_rule (codes "classes") 1000000 (codes "10000")
 -- the command
 unfoldable pub semi_app : App
 semi_app =
-    with_rule (with_rule (with_rule (with_rule (new_app (codes "semi"))
-    rows_rule) defs_rule) elements_rule) classes_rule
+    with_rule (with_rule (with_rule (with_rule (with_rule (new_app (codes "semi"))
+    rows_rule) defs_rule) length_rule) elements_rule) classes_rule
 
 -- a list with no word stands for the program's name alone
 abbrev pub or_name : List Text → List Text
@@ -57,6 +60,7 @@ pub record Reads (words : List Text) (settings : Settings) : Type 0 where
   pub taken : takes semi_app words ≡ true
   pub rows : number_in (codes "rows") (matches_of semi_app words) ≡ Some settings.rows
   pub defs : number_in (codes "defs") (matches_of semi_app words) ≡ Some settings.defs
+  pub length : number_in (codes "length") (matches_of semi_app words) ≡ Some settings.length
   pub elements : number_in (codes "elements") (matches_of semi_app words) ≡ Some settings.elements
   pub classes : number_in (codes "classes") (matches_of semi_app words) ≡ Some settings.classes
 
@@ -70,5 +74,6 @@ pub record HasNumber (most : ℕ) (id : Text) (rows : List Row) : Type 0 where
 pub record HasNumbers (found : List Row) : Type 0 where
   pub rows : HasNumber 1000000 (codes "rows") found
   pub defs : HasNumber 1000000 (codes "defs") found
+  pub length : HasNumber 64 (codes "length") found
   pub elements : HasNumber 10000000 (codes "elements") found
   pub classes : HasNumber 1000000 (codes "classes") found

@@ -19,6 +19,8 @@ pub struct Settings {
     pub rows: usize,
     /// How many definitions a coset enumeration by Felsch's strategy may make.
     pub defs: usize,
+    /// How many letters a word of a completion may have at most.
+    pub length: usize,
     /// How many elements are listed at most.
     pub elements: usize,
     /// The greatest index that is written out.
@@ -29,7 +31,7 @@ pub struct Settings {
 #[derive(Clone, Copy, Debug, PartialEq, Eq, Error)]
 pub enum SettingsFault {
     /// The words are not those of the command.
-    #[error("usage: semi [--rows M] [--defs D] [--elements N] [--classes C]")]
+    #[error("usage: semi [--rows M] [--defs D] [--length L] [--elements N] [--classes C]")]
     Refused,
     /// Memory ran out.
     #[error("out of memory")]
@@ -67,13 +69,13 @@ fn number_option<'a>(alloc: Global, name: &'a str, most: u32, preset: &'a str) -
         .default_value(preset)
 }
 
-#[tactic(auto, unfolding(crate::specs::Settings::semi_app))]
 fn semi_command<'a>(alloc: Global) -> Result<Command<'a>, AllocError>
     ensures { IfOk result (λ command. app_of command ≡ semi_app) }
 {
     Command::new(alloc, "semi")
         .arg(number_option(alloc, "rows", 1_000_000, "1000"))?
         .arg(number_option(alloc, "defs", 1_000_000, "10000"))?
+        .arg(number_option(alloc, "length", 64, "12"))?
         .arg(number_option(alloc, "elements", 10_000_000, "100000"))?
         .arg(number_option(alloc, "classes", 1_000_000, "10000"))
 }
@@ -105,12 +107,13 @@ pub fn settings_of(alloc: Global, words: &Vec<String>) -> Result<Settings, Setti
     ensures ok { IfOk result (λ settings. Reads (or_name (map string_bytes words.now.items)) settings) }
     ensures refused { IsErrOf result SettingsFault.Refused → AreRefused (map string_bytes words.now.items) }
     ensures bounded { IfOk result (λ settings. (settings.rows ≤ 1000000) × (settings.defs ≤ 1000000)
-        × (settings.elements ≤ 10000000) × (settings.classes ≤ 1000000)) }
+        × (settings.length ≤ 64) × (settings.elements ≤ 10000000) × (settings.classes ≤ 1000000)) }
 {
     let matches = matches_in(alloc, words.as_slice())?;
     Ok(Settings {
         rows: number_of(&matches, "rows"),
         defs: number_of(&matches, "defs"),
+        length: number_of(&matches, "length"),
         elements: number_of(&matches, "elements"),
         classes: number_of(&matches, "classes"),
     })

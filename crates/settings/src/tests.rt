@@ -5,60 +5,79 @@ use std::test::Fail;
 #[test]
 fn reads_words(rt: HostRuntime) -> Result<(), Fail> {
     let alloc = rt.alloc();
-    let cases: [(&[&str], Option<(usize, usize, usize, usize)>); 36] = [
-        (&[], Some((1_000, 10_000, 100_000, 10_000))),
-        (&["semi"], Some((1_000, 10_000, 100_000, 10_000))),
+    let cases: [(&[&str], Option<(usize, usize, usize, usize, usize)>); 40] = [
+        (&[], Some((1_000, 10_000, 12, 100_000, 10_000))),
+        (&["semi"], Some((1_000, 10_000, 12, 100_000, 10_000))),
         (
             &["semi", "--elements", "26"],
-            Some((1_000, 10_000, 26, 10_000)),
+            Some((1_000, 10_000, 12, 26, 10_000)),
         ),
         (
             &["semi", "--elements=26"],
-            Some((1_000, 10_000, 26, 10_000)),
+            Some((1_000, 10_000, 12, 26, 10_000)),
         ),
         (
             &["semi", "--elements=+26"],
-            Some((1_000, 10_000, 26, 10_000)),
+            Some((1_000, 10_000, 12, 26, 10_000)),
         ),
         (
             &["semi", "--classes", "0"],
-            Some((1_000, 10_000, 100_000, 0)),
+            Some((1_000, 10_000, 12, 100_000, 0)),
         ),
         (
             &["semi", "--classes=7", "--elements", "9"],
-            Some((1_000, 10_000, 9, 7)),
+            Some((1_000, 10_000, 12, 9, 7)),
         ),
         (
             &["semi", "--elements", "10000000"],
-            Some((1_000, 10_000, 10_000_000, 10_000)),
+            Some((1_000, 10_000, 12, 10_000_000, 10_000)),
         ),
         (&["semi", "--elements", "10000001"], None),
         (
             &["semi", "--classes", "1000000"],
-            Some((1_000, 10_000, 100_000, 1_000_000)),
+            Some((1_000, 10_000, 12, 100_000, 1_000_000)),
         ),
         (&["semi", "--classes", "1000001"], None),
-        (&["semi", "--defs", "2"], Some((1_000, 2, 100_000, 10_000))),
+        (
+            &["semi", "--defs", "2"],
+            Some((1_000, 2, 12, 100_000, 10_000)),
+        ),
         (
             &["semi", "--defs=0", "--classes=7"],
-            Some((1_000, 0, 100_000, 7)),
+            Some((1_000, 0, 12, 100_000, 7)),
         ),
         (
             &["semi", "--defs", "1000000"],
-            Some((1_000, 1_000_000, 100_000, 10_000)),
+            Some((1_000, 1_000_000, 12, 100_000, 10_000)),
         ),
         (&["semi", "--defs", "1000001"], None),
-        (&["semi", "--rows", "0"], Some((0, 10_000, 100_000, 10_000))),
+        (
+            &["semi", "--rows", "0"],
+            Some((0, 10_000, 12, 100_000, 10_000)),
+        ),
         (
             &["semi", "--rows=3", "--defs=2"],
-            Some((3, 2, 100_000, 10_000)),
+            Some((3, 2, 12, 100_000, 10_000)),
         ),
         (
             &["semi", "--rows", "1000000"],
-            Some((1_000_000, 10_000, 100_000, 10_000)),
+            Some((1_000_000, 10_000, 12, 100_000, 10_000)),
         ),
         (&["semi", "--rows", "1000001"], None),
-        (&["semi", "--"], Some((1_000, 10_000, 100_000, 10_000))),
+        (
+            &["semi", "--length", "0"],
+            Some((1_000, 10_000, 0, 100_000, 10_000)),
+        ),
+        (
+            &["semi", "--length=64"],
+            Some((1_000, 10_000, 64, 100_000, 10_000)),
+        ),
+        (
+            &["semi", "--length", "7", "--rows=3"],
+            Some((3, 10_000, 7, 100_000, 10_000)),
+        ),
+        (&["semi", "--length", "65"], None),
+        (&["semi", "--"], Some((1_000, 10_000, 12, 100_000, 10_000))),
         (&["semi", "--", "x"], None),
         (&["semi", "--elements", "1", "--elements", "2"], None),
         (&["semi", "--elements", "-1"], None),
@@ -87,7 +106,7 @@ fn reads_words(rt: HostRuntime) -> Result<(), Fail> {
 fn outcome(
     alloc: Global,
     texts: &[&str],
-) -> Result<Option<(usize, usize, usize, usize)>, SettingsFault> {
+) -> Result<Option<(usize, usize, usize, usize, usize)>, SettingsFault> {
     let mut words = Vec::new(alloc);
     for text in texts {
         let word = String::from_str(alloc, text)?;
@@ -99,6 +118,7 @@ fn outcome(
         Ok(settings) => Ok(Some((
             settings.rows,
             settings.defs,
+            settings.length,
             settings.elements,
             settings.classes,
         ))),
@@ -110,6 +130,9 @@ fn outcome(
 #[test]
 fn tells_the_usage(rt: HostRuntime) -> Result<(), Fail> {
     let text = format!(in rt.alloc(); "{}", SettingsFault::Refused)?;
-    assert!(rt; text.as_str() == "usage: semi [--rows M] [--defs D] [--elements N] [--classes C]");
+    assert!(rt;
+        text.as_str()
+            == "usage: semi [--rows M] [--defs D] [--length L] [--elements N] [--classes C]"
+    );
     Ok(())
 }

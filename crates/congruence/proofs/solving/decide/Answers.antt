@@ -1,5 +1,5 @@
 use Rattle.std.proofs.Common.{◌≡◌, ℕ, ◌∙◌, refl, sym, subst}
-use Rattle.problem.specs.Problem.{EnumerationEnds}
+use Rattle.problem.specs.Problem.{IsCongruenceDecided}
 use Rattle.race.specs.declared.playing.Outcome.TheVariants.{Won, AllSpent}
 use Rattle.congruence.specs.Engines.{IsEndOf}
 use Rattle.congruence.specs.Solution.{Solution}
@@ -12,7 +12,7 @@ known-requires-clause-decided c =
 
 pub returns-in_ok-solved-in-Won : goal.returns-in_ok-solved-in-Won
 returns-in_ok-solved-in-Won c =
-    subst (λ (s : Solution). EnumerationEnds c.args.congruence.now.congruence c.args.budgets.now × (s.congruence ≡ c.args.congruence.now.congruence)
+    subst (λ (s : Solution). IsCongruenceDecided c.args.congruence.now.congruence c.args.budgets.now × (s.congruence ≡ c.args.congruence.now.congruence)
     × ((winner : ℕ) × IsEndOf c.args.congruence.now.congruence c.args.budgets.now (Won winner) s.lanes)) (sym c.in_ok-solved-in-Won.ensures) (
       won_ends c.args.congruence.now.congruence c.args.budgets.now c.play.new.lanes.items (c.play.ensures.ends.kept ∙ c.in_ok-lanes.ensures.tasks) c.in-Won.winner c.in-Won.ensures.told,
       refl,

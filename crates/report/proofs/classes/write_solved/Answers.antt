@@ -1,12 +1,14 @@
-use Rattle.std.proofs.Common.{ℕ, Bool, List, [], ◌∷◌, ap, ◌∙◌}
+use Rattle.std.proofs.Common.{ℕ, Bool, false, List, [], ◌∷◌, ◌++◌, map, sym, ap, subst, ◌∙◌}
 use Rattle.std.specs.Option.{option_copied}
 use Rattle.theory.specs.Word.{Word}
+use Rattle.theory.specs.Class.{SameClass, IsRuleList}
 use Rattle.problem.specs.declared.kinds.Problem.{Problem}
 use Rattle.problem.specs.Problem.{letters_of}
 use Rattle.query_lang.specs.declared.script.Query.TheVariants as query
-use Rattle.report.specs.Lines.{count_line, over_line, equal_line, normal_line}
+use Rattle.report.specs.Lines.{count_line, over_line, infinite_line, equal_line, normal_line, rule_line, end_line}
+use Rattle.report.specs.Gains.{bytes_of}
 use Rattle.report.proofs.AnswerLemmas.{all_lines, some_lines, one_line, lines_of}
-use Rattle.report.proofs.SolvedLemmas.{solved_count, solved_over, solved_equal, solved_normal, solved_page, solved_part}
+use Rattle.report.proofs.SolvedLemmas.{solved_count, solved_infinite, solved_over, solved_equal, solved_normal, solved_rules, solved_rules_over, solved_page, solved_part}
 use Rattle.report.proofs.classes.write_solved.Goals as goal
 
 pub returns-in-Finite-clause-written : goal.returns-in-Finite-clause-written
@@ -36,6 +38,20 @@ returns-in-Over-clause-part g c =
     let lines : List (List ℕ) = over_line c.args.bound ∷ [] in
     some_lines p c.args.bound c.args.query.now lines (lines_of p c.args.bound lines c.args.query.now query.Index c.in-Index.is (solved_over p c.args.solved.now.congruence c.requires.solved c.args.bound c.in_ok-count-in-Index.field-0 c.in-Over.is c.in_ok-count-in-Index.ensures))
     c.write_over.result _ _ _ (one_line (over_line c.args.bound)) c.write_over.ensures.part
+
+pub returns-in-Infinite-clause-written : goal.returns-in-Infinite-clause-written
+returns-in-Infinite-clause-written g c =
+    let p : Problem = c.args.problem.now in
+    let lines : List (List ℕ) = infinite_line ∷ [] in
+    all_lines p c.args.bound c.args.query.now lines (lines_of p c.args.bound lines c.args.query.now query.Index c.in-Index.is (solved_infinite p c.args.solved.now.congruence c.requires.solved c.args.bound c.in_ok-count-in-Index.field-0 c.in-Infinite.is c.in_ok-count-in-Index.ensures))
+    c.write_infinite.result _ _ _ (one_line infinite_line) c.write_infinite.ensures.written
+
+pub returns-in-Infinite-clause-part : goal.returns-in-Infinite-clause-part
+returns-in-Infinite-clause-part g c =
+    let p : Problem = c.args.problem.now in
+    let lines : List (List ℕ) = infinite_line ∷ [] in
+    some_lines p c.args.bound c.args.query.now lines (lines_of p c.args.bound lines c.args.query.now query.Index c.in-Index.is (solved_infinite p c.args.solved.now.congruence c.requires.solved c.args.bound c.in_ok-count-in-Index.field-0 c.in-Infinite.is c.in_ok-count-in-Index.ensures))
+    c.write_infinite.result _ _ _ (one_line infinite_line) c.write_infinite.ensures.part
 
 pub returns-in_ok-equal-in-Equal-clause-written : goal.returns-in_ok-equal-in-Equal-clause-written
 returns-in_ok-equal-in-Equal-clause-written g c =
@@ -78,3 +94,26 @@ pub returns-in-Classes-clause-part : goal.returns-in-Classes-clause-part
 returns-in-Classes-clause-part g c =
     solved_part c.args.problem.now c.args.solved.now.congruence c.requires.solved c.args.bound c.write_classes.result c.args.query.now c.in-Classes.count c.in-Classes.after (option_copied c.as_ref.result) c.alphabet-alphabet.result.now
     c.in-Classes.is c.as_ref.ensures.value c.alphabet-alphabet.ensures.letters _ _ c.write_classes.ensures.part
+
+pub write_rules-requires : goal.write_rules-requires
+write_rules-requires g c =
+    solved_rules_over c.args.problem.now c.args.solved.now.congruence c.requires.solved c.into_vec-rules.result.items c.alphabet-alphabet.result.now
+    (subst (IsRuleList (SameClass c.args.solved.now.congruence)) (sym c.into_vec-rules.ensures.rules) c.in_ok-rules-in-RuleList.ensures) c.alphabet-alphabet.ensures.letters c.alphabet-alphabet.ensures.one_each
+
+pub returns-in_ok-rules-in-RuleList-clause-written : goal.returns-in_ok-rules-in-RuleList-clause-written
+returns-in_ok-rules-in-RuleList-clause-written g c =
+    let p : Problem = c.args.problem.now in
+    let rules : List (Word × Word) = c.into_vec-rules.result.items in
+    let lines : List (List ℕ) = map (rule_line (letters_of p)) rules ++ end_line false ∷ [] in
+    let listed = subst (IsRuleList (SameClass c.args.solved.now.congruence)) (sym c.into_vec-rules.ensures.rules) c.in_ok-rules-in-RuleList.ensures in
+    all_lines p c.args.bound c.args.query.now lines (lines_of p c.args.bound lines c.args.query.now query.RuleList c.in-RuleList.is (solved_rules p c.args.solved.now.congruence c.requires.solved c.args.bound rules listed))
+    c.write_rules.result _ _ _ (ap (λ ls. bytes_of (map (rule_line ls) rules ++ end_line false ∷ [])) c.alphabet-alphabet.ensures.letters) c.write_rules.ensures.written
+
+pub returns-in_ok-rules-in-RuleList-clause-part : goal.returns-in_ok-rules-in-RuleList-clause-part
+returns-in_ok-rules-in-RuleList-clause-part g c =
+    let p : Problem = c.args.problem.now in
+    let rules : List (Word × Word) = c.into_vec-rules.result.items in
+    let lines : List (List ℕ) = map (rule_line (letters_of p)) rules ++ end_line false ∷ [] in
+    let listed = subst (IsRuleList (SameClass c.args.solved.now.congruence)) (sym c.into_vec-rules.ensures.rules) c.in_ok-rules-in-RuleList.ensures in
+    some_lines p c.args.bound c.args.query.now lines (lines_of p c.args.bound lines c.args.query.now query.RuleList c.in-RuleList.is (solved_rules p c.args.solved.now.congruence c.requires.solved c.args.bound rules listed))
+    c.write_rules.result _ _ _ (ap (λ ls. bytes_of (map (rule_line ls) rules ++ end_line false ∷ [])) c.alphabet-alphabet.ensures.letters) c.write_rules.ensures.part

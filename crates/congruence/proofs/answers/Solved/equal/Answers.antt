@@ -1,12 +1,17 @@
-use Rattle.std.proofs.Common.{◌∙◌, ap, subst, nat_eq}
-use Rattle.std.specs.Option.{option_eq}
-use Rattle.congruence.specs.Solution.{Solution, IsSolution}
-use Rattle.congruence.proofs.AnswerLaws.{equal_paths}
+use Rattle.std.proofs.Common.{◌↔◌, subst, Bool, IfOk, IsTrue}
+use Rattle.theory.specs.Congruence.{Congruence}
+use Rattle.theory.specs.Class.{SameClass}
+use Rattle.congruence.proofs.ViewLaws.{of_cosets, of_reduced}
 use Rattle.congruence.proofs.answers.Solved.equal.Goals as goal
 
-pub returns : goal.returns
-returns c =
-    equal_paths c.args.self.now.congruence c.self.inside.graph c.self.inside.least.items
-    (subst (λ (k : Solution). IsSolution k.congruence c.self.inside.graph c.self.inside.least.items) c.self.view_is c.self.invariant)
-    c.args.u.now c.args.v.now c.requires.left c.requires.right c.eq.result
-    (c.eq.ensures ∙ ap (λ o. option_eq nat_eq o c.path-2.result) c.path.ensures ∙ ap (option_eq nat_eq _) c.path-2.ensures)
+pub returns-in-Cosets : goal.returns-in-Cosets
+returns-in-Cosets c =
+    subst (λ (k : Congruence). IfOk c.equal.result (λ (same : Bool). IsTrue same ↔ SameClass k c.args.u.now c.args.v.now))
+    (of_cosets c.args.self.now c.self.inside.classes c.self.inside.lanes c.self.view_is c.in-Cosets.classes c.in-Cosets.is)
+    c.equal.ensures
+
+pub returns-in-Reduced : goal.returns-in-Reduced
+returns-in-Reduced c =
+    subst (λ (k : Congruence). IfOk c.equal-in-Reduced.result (λ (same : Bool). IsTrue same ↔ SameClass k c.args.u.now c.args.v.now))
+    (of_reduced c.args.self.now c.self.inside.classes c.self.inside.lanes c.self.view_is c.in-Reduced.classes c.in-Reduced.is)
+    c.equal-in-Reduced.ensures

@@ -1,21 +1,18 @@
-use Rattle.std.proofs.Common.{◌-◌, subst, arith}
-use Rattle.congruence.specs.Solution.{Solution, IsSolution}
-use Rattle.congruence.proofs.AnswerLaws.{has_index}
+use Rattle.std.proofs.Common.{subst, IfOk}
+use Rattle.theory.specs.Congruence.{Congruence}
+use Rattle.theory.specs.Class.{SameClass}
+use Rattle.congruence.specs.Indexes.{IsIndexWithin}
+use Rattle.congruence.proofs.ViewLaws.{of_cosets, of_reduced}
 use Rattle.congruence.proofs.answers.Solved.index.Goals as goal
 
-pub returns-then-classes-bound : goal.returns-then-classes-bound
-returns-then-classes-bound c = (
-  has_index c.args.self.now.congruence c.self.inside.graph c.self.inside.least.items
-      (subst (λ (k : Solution). IsSolution k.congruence c.self.inside.graph c.self.inside.least.items) c.self.view_is c.self.invariant)
-      (c.len.result - c.first_class.result) (omega (arith, c.len.ensures, c.first_class.ensures)),
-  c.if-classes-bound.true,
-)
+pub returns-in-Cosets : goal.returns-in-Cosets
+returns-in-Cosets c =
+    subst (λ (k : Congruence). IfOk c.index.result (IsIndexWithin (SameClass k) c.args.bound))
+    (of_cosets c.args.self.now c.self.inside.classes c.self.inside.lanes c.self.view_is c.in-Cosets.classes c.in-Cosets.is)
+    c.index.ensures
 
-pub returns-else-classes-bound : goal.returns-else-classes-bound
-returns-else-classes-bound c = (
-  c.len.result - c.first_class.result,
-  has_index c.args.self.now.congruence c.self.inside.graph c.self.inside.least.items
-      (subst (λ (k : Solution). IsSolution k.congruence c.self.inside.graph c.self.inside.least.items) c.self.view_is c.self.invariant)
-      (c.len.result - c.first_class.result) (omega (arith, c.len.ensures, c.first_class.ensures)),
-  c.if-classes-bound.false,
-)
+pub returns-in-Reduced : goal.returns-in-Reduced
+returns-in-Reduced c =
+    subst (λ (k : Congruence). IfOk c.index-in-Reduced.result (IsIndexWithin (SameClass k) c.args.bound))
+    (of_reduced c.args.self.now c.self.inside.classes c.self.inside.lanes c.self.view_is c.in-Reduced.classes c.in-Reduced.is)
+    c.index-in-Reduced.ensures

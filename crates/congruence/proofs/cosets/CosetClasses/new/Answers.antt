@@ -2,7 +2,7 @@ use Rattle.std.proofs.Common.{sym, subst}
 use Rattle.presentation.specs.Presented.{Posed}
 use Rattle.congruence.specs.Solution.{IsSolution}
 use Rattle.congruence.proofs.SolutionLaws.{solution}
-use Rattle.congruence.proofs.answers.Solved.new.Goals as goal
+use Rattle.congruence.proofs.cosets.CosetClasses.new.Goals as goal
 
 pub invariant_of-result : goal.invariant_of-result
 invariant_of-result c =

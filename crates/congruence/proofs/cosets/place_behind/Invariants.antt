@@ -1,7 +1,7 @@
 use Rattle.std.proofs.Common.{ℕ, ◌-◌, ◌<◌, ◌≤◌, length}
 use Rattle.theory.specs.ShortLex.{◌≺◌}
 use Rattle.congruence.specs.Solution.{word_at}
-use Rattle.congruence.proofs.answers.place_behind.Given as goal
+use Rattle.congruence.proofs.cosets.place_behind.Given as goal
 
 -- the words below `low` do not come after the cursor, and those from `high` on do
 abbrev pub invariant-loop-low : goal.invariant-loop-low

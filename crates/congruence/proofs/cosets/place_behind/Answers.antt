@@ -1,6 +1,6 @@
 use Rattle.std.proofs.Common.{◌+◌, ◌-◌, ◌/◌, arith}
 use Rattle.congruence.proofs.PlaceLaws.{all_after, none_after, comes_before, comes_not_before}
-use Rattle.congruence.proofs.answers.place_behind.Goals as goal
+use Rattle.congruence.proofs.cosets.place_behind.Goals as goal
 
 pub loop-low-init : goal.loop-low-init
 loop-low-init c = record {

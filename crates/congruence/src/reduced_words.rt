@@ -1,0 +1,138 @@
+// Answers from the reduced words of the rules of a completion.
+ghost use Rattle.std.specs.Prelude.{◌≡◌, ◌↔◌, ℕ, true, IfOk, IsTrue, MatchOption};
+ghost use Rattle.std.specs.Option.{option_copied};
+ghost use Rattle.theory.specs.Word.{IsElement};
+ghost use Rattle.theory.specs.ShortLex.{◌≺◌};
+ghost use Rattle.theory.specs.Class.{SameClass, HasIndex, IsLeast, IsNormal, IsRuleList};
+ghost use Rattle.theory.specs.Listing.{IsLast, IsNext, GoesOnOrEnds};
+ghost use Rattle.theory.specs.Congruence.{is_two_sided};
+ghost use Rattle.congruence.specs.Indexes.{IsIndexWithin};
+ghost use Rattle.congruence.specs.Rewriting.{AreRulesOf};
+
+use crate::answers::Index;
+use ports::NoMemory;
+use presentation::Congruence;
+use reduced_automaton::{Automaton, Rules};
+use std::alloc::Global;
+use std::marker::Model;
+use words::Word;
+
+/// The classes of a two-sided congruence by its reduced rules: a word is the least of its class exactly where no rule
+/// applies to it. The empty word counts as a class of a monoid, and is no element of a semigroup.
+#[derive(Drop)]
+pub struct ReducedClasses {
+    alloc: Global,
+    congruence: Congruence,
+    automaton: Automaton,
+}
+
+impl Model for ReducedClasses {
+    ghost use Rattle.theory.specs.Congruence.{Congruence as Related};
+    ghost use Rattle.congruence.specs.Rewriting.{DecidesBy};
+
+    ghost Value = { Related };
+
+    ghost view = { λ s. s.congruence.congruence };
+
+    ghost invariant = { λ s. DecidesBy s.congruence.congruence s.automaton };
+}
+
+impl ReducedClasses {
+    /// The classes that the rules of a completion give which has decided. Refused only where memory is wanting.
+    pub fn new(
+        alloc: Global,
+        congruence: &Congruence,
+        rules: &Rules,
+    ) -> Result<ReducedClasses, NoMemory>
+        requires { AreRulesOf congruence.now.congruence rules.now }
+        ensures { IfOk result (λ s. s ≡ congruence.now.congruence) }
+    {
+        let presentation = congruence.presentation();
+        let automaton = Automaton::build(alloc, presentation.letters(), rules)?;
+        let congruence = congruence.copy(alloc)?;
+        Ok(ReducedClasses {
+            alloc,
+            congruence,
+            automaton,
+        })
+    }
+
+    /// The number of classes, if it is at most the bound. Refused only where memory is wanting.
+    pub fn index(&self, bound: usize) -> Result<Index, NoMemory>
+        ensures { IfOk result (IsIndexWithin (SameClass self.now) bound) }
+    {
+        if self.automaton.is_infinite() {
+            return Ok(Index::Infinite);
+        }
+        self.count(bound)
+    }
+
+    // The number of classes, if it is at most the bound, where they are finitely many. Refused only where memory is
+    // wanting.
+    fn count(&self, bound: usize) -> Result<Index, NoMemory>
+        requires { (n : ℕ) × HasIndex (SameClass self.now) n }
+        ensures { IfOk result (IsIndexWithin (SameClass self.now) bound) }
+    {
+        let mut count = 0;
+        let mut next = self.next_after(None)?;
+        while let Some(word) = next {
+            if count == bound {
+                return Ok(Index::Over);
+            }
+            count += 1;
+            next = self.next_after(Some(&word))?;
+        }
+        Ok(Index::Finite(count))
+    }
+
+    /// Whether the two words, which are elements, are of one class. Refused only where memory is wanting.
+    pub fn equal(&self, u: &Word, v: &Word) -> Result<bool, NoMemory>
+        requires left { IsElement self.now.presentation.is_monoid self.now.presentation.letters u.now }
+        requires right { IsElement self.now.presentation.is_monoid self.now.presentation.letters v.now }
+        ensures { IfOk result (λ same. IsTrue same ↔ SameClass self.now u.now v.now) }
+    {
+        let left = self.automaton.reduce(u)?;
+        let right = self.automaton.reduce(v)?;
+        Ok(left.letters() == right.letters())
+    }
+
+    /// The normal form of the word, which is an element: the least word of its class in short-lex order. Refused only
+    /// where memory is wanting.
+    pub fn normal(&self, u: &Word) -> Result<Word, NoMemory>
+        requires { IsElement self.now.presentation.is_monoid self.now.presentation.letters u.now }
+        ensures { IfOk result (IsNormal (SameClass self.now) u.now) }
+    {
+        self.automaton.reduce(u)
+    }
+
+    /// The first least word of a class after the cursor, or the first at all; `None` where there is none. The cursor
+    /// need not be the least word of its class. What holds of every decided congruence is told here: after each cursor
+    /// comes a next class, or none. Refused only where memory is wanting.
+    pub fn next_after(&self, after: Option<&Word>) -> Result<Option<Word>, NoMemory>
+        ensures goes_on { GoesOnOrEnds (IsLeast (SameClass self.now)) ◌≺◌ }
+        ensures next { IfOk result (λ next. MatchOption next
+            (IsLast (IsLeast (SameClass self.now)) ◌≺◌ (option_copied after.entry))
+            (IsNext (IsLeast (SameClass self.now)) ◌≺◌ (option_copied after.entry))) }
+    {
+        match after {
+            Some(cursor) => self.automaton.next_after(Some(cursor)),
+            None => {
+                if self.congruence.presentation().is_monoid() {
+                    self.automaton.next_after(None)
+                } else {
+                    let empty = Word::new(self.alloc);
+                    self.automaton.next_after(Some(&empty))
+                }
+            }
+        }
+    }
+
+    /// The reduced rules of a two-sided congruence, in short-lex order of their left sides (Froidure and Pin 1997).
+    /// Refused only where memory is wanting.
+    pub fn rules(&self) -> Result<Rules, NoMemory>
+        requires { is_two_sided self.now ≡ true }
+        ensures { IfOk result (IsRuleList (SameClass self.now)) }
+    {
+        self.automaton.rules().copy(self.alloc)
+    }
+}
