@@ -16,7 +16,7 @@ use std::alloc::Global;
 use word_graph::WordGraph;
 use words::Letter;
 
-// A node stays live where it was, and is the least of its class.
+/// Which nodes stay live: those that were and are the least of their class. Refused only where memory is wanting.
 pub fn kept(alloc: Global, live: &Vec<bool>, class: &Vec<usize>) -> Result<Vec<bool>, NoMemory>
     requires { length class.now.items ≡ length live.now.items }
     ensures length { IfOk result (λ v. length v.items ≡ length live.now.items) }
@@ -29,7 +29,7 @@ pub fn kept(alloc: Global, live: &Vec<bool>, class: &Vec<usize>) -> Result<Vec<b
     Ok(kept)
 }
 
-// The least merging of nodes under which the two are one and edges still agree. It tells where each node has gone.
+/// The least merging under which the two nodes are one and edges agree; tells where each went. Only memory refuses it.
 pub fn identify_in(
     alloc: Global,
     graph: &mut WordGraph,
@@ -66,8 +66,8 @@ fn carry_on(class: &mut Vec<usize>, next: &Vec<usize>)
     }
 }
 
-// Draws what the relations ask for at each live node, or at one alone and where it goes, and the pairs at the root,
-// until nothing is left. It tells where each node has gone.
+/// Draws what the relations ask for at each live node, or at one alone and where it goes, and the pairs at the root,
+/// until nothing is left. It tells where each node has gone. Refused only where memory is wanting.
 pub fn close_in(
     alloc: Global,
     congruence: &Congruence,
@@ -110,7 +110,7 @@ fn gone_to(class: &Vec<usize>, at: Option<usize>) -> Option<usize>
     }
 }
 
-// An edge to a new node.
+/// An edge to a new node, whose number it gives. Only want of memory refuses it, and then nothing has changed.
 pub fn define_in(
     graph: &mut WordGraph,
     live: &mut Vec<bool>,

@@ -17,7 +17,7 @@ pub enum Due {
     Join(usize, Letter, usize, usize),
 }
 
-// What the first side, read against the second, asks for at the node.
+/// What the first side, read against the second, asks for at the node.
 pub fn due_from(graph: &WordGraph, node: usize, first: &Word, second: &Word) -> Due
     ensures { IsDueFrom graph.now node first.now second.now result }
 {
@@ -43,7 +43,7 @@ pub fn due_from(graph: &WordGraph, node: usize, first: &Word, second: &Word) -> 
     }
 }
 
-// What the pairs ask for at the node.
+/// What the pairs ask for at the node.
 pub fn due_at(graph: &WordGraph, node: usize, pairs: &Pairs) -> Due
     ensures { IsDueAt graph.now node pairs.now result }
 {
@@ -76,7 +76,7 @@ fn due_anywhere(relations: &Pairs, graph: &WordGraph, live: &Vec<bool>) -> Due
     Due::Nothing
 }
 
-// What the relations ask for at live nodes, or at one of them, or the pairs at the root.
+/// What the relations ask for at live nodes, or at one of them, or the pairs at the root.
 pub fn due_in(
     congruence: &Congruence,
     graph: &WordGraph,

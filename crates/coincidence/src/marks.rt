@@ -8,7 +8,7 @@ use std::alloc::Global;
 use word_graph::WordGraph;
 use words::{Word, shortlex};
 
-// Marks go to where their nodes have gone.
+/// Marks go to where their nodes have gone.
 pub fn carry_marks(marked: &mut Vec<bool>, class: &Vec<usize>)
     requires shape { length class.now.items ≡ length marked.old.items }
     requires below { (n : ℕ) → slice_index class.now.items n ≤ n }
@@ -59,7 +59,7 @@ fn least_unmarked(least: &Vec<(usize, Word)>, marked: &Vec<bool>) -> Option<usiz
     first
 }
 
-// The node of the least word whose node has no mark.
+/// The node of the least word whose node has no mark; `None` where each has one. Only want of memory refuses it.
 pub fn first_unmarked(
     alloc: Global,
     graph: &WordGraph,

@@ -24,7 +24,7 @@ pub struct Quotient {
     pub class: Vec<usize>,
 }
 
-// Each node a class of its own.
+/// Each node a class of its own. Refused only where memory is wanting.
 pub fn apart(alloc: Global, nodes: usize) -> Result<Vec<usize>, NoMemory>
     ensures { IfOk result (λ v. (length v.items ≡ nodes) × ((n : ℕ) → n < nodes → slice_index v.items n ≡ n)) }
 {
@@ -35,7 +35,7 @@ pub fn apart(alloc: Global, nodes: usize) -> Result<Vec<usize>, NoMemory>
     Ok(class)
 }
 
-// Two classes become one.
+/// Two classes become one. Refused only where memory is wanting.
 pub fn join(alloc: Global, class: &Vec<usize>, s: usize, t: usize) -> Result<Vec<usize>, NoMemory>
     ensures { IfOk result (λ v. v.items ≡ joined s t class.now.items) }
 {
@@ -48,7 +48,7 @@ pub fn join(alloc: Global, class: &Vec<usize>, s: usize, t: usize) -> Result<Vec
     Ok(joined)
 }
 
-// The edge is there afterwards, unless there is one that leads elsewhere.
+/// The edge is there afterwards, unless there is one that leads elsewhere: then it tells where.
 pub fn put_edge(graph: &mut WordGraph, node: usize, letter: Letter, to: usize) -> Option<usize>
     requires node { node < length graph.old }
     requires letter { letter < length (slice_index_or graph.old node []) }
@@ -72,7 +72,7 @@ pub fn put_edge(graph: &mut WordGraph, node: usize, letter: Letter, to: usize) -
     }
 }
 
-// The graph of the classes, unless two edges of one letter from one class lead to two classes.
+/// The graph of the classes, or two that edges of one letter from one class lead to. Only want of memory refuses it.
 pub fn fold(alloc: Global, graph: &WordGraph, class: &Vec<usize>) -> Result<Folded, NoMemory>
     requires shape { length class.now.items ≡ length graph.now }
     requires below { All (λ c. c < length graph.now) class.now.items }
@@ -95,7 +95,7 @@ pub fn fold(alloc: Global, graph: &WordGraph, class: &Vec<usize>) -> Result<Fold
     Ok(Folded::Graph(folded))
 }
 
-// The least merging under which x and y are one.
+/// The least merging under which x and y are one. Refused only where memory is wanting.
 pub fn merge(alloc: Global, graph: &WordGraph, x: usize, y: usize) -> Result<Quotient, NoMemory>
     requires x { IsReached graph.now x }
     requires y { IsReached graph.now y }

@@ -29,7 +29,7 @@ fn step(table: &mut Table, node: usize, letter: Letter) -> Result<usize, NoMemor
     }
 }
 
-// Where the word leads from the node. Edges that are missing on the way are made.
+/// Where the word leads from the node. Edges that are missing on the way are made. Only want of memory refuses it.
 pub fn trace(table: &mut Table, node: usize, word: &Word) -> Result<usize, NoMemory>
     requires table { IsTable table.old }
     requires failed { table.old.failed ≡ false }
@@ -98,7 +98,7 @@ fn trace_row(table: &mut Table, congruence: &Congruence, node: usize) -> Result<
     trace_sides(table, node, presentation.relations())
 }
 
-// Makes the row of the node, and draws what follows when relations are read there.
+/// Makes the row of the node, and draws what follows when relations are read there. Only want of memory refuses it.
 pub fn make_row(table: &mut Table, congruence: &Congruence, node: usize) -> Result<(), NoMemory>
     requires table { IsTable table.old }
     requires failed { table.old.failed ≡ false }

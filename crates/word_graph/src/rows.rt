@@ -34,7 +34,7 @@ fn renumber(places: &[Option<usize>], target: Option<usize>) -> Option<usize>
 }
 
 impl Row {
-    // No edge.
+    /// A row without an edge, for so many letters. Refused only where memory is wanting.
     pub fn new(alloc: Global, letters: usize) -> Result<Row, NoMemory>
         ensures { IfOk result (λ r. r ≡ replicate letters None) }
     {
@@ -45,7 +45,7 @@ impl Row {
         Ok(Row { entries })
     }
 
-    // Where the edge of the letter leads.
+    /// Where the edge of the letter leads; `None` where there is none.
     pub fn get(&self, letter: Letter) -> Option<usize>
         ensures { result ≡ unwrap_or (slice_get self.now letter) None }
     {
@@ -57,7 +57,7 @@ impl Row {
         }
     }
 
-    // The edge of the letter leads there.
+    /// From now on the edge of the letter leads there.
     pub fn set(&mut self, letter: Letter, to: usize)
         requires { letter < length self.old }
         ensures { self.new ≡ slice_set self.old letter (Some to) }
@@ -66,7 +66,7 @@ impl Row {
         self.entries[place] = Some(to);
     }
 
-    // The same row in memory of its own.
+    /// The same row in memory of its own. Refused only where memory is wanting.
     pub fn copy(&self, alloc: Global) -> Result<Row, NoMemory>
         ensures { IfOk result (λ r. r ≡ self.now) }
     {
@@ -74,7 +74,7 @@ impl Row {
         Ok(Row { entries })
     }
 
-    // The row with the places of nodes for nodes.
+    /// The row with the places of nodes for nodes. Refused only where memory is wanting.
     pub fn renumbered(&self, alloc: Global, places: &[Option<usize>]) -> Result<Row, NoMemory>
         ensures { IfOk result (λ r. r ≡ map (renumber places.now) self.now) }
     {

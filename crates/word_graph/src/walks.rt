@@ -109,7 +109,7 @@ impl Walk {
         Ok(())
     }
 
-    // Finds all nodes that are reached.
+    /// Finds all nodes that are reached. Refused only where memory is wanting.
     pub fn over(alloc: Global, graph: &WordGraph) -> Result<Walk, NoMemory>
         ensures { IfOk result (λ w. (k : ℕ) → IsGraph k graph.now → IsWalkedTo k graph.now w.steps.items w.places.items (length w.steps.items) 0) }
     {
@@ -135,7 +135,7 @@ impl Walk {
         Ok(words)
     }
 
-    // Where a node stands in the walk.
+    /// Where a node stands in the walk; `None` where it is not reached.
     pub fn place(&self, node: usize) -> Option<usize>
         ensures { result ≡ slice_index_or self.now.places.items node None }
     {
