@@ -255,9 +255,7 @@ impl CosetClasses {
         requires { IsElement self.now.presentation.is_monoid self.now.presentation.letters u.now }
         ensures { IfOk result (IsNormal (SameClass self.now) u.now) }
     {
-        let node = self.graph.path(0, u).unwrap_or(0);
-        let word = self.least[node].1.copy(self.alloc)?;
-        Ok(word)
+        normal_of(self.alloc, &self.graph, self.least.as_slice(), u)
     }
 
     /// The first least word of a class after the cursor, or the first at all; `None` where there is none. The cursor
