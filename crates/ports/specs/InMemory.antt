@@ -13,15 +13,33 @@ pub record SourceState : Type 0 where
 
 -- before the first call
 abbrev pub source_start : List ℕ → ℕ → List ℕ → SourceState
-source_start bytes piece fails = record { left = bytes; piece = piece; fails = fails; calls = 0; faults = 0 }
+source_start bytes piece fails = record {
+  left = bytes;
+  piece = piece;
+  fails = fails;
+  calls = 0;
+  faults = 0;
+}
 
 -- after a call that read n bytes
 abbrev pub source_read : SourceState → ℕ → SourceState
-source_read s n = record { left = drop n s.left; piece = s.piece; fails = s.fails; calls = next s.calls; faults = s.faults }
+source_read s n = record {
+  left = drop n s.left;
+  piece = s.piece;
+  fails = s.fails;
+  calls = next s.calls;
+  faults = s.faults;
+}
 
 -- after a call that failed
 abbrev pub source_failed : SourceState → SourceState
-source_failed s = record { left = s.left; piece = s.piece; fails = s.fails; calls = next s.calls; faults = next s.faults }
+source_failed s = record {
+  left = s.left;
+  piece = s.piece;
+  fails = s.fails;
+  calls = next s.calls;
+  faults = next s.faults;
+}
 
 -- A sink: the bytes that were taken, the greatest piece of a write, the numbers of the calls that
 -- fail, how many calls were made, how many failed, and how many were refused memory.
@@ -35,19 +53,47 @@ pub record SinkState : Type 0 where
 
 -- before the first call
 abbrev pub sink_start : ℕ → List ℕ → SinkState
-sink_start piece fails = record { taken = []; piece = piece; fails = fails; calls = 0; faults = 0; refusals = 0 }
+sink_start piece fails = record {
+  taken = [];
+  piece = piece;
+  fails = fails;
+  calls = 0;
+  faults = 0;
+  refusals = 0;
+}
 
 -- after a call that took these bytes
 abbrev pub sink_took : SinkState → List ℕ → SinkState
-sink_took s bytes = record { taken = s.taken ++ bytes; piece = s.piece; fails = s.fails; calls = next s.calls; faults = s.faults; refusals = s.refusals }
+sink_took s bytes = record {
+  taken = s.taken ++ bytes;
+  piece = s.piece;
+  fails = s.fails;
+  calls = next s.calls;
+  faults = s.faults;
+  refusals = s.refusals;
+}
 
 -- after a call that failed
 abbrev pub sink_failed : SinkState → SinkState
-sink_failed s = record { taken = s.taken; piece = s.piece; fails = s.fails; calls = next s.calls; faults = next s.faults; refusals = s.refusals }
+sink_failed s = record {
+  taken = s.taken;
+  piece = s.piece;
+  fails = s.fails;
+  calls = next s.calls;
+  faults = next s.faults;
+  refusals = s.refusals;
+}
 
 -- after a call that was refused memory
 abbrev pub sink_refused : SinkState → SinkState
-sink_refused s = record { taken = s.taken; piece = s.piece; fails = s.fails; calls = next s.calls; faults = s.faults; refusals = next s.refusals }
+sink_refused s = record {
+  taken = s.taken;
+  piece = s.piece;
+  fails = s.fails;
+  calls = next s.calls;
+  faults = s.faults;
+  refusals = next s.refusals;
+}
 
 -- A sink whose calls do not fail: the bytes that were taken, and how many calls were refused memory.
 pub record SureSinkState : Type 0 where

@@ -7,9 +7,12 @@
 //!
 //! [`read_all`] reads a source to its end, and [`write_all`] passes a whole piece to a sink.
 //! [`MemSource`], [`MemSink`], [`SureSource`] and [`SureSink`] hold their bytes in memory.
+//!
+//! A [`Gate`] stands before each turn of a lane in a race over threads; at [`Open`] no turn waits.
 #![tactic(auto)]
 
 mod fault;
+mod gate;
 mod memory_sink;
 mod memory_source;
 mod read;
@@ -20,6 +23,7 @@ mod sure_source;
 mod write;
 
 pub use fault::{Failed, NoMemory, ReadFault, WriteFault};
+pub use gate::{Gate, Open};
 pub use memory_sink::MemSink;
 pub use memory_source::MemSource;
 pub use read::read_all;

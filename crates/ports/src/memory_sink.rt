@@ -81,18 +81,23 @@ impl Sink for MemSink {
         ensures within { IfOk result (λ n. n ≤ length bytes.now) }
         ensures progress { IfOk result (λ n. 0 < length bytes.now → 0 < n) }
         ensures bytes { Takes (Some self.old.taken) (Some self.new.taken) result bytes.now }
-        ensures nothing { IsErrOf result WriteFault.NoMemory → TakesAll (Some self.old.taken) (Some self.new.taken) [] }
+        ensures nothing { IsErrOf result WriteFault.NoMemory
+            → TakesAll (Some self.old.taken) (Some self.new.taken) [] }
         ensures faults_kept { self.old.faults ≤ self.new.faults }
         ensures refusals_kept { self.old.refusals ≤ self.new.refusals }
-        ensures quiet { OnOk result ((self.new.faults ≡ self.old.faults) × (self.new.refusals ≡ self.old.refusals)) }
+        ensures quiet { OnOk result ((self.new.faults ≡ self.old.faults)
+            × (self.new.refusals ≡ self.old.refusals)) }
         ensures failed { IsErrOf result WriteFault.Failed → Rose self.old.faults self.new.faults }
-        ensures refused { IsErrOf result WriteFault.NoMemory → Rose self.old.refusals self.new.refusals }
+        ensures refused { IsErrOf result WriteFault.NoMemory
+            → Rose self.old.refusals self.new.refusals }
 
-        ensures fails { IsErrOf result WriteFault.Failed ↔ Contains self.old.fails (next self.old.calls) }
+        ensures fails { IsErrOf result WriteFault.Failed
+            ↔ Contains self.old.fails (next self.old.calls) }
         ensures count { IfOk result (λ n. n ≡ min (length bytes.now) self.old.piece) }
         ensures after { IfOk result (λ n. self.new ≡ sink_took self.old (take n bytes.now)) }
         ensures after_failure { IsErrOf result WriteFault.Failed → self.new ≡ sink_failed self.old }
-        ensures after_refusal { IsErrOf result WriteFault.NoMemory → self.new ≡ sink_refused self.old }
+        ensures after_refusal { IsErrOf result WriteFault.NoMemory
+            → self.new ≡ sink_refused self.old }
     {
         self.calls = self.calls.saturating_add(1);
         if self.fails.contains(&self.calls) {

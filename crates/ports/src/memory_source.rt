@@ -76,7 +76,8 @@ impl Source for MemSource {
         ensures failed { OnErr result (Rose self.old.faults self.new.faults) }
 
         ensures fails { IsErr result ↔ Contains self.old.fails (next self.old.calls) }
-        ensures count { IfOk result (λ n. n ≡ min (length buf.old) (min self.old.piece (length self.old.left))) }
+        ensures count { IfOk result (λ n. n
+            ≡ min (length buf.old) (min self.old.piece (length self.old.left))) }
         ensures after { IfOk result (λ n. self.new ≡ source_read self.old n) }
         ensures after_failure { OnErr result (self.new ≡ source_failed self.old) }
         ensures buffer { IfOk result (λ n. buf.new ≡ take n self.old.left ++ drop n buf.old) }

@@ -19,16 +19,22 @@ pub fn read_all<S: Source>(
     ensures all { IfOk result (λ bytes.
         Gave (S.left source.old) (S.left source.new) bytes.items × IsAtEnd (S.left source.new)) }
     ensures within { IfOk result (λ bytes. vec_len bytes ≤ limit) }
-    ensures too_long { IsErrOf result ReadFault.TooLong → GaveOver limit (S.left source.old) (S.left source.new) }
-    ensures failed_within { IsErrOf result ReadFault.Failed → GaveUpTo limit (S.left source.old) (S.left source.new) }
-    ensures refused_within { IsErrOf result ReadFault.NoMemory → GaveUpTo limit (S.left source.old) (S.left source.new) }
+    ensures too_long { IsErrOf result ReadFault.TooLong
+        → GaveOver limit (S.left source.old) (S.left source.new) }
+    ensures failed_within { IsErrOf result ReadFault.Failed
+        → GaveUpTo limit (S.left source.old) (S.left source.new) }
+    ensures refused_within { IsErrOf result ReadFault.NoMemory
+        → GaveUpTo limit (S.left source.old) (S.left source.new) }
 
     // the count of faults rises only with `Failed`
     ensures kept { S.faults source.old ≤ S.faults source.new }
-    ensures failed { IsErrOf result ReadFault.Failed → Rose (S.faults source.old) (S.faults source.new) }
+    ensures failed { IsErrOf result ReadFault.Failed
+        → Rose (S.faults source.old) (S.faults source.new) }
     ensures quiet { OnOk result (S.faults source.new ≡ S.faults source.old) }
-    ensures quiet_too_long { IsErrOf result ReadFault.TooLong → S.faults source.new ≡ S.faults source.old }
-    ensures quiet_refused { IsErrOf result ReadFault.NoMemory → S.faults source.new ≡ S.faults source.old }
+    ensures quiet_too_long { IsErrOf result ReadFault.TooLong
+        → S.faults source.new ≡ S.faults source.old }
+    ensures quiet_refused { IsErrOf result ReadFault.NoMemory
+        → S.faults source.new ≡ S.faults source.old }
 {
     let mut bytes = Vec::new(alloc);
     let mut buf = [0u8; 4096];

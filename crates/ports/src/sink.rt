@@ -25,10 +25,14 @@ pub trait Sink {
         ensures within { IfOk result (λ n. n ≤ length bytes.now) }
         ensures progress { IfOk result (λ n. 0 < length bytes.now → 0 < n) }
         ensures bytes { Takes (taken self.old) (taken self.new) result bytes.now }
-        ensures nothing { IsErrOf result WriteFault.NoMemory → TakesAll (taken self.old) (taken self.new) [] }
+        ensures nothing { IsErrOf result WriteFault.NoMemory
+            → TakesAll (taken self.old) (taken self.new) [] }
         ensures faults_kept { faults self.old ≤ faults self.new }
         ensures refusals_kept { refusals self.old ≤ refusals self.new }
-        ensures quiet { OnOk result ((faults self.new ≡ faults self.old) × (refusals self.new ≡ refusals self.old)) }
-        ensures failed { IsErrOf result WriteFault.Failed → Rose (faults self.old) (faults self.new) }
-        ensures refused { IsErrOf result WriteFault.NoMemory → Rose (refusals self.old) (refusals self.new) };
+        ensures quiet { OnOk result ((faults self.new ≡ faults self.old)
+            × (refusals self.new ≡ refusals self.old)) }
+        ensures failed { IsErrOf result WriteFault.Failed
+            → Rose (faults self.old) (faults self.new) }
+        ensures refused { IsErrOf result WriteFault.NoMemory
+            → Rose (refusals self.old) (refusals self.new) };
 }

@@ -54,10 +54,12 @@ impl Sink for SureSink {
         ensures within { IfOk result (λ n. n ≤ length bytes.now) }
         ensures progress { IfOk result (λ n. 0 < length bytes.now → 0 < n) }
         ensures bytes { Takes (Some self.old.taken) (Some self.new.taken) result bytes.now }
-        ensures nothing { IsErrOf result WriteFault.NoMemory → TakesAll (Some self.old.taken) (Some self.new.taken) [] }
+        ensures nothing { IsErrOf result WriteFault.NoMemory
+            → TakesAll (Some self.old.taken) (Some self.new.taken) [] }
         ensures refusals_kept { self.old.refusals ≤ self.new.refusals }
         ensures quiet { OnOk result (self.new.refusals ≡ self.old.refusals) }
-        ensures refused { IsErrOf result WriteFault.NoMemory → Rose self.old.refusals self.new.refusals }
+        ensures refused { IsErrOf result WriteFault.NoMemory
+            → Rose self.old.refusals self.new.refusals }
 
         ensures sure { IsOkUnless result WriteFault.NoMemory }
         ensures count { IfOk result (λ n. n ≡ length bytes.now) }

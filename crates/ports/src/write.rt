@@ -16,8 +16,10 @@ pub fn write_all<O: Sink>(sink: &mut O, bytes: &[u8]) -> Result<(), WriteFault>
     ensures refusals_kept { O.refusals sink.old ≤ O.refusals sink.new }
     ensures quiet { OnOk result
         ((O.faults sink.new ≡ O.faults sink.old) × (O.refusals sink.new ≡ O.refusals sink.old)) }
-    ensures failed { IsErrOf result WriteFault.Failed → Rose (O.faults sink.old) (O.faults sink.new) }
-    ensures refused { IsErrOf result WriteFault.NoMemory → Rose (O.refusals sink.old) (O.refusals sink.new) }
+    ensures failed { IsErrOf result WriteFault.Failed
+        → Rose (O.faults sink.old) (O.faults sink.new) }
+    ensures refused { IsErrOf result WriteFault.NoMemory
+        → Rose (O.refusals sink.old) (O.refusals sink.new) }
 {
     let mut done = 0;
     while done < bytes.len() {

@@ -6,7 +6,7 @@ use Rattle.theory.specs.Chain.{MayStand, StepBy}
 use Rattle.theory.specs.ShortLex.{◌≺◌}
 use Rattle.theory.specs.Class.{Among, IsLeast, IsNormal, IsClassList}
 use Rattle.theory.specs.Value.{value, IsProduct, SameValue, SameElement}
-use Rattle.theory.specs.Generated.{IsKeptOnRight, IsKeptOnLeft, Generated, given, symmetric, transitive, on_right, on_left, GivenValue, GeneratedValue, AreNumbered, IsNumberOf, GivenNumber, GeneratedNumber}
+use Rattle.theory.specs.Generated.{IsKeptOnRight, IsKeptOnLeft, Generated, given, symmetric, transitive, on_right, on_left, GivenValue, GeneratedValue, AreNumbered, IsNumberOf, GivenNumber, GeneratedNumber, Linked, itself, merge, back, on, AreMerges}
 use Rattle.theory.specs.declared.Kind.{Kind}
 use Rattle.theory.specs.declared.Kind.TheVariants.{TwoSided, Right, Left}
 use Rattle.theory.proofs.Words.{over_append, over_left, over_right}
@@ -51,7 +51,7 @@ kept_or_start TwoSided x y h = inl tt
 kept_or_start Right x y h = inr h
 kept_or_start Left x y h = inl tt
 
-element_context : (k : ℕ) (x u y : Word) → IsOver k x → IsElement false k u → IsOver k y → IsElement false k (x ++ (u ++ y))
+pub element_context : (k : ℕ) (x u y : Word) → IsOver k x → IsElement false k u → IsOver k y → IsElement false k (x ++ (u ++ y))
 element_context k [] u y hx hu hy = (λ e. hu.0 (front_nil u y e), over_append k u y hu.1 hy)
 element_context k (a ∷ x) u y hx hu hy = (λ e. cc, (hx.0, over_append k x (u ++ y) hx.1 (over_append k u y hu.1 hy)))
 
@@ -461,3 +461,45 @@ module _ {V : Type 0} (HasShape : V → Type 0) (product : V → V → V) (equal
         λ h. numbers_from u v i j h p q,
         λ h. joins_trans u (word i) v (joins_value u (word i) p.1) (joins_trans (word i) (word j) v (numbers_to i j h).2 (joins_value (word j) v (same_symm v (word j) q.1))),
       )
+
+      -- merging: once the edges of each merge lead to linked numbers, no more is to be merged
+      pub merges_are_all : (merges : List (ℕ × ℕ)) → AreMerges k equal (value product generator unused) n word right left kind pairs merges
+          → (i j : ℕ) → GeneratedNumber k equal (value product generator unused) n word right left kind pairs i j ↔ Linked n merges i j
+      merges_are_all merges h i j = (to i j, from)
+        where
+          right_linked : IsKeptOnRight kind → (a : ℕ) → a < k → {i j : ℕ} → Linked n merges i j → Linked n merges (right i a) (right j a)
+          right_linked m a l (itself {i} b) = itself (numbered.on_right i a b l).0
+          right_linked m a l (merge {i} {j} e) = h.on_right i j a m l e
+          right_linked m a l (back x) = back (right_linked m a l x)
+          right_linked m a l (on x y) = on (right_linked m a l x) (right_linked m a l y)
+
+          left_linked : IsKeptOnLeft kind → (a : ℕ) → a < k → {i j : ℕ} → Linked n merges i j → Linked n merges (left i a) (left j a)
+          left_linked m a l (itself {i} b) = itself (numbered.on_left i a b l).0
+          left_linked m a l (merge {i} {j} e) = h.on_left i j a m l e
+          left_linked m a l (back x) = back (left_linked m a l x)
+          left_linked m a l (on x y) = on (left_linked m a l x) (left_linked m a l y)
+
+          at : (i j : ℕ) → GivenNumber k equal (value product generator unused) n word pairs i j → Linked n merges i j
+          at i j (inl same) = subst (λ x. Linked n merges i x) same.1 (itself same.0)
+          at i j (inr p) = h.given i j p
+
+          to : (i j : ℕ) → GeneratedNumber k equal (value product generator unused) n word right left kind pairs i j → Linked n merges i j
+          to i j =
+              generated_least kind k right left (GivenNumber k equal (value product generator unused) n word pairs) (Linked n merges) at (λ i j x. back x)
+              (λ i j l x y. on x y) (λ i j a m l x. right_linked m a l x) (λ i j a m l x. left_linked m a l x)
+
+          from : {i j : ℕ} → Linked n merges i j → GeneratedNumber k equal (value product generator unused) n word right left kind pairs i j
+          from (itself b) = given (inl (b, refl))
+          from (merge {i} {j} e) = h.sound i j e
+          from (back x) = symmetric (from x)
+          from (on x y) = transitive (from x) (from y)
+
+      -- so elements are related exactly where the merges link their numbers
+      pub same_element_by_merges : (merges : List (ℕ × ℕ)) → AreMerges k equal (value product generator unused) n word right left kind pairs merges
+          → (u v : Word) (i j : ℕ) → IsNumberOf k equal (value product generator unused) n word i u
+          → IsNumberOf k equal (value product generator unused) n word j v
+          → SameElement k equal (value product generator unused) kind pairs u v ↔ Linked n merges i j
+      same_element_by_merges merges h u v i j p q =
+          let numbers = same_element_by_numbers u v i j p q in
+          let all = merges_are_all merges h i j in
+          (λ e. all.0 (numbers.0 e), λ e. numbers.1 (all.1 e))

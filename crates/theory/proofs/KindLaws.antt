@@ -10,13 +10,13 @@ use Rattle.theory.specs.declared.Kind.TheVariants.{TwoSided, Right, Left}
 use Rattle.theory.proofs.Words.{over_append}
 use Rattle.theory.proofs.Chains.{joined_map, step_more}
 
-either_append : (xs ys : List (Word × Word)) (r s : Word) → EitherWay xs r s ⊎ EitherWay ys r s → EitherWay (xs ++ ys) r s
+pub either_append : (xs ys : List (Word × Word)) (r s : Word) → EitherWay xs r s ⊎ EitherWay ys r s → EitherWay (xs ++ ys) r s
 either_append xs ys r s h = elim h [
   | inl a ↦ elim a [ inl m ↦ inl (Contains-append_left xs ys (r, s) m) | inr m ↦ inr (Contains-append_left xs ys (s, r) m) ]
   | inr b ↦ elim b [ inl m ↦ inl (Contains-append_right xs ys (r, s) m) | inr m ↦ inr (Contains-append_right xs ys (s, r) m) ]
 ]
 
-either_cases : (xs ys : List (Word × Word)) (r s : Word) → EitherWay (xs ++ ys) r s → EitherWay xs r s ⊎ EitherWay ys r s
+pub either_cases : (xs ys : List (Word × Word)) (r s : Word) → EitherWay (xs ++ ys) r s → EitherWay xs r s ⊎ EitherWay ys r s
 either_cases xs ys r s h = elim h [
   | inl m ↦ elim (Contains-append_cases xs ys (r, s) m) [ inl a ↦ inl (inl a) | inr b ↦ inr (inl b) ]
   | inr m ↦ elim (Contains-append_cases xs ys (s, r) m) [ inl a ↦ inl (inr a) | inr b ↦ inr (inr b) ]
@@ -31,7 +31,7 @@ two_sided_to p pairs u v h = elim h [
   | inr b ↦ inl (step_more (EitherWay pairs) (EitherWay (p.relations ++ pairs)) TwoSided (λ r s e. either_append p.relations pairs r s (inr e)) u v b)
 ]
 
-none_pair : {A : Type 0} (r s : Word) → EitherWay [] r s → A
+pub none_pair : {A : Type 0} (r s : Word) → EitherWay [] r s → A
 none_pair r s h = elim h [ inl m ↦ absurd (omega (arith, m.1)) | inr m ↦ absurd (omega (arith, m.1)) ]
 
 two_sided_from : (p : Presentation) (pairs : List (Word × Word)) (u v : Word) → StepBy (EitherWay (p.relations ++ pairs)) Right [] u v
@@ -65,7 +65,7 @@ two_sided_from p pairs u v h = elim h [
     })
 
 -- a factor and what stands round it, backwards
-reverse_parts : (x r y u : Word) → u ≡ x ++ (r ++ y) → reverse u ≡ reverse y ++ (reverse r ++ reverse x)
+pub reverse_parts : (x r y u : Word) → u ≡ x ++ (r ++ y) → reverse u ≡ reverse y ++ (reverse r ++ reverse x)
 reverse_parts x r y u e =
     ap reverse e ∙ reverse-append x (r ++ y) ∙ ap (λ w. w ++ reverse x) (reverse-append r y) ∙ append_assoc (reverse y) (reverse r) (reverse x)
 
@@ -103,13 +103,13 @@ contains_turned pairs r s h =
 either_turned : (pairs : List (Word × Word)) (r s : Word) → EitherWay pairs r s → EitherWay (reversed_pairs pairs) (reverse r) (reverse s)
 either_turned pairs r s h = elim h [ inl m ↦ inl (contains_turned pairs r s m) | inr m ↦ inr (contains_turned pairs s r m) ]
 
-twice_turned : (pairs : List (Word × Word)) → reversed_pairs (reversed_pairs pairs) ≡ pairs
+pub twice_turned : (pairs : List (Word × Word)) → reversed_pairs (reversed_pairs pairs) ≡ pairs
 twice_turned [] = refl
 twice_turned (p ∷ pairs) =
     ap₂ (λ (q : Word × Word) (qs : List (Word × Word)). q ∷ qs) (λ i. (reverse-reverse p.0 i, reverse-reverse p.1 i)) (twice_turned pairs)
 
 -- left pairs are right pairs of the reversed presentation
-left_to : (p : Presentation) (pairs : List (Word × Word)) (u v : Word) → StepBy (EitherWay p.relations) Left pairs u v
+pub left_to : (p : Presentation) (pairs : List (Word × Word)) (u v : Word) → StepBy (EitherWay p.relations) Left pairs u v
     → StepBy (EitherWay (reversed_pairs p.relations)) Right (reversed_pairs pairs) (reverse u) (reverse v)
 unfolding turned
 left_to p pairs u v h = elim h [
@@ -117,7 +117,7 @@ left_to p pairs u v h = elim h [
   | inr b ↦ inr (step_turned (EitherWay pairs) (EitherWay (reversed_pairs pairs)) Left (either_turned pairs) u v b)
 ]
 
-left_from : (p : Presentation) (pairs : List (Word × Word)) (u v : Word)
+pub left_from : (p : Presentation) (pairs : List (Word × Word)) (u v : Word)
     → StepBy (EitherWay (reversed_pairs p.relations)) Right (reversed_pairs pairs) u v
     → StepBy (EitherWay p.relations) Left pairs (reverse u) (reverse v)
 unfolding turned
@@ -168,7 +168,7 @@ over_turned k [] h = tt
 over_turned k (a ∷ u) h =
     subst (λ w. IsOver k w) (sym (reverse-append (a ∷ []) u)) (over_append k (reverse u) (a ∷ []) (over_turned k u h.1) (h.0, tt))
 
-element_turned : (b : Bool) (k : ℕ) (u : Word) → IsElement b k u → IsElement b k (reverse u)
+pub element_turned : (b : Bool) (k : ℕ) (u : Word) → IsElement b k u → IsElement b k (reverse u)
 element_turned true k u h = over_turned k u h
 element_turned false k u h = (λ e. h.0 (sym (reverse-reverse u) ∙ ap reverse e), over_turned k u h.1)
 

@@ -1,6 +1,6 @@
 -- The laws of pages.
-use Rattle.std.proofs.Common.{None, Some, ◌≡◌, ℕ, zero, suc, ◌+◌, ◌≤◌, Bool, true, false, List, [], ◌∷◌, ◌++◌, length, refl, sym, ap, ap₂, subst, arith, ◌⊎◌, inl, inr, Option, Some, suc-add, zero-add}
-use Rattle.theory.specs.Listing.{IsAfter, IsNext, IsPage, IsListOf, IsStartOf, last_of, IsLast, IsAscending}
+use Rattle.std.proofs.Common.{None, Some, ◌≡◌, ℕ, zero, suc, ◌+◌, ◌≤◌, Bool, true, false, List, [], ◌∷◌, ◌++◌, length, refl, sym, ap, ap₂, subst, arith, ◌⊎◌, ◌↔◌, inl, inr, Option, Some, suc-add, zero-add}
+use Rattle.theory.specs.Listing.{IsAfter, IsNext, IsPage, IsListOf, IsStartOf, last_of, IsLast, IsAscending, AreInfinite}
 use Rattle.theory.proofs.Counting.{IsIn}
 
 -- a strict order, total on what has the property
@@ -164,3 +164,22 @@ module _ {A : Type 0} (P : A → Type 0) (Less : A → A → Type 0) (order : Is
       later : (cursor : Option A) (x y : A) → IsAfter Less cursor x → Less x y → IsAfter Less cursor y
       later None x y a l = tt
       later (Some z) x y a l = order.trans z x y a l
+
+-- one property under two names has one next, one end, one list, and beginnings of the same lengths
+module _ {A : Type 0} (P Q : A → Type 0) (Less : A → A → Type 0) (same : (x : A) → P x ↔ Q x) where
+  pub next_same : (cursor : Option A) (x : A) → IsNext P Less cursor x → IsNext Q Less cursor x
+  next_same cursor x h = record { has = (same x).0 h.has; after = h.after; least = λ y q. h.least y ((same y).1 q) }
+
+  pub last_same : (cursor : Option A) → IsLast P Less cursor → IsLast Q Less cursor
+  last_same cursor h y q = h y ((same y).1 q)
+
+  pub list_same : (cursor : Option A) (xs : List A) → IsListOf P Less cursor xs → IsListOf Q Less cursor xs
+  list_same cursor [] h = last_same cursor h
+  list_same cursor (x ∷ xs) h = (next_same cursor x h.0, list_same (Some x) xs h.1)
+
+  pub start_same : (cursor : Option A) (xs : List A) → IsStartOf P Less cursor xs → IsStartOf Q Less cursor xs
+  start_same cursor [] h = tt
+  start_same cursor (x ∷ xs) h = (next_same cursor x h.0, start_same (Some x) xs h.1)
+
+  pub infinite_same : AreInfinite P Less → AreInfinite Q Less
+  infinite_same h n = let at = h n in (at.0, start_same None at.0 at.1, at.2)

@@ -44,4 +44,5 @@ pub record IsCongruenceOf (kind : Kind) (R : Word → Word → Type 0) : Type 0 
   pub reflexive : (u : Word) → R u u
   pub symmetric : (u v : Word) → R u v → R v u
   pub transitive : (u v w : Word) → R u v → R v w → R u w
-  pub kept : (x y : Word) → MayStand kind x y → (u v : Word) → R u v → R (x ++ (u ++ y)) (x ++ (v ++ y))
+  pub kept : (x y : Word) → MayStand kind x y → (u v : Word) → R u v
+      → R (x ++ (u ++ y)) (x ++ (v ++ y))

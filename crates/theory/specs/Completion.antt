@@ -43,7 +43,8 @@ pub record Joinable (R : Word → Word → Type 0) (u v : Word) : Type 0 where
 
 -- each overlap abc of left sides ab and bc leads to one word either way
 abbrev pub OverlapsJoin : (Word → Word → Type 0) → Type 0
-OverlapsJoin R = (a b c v w : Word) → b ≢ [] → R (a ++ b) v → R (b ++ c) w → Joinable R (v ++ c) (a ++ w)
+OverlapsJoin R = (a b c v w : Word) → b ≢ [] → R (a ++ b) v → R (b ++ c) w
+    → Joinable R (v ++ c) (a ++ w)
 
 -- both sides of each relation fit, and each overlap of the rules leads to one word
 pub record CompletionEnds (p : Presentation) (L : ℕ) : Type 0 where
@@ -86,4 +87,5 @@ pub record AreRules (p : Presentation) (L : ℕ) (rules : List (Word × Word)) :
   pub reduced : (l r : Word) → Listed rules l r → IsReduced (Listed rules) r
   pub apart : (l r f g : Word) → Listed rules l r → Listed rules f g → IsProperFactor f l → ⊥
   -- reduced words that are related within the bound are one
-  pub full : (u v : Word) → Within p L u v → IsReduced (Listed rules) u → IsReduced (Listed rules) v → u ≡ v
+  pub full : (u v : Word) → Within p L u v → IsReduced (Listed rules) u → IsReduced (Listed rules) v
+      → u ≡ v

@@ -26,24 +26,41 @@ AreElements is_monoid k = All (λ p. IsElement is_monoid k p.0 × IsElement is_m
 
 -- the sides of relations and pairs are elements
 pub record IsWellFormed (c : Congruence) : Type 0 where
-  pub relations : AreElements c.presentation.is_monoid c.presentation.letters c.presentation.relations
+  pub relations : AreElements c.presentation.is_monoid c.presentation.letters
+      c.presentation.relations
   pub pairs : AreElements c.presentation.is_monoid c.presentation.letters c.pairs
 
 -- a presentation backwards
 abbrev pub reversed : Presentation → Presentation
-reversed p = record { letters = p.letters; is_monoid = p.is_monoid; relations = reversed_pairs p.relations }
+reversed p = record {
+  letters = p.letters;
+  is_monoid = p.is_monoid;
+  relations = reversed_pairs p.relations;
+}
 
 -- a presentation with more relations
 abbrev pub with_relations : Presentation → List (Word × Word) → Presentation
-with_relations p pairs = record { letters = p.letters; is_monoid = p.is_monoid; relations = p.relations ++ pairs }
+with_relations p pairs = record {
+  letters = p.letters;
+  is_monoid = p.is_monoid;
+  relations = p.relations ++ pairs;
+}
 
 -- the right congruence that stands for c: two-sided pairs become relations, left pairs are read backwards
 abbrev pub as_right : Congruence → Congruence
 as_right c =
     elim c.kind [
-      | TwoSided ↦ record { presentation = with_relations c.presentation c.pairs; kind = Right; pairs = [] }
+      | TwoSided ↦ record {
+        presentation = with_relations c.presentation c.pairs;
+        kind = Right;
+        pairs = [];
+      }
       | Right ↦ c
-      | Left ↦ record { presentation = reversed c.presentation; kind = Right; pairs = reversed_pairs c.pairs }
+      | Left ↦ record {
+        presentation = reversed c.presentation;
+        kind = Right;
+        pairs = reversed_pairs c.pairs;
+      }
     ]
 
 -- c is generated as a two-sided congruence: its pairs are two-sided, or there are none
@@ -52,7 +69,11 @@ IsTwoSided c = (c.kind ≡ TwoSided) ⊎ (c.pairs ≡ [])
 
 -- the same, as a truth value
 abbrev pub is_two_sided : Congruence → Bool
-is_two_sided c = elim c.kind [ TwoSided ↦ true | Right ↦ length c.pairs == 0 | Left ↦ length c.pairs == 0 ]
+is_two_sided c = elim c.kind [
+  | TwoSided ↦ true
+  | Right ↦ length c.pairs == 0
+  | Left ↦ length c.pairs == 0
+]
 
 -- c is generated as a right congruence: its pairs are right pairs, or there are none
 abbrev pub IsRightSided : Congruence → Type 0

@@ -4,7 +4,8 @@ use Rattle.theory.specs.Word.{Word, IsOver}
 use Rattle.theory.specs.Congruence.{Congruence, EitherWay}
 
 -- relations are read at the words that are related to one of U, pairs at the empty word
-module _ (relations pairs : List (Word × Word)) (Given : Word → Word → Type 0) (U : Word → Type 0) where
+module _ (relations pairs : List (Word × Word)) (Given : Word → Word → Type 0)
+    (U : Word → Type 0) where
   -- the least relation with these parts
   pub data Follows : Word → Word → Type 0 where
     given : {u v : Word} → Given u v → Follows u v
@@ -49,7 +50,8 @@ abbrev pub Facts : Congruence → (Word → Type 0) → (Word → Type 0) → Wo
 Facts c D U = Follows c.presentation.relations c.pairs (Defines D) U
 
 -- V has the five parts of which Facts is the least relation
-abbrev pub HasFacts : Congruence → (Word → Type 0) → (Word → Type 0) → (Word → Word → Type 0) → Type 0
+abbrev pub HasFacts : Congruence → (Word → Type 0) → (Word → Type 0) → (Word → Word → Type 0)
+    → Type 0
 HasFacts c D U = HasParts c.presentation.relations c.pairs (Defines D) U
 
 -- what follows once x and y are one, and no relation is read

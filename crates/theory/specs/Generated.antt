@@ -25,18 +25,29 @@ module _ {X : Type 0} (kind : Kind) (k : ℕ) (right left : X → ℕ → X) (Gi
     given : {x y : X} → Given x y → Generated x y
     symmetric : {x y : X} → Generated x y → Generated y x
     transitive : {x y z : X} → Generated x y → Generated y z → Generated x z
-    on_right : (x y : X) (a : ℕ) → IsKeptOnRight kind → a < k → Generated x y → Generated (right x a) (right y a)
-    on_left : (x y : X) (a : ℕ) → IsKeptOnLeft kind → a < k → Generated x y → Generated (left x a) (left y a)
+    on_right : (x y : X) (a : ℕ) → IsKeptOnRight kind → a < k → Generated x y
+        → Generated (right x a) (right y a)
+    on_left : (x y : X) (a : ℕ) → IsKeptOnLeft kind → a < k → Generated x y
+        → Generated (left x a) (left y a)
+
+-- the merges lead from one number below n to the other
+pub data Linked (n : ℕ) (merges : List (ℕ × ℕ)) : ℕ → ℕ → Type 0 where
+  itself : {i : ℕ} → i < n → Linked n merges i i
+  merge : {i j : ℕ} → Contains merges (i, j) → Linked n merges i j
+  back : {i j : ℕ} → Linked n merges i j → Linked n merges j i
+  on : {i j l : ℕ} → Linked n merges i j → Linked n merges j l → Linked n merges i l
 
 -- x and y stand for the sides of a pair
-pub record IsPairOf {X : Type 0} (pairs : List (Word × Word)) (StandsFor : X → Word → Type 0) (x y : X) : Type 0 where
+pub record IsPairOf {X : Type 0} (pairs : List (Word × Word)) (StandsFor : X → Word → Type 0)
+    (x y : X) : Type 0 where
   pub first : Word
   pub second : Word
   pub listed : Contains pairs (first, second)
   pub left : StandsFor x first
   pub right : StandsFor y second
 
-module _ {V : Type 0} (HasShape : V → Type 0) (product : V → V → V) (equal : V → V → Bool) (k : ℕ) (generator : ℕ → V) (unused : V) (kind : Kind) (pairs : List (Word × Word)) where
+module _ {V : Type 0} (HasShape : V → Type 0) (product : V → V → V) (equal : V → V → Bool) (k : ℕ)
+    (generator : ℕ → V) (unused : V) (kind : Kind) (pairs : List (Word × Word)) where
   -- equal values of the shape, or the values of a pair
   abbrev pub GivenValue : V → V → Type 0
   GivenValue x y =
@@ -45,10 +56,12 @@ module _ {V : Type 0} (HasShape : V → Type 0) (product : V → V → V) (equal
 
   -- the least equivalence on the values of the shape that has these, and is kept under the generators on the sides of its kind
   abbrev pub GeneratedValue : V → V → Type 0
-  GeneratedValue = Generated kind k (λ x a. product x (generator a)) (λ x a. product (generator a) x) GivenValue
+  GeneratedValue = Generated kind k (λ x a. product x (generator a))
+      (λ x a. product (generator a) x) GivenValue
 
 -- values that are numbered below n, each by a word
-module _ {V : Type 0} (k : ℕ) (equal : V → V → Bool) (value_of : Word → V) (n : ℕ) (word : ℕ → Word) where
+module _ {V : Type 0} (k : ℕ) (equal : V → V → Bool) (value_of : Word → V) (n : ℕ)
+    (word : ℕ → Word) where
   -- i is the number of the value of u
   abbrev pub IsNumberOf : ℕ → Word → Type 0
   IsNumberOf i u = (i < n) × SameValue k equal value_of u (word i)
@@ -66,5 +79,18 @@ module _ {V : Type 0} (k : ℕ) (equal : V → V → Bool) (value_of : Word → 
   GivenNumber pairs i j = ((i < n) × (i ≡ j)) ⊎ IsPairOf pairs IsNumberOf i j
 
   -- the least equivalence on the numbers that has these, and is kept along the edges on the sides of its kind
-  abbrev pub GeneratedNumber : (ℕ → ℕ → ℕ) → (ℕ → ℕ → ℕ) → Kind → List (Word × Word) → ℕ → ℕ → Type 0
+  abbrev pub GeneratedNumber : (ℕ → ℕ → ℕ) → (ℕ → ℕ → ℕ) → Kind → List (Word × Word) → ℕ → ℕ
+      → Type 0
   GeneratedNumber right left kind pairs = Generated kind k right left (GivenNumber pairs)
+
+  -- merges that are generated, link the numbers of each pair, and link what the edges of each merge lead to
+  pub record AreMerges (right left : ℕ → ℕ → ℕ) (kind : Kind) (pairs : List (Word × Word))
+      (merges : List (ℕ × ℕ)) : Type 0 where
+    pub sound : (i j : ℕ) → Contains merges (i, j) → GeneratedNumber right left kind pairs i j
+    pub given : (i j : ℕ) → IsPairOf pairs IsNumberOf i j → Linked n merges i j
+    pub on_right : (i j a : ℕ)
+        → IsKeptOnRight kind → a < k → Contains merges (i, j)
+        → Linked n merges (right i a) (right j a)
+    pub on_left : (i j a : ℕ)
+        → IsKeptOnLeft kind → a < k → Contains merges (i, j)
+        → Linked n merges (left i a) (left j a)

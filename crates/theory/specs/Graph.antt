@@ -1,6 +1,6 @@
 -- Rooted word graphs, as tables of rows (Sims 1994, ch. 5; libsemigroups: WordGraph).
 use Rattle.std.specs.Prelude.{◌↔◌, ◌≡◌, ℕ, ◌<◌, List, [], ◌∷◌, ◌++◌, length, Option, Some, None, slice_get, option_and_then, unwrap_or, All}
-use Rattle.theory.specs.Word.{Word}
+use Rattle.theory.specs.Word.{Word, IsOver}
 use Rattle.theory.specs.Congruence.{Congruence, EitherWay}
 
 -- a row for each node, an entry for each letter
@@ -37,7 +37,14 @@ pub record Shows (g : Graph) (V : Word → Word → Type 0) : Type 0 where
 
 -- every edge is there
 abbrev pub IsComplete : ℕ → Graph → Type 0
-IsComplete k g = (node letter : ℕ) → node < length g → letter < k → (next : ℕ) × (target g node letter ≡ Some next)
+IsComplete k g = (node letter : ℕ) → node < length g → letter < k
+    → (next : ℕ) × (target g node letter ≡ Some next)
+
+-- a complete graph each of whose nodes is reached: the table of a right congruence
+pub record IsCompleteTable (k : ℕ) (g : Graph) : Type 0 where
+  pub graph : IsGraph k g
+  pub complete : IsComplete k g
+  pub reached : (node : ℕ) → node < length g → (u : Word) × IsOver k u × (path g 0 u ≡ Some node)
 
 -- where the first side and all but the last letter of the second have a path from the node, the last edge is there, and both sides lead to one node
 abbrev pub IsClosedAt : List (Word × Word) → Graph → ℕ → Type 0
@@ -48,5 +55,6 @@ IsClosedAt pairs g node = (r s : Word) (a m j : ℕ)
 -- the words of D have a path; the relations are closed at the nodes to which words of U lead, and the pairs at the root
 pub record IsModel (c : Congruence) (D U : Word → Type 0) (g : Graph) : Type 0 where
   pub defined : (w : Word) → D w → (node : ℕ) × (path g 0 w ≡ Some node)
-  pub closed : (u : Word) (node : ℕ) → U u → path g 0 u ≡ Some node → IsClosedAt c.presentation.relations g node
+  pub closed : (u : Word) (node : ℕ) → U u → path g 0 u ≡ Some node
+      → IsClosedAt c.presentation.relations g node
   pub pairs : IsClosedAt c.pairs g 0

@@ -13,5 +13,10 @@ pub mod Generated
 pub mod Graph
 pub mod LowIndex
 pub mod PlacedStep
+pub mod Marked
+pub mod Backwards
+pub mod Lattice
+pub mod Green
+pub mod TwoSidedTable
 pub mod Decided
 pub mod Examples

@@ -1,18 +1,23 @@
 // Small examples, as theorems.
-ghost use Rattle.std.specs.Prelude.{◌≡◌, ◌⊎◌, ◌↔◌, [], ◌∷◌, reverse};
+ghost use Rattle.std.specs.Prelude.{◌≡◌, ◌⊎◌, ◌↔◌, ℕ, nat_eq, [], ◌∷◌, reverse};
 ghost use Rattle.std.specs.declared.cmp.Ordering.TheVariants.{Less, Equal, Greater};
 ghost use Rattle.theory.specs.Word.{Word};
 ghost use Rattle.theory.specs.ShortLex.{shortlex};
 ghost use Rattle.theory.specs.Congruence.{as_right, as_right_word};
-ghost use Rattle.theory.specs.Value.{value};
+ghost use Rattle.theory.specs.Value.{value, SameElement};
+ghost use Rattle.theory.specs.declared.Kind.TheVariants.{TwoSided, Right, Left};
 ghost use Rattle.theory.specs.Listing.{IsListOf};
-ghost use Rattle.theory.specs.Class.{SameClass, IsLeast, IsNormal, IsClassList, HasIndex};
+ghost use Rattle.theory.specs.Class.{SameClass, IsLeast, IsNormal, IsClassList, HasIndex, IsInfinite};
 ghost use Rattle.theory.specs.Facts.{AllDefined};
 ghost use Rattle.theory.specs.Felsch.{FelschFacts, FelschStage, FelschEnds};
 ghost use Rattle.theory.specs.Hlt.{HltFacts, HltStage, HltEnds};
 ghost use Rattle.theory.specs.Completion.{Rule, Listed, CompletionEnds};
-ghost use Rattle.theory.specs.LowIndex.{IsLowIndex, TableLess};
-ghost use Rattle.theory.specs.Examples.{a1, a2, a3, order_three, cyclic, aba, bab, braid, b1, ab, ba, right_pair, left_pair, left_four, semilattice, free_one, point_rows, swap_rows, tail_rows, composed, three_maps};
+ghost use Rattle.theory.specs.Graph.{PathsRelate};
+ghost use Rattle.theory.specs.LowIndex.{graph_of, IsLowIndex, TableLess};
+ghost use Rattle.theory.specs.Lattice.{Meet, Join};
+ghost use Rattle.theory.specs.TwoSidedTable.{IsTwoSidedTable};
+ghost use Rattle.theory.specs.Examples.{a1, a2, a3, order_three, cyclic, aba, bab, braid, b1, ab, ba, right_pair, left_pair, left_four, semilattice, free_one, point_rows, swap_rows, tail_rows, composed, three_maps, band_value, band_pair, tail_swap_rows, right_pair_rows, bicyclic_right, power};
+ghost use Rattle.theory.specs.Marked.{marked};
 
 /// The shorter word is less; words of one length compare letter by letter.
 pub fn shortlex_of_words()
@@ -69,7 +74,8 @@ pub fn length_three()
 pub fn length_two()
     ensures enough { CompletionEnds semilattice 2 }
     ensures needed { CompletionEnds semilattice 1 → ⊥ }
-    ensures rules { (u v : Word) → Listed ((a2, a1) ∷ (ba, ab) ∷ (1 ∷ 1 ∷ [], b1) ∷ []) u v ↔ Rule semilattice 2 u v }
+    ensures rules { (u v : Word) → Listed ((a2, a1) ∷ (ba, ab) ∷ (1 ∷ 1 ∷ [], b1) ∷ []) u v
+        ↔ Rule semilattice 2 u v }
 {}
 
 /// With aba and bab related, the one rule at length three is bab to aba, and completion does not end: the overlap babab leads to two words.
@@ -105,11 +111,41 @@ pub fn ring_of_three()
 
 /// The free monoid with one generator has three tables of at most two nodes, in this order.
 pub fn free_tables()
-    ensures { IsListOf (IsLowIndex free_one 2) TableLess None (point_rows ∷ swap_rows ∷ tail_rows ∷ []) }
+    ensures { IsListOf (IsLowIndex free_one 2) TableLess None
+        (point_rows ∷ swap_rows ∷ tail_rows ∷ []) }
 {}
 
 /// The value of a word is its generators' product from left to right.
 pub fn value_of_two_maps()
     ensures ab { value composed three_maps [] (0 ∷ 1 ∷ []) ≡ 2 ∷ 1 ∷ 0 ∷ [] }
     ensures aaa { value composed three_maps [] (0 ∷ 0 ∷ 0 ∷ []) ≡ 1 ∷ 0 ∷ 2 ∷ [] }
+{}
+
+/// On a band of four elements the pair a, ab relates b and ba as a left pair and as a two-sided one, and not as a right pair; it never relates a and b.
+pub fn pairs_on_a_band()
+    ensures left { SameElement 2 nat_eq band_value Left band_pair b1 ba }
+    ensures two_sided { SameElement 2 nat_eq band_value TwoSided band_pair b1 ba }
+    ensures right { SameElement 2 nat_eq band_value Right band_pair b1 ba → ⊥ }
+    ensures apart { SameElement 2 nat_eq band_value TwoSided band_pair a1 b1 → ⊥ }
+{}
+
+/// In the free monoid with one generator the meet of a swap and a tail is a swap behind a tail, and their join relates all words.
+pub fn meet_and_join_of_two_tables()
+    ensures meet { PathsRelate (graph_of tail_swap_rows)
+        (Meet (graph_of swap_rows) (graph_of tail_rows)) }
+    ensures join { PathsRelate (graph_of point_rows)
+        (Join 1 (graph_of swap_rows) (graph_of tail_rows)) }
+{}
+
+/// The table of a right pair that is not two-sided: 1 and a lead from the root to one node, and not from that of b.
+pub fn right_pair_is_not_two_sided()
+    ensures { IsTwoSidedTable (graph_of right_pair_rows) → ⊥ }
+{}
+
+/// Where bc is 1 and c is related to 1 on the right, the marked presentation is completed at length two, and not at one. The least words are the powers of b, so there are infinitely many classes.
+pub fn right_pair_completed()
+    ensures enough { CompletionEnds (marked bicyclic_right) 2 }
+    ensures needed { CompletionEnds (marked bicyclic_right) 1 → ⊥ }
+    ensures least { (u : Word) → IsLeast (SameClass bicyclic_right) u ↔ ((n : ℕ) × (u ≡ power n)) }
+    ensures infinite { IsInfinite (SameClass bicyclic_right) }
 {}

@@ -13,7 +13,8 @@ use crate::predicates::{Relation, Words};
 /// The facts are the least relation with their five parts.
 pub fn facts_are_least<D: Words, U: Words, V: Relation>()
     ensures parts { (c : Congruence) → HasFacts c D.has U.has (Facts c D.has U.has) }
-    ensures least { (c : Congruence) → HasFacts c D.has U.has V.relates → (u v : Word) → Facts c D.has U.has u v → V.relates u v }
+    ensures least { (c : Congruence) → HasFacts c D.has U.has V.relates → (u v : Word)
+        → Facts c D.has U.has u v → V.relates u v }
 {}
 
 /// The facts grow with the words that are defined, and with those at which relations are read.
@@ -24,57 +25,74 @@ pub fn facts_grow<D: Words, U: Words, E: Words, X: Words>()
 
 /// So they grow from stage to stage of each strategy.
 pub fn stages_grow()
-    ensures felsch { (c : Congruence) (D : List Word) (w u v : Word) → FelschFacts c D u v → FelschFacts c (w ∷ D) u v }
-    ensures hlt { (c : Congruence) (U : List Word) (w u v : Word) → HltFacts c U u v → HltFacts c (w ∷ U) u v }
+    ensures felsch { (c : Congruence) (D : List Word) (w u v : Word) → FelschFacts c D u v
+        → FelschFacts c (w ∷ D) u v }
+    ensures hlt { (c : Congruence) (U : List Word) (w u v : Word) → HltFacts c U u v
+        → HltFacts c (w ∷ U) u v }
 {}
 
 /// Whatever is a fact, the paths of each graph that is a model relate.
 pub fn facts_hold_in_models<D: Words, U: Words>()
-    ensures { (c : Congruence) (g : Graph) → IsModel c D.has U.has g → (u v : Word) → Facts c D.has U.has u v → SameEnd g u v }
+    ensures { (c : Congruence) (g : Graph) → IsModel c D.has U.has g → (u v : Word)
+        → Facts c D.has U.has u v → SameEnd g u v }
 {}
 
 /// The facts of a right-sided congruence lie within it.
 pub fn facts_are_related<D: Words, U: Words>()
-    ensures { (c : Congruence) → IsRightSided c → (u v : Word) → Facts c D.has U.has u v → Related c u v }
+    ensures { (c : Congruence) → IsRightSided c → (u v : Word) → Facts c D.has U.has u v
+        → Related c u v }
 {}
 
 /// So do those of each stage of each strategy.
 pub fn stages_are_related()
-    ensures felsch { (c : Congruence) (D : List Word) → IsRightSided c → (u v : Word) → FelschFacts c D u v → Related c u v }
-    ensures hlt { (c : Congruence) (U : List Word) → IsRightSided c → (u v : Word) → HltFacts c U u v → Related c u v }
+    ensures felsch { (c : Congruence) (D : List Word) → IsRightSided c → (u v : Word)
+        → FelschFacts c D u v → Related c u v }
+    ensures hlt { (c : Congruence) (U : List Word) → IsRightSided c → (u v : Word)
+        → HltFacts c U u v → Related c u v }
 {}
 
 /// Each stage of Felsch's strategy is determined, and a larger budget suffices where a smaller one does. That a budget does not suffice is shown by one stage more, or by a word that is undefined at the last.
 pub fn felsch_stage_is_one()
-    ensures one { (c : Congruence) (i : ℕ) (D D' : List Word) → FelschStage c i D → FelschStage c i D' → D ≡ D' }
+    ensures one { (c : Congruence) (i : ℕ) (D D' : List Word) → FelschStage c i D
+        → FelschStage c i D' → D ≡ D' }
     ensures more { (c : Congruence) (n m : ℕ) → n ≤ m → FelschEnds c n → FelschEnds c m }
-    ensures past { (c : Congruence) (n : ℕ) (D : List Word) → FelschStage c (suc n) D → FelschEnds c n → ⊥ }
-    ensures fails { (c : Congruence) (n : ℕ) (D : List Word) (w : Word) → FelschStage c n D → IsOver c.presentation.letters w
+    ensures past { (c : Congruence) (n : ℕ) (D : List Word) → FelschStage c (suc n) D
+        → FelschEnds c n → ⊥ }
+    ensures fails { (c : Congruence) (n : ℕ) (D : List Word) (w : Word) → FelschStage c n D
+        → IsOver c.presentation.letters w
         → (FelschFacts c D w w → ⊥) → FelschEnds c n → ⊥ }
 {}
 
 /// Where all words are defined, the facts are exactly the congruence, and the finitely many words that were defined cover its classes.
 pub fn felsch_is_complete()
-    ensures related { (c : Congruence) (D : List Word) → IsWellFormed c → IsRightSided c → AllDefined c.presentation.letters (FelschFacts c D)
+    ensures related { (c : Congruence) (D : List Word) → IsWellFormed c → IsRightSided c
+        → AllDefined c.presentation.letters (FelschFacts c D)
         → (u v : Word) → IsOver c.presentation.letters u → FelschFacts c D u v ↔ Related c u v }
-    ensures finite { (c : Congruence) (D : List Word) → IsRightSided c → AllDefined c.presentation.letters (FelschFacts c D)
-        → (u : Word) → IsOver c.presentation.letters u → (w : Word) × Contains ([] ∷ D) w × Related c u w }
+    ensures finite { (c : Congruence) (D : List Word) → IsRightSided c
+        → AllDefined c.presentation.letters (FelschFacts c D)
+        → (u : Word) → IsOver c.presentation.letters u
+        → (w : Word) × Contains ([] ∷ D) w × Related c u w }
 {}
 
 /// Each stage of the strategy of rows is determined, and a larger budget suffices where a smaller one does; no rows never suffice. That a budget does not suffice is shown by one stage more, or by a defined word that is related to none that had its row.
 pub fn hlt_stage_is_one()
-    ensures one { (c : Congruence) (i : ℕ) (U U' : List Word) → HltStage c i U → HltStage c i U' → U ≡ U' }
+    ensures one { (c : Congruence) (i : ℕ) (U U' : List Word) → HltStage c i U → HltStage c i U'
+        → U ≡ U' }
     ensures more { (c : Congruence) (m n : ℕ) → m ≤ n → HltEnds c m → HltEnds c n }
-    ensures past { (c : Congruence) (m : ℕ) (U : List Word) → HltStage c (suc m) U → HltEnds c m → ⊥ }
-    ensures fails { (c : Congruence) (m : ℕ) (U : List Word) (w : Word) → HltStage c m U → HltFacts c U w w → (IsMet (HltFacts c U) U w → ⊥)
+    ensures past { (c : Congruence) (m : ℕ) (U : List Word) → HltStage c (suc m) U → HltEnds c m
+        → ⊥ }
+    ensures fails { (c : Congruence) (m : ℕ) (U : List Word) (w : Word) → HltStage c m U
+        → HltFacts c U w w → (IsMet (HltFacts c U) U w → ⊥)
         → HltEnds c m → ⊥ }
     ensures none { (c : Congruence) → HltEnds c 0 → ⊥ }
 {}
 
 /// Where every defined word is related to one that had its row, all words are defined, the facts are exactly the congruence, and the finitely many words with a row cover its classes.
 pub fn hlt_is_complete()
-    ensures defined { (c : Congruence) (U : List Word) → AllMet c U → AllDefined c.presentation.letters (HltFacts c U) }
-    ensures related { (c : Congruence) (U : List Word) → IsWellFormed c → IsRightSided c → AllMet c U
+    ensures defined { (c : Congruence) (U : List Word) → AllMet c U
+        → AllDefined c.presentation.letters (HltFacts c U) }
+    ensures related { (c : Congruence) (U : List Word) → IsWellFormed c → IsRightSided c
+        → AllMet c U
         → (u v : Word) → IsOver c.presentation.letters u → HltFacts c U u v ↔ Related c u v }
     ensures finite { (c : Congruence) (U : List Word) → IsRightSided c → AllMet c U
         → (u : Word) → IsOver c.presentation.letters u → (w : Word) × Contains U w × Related c u w }
@@ -82,19 +100,22 @@ pub fn hlt_is_complete()
 
 /// Closing a graph that has the definitions and nothing but facts gives the facts.
 pub fn felsch_closes()
-    ensures { (c : Congruence) (D : List Word) (g : Graph) → ((u v : Word) → Defines (Contains D) u v → SameEnd g u v)
+    ensures { (c : Congruence) (D : List Word) (g : Graph)
+        → ((u v : Word) → Defines (Contains D) u v → SameEnd g u v)
         → ((u v : Word) → SameEnd g u v → FelschFacts c D u v)
         → (u v : Word) → ClosedAll c (SameEnd g) u v ↔ FelschFacts c D u v }
 {}
 
 /// A definition and closing give the facts of the next stage of Felsch's strategy.
 pub fn felsch_goes_on()
-    ensures { (c : Congruence) (D : List Word) (w u v : Word) → ClosedAll c (Merged (FelschFacts c D) w w) u v ↔ FelschFacts c (w ∷ D) u v }
+    ensures { (c : Congruence) (D : List Word) (w u v : Word)
+        → ClosedAll c (Merged (FelschFacts c D) w w) u v ↔ FelschFacts c (w ∷ D) u v }
 {}
 
 /// Closing at the word of a row alone gives the facts after the row.
 pub fn hlt_row_closes()
-    ensures { (c : Congruence) (U : List Word) (w : Word) (g : Graph) → ((u v : Word) → RowGiven c U w u v → SameEnd g u v)
+    ensures { (c : Congruence) (U : List Word) (w : Word) (g : Graph)
+        → ((u v : Word) → RowGiven c U w u v → SameEnd g u v)
         → ((u v : Word) → SameEnd g u v → HltFacts c (w ∷ U) u v)
         → (u v : Word) → ClosedAt c (SameEnd g) w u v ↔ HltFacts c (w ∷ U) u v }
 {}
@@ -103,16 +124,21 @@ pub fn hlt_row_closes()
 pub fn graphs_decide()
     ensures felsch { (c : Congruence) (D : List Word) (g : Graph) → IsWellFormed c
         → AllDefined (as_right c).presentation.letters (FelschFacts (as_right c) D)
-        → PathsRelate g (FelschFacts (as_right c) D) → (u v : Word) → IsOver (as_right c).presentation.letters (as_right_word c u)
+        → PathsRelate g (FelschFacts (as_right c) D) → (u v : Word)
+        → IsOver (as_right c).presentation.letters (as_right_word c u)
         → Related c u v ↔ SameEnd g (as_right_word c u) (as_right_word c v) }
-    ensures hlt { (c : Congruence) (U : List Word) (g : Graph) → IsWellFormed c → AllMet (as_right c) U
-        → PathsRelate g (HltFacts (as_right c) U) → (u v : Word) → IsOver (as_right c).presentation.letters (as_right_word c u)
+    ensures hlt { (c : Congruence) (U : List Word) (g : Graph) → IsWellFormed c
+        → AllMet (as_right c) U
+        → PathsRelate g (HltFacts (as_right c) U) → (u v : Word)
+        → IsOver (as_right c).presentation.letters (as_right_word c u)
         → Related c u v ↔ SameEnd g (as_right_word c u) (as_right_word c v) }
 {}
 
 /// At each stage of both strategies the prefixes of defined words are defined.
 pub fn prefixes_are_defined()
-    ensures felsch { (c : Congruence) (i : ℕ) (D : List Word) → FelschStage c i D → (u p : Word) → FelschFacts c D u u → IsPrefix p u
+    ensures felsch { (c : Congruence) (i : ℕ) (D : List Word) → FelschStage c i D → (u p : Word)
+        → FelschFacts c D u u → IsPrefix p u
         → FelschFacts c D p p }
-    ensures hlt { (c : Congruence) (i : ℕ) (U : List Word) → HltStage c i U → (u p : Word) → HltFacts c U u u → IsPrefix p u → HltFacts c U p p }
+    ensures hlt { (c : Congruence) (i : ℕ) (U : List Word) → HltStage c i U → (u p : Word)
+        → HltFacts c U u u → IsPrefix p u → HltFacts c U p p }
 {}

@@ -37,8 +37,10 @@ pub fn related_is_congruence()
 
 /// Two words are related exactly where steps with places lead from one to the other.
 pub fn placed_steps_join()
-    ensures related { (p : Presentation) (u : Word) (steps : List PlacedStep) (vs : List Word) → AllGive p u steps vs
+    ensures related { (p : Presentation) (u : Word) (steps : List PlacedStep) (vs : List Word)
+        → AllGive p u steps vs
         → Related (of_presentation p) u (last_word u vs) }
     ensures steps { (p : Presentation) (u v : Word) → Related (of_presentation p) u v
-        → (steps : List PlacedStep) × (vs : List Word) × AllGive p u steps vs × (last_word u vs ≡ v) }
+        → (steps : List PlacedStep) × (vs : List Word) × AllGive p u steps vs
+        × (last_word u vs ≡ v) }
 {}

@@ -1,4 +1,5 @@
-// Sets of words and relations on words, for laws that hold of each.
+// Sets of words, and relations on words and on numbers, for laws that hold of each.
+ghost use Rattle.std.specs.Prelude.{ℕ};
 ghost use Rattle.theory.specs.Word.{Word};
 
 /// A set of words.
@@ -9,4 +10,9 @@ pub trait Words {
 /// A relation on words.
 pub trait Relation {
     ghost relates: { Word → Word → Type 0 };
+}
+
+/// A relation on numbers.
+pub trait Numbers {
+    ghost relates: { ℕ → ℕ → Type 0 };
 }

@@ -4,7 +4,7 @@ ghost use Rattle.std.specs.Prelude.{◌≡◌, ℕ, ◌<◌, ◌↔◌, Bool, fa
 ghost use Rattle.theory.specs.Word.{Word, IsElement};
 ghost use Rattle.theory.specs.Congruence.{AreElements};
 ghost use Rattle.theory.specs.Class.{IsNormal, IsClassList};
-ghost use Rattle.theory.specs.Generated.{GeneratedValue, AreNumbered, IsNumberOf, GeneratedNumber};
+ghost use Rattle.theory.specs.Generated.{GeneratedValue, AreNumbered, IsNumberOf, GeneratedNumber, Linked, AreMerges};
 ghost use Rattle.theory.specs.Value.{value, IsProduct, SameValue, SameElement, HasAtMostValues, HasMoreValues};
 
 /// What values are: of one shape, with an associative product that keeps equal values equal.
@@ -25,52 +25,87 @@ pub trait Values {
 
 /// The value of a product is the product of the values.
 pub fn value_of_product<V: Values>()
-    ensures { (k : ℕ) (generator : ℕ → V) (unused : V) → ((a : ℕ) → a < k → V.has_shape (generator a))
+    ensures { (k : ℕ) (generator : ℕ → V) (unused : V)
+        → ((a : ℕ) → a < k → V.has_shape (generator a))
         → (u v : Word) → IsElement false k u → IsElement false k v
-        → IsTrue (V.equal (value V.product generator unused (u ++ v)) (V.product (value V.product generator unused u) (value V.product generator unused v))) }
+        → IsTrue (V.equal (value V.product generator unused (u ++ v))
+        (V.product (value V.product generator unused u) (value V.product generator unused v))) }
 {}
 
 /// Without pairs two elements are related exactly where their values are equal.
 pub fn related_by_value<V: Values>()
-    ensures { (k : ℕ) (generator : ℕ → V) (unused : V) → ((a : ℕ) → a < k → V.has_shape (generator a)) → (kind : Kind) (u v : Word)
-        → SameElement k V.equal (value V.product generator unused) kind [] u v ↔ SameValue k V.equal (value V.product generator unused) u v }
+    ensures { (k : ℕ) (generator : ℕ → V) (unused : V)
+        → ((a : ℕ) → a < k → V.has_shape (generator a)) → (kind : Kind) (u v : Word)
+        → SameElement k V.equal (value V.product generator unused) kind [] u v
+        ↔ SameValue k V.equal (value V.product generator unused) u v }
 {}
 
 /// With pairs two elements are related exactly where their values are, by the least equivalence that has the values of the pairs and is kept under multiplication by generators on the sides of its kind.
 pub fn related_by_values<V: Values>()
-    ensures { (k : ℕ) (generator : ℕ → V) (unused : V) → ((a : ℕ) → a < k → V.has_shape (generator a)) → (kind : Kind) (pairs : List (Word × Word))
+    ensures { (k : ℕ) (generator : ℕ → V) (unused : V)
+        → ((a : ℕ) → a < k → V.has_shape (generator a)) → (kind : Kind) (pairs : List (Word × Word))
         → AreElements false k pairs
         → (u v : Word) → IsElement false k u → IsElement false k v
         → SameElement k V.equal (value V.product generator unused) kind pairs u v
-        ↔ GeneratedValue V.has_shape V.product V.equal k generator unused kind pairs (value V.product generator unused u) (value V.product generator unused v) }
+        ↔ GeneratedValue V.has_shape V.product V.equal k generator unused kind pairs
+        (value V.product generator unused u) (value V.product generator unused v) }
 {}
 
 /// The same on numbers of values: by the least equivalence that has the numbers of the pairs and is kept along the edges of the right, the left, or both Cayley graphs.
 pub fn related_by_numbers<V: Values>()
-    ensures { (k : ℕ) (generator : ℕ → V) (unused : V) → ((a : ℕ) → a < k → V.has_shape (generator a)) → (kind : Kind) (pairs : List (Word × Word))
+    ensures { (k : ℕ) (generator : ℕ → V) (unused : V)
+        → ((a : ℕ) → a < k → V.has_shape (generator a)) → (kind : Kind) (pairs : List (Word × Word))
         → AreElements false k pairs
-        → (n : ℕ) (word : ℕ → Word) (right left : ℕ → ℕ → ℕ) → AreNumbered k V.equal (value V.product generator unused) n word right left
-        → (u v : Word) (i j : ℕ) → IsNumberOf k V.equal (value V.product generator unused) n word i u
+        → (n : ℕ) (word : ℕ → Word) (right left : ℕ → ℕ → ℕ)
+        → AreNumbered k V.equal (value V.product generator unused) n word right left
+        → (u v : Word) (i j : ℕ) → IsNumberOf k V.equal
+        (value V.product generator unused) n word i u
         → IsNumberOf k V.equal (value V.product generator unused) n word j v
         → SameElement k V.equal (value V.product generator unused) kind pairs u v
-        ↔ GeneratedNumber k V.equal (value V.product generator unused) n word right left kind pairs i j }
+        ↔ GeneratedNumber k V.equal (value V.product generator unused) n word right left kind pairs
+        i j }
+{}
+
+/// So it is enough to merge numbers: those of the pairs, and for each merge those to which its edges lead. Two elements are related exactly where the merges link their numbers.
+pub fn related_by_merges<V: Values>()
+    ensures { (k : ℕ) (generator : ℕ → V) (unused : V)
+        → ((a : ℕ) → a < k → V.has_shape (generator a)) → (kind : Kind) (pairs : List (Word × Word))
+        → AreElements false k pairs
+        → (n : ℕ) (word : ℕ → Word) (right left : ℕ → ℕ → ℕ)
+        → AreNumbered k V.equal (value V.product generator unused) n word right left
+        → (merges : List (ℕ × ℕ)) → AreMerges k V.equal
+        (value V.product generator unused) n word right left kind pairs merges
+        → (u v : Word) (i j : ℕ) → IsNumberOf k V.equal
+        (value V.product generator unused) n word i u
+        → IsNumberOf k V.equal (value V.product generator unused) n word j v
+        → SameElement k V.equal (value V.product generator unused) kind pairs u v
+        ↔ Linked n merges i j }
 {}
 
 /// An element has one normal form, by which relatedness is decided, and the classes of elements one list.
 pub fn element_classes_are_determined<V: Values>()
-    ensures normal { (k : ℕ) (generator : ℕ → V) (unused : V) → ((a : ℕ) → a < k → V.has_shape (generator a)) → (kind : Kind) (pairs : List (Word × Word))
+    ensures normal { (k : ℕ) (generator : ℕ → V) (unused : V)
+        → ((a : ℕ) → a < k → V.has_shape (generator a)) → (kind : Kind) (pairs : List (Word × Word))
         → AreElements false k pairs → (u v w : Word)
-        → IsNormal (SameElement k V.equal (value V.product generator unused) kind pairs) u v → IsNormal (SameElement k V.equal (value V.product generator unused) kind pairs) u w → v ≡ w }
-    ensures decide { (k : ℕ) (generator : ℕ → V) (unused : V) → ((a : ℕ) → a < k → V.has_shape (generator a)) → (kind : Kind) (pairs : List (Word × Word))
+        → IsNormal (SameElement k V.equal (value V.product generator unused) kind pairs) u v
+        → IsNormal (SameElement k V.equal (value V.product generator unused) kind pairs) u w
+        → v ≡ w }
+    ensures decide { (k : ℕ) (generator : ℕ → V) (unused : V)
+        → ((a : ℕ) → a < k → V.has_shape (generator a)) → (kind : Kind) (pairs : List (Word × Word))
         → AreElements false k pairs → (u v x y : Word)
-        → IsNormal (SameElement k V.equal (value V.product generator unused) kind pairs) u x → IsNormal (SameElement k V.equal (value V.product generator unused) kind pairs) v y
+        → IsNormal (SameElement k V.equal (value V.product generator unused) kind pairs) u x
+        → IsNormal (SameElement k V.equal (value V.product generator unused) kind pairs) v y
         → SameElement k V.equal (value V.product generator unused) kind pairs u v ↔ (x ≡ y) }
-    ensures list { (k : ℕ) (generator : ℕ → V) (unused : V) → ((a : ℕ) → a < k → V.has_shape (generator a)) → (kind : Kind) (pairs : List (Word × Word))
+    ensures list { (k : ℕ) (generator : ℕ → V) (unused : V)
+        → ((a : ℕ) → a < k → V.has_shape (generator a)) → (kind : Kind) (pairs : List (Word × Word))
         → AreElements false k pairs → (xs ys : List Word)
-        → IsClassList (SameElement k V.equal (value V.product generator unused) kind pairs) xs → IsClassList (SameElement k V.equal (value V.product generator unused) kind pairs) ys → xs ≡ ys }
+        → IsClassList (SameElement k V.equal (value V.product generator unused) kind pairs) xs
+        → IsClassList (SameElement k V.equal (value V.product generator unused) kind pairs) ys
+        → xs ≡ ys }
 {}
 
 /// Elements that have at most m values, and more than n, show that n is less than m.
 pub fn values_bound<V: Values>()
-    ensures { (k : ℕ) (value_of : Word → V) (m n : ℕ) → HasAtMostValues k V.equal value_of m → HasMoreValues k V.equal value_of n → n < m }
+    ensures { (k : ℕ) (value_of : Word → V) (m n : ℕ) → HasAtMostValues k V.equal value_of m
+        → HasMoreValues k V.equal value_of n → n < m }
 {}
