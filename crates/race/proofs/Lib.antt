@@ -3,3 +3,8 @@ pub mod Keeps
 pub mod Rearranged
 pub mod Plays
 pub mod Telling
+pub mod Winners
+pub mod Seats
+pub mod GroupTurns
+pub mod Deals
+pub mod Ends

@@ -1,4 +1,4 @@
--- The race as a machine: one word, lanes, and what happens to them.
+-- The race as a machine: lane_view word, lanes, and what happens to them.
 use Rattle.race.specs.declared.engines.Racer.{Ghosts}
 use Rattle.std.specs.Prelude.{◌≡◌, ℕ, ◌+◌, ◌-◌, ◌==◌, Bool, true, false, if◌then◌else◌, Option, Some, None}
 use Rattle.race.specs.Answer.{MayAnswer}
@@ -50,7 +50,9 @@ module _ {A : Type 0} where
 
   -- a lane after its racer gave this answer and is now r
   abbrev pub advanced : Lane A → Progress → A → Lane A
-  advanced l p r = if is_running l.state then record { number = l.number; racer = r; step = Some (step_of p); state = state_of p } else l
+  advanced l p r =
+      if is_running l.state
+      then record l { racer = r; step = Some (step_of p); state = state_of p } else l
 
   abbrev pub looks_from : Lane A → LaneState → Option Step → ℕ → Lane A
   looks_from l Running (Some Load) n = record l { state = looked n }
@@ -78,17 +80,20 @@ module _ {A : Type 0} where
 
 module _ {A : Type 0} (kind : Ghosts A) where
   abbrev pub BeginsFrom : LaneState → Lane A → Step → Lane A → Type 0
-  BeginsFrom Running l step m = (m ≡ advanced l (kind.said m.racer) m.racer) × MayAnswer kind l.racer (kind.said m.racer) m.racer × (step ≡ step_of (kind.said m.racer))
+  BeginsFrom Running l step m =
+      (m ≡ advanced l (kind.said m.racer) m.racer)
+      × MayAnswer kind l.racer (kind.said m.racer) m.racer × (step ≡ step_of (kind.said m.racer))
   BeginsFrom _ l step m = (m ≡ l) × (step ≡ Ended)
 
   -- a running lane advances, and gives its next step; another is left alone
   abbrev pub Begins : Lane A → Step → Lane A → Type 0
   Begins l step m = BeginsFrom l.state l step m
 
-  -- what one turn makes of a lane and of the word. A running lane advances, and looks or publishes where it goes on or has decided
+  -- what lane_view turn makes of a lane and of the word. A running lane advances, and looks or publishes where it goes on or has decided
   abbrev pub TurnsFrom : LaneState → ℕ → Lane A → ℕ → Lane A → ℕ → Type 0
   TurnsFrom Running i l n m w =
-      (p : Progress) × (r : A) × MayAnswer kind l.racer p r × (m ≡ settled (advanced l p r) n) × (w ≡ word_after (advanced l p r) i n)
+      (p : Progress) × (r : A) × MayAnswer kind l.racer p r × (m ≡ settled (advanced l p r) n)
+      × (w ≡ word_after (advanced l p r) i n)
   TurnsFrom _ i l n m w = (m ≡ l) × (w ≡ n)
 
   abbrev pub Turns : ℕ → Lane A → ℕ → Lane A → ℕ → Type 0

@@ -1,4 +1,8 @@
 pub mod Answer
+pub mod Dealt
 pub mod Lanes
 pub mod Machine
+pub mod Script
+pub mod SeatedLane
 pub mod WholeTurns
+pub mod Winner

@@ -40,15 +40,18 @@ module _ {A : Type 0} where
 
   -- only a running lane changes. A look is made after a step Load, and an exchange after a step Exchange
   abbrev pub happens : RaceState A → Event A → RaceState A
-  happens s (Advances i p r) = record { word = s.word; lanes = changed s.lanes i (λ l. advanced l p r) }
-  happens s (Looks i) = record { word = s.word; lanes = changed s.lanes i (λ l. looks l s.word) }
-  happens s (Publishes i) = record { word = word_at (slice_get s.lanes i) i s.word; lanes = changed s.lanes i (λ l. publishes l s.word) }
+  happens s (Advances i p r) = record s { lanes = changed s.lanes i (λ l. advanced l p r) }
+  happens s (Looks i) = record s { lanes = changed s.lanes i (λ l. looks l s.word) }
+  happens s (Publishes i) = record {
+    word = word_at (slice_get s.lanes i) i s.word;
+    lanes = changed s.lanes i (λ l. publishes l s.word);
+  }
 
   abbrev pub run : List (Event A) → RaceState A → RaceState A
   run [] s = s
   run (e ∷ es) s = run es (happens s e)
 
-  -- the events of one whole turn
+  -- the events of lane_view whole turn
   abbrev pub turn_of : ℕ → Progress → A → List (Event A)
   turn_of i said.More r = Advances i said.More r ∷ Looks i ∷ []
   turn_of i said.Decided r = Advances i said.Decided r ∷ Publishes i ∷ []
@@ -83,7 +86,7 @@ numbers zero = []
 numbers (suc n) = numbers n ++ n ∷ []
 
 module _ {A : Type 0} (kind : Ghosts A) where
-  -- a racer that has decided, and so its condition holds; one that is spent, and so it fails
+  -- a racer that has decided, and so its condition holds; lane_view that is spent, and so it fails
   pub record IsDecided (r : A) : Type 0 where
     pub answered : kind.said r ≡ said.Decided
     pub holds : kind.condition (kind.task r)
@@ -109,16 +112,19 @@ module _ {A : Type 0} (kind : Ghosts A) where
   -- each lane fits the word; and where the word is not 0, the lane that it names has won
   pub record IsSound (s : RaceState A) : Type 0 where
     pub each : (i : ℕ) (l : Lane A) → slice_get s.lanes i ≡ Some l → LaneFits s.word i l
-    pub winner : (s.word ≡ 0) ⊎ ((i : ℕ) × (l : Lane A) × (s.word ≡ i + 1) × (slice_get s.lanes i ≡ Some l) × (l.state ≡ Won))
+    pub winner : (s.word ≡ 0) ⊎ ((i : ℕ) × (l : Lane A) × (s.word ≡ i + 1)
+        × (slice_get s.lanes i ≡ Some l) × (l.state ≡ Won))
 
-  -- an advance is one that the racer may make
+  -- an advance is lane_view that the racer may make
   abbrev pub IsAllowed : RaceState A → Event A → Type 0
-  IsAllowed s (Advances i p r) = (l : Lane A) → slice_get s.lanes i ≡ Some l → l.state ≡ Running → MayAnswer kind l.racer p r
+  IsAllowed s (Advances i p r) =
+      (l : Lane A) → slice_get s.lanes i ≡ Some l → l.state ≡ Running → MayAnswer kind l.racer p r
   IsAllowed s (Looks i) = Unit {0}
   IsAllowed s (Publishes i) = Unit {0}
 
   abbrev pub TurnFrom : LaneState → Lane A → ℕ → RaceState A → RaceState A → Type 0
-  TurnFrom Running l i s t = (p : Progress) × (r : A) × MayAnswer kind l.racer p r × (t ≡ run (turn_of i p r) s)
+  TurnFrom Running l i s t =
+      (p : Progress) × (r : A) × MayAnswer kind l.racer p r × (t ≡ run (turn_of i p r) s)
   TurnFrom _ l i s t = t ≡ s
 
   abbrev pub TurnAt : Option (Lane A) → ℕ → RaceState A → RaceState A → Type 0
@@ -129,7 +135,7 @@ module _ {A : Type 0} (kind : Ghosts A) where
   abbrev pub Turned : ℕ → RaceState A → RaceState A → Type 0
   Turned i s t = TurnAt (slice_get s.lanes i) i s t
 
-  -- turns of these lanes, one after another
+  -- turns of these lanes, lane_view after another
   abbrev pub Plays : List ℕ → RaceState A → RaceState A → Type 0
   Plays [] s t = t ≡ s
   Plays (i ∷ is) s t = (u : RaceState A) × Turned i s u × Plays is u t
@@ -153,7 +159,7 @@ module _ {A : Type 0} (kind : Ghosts A) where
   weight [] = 0
   weight (l ∷ ls) = weight_of l.state l.racer + weight ls
 
-  -- lanes that run, numbered by place; a step that one was given is of its racer
+  -- lanes that run, numbered by place; a step that lane_view was given is of its racer
   abbrev pub Starts : List (Lane A) → Type 0
   Starts ls = (i : ℕ) (l : Lane A) → slice_get ls i ≡ Some l → LaneFits 0 i l × (l.state ≡ Running)
 
@@ -168,6 +174,10 @@ module _ {A : Type 0} (kind : Ghosts A) where
 
   -- what an outcome tells of the lanes
   abbrev pub Tells : Outcome → List (Lane A) → Type 0
-  Tells (outcome.Won i) ls = (l : Lane A) × (slice_get ls i ≡ Some l) × (l.state ≡ Won) × IsDecided l.racer
-  Tells outcome.AllSpent ls = (i : ℕ) (l : Lane A) → slice_get ls i ≡ Some l → (l.state ≡ Spent) × IsSpent l.racer
-  Tells (outcome.Starved i) ls = (l : Lane A) × (slice_get ls i ≡ Some l) × (l.state ≡ Starved) × (kind.said l.racer ≡ said.NoMemory)
+  Tells (outcome.Won i) ls =
+      (l : Lane A) × (slice_get ls i ≡ Some l) × (l.state ≡ Won) × IsDecided l.racer
+  Tells outcome.AllSpent ls =
+      (i : ℕ) (l : Lane A) → slice_get ls i ≡ Some l → (l.state ≡ Spent) × IsSpent l.racer
+  Tells (outcome.Starved i) ls =
+      (l : Lane A) × (slice_get ls i ≡ Some l) × (l.state ≡ Starved)
+      × (kind.said l.racer ≡ said.NoMemory)

@@ -45,7 +45,10 @@ pub trait Racer: Drop {
         ensures decided { result ≡ Progress.Decided → condition (task self.new) }
         ensures spent { result ≡ Progress.Spent → ¬ (condition (task self.new)) }
         ensures more { result ≡ Progress.More → measure self.new < measure self.old }
-        ensures stays_decided { said self.old ≡ Progress.Decided → (result ≡ Progress.Decided) × (self.new ≡ self.old) }
-        ensures stays_spent { said self.old ≡ Progress.Spent → (result ≡ Progress.Spent) × (self.new ≡ self.old) }
-        ensures stays_out_of_memory { said self.old ≡ Progress.NoMemory → result ≡ Progress.NoMemory };
+        ensures stays_decided { said self.old ≡ Progress.Decided
+            → (result ≡ Progress.Decided) × (self.new ≡ self.old) }
+        ensures stays_spent { said self.old ≡ Progress.Spent
+            → (result ≡ Progress.Spent) × (self.new ≡ self.old) }
+        ensures stays_out_of_memory { said self.old ≡ Progress.NoMemory
+            → result ≡ Progress.NoMemory };
 }

@@ -16,12 +16,15 @@ pub enum Outcome {
     Starved(usize),
 }
 
-// A turn of one lane, where there is one. Whether it ran.
+// A turn of one lane, where there is seated. Whether it ran.
 fn turn_at<R: Racer>(lanes: &mut Vec<Lane<R>>, number: usize, word: &mut u64) -> bool
     requires count { length lanes.old.items ≤ 64 }
     requires sound { IsSound R.Racer (state_at word.old lanes.old.items) }
-    ensures goes { Goes R.Racer (number ∷ []) (state_at word.old lanes.old.items) (state_at word.new lanes.new.items) }
-    ensures nearer { MatchBool result (weight R.Racer lanes.new.items < weight R.Racer lanes.old.items) (EndedAt number lanes.old.items × (lanes.new.items ≡ lanes.old.items)) }
+    ensures goes { Goes R.Racer (number ∷ []) (state_at word.old lanes.old.items)
+        (state_at word.new lanes.new.items) }
+    ensures nearer { MatchBool result
+        (weight R.Racer lanes.new.items < weight R.Racer lanes.old.items)
+        (EndedAt number lanes.old.items × (lanes.new.items ≡ lanes.old.items)) }
 {
     if number >= lanes.len() {
         return false;
@@ -36,7 +39,8 @@ fn turn_at<R: Racer>(lanes: &mut Vec<Lane<R>>, number: usize, word: &mut u64) ->
 fn follow<R: Racer>(lanes: &mut Vec<Lane<R>>, schedule: &[usize], word: &mut u64)
     requires count { length lanes.old.items ≤ 64 }
     requires sound { IsSound R.Racer (state_at word.old lanes.old.items) }
-    ensures { Goes R.Racer schedule.now (state_at word.old lanes.old.items) (state_at word.new lanes.new.items) }
+    ensures { Goes R.Racer schedule.now (state_at word.old lanes.old.items)
+        (state_at word.new lanes.new.items) }
 {
     for number in schedule {
         turn_at(lanes, *number, word);
@@ -47,21 +51,24 @@ fn follow<R: Racer>(lanes: &mut Vec<Lane<R>>, schedule: &[usize], word: &mut u64
 fn round<R: Racer>(lanes: &mut Vec<Lane<R>>, word: &mut u64) -> bool
     requires count { length lanes.old.items ≤ 64 }
     requires sound { IsSound R.Racer (state_at word.old lanes.old.items) }
-    ensures goes { Goes R.Racer (numbers (length lanes.old.items)) (state_at word.old lanes.old.items) (state_at word.new lanes.new.items) }
-    ensures nearer { MatchBool result (weight R.Racer lanes.new.items < weight R.Racer lanes.old.items) (IsEnd (state_at word.new lanes.new.items)) }
+    ensures goes { Goes R.Racer (numbers (length lanes.old.items))
+        (state_at word.old lanes.old.items) (state_at word.new lanes.new.items) }
+    ensures nearer { MatchBool result
+        (weight R.Racer lanes.new.items < weight R.Racer lanes.old.items)
+        (IsEnd (state_at word.new lanes.new.items)) }
 {
     let count = lanes.len();
-    let mut ran = false;
+    let mut any_ran = false;
     for number in 0..count {
         if turn_at(lanes, number, word) {
-            ran = true;
+            any_ran = true;
         }
     }
-    ran
+    any_ran
 }
 
 // The outcome of a race that has ended.
-fn outcome_at<R>(lanes: &[Lane<R>], word: u64) -> Outcome
+pub(crate) fn outcome_at<R>(lanes: &[Lane<R>], word: u64) -> Outcome
     requires { word ≤ 64 }
     ensures { result ≡ outcome_of (state_at word lanes.now) }
 {
@@ -83,7 +90,11 @@ fn outcome_at<R>(lanes: &[Lane<R>], word: u64) -> Outcome
 pub fn play<R: Racer>(lanes: &mut Vec<Lane<R>>, schedule: &Vec<usize>) -> Outcome
     requires count { (1 ≤ length lanes.old.items) × (length lanes.old.items ≤ 64) }
     requires running { Starts R.Racer lanes.old.items }
-    ensures plays { (rounds : ℕ) × (word : ℕ) × Goes R.Racer (schedule.now.items ++ rounds_of rounds (numbers (length lanes.old.items))) (state_at 0 lanes.old.items) (state_at word lanes.new.items) × IsEnd (state_at word lanes.new.items) × (result ≡ outcome_of (state_at word lanes.new.items)) }
+    ensures plays { (rounds : ℕ) × (word : ℕ)
+        × Goes R.Racer (schedule.now.items ++ rounds_of rounds (numbers (length lanes.old.items)))
+        (state_at 0 lanes.old.items) (state_at word lanes.new.items)
+        × IsEnd (state_at word lanes.new.items)
+        × (result ≡ outcome_of (state_at word lanes.new.items)) }
     ensures ends { EndsAs R.Racer lanes.old.items result lanes.new.items }
     ensures told { Tells R.Racer result lanes.new.items }
 {

@@ -83,7 +83,8 @@ fn two(
     first: Countdown,
     second: Countdown,
 ) -> Result<Vec<Lane<Countdown>>, AllocError>
-    ensures { IfOk result (λ lanes. (length lanes.items ≡ 2) × Starts ⟦<Countdown as Racer>⟧ lanes.items) }
+    ensures { IfOk result (λ lanes. (length lanes.items ≡ 2)
+        × Starts ⟦<Countdown as Racer>⟧ lanes.items) }
 {
     let mut lanes = Vec::new(alloc);
     lanes.push(Lane::new(0, first))?;
