@@ -14,7 +14,10 @@ IsBooleanMatrix m = length m.entries ≡ m.dimension * m.dimension
 
 -- `or` of `and`
 abbrev pub boolean_product : BooleanMatrix → BooleanMatrix → BooleanMatrix
-boolean_product x y = record { dimension = x.dimension; entries = matrix_product ◌||◌ ◌&&◌ false x.dimension x.entries y.entries }
+boolean_product x y = record {
+  dimension = x.dimension;
+  entries = matrix_product ◌||◌ ◌&&◌ false x.dimension x.entries y.entries;
+}
 
 -- 0 or 1
 abbrev pub IsBit : Field → Type 0

@@ -5,7 +5,8 @@ use Rattle.theory.specs.Value.{value}
 
 -- any two have the same shape
 abbrev pub HaveOneShape : {V : Type 0} → (V → ℕ × ℕ) → List V → Type 0
-HaveOneShape {V} shape xs = (i j : ℕ) (unused : V) → i < length xs → j < length xs → shape (slice_index_or xs i unused) ≡ shape (slice_index_or xs j unused)
+HaveOneShape {V} shape xs = (i j : ℕ) (unused : V) → i < length xs → j < length xs
+    → shape (slice_index_or xs i unused) ≡ shape (slice_index_or xs j unused)
 
 -- the value of a word over the generators; nothing but words beyond them, and the empty word, have the value `unused`
 abbrev pub value_by : {V : Type 0} → (V → V → V) → List V → V → Word → V

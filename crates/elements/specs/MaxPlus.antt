@@ -27,4 +27,8 @@ truncated_sum bound (Some p) (Some q) = Some (min (p + q) bound)
 
 -- the maximum of truncated sums
 abbrev pub truncated_product : TruncatedMatrix → TruncatedMatrix → TruncatedMatrix
-truncated_product x y = record { dimension = x.dimension; bound = x.bound; entries = matrix_product greater_of (truncated_sum x.bound) None x.dimension x.entries y.entries }
+truncated_product x y = record {
+  dimension = x.dimension;
+  bound = x.bound;
+  entries = matrix_product greater_of (truncated_sum x.bound) None x.dimension x.entries y.entries;
+}

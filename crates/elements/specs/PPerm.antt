@@ -15,7 +15,8 @@ partially_composed x y = map (partial_image y) x
 
 -- no image twice
 abbrev pub IsInjective : List (Option ℕ) → Type 0
-IsInjective x = (i j y : ℕ) → slice_index_or x i None ≡ Some y → slice_index_or x j None ≡ Some y → i ≡ j
+IsInjective x = (i j y : ℕ) → slice_index_or x i None ≡ Some y → slice_index_or x j None ≡ Some y
+    → i ≡ j
 
 -- the images of the points 0 to n - 1, n the length of the list: each below n or none, and no image twice
 pub record ArePartialImages (x : List (Option ℕ)) : Type 0 where

@@ -127,7 +127,8 @@ fn multiply_bits(
 ) -> Result<Vec<bool>, NoMemory>
     requires left { length left.now ≡ dimension * dimension }
     requires right { length right.now ≡ dimension * dimension }
-    ensures { IfOk result (λ v. v.items ≡ matrix_product ◌||◌ ◌&&◌ false dimension left.now right.now) }
+    ensures { IfOk result (λ v. v.items
+        ≡ matrix_product ◌||◌ ◌&&◌ false dimension left.now right.now) }
 {
     let count = square(dimension);
     let mut entries = Vec::with_capacity(alloc, count)?;
@@ -142,7 +143,8 @@ fn multiplied_bit(dimension: u32, left: &[bool], right: &[bool], place: usize) -
     requires left { length left.now ≡ dimension * dimension }
     requires right { length right.now ≡ dimension * dimension }
     requires within { place < dimension * dimension }
-    ensures { result ≡ product_entry ◌||◌ ◌&&◌ false dimension left.now right.now (place / dimension) (place % dimension) }
+    ensures { result ≡ product_entry ◌||◌ ◌&&◌ false dimension left.now right.now
+        (place / dimension) (place % dimension) }
 {
     let row = place / dimension as usize;
     let column = place % dimension as usize;
@@ -186,11 +188,16 @@ impl BMat {
     /// where there are not `dimension` times `dimension` entries, then with `BadEntry` at the first
     /// entry that is neither 0 nor 1; never with `NotInjective`.
     pub fn read(alloc: Global, dimension: u32, fields: &[Field]) -> Result<BMat, ElementFault>
-        ensures entries { IfOk result (λ m. (m.dimension ≡ dimension) × (map field_of_bit m.entries ≡ fields.now)) }
+        ensures entries { IfOk result (λ m. (m.dimension ≡ dimension)
+            × (map field_of_bit m.entries ≡ fields.now)) }
         ensures valid { IfOk result IsBooleanMatrix }
-        ensures count { IsErrOf result ElementFault.BadCount ↔ (length fields.now ≢ dimension * dimension) }
-        ensures entry { (place : ℕ) → IsErrOf result (ElementFault.BadEntry place) → (length fields.now ≡ dimension * dimension) × IsFirstRefused IsBit fields.now place }
-        ensures refused { (place : ℕ) → length fields.now ≡ dimension * dimension → IsFirstRefused IsBit fields.now place → IsErrOf result (ElementFault.BadEntry place) ⊎ IsErrOf result ElementFault.NoMemory }
+        ensures count { IsErrOf result ElementFault.BadCount
+            ↔ (length fields.now ≢ dimension * dimension) }
+        ensures entry { (place : ℕ) → IsErrOf result (ElementFault.BadEntry place)
+            → (length fields.now ≡ dimension * dimension) × IsFirstRefused IsBit fields.now place }
+        ensures refused { (place : ℕ) → length fields.now ≡ dimension * dimension
+            → IsFirstRefused IsBit fields.now place
+            → IsErrOf result (ElementFault.BadEntry place) ⊎ IsErrOf result ElementFault.NoMemory }
         ensures injective { (place : ℕ) → IsErrOf result (ElementFault.NotInjective place) → ⊥ }
     {
         if fields.len() != square(dimension) {

@@ -10,7 +10,8 @@ use std::alloc::Global;
 
 // The entry that a field names, if it is a dash or a number below the limit.
 fn optional_below(field: Field, limit: u64) -> Option<Option<u32>>
-    ensures { MatchOption result (IsBelowOrDash limit field → ⊥) (λ e. (field ≡ field_of e) × IsBelow limit e × IsBelowOrDash limit field) }
+    ensures { MatchOption result (IsBelowOrDash limit field → ⊥)
+        (λ e. (field ≡ field_of e) × IsBelow limit e × IsBelowOrDash limit field) }
 {
     match field {
         Field::Number(y) if (y as u64) < limit => Some(Some(y)),
@@ -28,8 +29,10 @@ pub(crate) fn read_optional(
     ensures entries { IfOk result (λ v. map field_of v.items ≡ fields.now) }
     ensures in_range { IfOk result (λ v. All (IsBelow limit) v.items) }
     ensures good { IfOk result (λ v. All (IsBelowOrDash limit) fields.now) }
-    ensures entry { (place : ℕ) → IsErrOf result (ElementFault.BadEntry place) → IsFirstRefused (IsBelowOrDash limit) fields.now place }
-    ensures refused { (place : ℕ) → IsFirstRefused (IsBelowOrDash limit) fields.now place → IsErrOf result (ElementFault.BadEntry place) ⊎ IsErrOf result ElementFault.NoMemory }
+    ensures entry { (place : ℕ) → IsErrOf result (ElementFault.BadEntry place)
+        → IsFirstRefused (IsBelowOrDash limit) fields.now place }
+    ensures refused { (place : ℕ) → IsFirstRefused (IsBelowOrDash limit) fields.now place
+        → IsErrOf result (ElementFault.BadEntry place) ⊎ IsErrOf result ElementFault.NoMemory }
     ensures count { IsErrOf result ElementFault.BadCount → ⊥ }
     ensures injective { (place : ℕ) → IsErrOf result (ElementFault.NotInjective place) → ⊥ }
 {

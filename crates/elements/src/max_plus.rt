@@ -38,9 +38,14 @@ impl Model for MaxPlusTrunc {
 
     ghost Value = { TruncatedMatrix };
 
-    ghost view = { λ m. record { dimension = m.dimension; bound = m.bound; entries = m.entries.items } };
+    ghost view = { λ m. record {
+      dimension = m.dimension;
+      bound = m.bound;
+      entries = m.entries.items;
+    } };
 
-    ghost invariant = { λ m. IsTruncatedMatrix (record { dimension = m.dimension; bound = m.bound; entries = m.entries.items }) };
+    ghost invariant = { λ m. IsTruncatedMatrix
+        (record { dimension = m.dimension; bound = m.bound; entries = m.entries.items }) };
 }
 
 impl PartialEq for MaxPlusTrunc {
@@ -143,7 +148,8 @@ fn multiply_truncated(
 ) -> Result<Vec<Option<u32>>, NoMemory>
     requires left { length left.now ≡ dimension * dimension }
     requires right { length right.now ≡ dimension * dimension }
-    ensures { IfOk result (λ v. v.items ≡ matrix_product greater_of (truncated_sum bound) None dimension left.now right.now) }
+    ensures { IfOk result (λ v. v.items
+        ≡ matrix_product greater_of (truncated_sum bound) None dimension left.now right.now) }
 {
     let count = square(dimension);
     let mut entries = Vec::with_capacity(alloc, count)?;
@@ -164,7 +170,9 @@ fn multiplied_truncated(
     requires left { length left.now ≡ dimension * dimension }
     requires right { length right.now ≡ dimension * dimension }
     requires within { place < dimension * dimension }
-    ensures { result ≡ product_entry greater_of (truncated_sum bound) None dimension left.now right.now (place / dimension) (place % dimension) }
+    ensures { result ≡ product_entry greater_of
+        (truncated_sum bound) None dimension left.now right.now (place / dimension)
+        (place % dimension) }
 {
     let row = place / dimension as usize;
     let column = place % dimension as usize;
@@ -233,9 +241,14 @@ impl MaxPlusTrunc {
         ensures shape { IfOk result (λ m. (m.dimension ≡ shape.0) × (m.bound ≡ shape.1)) }
         ensures entries { IfOk result (λ m. map field_of m.entries ≡ fields.now) }
         ensures valid { IfOk result IsTruncatedMatrix }
-        ensures count { IsErrOf result ElementFault.BadCount ↔ (length fields.now ≢ shape.0 * shape.0) }
-        ensures entry { (place : ℕ) → IsErrOf result (ElementFault.BadEntry place) → (length fields.now ≡ shape.0 * shape.0) × IsFirstRefused (IsBelowOrDash (shape.1 + 1)) fields.now place }
-        ensures refused { (place : ℕ) → length fields.now ≡ shape.0 * shape.0 → IsFirstRefused (IsBelowOrDash (shape.1 + 1)) fields.now place → IsErrOf result (ElementFault.BadEntry place) ⊎ IsErrOf result ElementFault.NoMemory }
+        ensures count { IsErrOf result ElementFault.BadCount
+            ↔ (length fields.now ≢ shape.0 * shape.0) }
+        ensures entry { (place : ℕ) → IsErrOf result (ElementFault.BadEntry place)
+            → (length fields.now ≡ shape.0 * shape.0)
+            × IsFirstRefused (IsBelowOrDash (shape.1 + 1)) fields.now place }
+        ensures refused { (place : ℕ) → length fields.now ≡ shape.0 * shape.0
+            → IsFirstRefused (IsBelowOrDash (shape.1 + 1)) fields.now place
+            → IsErrOf result (ElementFault.BadEntry place) ⊎ IsErrOf result ElementFault.NoMemory }
         ensures injective { (place : ℕ) → IsErrOf result (ElementFault.NotInjective place) → ⊥ }
     {
         let (dimension, bound) = shape;
@@ -252,7 +265,8 @@ impl MaxPlusTrunc {
 
     /// The entries in decimal, row by row, with one space between each two; `-` for minus infinity.
     pub fn print(&self, alloc: Global) -> Result<Vec<u8>, NoMemory>
-        ensures { IfOk result (λ text. text.items ≡ join_by decimal_or_dash (codes " ") self.now.entries) }
+        ensures { IfOk result (λ text. text.items
+            ≡ join_by decimal_or_dash (codes " ") self.now.entries) }
     {
         print_optional(alloc, &self.entries)
     }

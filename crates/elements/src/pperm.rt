@@ -143,7 +143,8 @@ fn image_of(images: &[Option<u32>], point: Option<u32>) -> Option<u32>
 // The first place with an image that an earlier place has.
 fn first_repeat(alloc: Global, images: &[Option<u32>]) -> Result<Option<usize>, AllocError>
     requires { All (IsBelow (length images.now)) images.now }
-    ensures { IfOk result (λ found. MatchOption found (IsInjective images.now) (IsFirstAgain images.now)) }
+    ensures { IfOk result (λ found. MatchOption found (IsInjective images.now)
+        (IsFirstAgain images.now)) }
 {
     let mut seen = Vec::from_elem(alloc, false, images.len())?;
     for (i, image) in images.iter().enumerate() {
@@ -174,10 +175,19 @@ impl PPerm {
         ensures images { IfOk result (λ p. (length p ≡ degree) × (map field_of p ≡ fields.now)) }
         ensures valid { IfOk result ArePartialImages }
         ensures count { IsErrOf result ElementFault.BadCount ↔ (length fields.now ≢ degree) }
-        ensures entry { (place : ℕ) → IsErrOf result (ElementFault.BadEntry place) → (length fields.now ≡ degree) × IsFirstRefused (IsBelowOrDash degree) fields.now place }
-        ensures refused { (place : ℕ) → length fields.now ≡ degree → IsFirstRefused (IsBelowOrDash degree) fields.now place → IsErrOf result (ElementFault.BadEntry place) ⊎ IsErrOf result ElementFault.NoMemory }
-        ensures injective { (place : ℕ) → IsErrOf result (ElementFault.NotInjective place) → (length fields.now ≡ degree) × All (IsBelowOrDash degree) fields.now × IsFirstRepeat fields.now place }
-        ensures repeated { (place : ℕ) → length fields.now ≡ degree → All (IsBelowOrDash degree) fields.now → IsFirstRepeat fields.now place → IsErrOf result (ElementFault.NotInjective place) ⊎ IsErrOf result ElementFault.NoMemory }
+        ensures entry { (place : ℕ) → IsErrOf result (ElementFault.BadEntry place)
+            → (length fields.now ≡ degree)
+            × IsFirstRefused (IsBelowOrDash degree) fields.now place }
+        ensures refused { (place : ℕ) → length fields.now ≡ degree
+            → IsFirstRefused (IsBelowOrDash degree) fields.now place
+            → IsErrOf result (ElementFault.BadEntry place) ⊎ IsErrOf result ElementFault.NoMemory }
+        ensures injective { (place : ℕ) → IsErrOf result (ElementFault.NotInjective place)
+            → (length fields.now ≡ degree) × All (IsBelowOrDash degree) fields.now
+            × IsFirstRepeat fields.now place }
+        ensures repeated { (place : ℕ) → length fields.now ≡ degree
+            → All (IsBelowOrDash degree) fields.now → IsFirstRepeat fields.now place
+            → IsErrOf result (ElementFault.NotInjective place)
+            ⊎ IsErrOf result ElementFault.NoMemory }
     {
         if fields.len() != degree as usize {
             return Err(ElementFault::BadCount);

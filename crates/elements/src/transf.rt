@@ -123,7 +123,8 @@ fn compose(alloc: Global, left: &[u32], right: &[u32]) -> Result<Vec<u32>, NoMem
 
 // The image that an entry names, if it is below the degree.
 fn image_below(field: Field, degree: u32) -> Option<u32>
-    ensures { MatchOption result (IsImage degree field → ⊥) (λ y. (field ≡ Field.Number y) × (y < degree)) }
+    ensures { MatchOption result (IsImage degree field → ⊥)
+        (λ y. (field ≡ Field.Number y) × (y < degree)) }
 {
     match field {
         Field::Number(y) if y < degree => Some(y),
@@ -144,11 +145,15 @@ impl Transf {
     /// `BadCount` exactly where there are not `degree` entries, then with `BadEntry` at the first
     /// entry that is no number below `degree`; never with `NotInjective`.
     pub fn read(alloc: Global, degree: u32, fields: &[Field]) -> Result<Transf, ElementFault>
-        ensures images { IfOk result (λ t. (length t ≡ degree) × (map Field.Number t ≡ fields.now)) }
+        ensures images { IfOk result (λ t. (length t ≡ degree)
+            × (map Field.Number t ≡ fields.now)) }
         ensures in_range { IfOk result (λ t. All (λ y. y < degree) t) }
         ensures count { IsErrOf result ElementFault.BadCount ↔ (length fields.now ≢ degree) }
-        ensures entry { (place : ℕ) → IsErrOf result (ElementFault.BadEntry place) → (length fields.now ≡ degree) × IsFirstBad degree fields.now place }
-        ensures refused { (place : ℕ) → length fields.now ≡ degree → IsFirstBad degree fields.now place → IsErrOf result (ElementFault.BadEntry place) ⊎ IsErrOf result ElementFault.NoMemory }
+        ensures entry { (place : ℕ) → IsErrOf result (ElementFault.BadEntry place)
+            → (length fields.now ≡ degree) × IsFirstBad degree fields.now place }
+        ensures refused { (place : ℕ) → length fields.now ≡ degree
+            → IsFirstBad degree fields.now place
+            → IsErrOf result (ElementFault.BadEntry place) ⊎ IsErrOf result ElementFault.NoMemory }
         ensures injective { (place : ℕ) → IsErrOf result (ElementFault.NotInjective place) → ⊥ }
     {
         if fields.len() != degree as usize {

@@ -1,8 +1,7 @@
 -- Words that are made from pairs of a parent and a letter.
-use Rattle.std.proofs.Common.{◌≡◌, ℕ, zero, suc, ◌+◌, ◌<◌, ◌≤◌, Bool, true, false, List, [], ◌∷◌, ◌++◌, length, get_or, refl, sym, ap, subst, ◌∙◌, arith, inl, inr, length-append, add-zero, if◌then◌else◌}
-use Rattle.std.specs.List.{list_any}
+use Rattle.std.proofs.Common.{◌≡◌, ℕ, zero, suc, ◌+◌, ◌<◌, ◌≤◌, List, [], ◌∷◌, ◌++◌, length, get_or, refl, sym, ap, subst, ◌∙◌, arith, inl, inr, length-append, add-zero}
 use Rattle.theory.specs.Word.{Word}
-use Rattle.froidure_pin.specs.Found.{AreFactors, parent, words_from, words_of, insert_factor}
+use Rattle.froidure_pin.specs.Found.{AreFactors, parent, words_from, words_of}
 use Rattle.froidure_pin.proofs.Order.{equal_or_below}
 use Rattle.froidure_pin.proofs.Places.{at_last}
 use Rattle.froidure_pin.proofs.Starts.{get_front}
@@ -56,7 +55,7 @@ factor_word k factors known i h =
 pub no_factors : (k : ℕ) → AreFactors k []
 no_factors k = record { earlier = λ i h. absurd (omega arith); letter = λ i h. absurd (omega arith) }
 
-factors_push : (k : ℕ) (factors : List (ℕ × ℕ)) (p a : ℕ) → AreFactors k factors → p ≤ length factors → a < k → AreFactors k (factors ++ (p, a) ∷ [])
+pub factors_push : (k : ℕ) (factors : List (ℕ × ℕ)) (p a : ℕ) → AreFactors k factors → p ≤ length factors → a < k → AreFactors k (factors ++ (p, a) ∷ [])
 factors_push k factors p a known h l =
     let long = length-append factors ((p, a) ∷ []) in
     record {
@@ -69,11 +68,3 @@ factors_push k factors p a known h l =
         | inr less ↦ subst (λ f. f.1 < k) (sym (get_front factors ((p, a) ∷ []) i (0, 0) less)) (known.letter i less)
       ];
     }
-
-pub factors_step : {V : Type 0} (equal : V → V → Bool) (k : ℕ) (elements : List V) (factors : List (ℕ × ℕ)) (x : V) (p a : ℕ)
-    → AreFactors k factors → p ≤ length factors → a < k → AreFactors k (insert_factor equal elements factors x p a)
-factors_step equal k elements factors x p a known h l = by (list_any (equal x) elements)
-  where
-    by : (b : Bool) → AreFactors k (if b then factors else factors ++ (p, a) ∷ [])
-    by true = known
-    by false = factors_push k factors p a known h l

@@ -1,25 +1,28 @@
 -- What the numbers of products mean.
-use Rattle.std.proofs.Common.{◌≡◌, ℕ, zero, suc, ◌+◌, ◌*◌, ◌<◌, ◌≤◌, ◌/◌, ◌%◌, Bool, false, List, [], ◌∷◌, ◌++◌, length, get_or, fold, None, refl, sym, ap, subst, subst₂, ◌∙◌, arith, inl, inr, append_assoc, append-nil, add-one, div-add-mod', mod-lt}
+use Rattle.std.proofs.Common.{◌≡◌, ℕ, ◌+◌, ◌*◌, ◌<◌, ◌≤◌, ◌/◌, ◌%◌, Bool, false, List, [], ◌∷◌, ◌++◌, length, get_or, fold, None, refl, sym, ap, subst, subst₂, arith, inl, inr, append_assoc, append-nil, add-one, div-add-mod', mod-lt}
 use Rattle.theory.specs.Word.{Word, IsOver, IsElement}
 use Rattle.theory.specs.Class.{IsLeast}
 use Rattle.froidure_pin.specs.Found.{AreFactors, parent, entry, words_of}
-use Rattle.froidure_pin.specs.Numbering.{TableOf, IsNumbering, AreParts, AreRows, AreLeftRows, right_number, left_number, letter_number, number_of}
+use Rattle.froidure_pin.specs.Growing.{AreLeftNumbers}
+use Rattle.froidure_pin.specs.Numbering.{TableOf, IsNumbering, AreParts, AreRows, right_number, left_number, letter_number, number_of}
 use Rattle.froidure_pin.proofs.Order.{below_or_not, equal_or_below}
 use Rattle.froidure_pin.proofs.Places.{row_below}
-use Rattle.froidure_pin.proofs.Factors.{factor_word, words_length}
+use Rattle.froidure_pin.proofs.Factors.{words_length}
 use Rattle.froidure_pin.proofs.Starts.{start_ascending, start_has, ascending_between, in_at, values_length}
 use Rattle.froidure_pin.proofs.Search.{IsSetting, R, Number, Val, Found, r_sym, r_trans, r_right}
 
 module _ {V : Type 0} {shape : V → ℕ × ℕ} {product : V → V → V} {equal : V → V → Bool} {generators : List V} (setting : IsSetting shape product equal generators) (unused : V) where
+  row_count : (factors : List (ℕ × ℕ)) (elements : List V) (right : List ℕ) (i : ℕ) → Found setting unused (words_of factors) elements right i 0 → length elements < i → i ≤ length elements + 1 → i ≡ length factors + 1
+  row_count factors elements right i f end reached = omega (arith, words_length factors, values_length equal (Val setting unused) (words_of factors) elements f.values)
+
   -- once every row is full
-  pub full_rows : (factors : List (ℕ × ℕ)) (elements : List V) (right : List ℕ) (i : ℕ) → Found setting unused (words_of factors) elements right i 0 → length elements < i → i ≤ length elements + 1
+  full_rows : (factors : List (ℕ × ℕ)) (elements : List V) (right : List ℕ) (i : ℕ) → Found setting unused (words_of factors) elements right i 0 → length elements < i → i ≤ length elements + 1
       → length right ≡ (length factors + 1) * length generators
   full_rows factors elements right i f end reached =
-      let same : i ≡ length factors + 1 = omega (arith, words_length factors, values_length equal (Val setting unused) (words_of factors) elements f.values) in
-      let rows : i * length generators ≡ (length factors + 1) * length generators = ap (λ n. n * length generators) same in
+      let rows : i * length generators ≡ (length factors + 1) * length generators = ap (λ n. n * length generators) (row_count factors elements right i f end reached) in
       omega (arith, f.count, rows)
 
-  pub right_rows : (factors : List (ℕ × ℕ)) (elements : List V) (right : List ℕ) (i : ℕ) → 0 < length generators → Found setting unused (words_of factors) elements right i 0 → length elements < i → i ≤ length elements + 1
+  right_rows : (factors : List (ℕ × ℕ)) (elements : List V) (right : List ℕ) (i : ℕ) → 0 < length generators → Found setting unused (words_of factors) elements right i 0 → length elements < i → i ≤ length elements + 1
       → AreRows (length generators) (length factors) right
   right_rows factors elements right i some f end reached = record {
     count = full_rows factors elements right i f end reached;
@@ -31,7 +34,7 @@ module _ {V : Type 0} {shape : V → ℕ × ℕ} {product : V → V → V} {equa
         subst (λ q. get_or right q 0 < length factors) place (omega (arith, number.0, words_length factors));
   }
 
-  module _ (factors : List (ℕ × ℕ)) (elements : List V) (right left : List ℕ) (i : ℕ) (known : AreFactors (length generators) factors) (rows : AreLeftRows (length generators) factors right left (length factors))
+  module _ (factors : List (ℕ × ℕ)) (elements : List V) (right left : List ℕ) (i : ℕ) (lefts : AreLeftNumbers product equal generators unused (words_of factors) left) (rows : length left ≡ (length factors + 1) * length generators)
       (f : Found setting unused (words_of factors) elements right i 0) (full : length right ≡ (length factors + 1) * length generators) where
     abbrev k : ℕ
     k = length generators
@@ -65,22 +68,8 @@ module _ {V : Type 0} {shape : V → ℕ × ℕ} {product : V → V → V} {equa
     every [] h = absurd (h.0 refl)
     every (a ∷ u) h = walk u (letter_number table a) (a ∷ []) (single a h.1.0) h.1.1
 
-    -- a letter times a word: times the word's parent, and then times the last letter
-    left_at : (n j a : ℕ) → j ≤ n → j ≤ length words → a < k → Number setting unused words (entry k left j a) (a ∷ parent words j)
-    left_at n zero a e h l =
-        let place : 0 * k + a ≡ a = omega arith in
-        let same : entry k left 0 a ≡ letter_number table a = ap (λ p. get_or left p 0) place ∙ rows.first a l in
-        subst (λ m. Number setting unused words m (a ∷ [])) (sym same) (single a l)
-    left_at zero (suc j) a e h l = absurd (omega arith)
-    left_at (suc n) (suc j) a e h l =
-        let inside : j < length factors = omega (arith, words_length factors) in
-        let p : ℕ × ℕ = get_or factors j (0, 0) in
-        let early : p.0 ≤ j = known.earlier j inside in
-        let before = left_at n p.0 a (omega arith) (omega (arith, words_length factors)) l in
-        let here = right_step (entry k left p.0 a) (a ∷ parent words p.0) p.1 before (known.letter j inside) in
-        let next : entry k left (suc j) a ≡ entry k right (entry k left p.0 a + 1) p.1 = let one : j + 1 ≡ suc j = omega arith in subst (λ q. entry k left q a ≡ entry k right (entry k left p.0 a + 1) p.1) one (rows.next j a inside l) in
-        let word : a ∷ get_or words j [] ≡ (a ∷ parent words p.0) ++ p.1 ∷ [] = ap (λ u. a ∷ u) (factor_word k factors known j inside) in
-        subst₂ (λ m u. Number setting unused words m u) (sym next) (sym word) here
+    left_at : (j a : ℕ) → j ≤ length words → a < k → Number setting unused words (entry k left j a) (a ∷ parent words j)
+    left_at j a h l = lefts.numbers j a l (let row = row_below k j (length factors + 1) a (omega (arith, words_length factors)) l in omega (arith, rows))
 
     least_at : (j : ℕ) → j < length words → IsLeast (R setting unused) (get_or words j [])
     least_at j h = start_has (IsLeast (R setting unused)) None words f.start (get_or words j []) (in_at words j [] h)
@@ -88,7 +77,7 @@ module _ {V : Type 0} {shape : V → ℕ × ℕ} {product : V → V → V} {equa
     later_apart : (j l : ℕ) → j < l → l < length words → R setting unused (get_or words j []) (get_or words l []) → ⊥
     later_apart j l less h r = (least_at l h).none_less (get_or words j []) (r_sym setting unused (get_or words j []) (get_or words l []) r) (ascending_between None words (start_ascending (IsLeast (R setting unused)) None words f.start) j l less h)
 
-    pub numbering : IsNumbering product equal generators unused table
+    numbering : IsNumbering product equal generators unused table
     numbering = record {
       letters = refl;
       numbered = record {
@@ -99,25 +88,35 @@ module _ {V : Type 0} {shape : V → ℕ × ℕ} {product : V → V → V} {equa
           | inr le ↦ elim (equal_or_below l j le) [ inl e ↦ sym e | inr less ↦ absurd (later_apart l j less hj (r_sym setting unused (get_or words j []) (get_or words l []) r)) ]
         ];
         on_right = λ j a h l. let at_next : parent words (j + 1) ≡ get_or words j [] = rw add-one refl in subst (λ u. Number setting unused words (right_number table j a) (u ++ a ∷ [])) at_next (right_at (j + 1) a (omega arith) l);
-        on_left = λ j a h l. let at_next : parent words (j + 1) ≡ get_or words j [] = rw add-one refl in subst (λ u. Number setting unused words (left_number table j a) (a ∷ u)) at_next (left_at (j + 1) (j + 1) a (omega arith) (omega arith) l);
+        on_left = λ j a h l. let at_next : parent words (j + 1) ≡ get_or words j [] = rw add-one refl in subst (λ u. Number setting unused words (left_number table j a) (a ∷ u)) at_next (left_at (j + 1) a (omega arith) l);
       };
       single = single;
       every = every;
     }
 
   -- the table at the end
-  pub numbering_as : (factors : List (ℕ × ℕ)) (elements : List V) (right left : List ℕ) (i letters : ℕ) → letters ≡ length generators → AreFactors (length generators) factors → AreLeftRows letters factors right left (length factors)
+  pub numbering_as : (factors : List (ℕ × ℕ)) (elements : List V) (right left : List ℕ) (i letters : ℕ) → letters ≡ length generators → AreLeftNumbers product equal generators unused (words_of factors) left → length left ≡ i * length generators
       → Found setting unused (words_of factors) elements right i 0 → length elements < i → i ≤ length elements + 1
       → IsNumbering product equal generators unused (record { elements = elements; words = words_of factors; letters = letters; right = right; left = left })
-  numbering_as factors elements right left i letters same known rows f end reached =
+  numbering_as factors elements right left i letters same lefts rows f end reached =
       subst (λ n. IsNumbering product equal generators unused (record { elements = elements; words = words_of factors; letters = n; right = right; left = left })) (sym same)
-      (numbering factors elements right left i known (subst (λ n. AreLeftRows n factors right left (length factors)) same rows) f (full_rows factors elements right i f end reached))
+      (numbering factors elements right left i lefts (subst (λ n. length left ≡ n * length generators) (row_count factors elements right i f end reached) rows) f (full_rows factors elements right i f end reached))
+
+  left_rows : (factors : List (ℕ × ℕ)) (left : List ℕ) → 0 < length generators → AreLeftNumbers product equal generators unused (words_of factors) left → length left ≡ (length factors + 1) * length generators → AreRows (length generators) (length factors) left
+  left_rows factors left some lefts rows = record {
+    count = rows;
+    within = λ p h.
+        let k : ℕ = length generators in
+        let place : p / k * k + p % k ≡ p = div-add-mod' p k in
+        let number = lefts.numbers (p / k) (p % k) (mod-lt p some) (omega arith) in
+        subst (λ q. get_or left q 0 < length factors) place (omega (arith, number.0, words_length factors));
+  }
 
   -- and what its parts have in common
   pub parts : (factors : List (ℕ × ℕ)) (elements : List V) (right left : List ℕ) (i letters : ℕ) → letters ≡ length generators → length generators ≤ 256 → 0 < length generators → AreFactors (length generators) factors
-      → AreLeftRows letters factors right left (length factors) → Found setting unused (words_of factors) elements right i 0 → length elements < i → i ≤ length elements + 1
+      → AreLeftNumbers product equal generators unused (words_of factors) left → length left ≡ i * length generators → Found setting unused (words_of factors) elements right i 0 → length elements < i → i ≤ length elements + 1
       → AreParts letters (length elements) factors right left
-  parts factors elements right left i letters same few some known rows f end reached =
+  parts factors elements right left i letters same few some known lefts rows f end reached =
       let many : length factors ≡ length elements = omega (arith, words_length factors, values_length equal (Val setting unused) (words_of factors) elements f.values) in
       record {
         some = omega arith;
@@ -125,5 +124,5 @@ module _ {V : Type 0} {shape : V → ℕ × ℕ} {product : V → V → V} {equa
         count = many;
         known = subst (λ n. AreFactors n factors) (sym same) known;
         on_right = subst₂ (λ n m. AreRows n m right) (sym same) many (right_rows factors elements right i some f end reached);
-        on_left = subst (λ m. AreRows letters m left) many (record { count = rows.count; within = rows.within });
+        on_left = subst₂ (λ n m. AreRows n m left) (sym same) many (left_rows factors left some lefts (subst (λ n. length left ≡ n * length generators) (row_count factors elements right i f end reached) rows));
       }

@@ -8,6 +8,11 @@ get_any [] i d e h = absurd (omega arith)
 get_any (x ∷ xs) zero d e h = refl
 get_any (x ∷ xs) (suc i) d e h = get_any xs i d e (omega arith)
 
+-- a value of a list that has some
+pub some_value : {V : Type 0} (xs : List V) → 0 < length xs → V
+some_value [] h = absurd (omega arith)
+some_value (x ∷ xs) h = x
+
 module _ {V : Type 0} (shape : V → ℕ × ℕ) (xs : List V) where
   pub all_as_first : ((k : ℕ) (unused : V) → k < length xs → shape (get_or xs 0 unused) ≡ shape (get_or xs k unused)) → HaveOneShape shape xs
   all_as_first h = λ i j unused i_in j_in. sym (h i unused i_in) ∙ h j unused j_in

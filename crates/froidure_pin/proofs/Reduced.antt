@@ -5,7 +5,7 @@ use Rattle.theory.specs.ShortLex.{◌≺◌}
 use Rattle.theory.specs.Listing.{IsAfter, IsAscending}
 use Rattle.theory.specs.Class.{IsLeast, IsReducedRule, IsRuleList, RuleBefore}
 use Rattle.theory.proofs.Counting.{IsIn}
-use Rattle.theory.proofs.Words.{order_cases, before_irrefl, before_append_left, over_left, over_right}
+use Rattle.theory.proofs.Words.{order_cases, before_append_left, over_left, over_right}
 use Rattle.theory.proofs.Listings.{list_from_ascending}
 use Rattle.theory.proofs.ClassLaws.{IsPartialEquivalence, least_part, rule_order}
 use Rattle.theory.proofs.Completeness.{normal_unique}
@@ -17,11 +17,12 @@ use Rattle.froidure_pin.proofs.Order.{snoc, snoc_not_nil, ahead, letter_before, 
 use Rattle.froidure_pin.proofs.Places.{row_below, place_is}
 use Rattle.froidure_pin.proofs.RuleSteps.{row_of_place, not_zero}
 use Rattle.froidure_pin.proofs.Factors.{factor_word, words_length}
-use Rattle.froidure_pin.proofs.Starts.{at_in, in_push, in_last, ascending_between, parents_ascend}
+use Rattle.froidure_pin.proofs.Starts.{in_push, in_last}
+use Rattle.froidure_pin.proofs.LeastWords.{least_word, parents_rise, parent_once}
 use Rattle.froidure_pin.proofs.Search.{IsSetting, R, Number, known, generator_shape, r_sym, r_trans, r_refl}
 
 -- the last letter, and what stands before it
-snoc_same : (u v : Word) (a b : ℕ) → u ++ a ∷ [] ≡ v ++ b ∷ [] → (u ≡ v) × (a ≡ b)
+pub snoc_same : (u v : Word) (a b : ℕ) → u ++ a ∷ [] ≡ v ++ b ∷ [] → (u ≡ v) × (a ≡ b)
 snoc_same [] [] a b e = let same : a ≡ b = cc in (refl, same)
 snoc_same [] (c ∷ v) a b e = let rest : v ++ b ∷ [] ≡ [] = cc in absurd (snoc_not_nil v b rest)
 snoc_same (c ∷ u) [] a b e = let rest : u ++ a ∷ [] ≡ [] = cc in absurd (snoc_not_nil u a rest)
@@ -44,13 +45,13 @@ not_true true e = cc
 not_true false e = refl
 
 -- what the test of a product says
-product_is : (factors : List (ℕ × ℕ)) (m j a : ℕ) → is_product factors m j a ≡ true → ((get_or factors m (0, 0)).0 ≡ j) × ((get_or factors m (0, 0)).1 ≡ a)
+pub product_is : (factors : List (ℕ × ℕ)) (m j a : ℕ) → is_product factors m j a ≡ true → ((get_or factors m (0, 0)).0 ≡ j) × ((get_or factors m (0, 0)).1 ≡ a)
 product_is factors m j a e =
     let f : ℕ × ℕ = get_or factors m (0, 0) in
     let both = and_both (f.0 == j) (f.1 == a) e in
     (eqb-true f.0 j both.0, eqb-true f.1 a both.1)
 
-is_the_product : (factors : List (ℕ × ℕ)) (m j a : ℕ) → (get_or factors m (0, 0)).0 ≡ j → (get_or factors m (0, 0)).1 ≡ a → is_product factors m j a ≡ true
+pub is_the_product : (factors : List (ℕ × ℕ)) (m j a : ℕ) → (get_or factors m (0, 0)).0 ≡ j → (get_or factors m (0, 0)).1 ≡ a → is_product factors m j a ≡ true
 is_the_product factors m j a p q =
     let f : ℕ × ℕ = get_or factors m (0, 0) in
     ap (λ b. b && (f.1 == a)) (eq-eqb f.0 j p) ∙ eq-eqb f.1 a q
@@ -117,7 +118,7 @@ back_nil [] f e = e
 back_nil (c ∷ x) f e = cc
 
 -- a proper factor of a word with one letter more stands in the word, or behind its first letter
-proper_cases : (w : Word) (a : ℕ) (f : Word) → f ≢ [] → IsProperFactor f (w ++ a ∷ [])
+pub proper_cases : (w : Word) (a : ℕ) (f : Word) → f ≢ [] → IsProperFactor f (w ++ a ∷ [])
     → ((x : Word) × (y : Word) × (w ≡ x ++ (f ++ y))) ⊎ ((c : ℕ) × (t : Word) × (x : Word) × (w ≡ c ∷ t) × (t ++ a ∷ [] ≡ x ++ f))
 proper_cases w a f some h = elim (snoc h.factor.after) [
   | inl z ↦ inr (behind h.factor.before (h.factor.is ∙ ap (λ y. h.factor.before ++ (f ++ y)) z ∙ ap (λ g. h.factor.before ++ g) (append-nil f)))
@@ -142,7 +143,7 @@ module _ {V : Type 0} {shape : V → ℕ × ℕ} {product : V → V → V} {equa
   equivalence = record { symmetric = r_sym setting unused; transitive = r_trans setting unused }
 
   -- a part of a least word is least
-  part_least : (x f y : Word) → f ≢ [] → IsLeast Related (x ++ (f ++ y)) → IsLeast Related f
+  pub part_least : (x f y : Word) → f ≢ [] → IsLeast Related (x ++ (f ++ y)) → IsLeast Related f
   part_least x f y some h =
       let k : ℕ = length generators in
       let whole : IsOver k (x ++ (f ++ y)) = h.element.left.1 in
@@ -168,26 +169,6 @@ module _ {V : Type 0} {shape : V → ℕ × ℕ} {product : V → V → V} {equa
     abbrev word : ℕ → Word
     word m = get_or words m []
 
-    -- a least word is the word of its number
-    same_word : (u : Word) (m : ℕ) → IsLeast Related u → Number setting unused words m u → u ≡ word m
-    same_word u m h n = elim (order_cases u (word m)) [
-      | inl l ↦ absurd ((least_at m n.0).none_less u (r_sym setting unused u (word m) n.1) l)
-      | inr (inl e) ↦ e
-      | inr (inr g) ↦ absurd (h.none_less (word m) n.1 g)
-    ]
-
-    parents_between : (i j : ℕ) → i < j → j ≤ length words → parent words i ≺ parent words j
-    parents_between i j less h = ascending_between None ([] ∷ words) (parents_ascend words ascending (λ w m. let at = at_in w words [] m in subst (λ z. z ≢ []) at.2 (least_at at.0 at.1).element.left.0)) i j less (omega (arith, h))
-
-    parent_same : (i j : ℕ) → i ≤ length words → j ≤ length words → parent words i ≡ parent words j → i ≡ j
-    parent_same i j hi hj e = elim (below_or_not i j) [
-      | inl less ↦ absurd (before_irrefl (parent words j) (subst (λ w. w ≺ parent words j) e (parents_between i j less hj)))
-      | inr le ↦ elim (equal_or_below j i le) [
-        | inl s ↦ sym s
-        | inr less ↦ absurd (before_irrefl (parent words i) (subst (λ w. w ≺ parent words i) (sym e) (parents_between j i less hi)))
-      ]
-    ]
-
     parent_least : (j : ℕ) → j ≤ length words → parent words j ≢ [] → IsLeast Related (parent words j)
     parent_least zero h n = absurd (n refl)
     parent_least (suc j) h n = least_at j (omega arith)
@@ -203,9 +184,9 @@ module _ {V : Type 0} {shape : V → ℕ × ℕ} {product : V → V → V} {equa
     product_test m j a h n least =
         let f : ℕ × ℕ = get_or factors m (0, 0) in
         let inside : m < length factors = omega (arith, words_length factors, n.0) in
-        let same : parent words f.0 ++ f.1 ∷ [] ≡ parent words j ++ a ∷ [] = sym (factor_word k factors earlier m inside) ∙ sym (same_word (parent words j ++ a ∷ []) m least n) in
+        let same : parent words f.0 ++ f.1 ∷ [] ≡ parent words j ++ a ∷ [] = sym (factor_word k factors earlier m inside) ∙ sym (least_word setting unused words least_at ascending (parent words j ++ a ∷ []) m least n) in
         let both = snoc_same (parent words f.0) (parent words j) f.1 a same in
-        is_the_product factors m j a (parent_same f.0 j (omega (arith, earlier.earlier m inside, words_length factors)) h both.0) both.1
+        is_the_product factors m j a (parent_once setting unused words least_at ascending f.0 j (omega (arith, earlier.earlier m inside, words_length factors)) h both.0) both.1
 
     -- what is left without the first letter
     suffix_is : (n j : ℕ) → j ≤ n → 0 < j → j ≤ length words → (c : ℕ) × (parent words j ≡ c ∷ parent words (get_or suffixes j 0)) × (get_or suffixes j 0 ≤ length words)
@@ -246,7 +227,7 @@ module _ {V : Type 0} {shape : V → ℕ × ℕ} {product : V → V → V} {equa
             let n_t = number s f.1 r.2 (earlier.letter i inside) in
             let some_left : get_or suffixes (suc i) 0 ≡ m + 1 = next ∙ ap (λ b. if b then 0 else otherwise) (not_zero f.0 p z) in
             let at_next : parent words (m + 1) ≡ word m = rw add-one refl in
-            let left : t ≡ parent words (get_or suffixes (suc i) 0) = same_word t m least n_t ∙ sym at_next ∙ ap (λ q. parent words q) (sym some_left) in
+            let left : t ≡ parent words (get_or suffixes (suc i) 0) = least_word setting unused words least_at ascending t m least n_t ∙ sym at_next ∙ ap (λ q. parent words q) (sym some_left) in
             (r.0, whole ∙ ap (λ u. r.0 ∷ u) left, omega (arith, some_left, n_t.0))
 
     length_right : length right ≡ (length words + 1) * k
@@ -319,7 +300,7 @@ module _ {V : Type 0} {shape : V → ℕ × ℕ} {product : V → V → V} {equa
       | inl z ↦ record { row = zero; within = omega arith; is = z }
       | inr full ↦
           let n = every q (least full).element.left in
-          record { row = suc n.0; within = omega (arith, n.1.0); is = same_word q n.0 (least full) n.1 }
+          record { row = suc n.0; within = omega (arith, n.1.0); is = least_word setting unused words least_at ascending q n.0 (least full) n.1 }
     ]
 
     product_found : (j b : ℕ) (v : Word) → j ≤ length words → b < k → IsReducedRule Related (parent words j ++ b ∷ []) v
@@ -388,7 +369,7 @@ module _ {V : Type 0} {shape : V → ℕ × ℕ} {product : V → V → V} {equa
         let one = row_of_place k (length words) l some (omega (arith, length_right)) in
         let two = row_of_place k (length words) p some (omega (arith, length_right)) in
         elim (below_or_not (l / k) (p / k)) [
-          | inl before ↦ ahead (parent words (l / k)) (parent words (p / k)) (l % k) (p % k) (parents_between (l / k) (p / k) before two.0)
+          | inl before ↦ ahead (parent words (l / k)) (parent words (p / k)) (l % k) (p % k) (parents_rise setting unused words least_at ascending (l / k) (p / k) before two.0)
           | inr le ↦ elim (equal_or_below (p / k) (l / k) le) [
             | inl s ↦
                 let rows_same : p / k * k ≡ l / k * k = ap (λ n. n * k) s in

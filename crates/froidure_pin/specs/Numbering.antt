@@ -16,9 +16,19 @@ pub record TableOf (V : Type 0) : Type 0 where
 
 abbrev pub table_code : {V : Type 0} → Coded V → Coded (TableOf V)
 table_code {V} code =
-    code_by (List V × (List Word × (ℕ × (List ℕ × List ℕ)))) (coded× (coded_list code) (coded× (coded_list (coded_list coded_ℕ)) (coded× coded_ℕ (coded× (coded_list coded_ℕ) (coded_list coded_ℕ)))))
+    code_by (List V × (List Word × (ℕ × (List ℕ × List ℕ))))
+    (coded× (coded_list code)
+    (coded× (coded_list (coded_list coded_ℕ))
+    (coded× coded_ℕ (coded× (coded_list coded_ℕ) (coded_list coded_ℕ)))))
     (λ t. (t.elements, (t.words, (t.letters, (t.right, t.left)))))
-    (λ p. record { elements = p.0; words = p.1.0; letters = p.1.1.0; right = p.1.1.1.0; left = p.1.1.1.1 }) (λ _. refl)
+    (λ p. record {
+      elements = p.0;
+      words = p.1.0;
+      letters = p.1.1.0;
+      right = p.1.1.1.0;
+      left = p.1.1.1.1;
+    })
+    (λ _. refl)
 
 -- the number of a letter's generator
 abbrev pub letter_number : {V : Type 0} → TableOf V → ℕ → ℕ
@@ -38,11 +48,18 @@ number_of t [] = 0
 number_of t (a ∷ u) = fold (right_number t) (letter_number t a) u
 
 -- the numbers are those of the products, letters and words
-pub record IsNumbering {V : Type 0} (product : V → V → V) (equal : V → V → Bool) (generators : List V) (unused : V) (table : TableOf V) : Type 0 where
+pub record IsNumbering {V : Type 0} (product : V → V → V) (equal : V → V → Bool)
+    (generators : List V) (unused : V) (table : TableOf V) : Type 0 where
   pub letters : table.letters ≡ length generators
-  pub numbered : AreNumbered (length generators) equal (value_by product generators unused) (length table.words) (λ i. slice_index_or table.words i []) (right_number table) (left_number table)
-  pub single : (a : ℕ) → a < length generators → IsNumberIn (length generators) equal (value_by product generators unused) table.words (letter_number table a) (a ∷ [])
-  pub every : (u : Word) → IsElement false (length generators) u → IsNumberIn (length generators) equal (value_by product generators unused) table.words (number_of table u) u
+  pub numbered : AreNumbered (length generators) equal (value_by product generators unused)
+      (length table.words) (λ i. slice_index_or table.words i []) (right_number table)
+      (left_number table)
+  pub single : (a : ℕ) → a < length generators
+      → IsNumberIn (length generators) equal (value_by product generators unused) table.words
+      (letter_number table a) (a ∷ [])
+  pub every : (u : Word) → IsElement false (length generators) u
+      → IsNumberIn (length generators) equal (value_by product generators unused) table.words
+      (number_of table u) u
 
 -- a row of k numbers below n for the empty word, and for each of n elements
 pub record AreRows (k n : ℕ) (numbers : List ℕ) : Type 0 where
@@ -57,21 +74,6 @@ pub record AreParts (letters n : ℕ) (factors : List (ℕ × ℕ)) (right left 
   pub known : AreFactors letters factors
   pub on_right : AreRows letters n right
   pub on_left : AreRows letters n left
-
--- the row of the empty word is that of the letters, and the rows of the first i words follow from those of their parents: a letter times a word is that letter times the parent, times the last letter
-pub record AreLeftRows (k : ℕ) (factors : List (ℕ × ℕ)) (right left : List ℕ) (i : ℕ) : Type 0 where
-  pub count : length left ≡ (i + 1) * k
-  pub within : (p : ℕ) → p < length left → slice_index left p < length factors
-  pub first : (a : ℕ) → a < k → slice_index left a ≡ slice_index right a
-  pub next : (j a : ℕ) → j < i → a < k
-      → entry k left (j + 1) a ≡ entry k right (entry k left (slice_index_or factors j (0, 0)).0 a + 1) (slice_index_or factors j (0, 0)).1
-
--- a part of a row is added, for the letters below c
-pub record AddsRow (k : ℕ) (factors : List (ℕ × ℕ)) (right : List ℕ) (i : ℕ) (old new : List ℕ) (c : ℕ) : Type 0 where
-  pub count : length new ≡ length old + c
-  pub kept : (p : ℕ) → p < length old → slice_index new p ≡ slice_index old p
-  pub within : (a : ℕ) → a < c → slice_index new (length old + a) < length factors
-  pub added : (a : ℕ) → a < c → slice_index new (length old + a) ≡ entry k right (entry k old (slice_index_or factors i (0, 0)).0 a + 1) (slice_index_or factors i (0, 0)).1
 
 -- one number for each of k letters
 pub record IsRowBy (k : ℕ) (number : ℕ → ℕ) (row : List ℕ) : Type 0 where

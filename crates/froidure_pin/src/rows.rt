@@ -1,10 +1,12 @@
 // Rows of numbers, one behind the other.
-ghost use Rattle.std.specs.Prelude.{◌≡◌, ◌+◌, ◌*◌, ◌<◌, length, OnOk, IfOk};
-ghost use Rattle.froidure_pin.specs.Found.{AreFactors, entry};
-ghost use Rattle.froidure_pin.specs.Numbering.{AreLeftRows, AreRows};
+ghost use Rattle.std.specs.Prelude.{◌≡◌, ℕ, ◌+◌, ◌*◌, ◌<◌, ◌≤◌, length, OnOk};
+ghost use Rattle.elements.specs.Generators.{HaveOneShape};
+ghost use Rattle.froidure_pin.specs.Found.{entry, words_of};
+ghost use Rattle.froidure_pin.specs.Growing.{AreLeftNumbers, IsGrown, IsLevel, ReachesAsLong};
 
+use super::growth::Growth;
+use elements::Element;
 use ports::NoMemory;
-use std::alloc::Global;
 
 // What the row of a parent has at a letter.
 pub(crate) fn entry(numbers: &Vec<usize>, letters: usize, parent: usize, letter: usize) -> usize
@@ -24,8 +26,10 @@ fn left_number(
 ) -> usize
     requires letter { factor.1 < letters }
     requires parent { factor.0 * letters + before < length left.now.items }
-    requires product { (entry letters left.now.items factor.0 before + 1) * letters + factor.1 < length right.now.items }
-    ensures { result ≡ entry letters right.now.items (entry letters left.now.items factor.0 before + 1) factor.1 }
+    requires product { (entry letters left.now.items factor.0 before + 1) * letters + factor.1
+        < length right.now.items }
+    ensures { result ≡ entry letters right.now.items
+        (entry letters left.now.items factor.0 before + 1) factor.1 }
 {
     let (parent, letter) = factor;
     let number = entry(left, letters, parent, before);
@@ -33,41 +37,62 @@ fn left_number(
 }
 
 // Adds the row of a word: each letter times the word.
-fn add_row(
-    letters: usize,
-    factors: &Vec<(usize, usize)>,
-    right: &Vec<usize>,
+fn add_left_row<E: Element>(
+    generators: &Vec<E>,
+    growth: &Growth<E>,
     left: &mut Vec<usize>,
     number: usize,
 ) -> Result<(), NoMemory>
-    requires factors { AreFactors letters factors.now.items }
-    requires right { AreRows letters (length factors.now.items) right.now.items }
-    requires left { AreLeftRows letters factors.now.items right.now.items left.old.items number }
-    requires within { number < length factors.now.items }
-    ensures left { OnOk result (AreLeftRows letters factors.now.items right.now.items left.new.items (number + 1)) }
+    requires shape { HaveOneShape E.shape generators.now.items }
+    requires some { 0 < length generators.now.items }
+    requires within { number < length growth.now.elements.keys }
+    requires grown { (unused : E) → (row : ℕ)
+        × IsGrown E.product E.eq generators.now.items unused growth.now.elements.keys
+        growth.now.factors.items growth.now.tails.items growth.now.right.items row 0 }
+    requires reach { ReachesAsLong (length generators.now.items) (words_of growth.now.factors.items)
+        (length growth.now.right.items) number }
+    requires rows { length left.old.items ≡ (number + 1) * length generators.now.items }
+    requires left { (unused : E) → AreLeftNumbers E.product E.eq generators.now.items unused
+        (words_of growth.now.factors.items) left.old.items }
+    ensures rows { OnOk result (length left.new.items
+        ≡ (number + 1 + 1) * length generators.now.items) }
+    ensures left { OnOk result ((unused : E)
+        → AreLeftNumbers E.product E.eq generators.now.items unused
+        (words_of growth.now.factors.items) left.new.items) }
 {
+    let letters = generators.len();
     for letter in 0..letters {
-        let product = left_number(letters, right, left, factors[number], letter);
+        let product = left_number(letters, &growth.right, left, growth.factors[number], letter);
         left.push(product)?;
     }
     Ok(())
 }
 
-// The numbers of each letter times the empty word, and times each word, from those of each word
-// times each letter.
-pub(crate) fn left_rows(
-    alloc: Global,
-    letters: usize,
-    factors: &Vec<(usize, usize)>,
-    right: &Vec<usize>,
-) -> Result<Vec<usize>, NoMemory>
-    requires factors { AreFactors letters factors.now.items }
-    requires right { AreRows letters (length factors.now.items) right.now.items }
-    ensures left { IfOk result (λ left. AreLeftRows letters factors.now.items right.now.items left.items (length factors.now.items)) }
+// Adds the rows of the words of one length: those from the first number to before the last.
+pub(crate) fn add_left_rows<E: Element>(
+    generators: &Vec<E>,
+    growth: &Growth<E>,
+    left: &mut Vec<usize>,
+    first: usize,
+    last: usize,
+) -> Result<(), NoMemory>
+    requires shape { HaveOneShape E.shape generators.now.items }
+    requires some { 0 < length generators.now.items }
+    requires order { first ≤ last }
+    requires grown { (unused : E) → IsGrown E.product E.eq generators.now.items unused
+        growth.now.elements.keys growth.now.factors.items growth.now.tails.items
+        growth.now.right.items (last + 1) 0 }
+    requires level { IsLevel (words_of growth.now.factors.items) first last }
+    requires rows { length left.old.items ≡ (first + 1) * length generators.now.items }
+    requires left { (unused : E) → AreLeftNumbers E.product E.eq generators.now.items unused
+        (words_of growth.now.factors.items) left.old.items }
+    ensures rows { OnOk result (length left.new.items ≡ (last + 1) * length generators.now.items) }
+    ensures left { OnOk result ((unused : E)
+        → AreLeftNumbers E.product E.eq generators.now.items unused
+        (words_of growth.now.factors.items) left.new.items) }
 {
-    let mut left = Vec::from_slice(alloc, &right[..letters])?;
-    for number in 0..factors.len() {
-        add_row(letters, factors, right, &mut left, number)?;
+    for number in first..last {
+        add_left_row(generators, growth, left, number)?;
     }
-    Ok(left)
+    Ok(())
 }

@@ -19,9 +19,12 @@ fn suffix_of(
 ) -> usize
     requires letter { factor.1 < letters }
     requires parent { factor.0 < length suffixes.now.items }
-    requires product { slice_index suffixes.now.items factor.0 * letters + factor.1 < length right.now.items }
-    requires few { entry letters right.now.items (slice_index suffixes.now.items factor.0) factor.1 < length right.now.items }
-    ensures { result ≡ (if factor.0 == 0 then 0 else entry letters right.now.items (slice_index suffixes.now.items factor.0) factor.1 + 1) }
+    requires product { slice_index suffixes.now.items factor.0 * letters + factor.1
+        < length right.now.items }
+    requires few { entry letters right.now.items (slice_index suffixes.now.items factor.0) factor.1
+        < length right.now.items }
+    ensures { result ≡ (if factor.0 == 0 then 0 else entry letters right.now.items
+        (slice_index suffixes.now.items factor.0) factor.1 + 1) }
 {
     let (parent, letter) = factor;
     if parent == 0 {
@@ -40,7 +43,8 @@ pub(crate) fn suffixes_of(
     requires some { 0 < letters }
     requires factors { AreFactors letters factors.now.items }
     requires right { AreRows letters (length factors.now.items) right.now.items }
-    ensures { IfOk result (λ suffixes. AreSuffixes letters factors.now.items right.now.items suffixes.items (length factors.now.items)) }
+    ensures { IfOk result (λ suffixes. AreSuffixes letters factors.now.items right.now.items
+        suffixes.items (length factors.now.items)) }
 {
     let mut suffixes = Vec::new(alloc);
     suffixes.push(0)?;
@@ -52,7 +56,12 @@ pub(crate) fn suffixes_of(
 }
 
 // Whether the word of a number is a parent with a letter.
-fn is_product(factors: &Vec<(usize, usize)>, number: usize, parent: usize, letter: usize) -> bool
+pub(crate) fn is_product(
+    factors: &Vec<(usize, usize)>,
+    number: usize,
+    parent: usize,
+    letter: usize,
+) -> bool
     requires { number < length factors.now.items }
     ensures { result ≡ is_product factors.now.items number parent letter }
 {
@@ -70,7 +79,8 @@ fn is_rule(
 ) -> bool
     requires some { 0 < letters }
     requires right { AreRows letters (length factors.now.items) right.now.items }
-    requires suffixes { AreSuffixes letters factors.now.items right.now.items suffixes.now.items (length factors.now.items) }
+    requires suffixes { AreSuffixes letters factors.now.items right.now.items suffixes.now.items
+        (length factors.now.items) }
     requires within { place < length right.now.items }
     ensures { result ≡ is_rule letters factors.now.items right.now.items suffixes.now.items place }
 {
@@ -117,7 +127,8 @@ fn product_word(
     requires factors { AreFactors 256 factors.now.items }
     requires within { before ≤ length factors.now.items }
     requires few { letter < 256 }
-    ensures { IfOk result (λ word. word ≡ parent (words_of factors.now.items) before ++ letter ∷ []) }
+    ensures { IfOk result (λ word.
+        word ≡ parent (words_of factors.now.items) before ++ letter ∷ []) }
 {
     let mut word = parent_word(alloc, factors, before)?;
     word.push(Letter::new(letter as u8))?;
@@ -138,9 +149,11 @@ fn add_rule(
     requires few { letters ≤ 256 }
     requires factors { AreFactors letters factors.now.items }
     requires right { AreRows letters (length factors.now.items) right.now.items }
-    requires suffixes { AreSuffixes letters factors.now.items right.now.items suffixes.now.items (length factors.now.items) }
+    requires suffixes { AreSuffixes letters factors.now.items right.now.items suffixes.now.items
+        (length factors.now.items) }
     requires within { place < length right.now.items }
-    ensures { OnOk result (rules.new.items ≡ rules.old.items ++ rules_at letters factors.now.items right.now.items suffixes.now.items place) }
+    ensures { OnOk result (rules.new.items ≡ rules.old.items
+        ++ rules_at letters factors.now.items right.now.items suffixes.now.items place) }
 {
     if !is_rule(letters, factors, right, suffixes, place) {
         return Ok(());
@@ -163,8 +176,11 @@ pub(crate) fn rules_of(
     requires few { letters ≤ 256 }
     requires factors { AreFactors letters factors.now.items }
     requires right { AreRows letters (length factors.now.items) right.now.items }
-    requires suffixes { AreSuffixes letters factors.now.items right.now.items suffixes.now.items (length factors.now.items) }
-    ensures { IfOk result (λ rules. rules.items ≡ rules_to letters factors.now.items right.now.items suffixes.now.items (length right.now.items)) }
+    requires suffixes { AreSuffixes letters factors.now.items right.now.items suffixes.now.items
+        (length factors.now.items) }
+    ensures { IfOk result (λ rules. rules.items
+        ≡ rules_to letters factors.now.items right.now.items suffixes.now.items
+        (length right.now.items)) }
 {
     let mut rules = Vec::new(alloc);
     for place in 0..right.len() {

@@ -1,18 +1,21 @@
-// Each element times each generator, in the order of their least words.
-ghost use Rattle.std.specs.Prelude.{[], ◌∷◌, ◌++◌, ◌≡◌, ℕ, ◌+◌, ◌*◌, ◌<◌, ◌≤◌, ◌↔◌, length, IfOk, OnOk, OnErr, IsTrue, Ok, true, false};
-ghost use Rattle.std.specs.List.{position_or_len};
-ghost use Rattle.theory.specs.Value.{HasAtMostValues, HasMoreValues};
-ghost use Rattle.froidure_pin.specs.Found.{AreFound, AreFactors, IsTableOf, words_of, insert_factor};
+// The elements, one length of words after another.
+ghost use Rattle.std.specs.Prelude.{[], ◌∷◌, ◌++◌, ◌≡◌, List, ℕ, ◌+◌, ◌*◌, ◌<◌, ◌≤◌, ◌↔◌, length, slice_index_or, IfOk, IfSome, OnOk, OnErr, IsTrue, Ok, Some, None, true, false};
+ghost use Rattle.theory.specs.Class.{IsRuleList};
+ghost use Rattle.theory.specs.Value.{HasAtMostValues, HasMoreValues, SameValue};
+ghost use Rattle.theory.specs.Word.{Word};
+ghost use Rattle.froidure_pin.specs.Found.{IsNumberIn, IsTableOf, entry, parent, words_of};
+ghost use Rattle.froidure_pin.specs.Growing.{AreCounted, AreLeftNumbers, GrowsTo, IsAt, IsGrown, IsLevel};
+ghost use Rattle.froidure_pin.specs.Rules.{is_product};
 ghost use Rattle.elements.specs.Generators.{value_by};
 ghost use Rattle.froidure_pin.specs.Numbering.{IsNumbering};
-ghost use Rattle.indexmap.specs.IndexSet.{insert_key};
 ghost use Rattle.elements.specs.Generators.{HaveOneShape};
 
-use super::rows::left_rows;
+use super::growth::Growth;
+use super::rows::{add_left_rows, entry};
+use super::rules::is_product;
 use super::steps::Steps;
 use super::table::Table;
 use elements::Element;
-use indexmap::IndexSet;
 use ports::NoMemory;
 use std::alloc::Global;
 use std::sync::ledger::Ledger;
@@ -28,46 +31,6 @@ pub enum Run<E: Element> {
 
 /// The algorithm of Froidure and Pin (1997).
 pub struct FroidurePin;
-
-// Takes in a product, with its parent and its letter where it is new, and keeps its number.
-fn take_in<E: Element>(
-    elements: &mut IndexSet<E>,
-    factors: &mut Vec<(usize, usize)>,
-    right: &mut Vec<usize>,
-    made: E,
-    parent: usize,
-    letter: usize,
-) -> Result<(), NoMemory>
-    ensures elements { OnOk result (elements.new.keys ≡ insert_key E.eq elements.old.keys made) }
-    ensures factors { OnOk result (factors.new.items ≡ insert_factor E.eq elements.old.keys factors.old.items made parent letter) }
-    ensures right { OnOk result (right.new.items ≡ right.old.items ++ position_or_len (E.eq made) elements.old.keys ∷ []) }
-{
-    let (number, is_new) = elements.insert_full(made)?;
-    right.push(number)?;
-    if is_new {
-        factors.push((parent, letter))?;
-    }
-    Ok(())
-}
-
-// Takes in a product, and says whether there are more elements than the bound then.
-fn goes_over<E: Element>(
-    elements: &mut IndexSet<E>,
-    factors: &mut Vec<(usize, usize)>,
-    right: &mut Vec<usize>,
-    made: E,
-    parent: usize,
-    letter: usize,
-    bound: usize,
-) -> Result<bool, NoMemory>
-    ensures elements { OnOk result (elements.new.keys ≡ insert_key E.eq elements.old.keys made) }
-    ensures factors { OnOk result (factors.new.items ≡ insert_factor E.eq elements.old.keys factors.old.items made parent letter) }
-    ensures right { OnOk result (right.new.items ≡ right.old.items ++ position_or_len (E.eq made) elements.old.keys ∷ []) }
-    ensures over { IfOk result (λ over. IsTrue over ↔ (bound < length elements.new.keys)) }
-{
-    take_in(elements, factors, right, made, parent, letter)?;
-    Ok(elements.len() > bound)
-}
 
 // The product of two elements, counted as one step.
 fn multiply<E: Element, L: Ledger>(
@@ -91,54 +54,228 @@ fn take_generators<E: Element>(
     alloc: Global,
     generators: &Vec<E>,
     bound: usize,
-    elements: &mut IndexSet<E>,
-    factors: &mut Vec<(usize, usize)>,
-    right: &mut Vec<usize>,
+    growth: &mut Growth<E>,
 ) -> Result<bool, NoMemory>
+    requires some { 0 < length generators.now.items }
     requires shape { HaveOneShape E.shape generators.now.items }
-    requires empty { (elements.old.keys ≡ []) × (factors.old.items ≡ []) × (right.old.items ≡ []) }
-    ensures whole { result ≡ Ok false → length elements.new.keys ≤ bound }
-    ensures found { result ≡ Ok false → (unused : E) → AreFound E.product E.eq generators.now.items unused (words_of factors.new.items) elements.new.keys right.new.items 1 0 }
-    ensures factors { result ≡ Ok false → AreFactors (length generators.now.items) factors.new.items }
-    ensures over { result ≡ Ok true → (unused : E) → HasMoreValues (length generators.now.items) E.eq (value_by E.product generators.now.items unused) bound }
+    requires elements { growth.old.elements.keys ≡ [] }
+    requires factors { growth.old.factors.items ≡ [] }
+    requires tails { growth.old.tails.items ≡ [] }
+    requires right { growth.old.right.items ≡ [] }
+    ensures whole { result ≡ Ok false → length growth.new.elements.keys ≤ bound }
+    ensures grown { result ≡ Ok false → (unused : E)
+        → IsGrown E.product E.eq generators.now.items unused growth.new.elements.keys
+        growth.new.factors.items growth.new.tails.items growth.new.right.items 1 0 }
+    ensures level { result ≡ Ok false
+        → IsLevel (words_of growth.new.factors.items) 0 (length growth.new.elements.keys) }
+    ensures over { result ≡ Ok true → (unused : E)
+        → HasMoreValues (length generators.now.items) E.eq
+        (value_by E.product generators.now.items unused) bound }
 {
     for (letter, generator) in generators.iter().enumerate() {
         let copy = generator.copy(alloc)?;
-        if goes_over(elements, factors, right, copy, 0, letter, bound)? {
+        if growth.goes_over(copy, (0, letter), (letter, 0), bound)? {
             return Ok(true);
         }
     }
     Ok(false)
 }
 
+// The number of the product of an element by a letter, where the graphs tell it: without its first
+// letter, the element's word with the letter has a lesser word, and that one is read in its place.
+fn read_product<E: Element>(
+    generators: &Vec<E>,
+    growth: &Growth<E>,
+    left: &Vec<usize>,
+    number: usize,
+    letter: usize,
+) -> Option<usize>
+    requires shape { HaveOneShape E.shape generators.now.items }
+    requires letter { letter < length generators.now.items }
+    requires at { (unused : E) → IsAt E.product E.eq generators.now.items unused
+        growth.now.elements.keys growth.now.factors.items growth.now.tails.items
+        growth.now.right.items left.now.items number letter }
+    ensures read { IfSome result (λ product. (unused : E)
+        → IsNumberIn (length generators.now.items) E.eq
+        (value_by E.product generators.now.items unused) (words_of growth.now.factors.items) product
+        (parent (words_of growth.now.factors.items) (number + 1) ++ letter ∷ [])) }
+    ensures least { let suffix = (slice_index_or growth.now.tails.items number (0, 0)).1 in
+        let rest = entry (length generators.now.items) growth.now.right.items suffix letter in
+        result ≡ None → is_product growth.now.factors.items rest suffix letter ≡ true }
+{
+    let letters = generators.len();
+    let (first, suffix) = growth.tails[number];
+    let rest = entry(&growth.right, letters, suffix, letter);
+    if is_product(&growth.factors, rest, suffix, letter) {
+        return None;
+    }
+    let (prefix, last) = growth.factors[rest];
+    let product = entry(left, letters, prefix, first);
+    Some(entry(&growth.right, letters, product + 1, last))
+}
+
+// Whether there are more elements than the bound, once the product of the element of a number by a
+// letter is multiplied out and taken in.
+fn make_product<E: Element, L: Ledger>(
+    alloc: Global,
+    generators: &Vec<E>,
+    bound: usize,
+    growth: &mut Growth<E>,
+    left: &Vec<usize>,
+    number: usize,
+    letter: usize,
+    steps: &mut Steps<L>,
+) -> Result<bool, NoMemory>
+    requires shape { HaveOneShape E.shape generators.now.items }
+    requires letter { letter < length generators.now.items }
+    requires at { (unused : E) → IsAt E.product E.eq generators.now.items unused
+        growth.old.elements.keys growth.old.factors.items growth.old.tails.items
+        growth.old.right.items left.now.items number letter }
+    requires least { let suffix = (slice_index_or growth.old.tails.items number (0, 0)).1 in
+        let rest = entry (length generators.now.items) growth.old.right.items suffix letter in
+        is_product growth.old.factors.items rest suffix letter ≡ true }
+    ensures whole { result ≡ Ok false → length growth.new.elements.keys ≤ bound }
+    ensures at { result ≡ Ok false → (unused : E)
+        → IsAt E.product E.eq generators.now.items unused growth.new.elements.keys
+        growth.new.factors.items growth.new.tails.items growth.new.right.items left.now.items number
+        (letter + 1) }
+    ensures grows { result ≡ Ok false → (unused : E)
+        → GrowsTo E.product E.eq generators.now.items unused growth.old.factors.items
+        growth.new.factors.items (length growth.old.right.items)
+        (length growth.new.right.items) number steps.old steps.new }
+    ensures over { result ≡ Ok true → (unused : E)
+        → HasMoreValues (length generators.now.items) E.eq
+        (value_by E.product generators.now.items unused) bound }
+    ensures counted { steps.old ≤ steps.new }
+{
+    let made = multiply(alloc, &growth.elements[number], &generators[letter], steps)?;
+    let tail = growth.tail_of_product(generators.len(), number, letter);
+    growth.goes_over(made, (number + 1, letter), tail, bound)
+}
+
+// The same, where the product is multiplied out only if the graphs do not tell it.
+fn take_product<E: Element, L: Ledger>(
+    alloc: Global,
+    generators: &Vec<E>,
+    bound: usize,
+    growth: &mut Growth<E>,
+    left: &Vec<usize>,
+    number: usize,
+    letter: usize,
+    steps: &mut Steps<L>,
+) -> Result<bool, NoMemory>
+    requires shape { HaveOneShape E.shape generators.now.items }
+    requires letter { letter < length generators.now.items }
+    requires few { length growth.old.elements.keys ≤ bound }
+    requires at { (unused : E) → IsAt E.product E.eq generators.now.items unused
+        growth.old.elements.keys growth.old.factors.items growth.old.tails.items
+        growth.old.right.items left.now.items number letter }
+    ensures whole { result ≡ Ok false → length growth.new.elements.keys ≤ bound }
+    ensures at { result ≡ Ok false → (unused : E)
+        → IsAt E.product E.eq generators.now.items unused growth.new.elements.keys
+        growth.new.factors.items growth.new.tails.items growth.new.right.items left.now.items number
+        (letter + 1) }
+    ensures grows { result ≡ Ok false → (unused : E)
+        → GrowsTo E.product E.eq generators.now.items unused growth.old.factors.items
+        growth.new.factors.items (length growth.old.right.items)
+        (length growth.new.right.items) number steps.old steps.new }
+    ensures over { result ≡ Ok true → (unused : E)
+        → HasMoreValues (length generators.now.items) E.eq
+        (value_by E.product generators.now.items unused) bound }
+    ensures counted { steps.old ≤ steps.new }
+{
+    if let Some(product) = read_product(generators, growth, left, number, letter) {
+        growth.right.push(product)?;
+        return Ok(false);
+    }
+    make_product(
+        alloc, generators, bound, growth, left, number, letter, steps,
+    )
+}
+
 // Whether there are more elements than the bound, once the products of the element of a number by
-// each generator are taken in.
+// each letter are taken in.
 fn take_products<E: Element, L: Ledger>(
     alloc: Global,
     generators: &Vec<E>,
     bound: usize,
-    elements: &mut IndexSet<E>,
-    factors: &mut Vec<(usize, usize)>,
-    right: &mut Vec<usize>,
+    growth: &mut Growth<E>,
+    left: &Vec<usize>,
     number: usize,
     steps: &mut Steps<L>,
 ) -> Result<bool, NoMemory>
     requires shape { HaveOneShape E.shape generators.now.items }
-    requires within { number < length elements.old.keys }
-    requires few { length elements.old.keys ≤ bound }
-    requires found { (unused : E) → AreFound E.product E.eq generators.now.items unused (words_of factors.old.items) elements.old.keys right.old.items (number + 1) 0 }
-    requires factors { AreFactors (length generators.now.items) factors.old.items }
-    ensures whole { result ≡ Ok false → length elements.new.keys ≤ bound }
-    ensures more { result ≡ Ok false → length elements.old.keys ≤ length elements.new.keys }
-    ensures found { result ≡ Ok false → (unused : E) → AreFound E.product E.eq generators.now.items unused (words_of factors.new.items) elements.new.keys right.new.items (number + 2) 0 }
-    ensures factors { result ≡ Ok false → AreFactors (length generators.now.items) factors.new.items }
-    ensures over { result ≡ Ok true → (unused : E) → HasMoreValues (length generators.now.items) E.eq (value_by E.product generators.now.items unused) bound }
-    ensures steps { result ≡ Ok false → steps.new ≡ steps.old + length generators.now.items }
+    requires few { length growth.old.elements.keys ≤ bound }
+    requires at { (unused : E) → IsAt E.product E.eq generators.now.items unused
+        growth.old.elements.keys growth.old.factors.items growth.old.tails.items
+        growth.old.right.items left.now.items number 0 }
+    ensures whole { result ≡ Ok false → length growth.new.elements.keys ≤ bound }
+    ensures at { result ≡ Ok false → (unused : E)
+        → IsAt E.product E.eq generators.now.items unused growth.new.elements.keys
+        growth.new.factors.items growth.new.tails.items growth.new.right.items left.now.items number
+        (length generators.now.items) }
+    ensures grows { result ≡ Ok false → (unused : E)
+        → GrowsTo E.product E.eq generators.now.items unused growth.old.factors.items
+        growth.new.factors.items (length growth.old.right.items)
+        (length growth.new.right.items) number steps.old steps.new }
+    ensures over { result ≡ Ok true → (unused : E)
+        → HasMoreValues (length generators.now.items) E.eq
+        (value_by E.product generators.now.items unused) bound }
     ensures counted { steps.old ≤ steps.new }
 {
-    for (letter, generator) in generators.iter().enumerate() {
-        let made = multiply(alloc, &elements[number], generator, steps)?;
-        if goes_over(elements, factors, right, made, number + 1, letter, bound)? {
+    for letter in 0..generators.len() {
+        if take_product(
+            alloc, generators, bound, growth, left, number, letter, steps,
+        )? {
+            return Ok(true);
+        }
+    }
+    Ok(false)
+}
+
+// Whether there are more elements than the bound, once the elements whose words are of one length
+// are multiplied by each letter: those from the first number to before the last.
+fn take_level<E: Element, L: Ledger>(
+    alloc: Global,
+    generators: &Vec<E>,
+    bound: usize,
+    growth: &mut Growth<E>,
+    left: &Vec<usize>,
+    first: usize,
+    last: usize,
+    steps: &mut Steps<L>,
+) -> Result<bool, NoMemory>
+    requires shape { HaveOneShape E.shape generators.now.items }
+    requires few { length growth.old.elements.keys ≤ bound }
+    requires some { 0 < length generators.now.items }
+    requires order { first ≤ last }
+    requires grown { (unused : E) → IsGrown E.product E.eq generators.now.items unused
+        growth.old.elements.keys growth.old.factors.items growth.old.tails.items
+        growth.old.right.items (first + 1) 0 }
+    requires left { (unused : E) → AreLeftNumbers E.product E.eq generators.now.items unused
+        (words_of growth.old.factors.items) left.now.items }
+    requires rows { length left.now.items ≡ (first + 1) * length generators.now.items }
+    requires level { IsLevel (words_of growth.old.factors.items) first last }
+    ensures whole { result ≡ Ok false → length growth.new.elements.keys ≤ bound }
+    ensures grown { result ≡ Ok false → (unused : E)
+        → IsGrown E.product E.eq generators.now.items unused growth.new.elements.keys
+        growth.new.factors.items growth.new.tails.items growth.new.right.items (last + 1) 0 }
+    ensures left { result ≡ Ok false → (unused : E)
+        → AreLeftNumbers E.product E.eq generators.now.items unused
+        (words_of growth.new.factors.items) left.now.items }
+    ensures level { result ≡ Ok false → IsLevel (words_of growth.new.factors.items) first last }
+    ensures count { result ≡ Ok false → (unused : E) (start : ℕ)
+        → AreCounted E.product E.eq generators.now.items unused (words_of growth.old.factors.items)
+        (length growth.old.right.items) start steps.old
+        → AreCounted E.product E.eq generators.now.items unused (words_of growth.new.factors.items)
+        (length growth.new.right.items) start steps.new }
+    ensures over { result ≡ Ok true → (unused : E)
+        → HasMoreValues (length generators.now.items) E.eq
+        (value_by E.product generators.now.items unused) bound }
+    ensures counted { steps.old ≤ steps.new }
+{
+    for number in first..last {
+        if take_products(alloc, generators, bound, growth, left, number, steps)? {
             return Ok(true);
         }
     }
@@ -147,8 +284,9 @@ fn take_products<E: Element, L: Ledger>(
 
 impl FroidurePin {
     /// The table of the semigroup that the generators generate, or `Over` exactly where it has more
-    /// elements than the bound. The generators are the letters, in their order. Each product of an
-    /// element and a generator is one step. Only want of memory refuses a run.
+    /// elements than the bound. The generators are the letters, in their order. Each product that is
+    /// multiplied out is one step: there are no more of them than elements and reduced rules
+    /// together. Only want of memory refuses a run.
     pub fn run<E: Element, L: Ledger>(
         alloc: Global,
         generators: &Vec<E>,
@@ -158,49 +296,54 @@ impl FroidurePin {
         requires some { 0 < length generators.now.items }
         requires few { length generators.now.items ≤ 256 }
         requires shape { HaveOneShape E.shape generators.now.items }
-        ensures whole { IfOk result (λ run. (unused : E) → ((table : Table E) × (run ≡ Run.Whole table)) ↔ HasAtMostValues (length generators.now.items) E.eq (value_by E.product generators.now.items unused) bound) }
-        ensures over { IfOk result (λ run. (unused : E) → (run ≡ Run.Over) ↔ HasMoreValues (length generators.now.items) E.eq (value_by E.product generators.now.items unused) bound) }
-        ensures table { (table : Table E) → result ≡ Ok (Run.Whole table) → (unused : E) → IsTableOf E.product E.eq generators.now.items unused table.words table.elements }
-        ensures numbers { (table : Table E) → result ≡ Ok (Run.Whole table) → (unused : E) → IsNumbering E.product E.eq generators.now.items unused table }
-        ensures steps { (table : Table E) → result ≡ Ok (Run.Whole table) → steps.new ≡ steps.old + length table.elements * length generators.now.items }
+        ensures whole { IfOk result (λ run. (unused : E)
+            → ((table : Table E) × (run ≡ Run.Whole table))
+            ↔ HasAtMostValues (length generators.now.items) E.eq
+            (value_by E.product generators.now.items unused) bound) }
+        ensures over { IfOk result (λ run. (unused : E)
+            → (run ≡ Run.Over)
+            ↔ HasMoreValues (length generators.now.items) E.eq
+            (value_by E.product generators.now.items unused) bound) }
+        ensures table { (table : Table E) → result ≡ Ok (Run.Whole table) → (unused : E)
+            → IsTableOf E.product E.eq generators.now.items unused table.words table.elements }
+        ensures numbers { (table : Table E) → result ≡ Ok (Run.Whole table) → (unused : E)
+            → IsNumbering E.product E.eq generators.now.items unused table }
+        ensures steps { (table : Table E) → result ≡ Ok (Run.Whole table)
+            → (unused : E) (rules : List (Word × Word))
+            → IsRuleList (SameValue (length generators.now.items) E.eq
+            (value_by E.product generators.now.items unused)) rules
+            → steps.new ≤ steps.old + (length table.elements + length rules) }
         ensures counted { steps.old ≤ steps.new }
     {
-        let mut elements = IndexSet::new(alloc);
-        let mut factors = Vec::new(alloc);
-        let mut right = Vec::new(alloc);
-        if take_generators(
-            alloc,
-            generators,
-            bound,
-            &mut elements,
-            &mut factors,
-            &mut right,
-        )? {
+        let mut growth = Growth::new(alloc);
+        if take_generators(alloc, generators, bound, &mut growth)? {
             return Ok(Run::Over);
         }
-        let mut i = 0;
-        while i < elements.len() {
-            if take_products(
+        let letters = generators.len();
+        let mut left = Vec::from_slice(alloc, &growth.right[..letters])?;
+        let mut first = 0;
+        while first < growth.elements.len() {
+            let last = growth.elements.len();
+            if take_level(
                 alloc,
                 generators,
                 bound,
-                &mut elements,
-                &mut factors,
-                &mut right,
-                i,
+                &mut growth,
+                &left,
+                first,
+                last,
                 steps,
             )? {
                 return Ok(Run::Over);
             }
-            i += 1;
+            add_left_rows(generators, &growth, &mut left, first, last)?;
+            first = last;
         }
-        let letters = generators.len();
-        let left = left_rows(alloc, letters, &factors, &right)?;
         Ok(Run::Whole(Table {
-            elements,
-            factors,
+            elements: growth.elements,
+            factors: growth.factors,
             letters,
-            right,
+            right: growth.right,
             left,
         }))
     }

@@ -14,7 +14,8 @@ fn letters_back(
 ) -> Result<Vec<Letter>, NoMemory>
     requires factors { AreFactors 256 factors.now.items }
     requires within { number < length factors.now.items }
-    ensures { IfOk result (λ back. reverse back.items ≡ slice_index_or (words_of factors.now.items) number []) }
+    ensures { IfOk result (λ back. reverse back.items
+        ≡ slice_index_or (words_of factors.now.items) number []) }
 {
     let mut back = Vec::new(alloc);
     let mut at = number + 1;

@@ -47,9 +47,16 @@ impl<E: Element> Model for Table<E> {
 
     ghost coded = { table_code E.code };
 
-    ghost view = { λ t. record { elements = t.elements.keys; words = words_of t.factors.items; letters = t.letters; right = t.right.items; left = t.left.items } };
+    ghost view = { λ t. record {
+      elements = t.elements.keys;
+      words = words_of t.factors.items;
+      letters = t.letters;
+      right = t.right.items;
+      left = t.left.items;
+    } };
 
-    ghost invariant = { λ t. AreParts t.letters (length t.elements.keys) t.factors.items t.right.items t.left.items };
+    ghost invariant = { λ t. AreParts t.letters (length t.elements.keys)
+        t.factors.items t.right.items t.left.items };
 }
 
 impl<E: Element> Table<E> {
@@ -135,8 +142,10 @@ impl<E: Element> Table<E> {
     /// that is not least in its class, while each proper factor is, with the least word of its
     /// class. Only want of memory refuses it.
     pub fn rules(&self) -> Result<Vec<(Word, Word)>, NoMemory>
-        ensures { IfOk result (λ rules. (generators : List E) (unused : E) → IsWholeTable E.shape E.product E.eq generators unused self.now
-            → IsRuleList (SameValue (length generators) E.eq (value_by E.product generators unused)) rules.items) }
+        ensures { IfOk result (λ rules. (generators : List E) (unused : E)
+            → IsWholeTable E.shape E.product E.eq generators unused self.now
+            → IsRuleList (SameValue (length generators) E.eq (value_by E.product generators unused))
+            rules.items) }
     {
         let alloc = *self.factors.allocator();
         let suffixes = suffixes_of(alloc, self.letters, &self.factors, &self.right)?;
@@ -158,9 +167,12 @@ impl<E: Element> Table<E> {
     /// numbers of the letters. Only want of memory refuses it.
     pub fn tables(&self) -> Result<CayleyTables, NoMemory>
         ensures words { IfOk result (λ tables. tables.words ≡ self.now.words) }
-        ensures right { IfOk result (λ tables. AreRowsBy (length self.now.elements) self.now.letters (right_number self.now) tables.right) }
-        ensures left { IfOk result (λ tables. AreRowsBy (length self.now.elements) self.now.letters (left_number self.now) tables.left) }
-        ensures letters { IfOk result (λ tables. IsRowBy self.now.letters (letter_number self.now) tables.letters) }
+        ensures right { IfOk result (λ tables. AreRowsBy (length self.now.elements) self.now.letters
+            (right_number self.now) tables.right) }
+        ensures left { IfOk result (λ tables. AreRowsBy (length self.now.elements) self.now.letters
+            (left_number self.now) tables.left) }
+        ensures letters { IfOk result (λ tables. IsRowBy self.now.letters
+            (letter_number self.now) tables.letters) }
     {
         let alloc = *self.factors.allocator();
         let count = self.factors.len();

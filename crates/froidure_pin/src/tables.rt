@@ -40,7 +40,8 @@ pub(crate) fn element_rows(
     count: usize,
 ) -> Result<Rows, NoMemory>
     requires { AreRows letters count numbers.now.items }
-    ensures { IfOk result (λ rows. AreRowsBy count letters (λ i. entry letters numbers.now.items (i + 1)) rows) }
+    ensures { IfOk result (λ rows. AreRowsBy count letters
+        (λ i. entry letters numbers.now.items (i + 1)) rows) }
 {
     let mut rows = Vec::new(alloc);
     for number in 0..count {

@@ -2,7 +2,7 @@ ghost use Rattle.std.specs.Prelude.{◌≡◌, ◌+◌, ◌*◌, ◌<◌, ◌≤
 ghost use Rattle.elements.specs.Generators.{HaveOneShape};
 
 use super::*;
-use elements::{Element, Field, Transf};
+use elements::{Element, Field, PPerm, Transf};
 use ports::NoMemory;
 use std::alloc::Global;
 use std::marker::Brand;
@@ -33,21 +33,24 @@ fn generators_of(rt: &impl Abort, alloc: Global, table: &[[u32; 3]]) -> Result<V
     Ok(generators)
 }
 
-// How many elements there are, or None where they are more than the bound: each was multiplied by
-// each generator.
+// How many elements and rules there are, or None where the elements are more than the bound. There
+// are no more steps than both together.
 fn counted<L: Ledger>(
     alloc: Global,
     generators: &Vec<Transf>,
     bound: usize,
     steps: &mut Steps<L>,
-) -> Result<Option<usize>, NoMemory>
+) -> Result<Option<(usize, usize)>, NoMemory>
     requires some { 0 < length generators.now.items }
     requires few { length generators.now.items ≤ 256 }
     requires shape { HaveOneShape (λ t. (length t, 0)) generators.now.items }
-    ensures { IfOk result (λ found. IfSome found (λ n. steps.new ≡ steps.old + n * length generators.now.items)) }
+    ensures { IfOk result (λ found. IfSome found (λ n. steps.new ≤ steps.old + (n.0 + n.1))) }
 {
     match FroidurePin::run(alloc, generators, bound, steps)? {
-        Run::Whole(table) => Ok(Some(table.len())),
+        Run::Whole(table) => {
+            let rules = table.rules()?;
+            Ok(Some((table.len(), rules.len())))
+        }
         Run::Over => Ok(None),
     }
 }
@@ -58,7 +61,7 @@ fn count_from_none<L: Ledger>(
     blank: Blank,
     generators: &Vec<Transf>,
     bound: usize,
-) -> Result<Option<usize>, NoMemory>
+) -> Result<Option<(usize, usize)>, NoMemory>
     requires name { blank.name ≡ L.name }
     requires parts { (blank.parts ≡ L.parts) × (0 < L.parts) }
     requires some { 0 < length generators.now.items }
@@ -70,7 +73,11 @@ fn count_from_none<L: Ledger>(
 }
 
 // The same, where nobody asks for the steps.
-fn count(alloc: Global, generators: &Vec<Transf>, bound: usize) -> Result<Option<usize>, NoMemory>
+fn count(
+    alloc: Global,
+    generators: &Vec<Transf>,
+    bound: usize,
+) -> Result<Option<(usize, usize)>, NoMemory>
     requires some { 0 < length generators.now.items }
     requires few { length generators.now.items ≤ 256 }
     requires shape { HaveOneShape (λ t. (length t, 0)) generators.now.items }
@@ -84,12 +91,77 @@ fn counts_up_to_the_bound(rt: HostRuntime) -> Result<(), Fail> {
     let all = generators_of(&rt, alloc, &[SWAP, TURN, FOLD])?;
     let ring = generators_of(&rt, alloc, &[TURN])?;
     let twice = generators_of(&rt, alloc, &[SWAP, SWAP])?;
-    assert_eq!(rt; count(alloc, &all, 27)?, Some(27));
+    assert_eq!(rt; count(alloc, &all, 27)?, Some((27, 15)));
     assert_eq!(rt; count(alloc, &all, 26)?, None);
     assert_eq!(rt; count(alloc, &all, 0)?, None);
-    assert_eq!(rt; count(alloc, &ring, 3)?, Some(3));
+    assert_eq!(rt; count(alloc, &ring, 3)?, Some((3, 1)));
     assert_eq!(rt; count(alloc, &ring, 2)?, None);
-    assert_eq!(rt; count(alloc, &twice, 2)?, Some(2));
+    assert_eq!(rt; count(alloc, &twice, 2)?, Some((2, 2)));
+    Ok(())
+}
+
+// The shift of 64 points, and its inverse.
+fn shifts_of(rt: &impl Abort, alloc: Global) -> Result<Vec<Transf>, Fail>
+    ensures some { IfOk result (λ generators. 0 < length generators.items) }
+    ensures few { IfOk result (λ generators. length generators.items ≤ 256) }
+    ensures shape { IfOk result (λ generators. HaveOneShape (λ t. (length t, 0)) generators.items) }
+{
+    let mut generators = Vec::new(alloc);
+    for step in [1u32, 63] {
+        let mut images = Vec::new(alloc);
+        for point in 0..64u32 {
+            images.push(Field::Number((point + step) % 64))?;
+        }
+        generators.push(Transf::read(alloc, 64, &images)?)?;
+    }
+    assert!(rt; generators.len() > 0);
+    assert!(rt; generators.len() <= 256);
+    assert!(rt; have_one_shape(&generators));
+    Ok(generators)
+}
+
+// There are at most 69 steps for the shifts, and at most 3 for generators that have one value.
+#[test]
+fn multiplies_out_few_products(rt: HostRuntime) -> Result<(), Fail> {
+    let alloc = rt.alloc();
+    let shifts = shifts_of(&rt, alloc)?;
+    let same = generators_of(&rt, alloc, &[FOLD, FOLD])?;
+    assert_eq!(rt; count(alloc, &shifts, 64)?, Some((64, 5)));
+    assert_eq!(rt; count(alloc, &shifts, 63)?, None);
+    assert_eq!(rt; count(alloc, &same, 1)?, Some((1, 2)));
+    Ok(())
+}
+
+// The table of the partial permutations a = 1 - and b = - 0.
+fn partial_table<L: Ledger>(alloc: Global, blank: Blank) -> Result<Option<Table<PPerm>>, Fail>
+    requires name { blank.name ≡ L.name }
+    requires parts { (blank.parts ≡ L.parts) × (0 < L.parts) }
+{
+    let mut generators = Vec::new(alloc);
+    for fields in [
+        [Field::Number(1), Field::Dash],
+        [Field::Dash, Field::Number(0)],
+    ] {
+        generators.push(PPerm::read(alloc, 2, &fields)?)?;
+    }
+    if generators.is_empty() || generators.len() > 256 || !have_one_shape(&generators) {
+        return Ok(None);
+    }
+    let mut steps = Steps::<L>::open(blank);
+    match FroidurePin::run(alloc, &generators, 5, &mut steps)? {
+        Run::Whole(table) => Ok(Some(table)),
+        Run::Over => Ok(None),
+    }
+}
+
+// So there are at most 11 steps.
+#[test]
+fn partial_permutations_have_few_rules(rt: HostRuntime) -> Result<(), Fail> {
+    let Some(table) = partial_table::<Brand>(rt.alloc(), Blank::new(1))? else {
+        return Ok(assert!(rt; false));
+    };
+    assert_eq!(rt; table.len(), 5);
+    assert_eq!(rt; table.rules()?.len(), 6);
     Ok(())
 }
 

@@ -17,7 +17,8 @@ is_empty_text (b ∷ c ∷ bs) = false
 
 -- the place of the first byte that is no letter, among as many as a word may have
 abbrev pub first_stranger : List ℕ → List ℕ → Option ℕ
-first_stranger alphabet text = position (λ b. is_none (place_of alphabet b)) (take most_letters text)
+first_stranger alphabet text = position (λ b. is_none (place_of alphabet b))
+    (take most_letters text)
 
 -- the letters of bytes
 abbrev pub letters_of : List ℕ → List ℕ → Word
@@ -34,7 +35,8 @@ abbrev pub word_of : List ℕ → Bool → List ℕ → Result Word WordFault
 word_of alphabet allow_empty text =
     if is_empty_text text
     then (if allow_empty then Ok [] else Err EmptyWord)
-    else word_unless (first_stranger alphabet text) (nat_le (length text) most_letters) (letters_of alphabet text)
+    else word_unless (first_stranger alphabet text) (nat_le (length text) most_letters)
+    (letters_of alphabet text)
 
 -- why a text is refused: for what it is, or where it is a word for want of memory
 abbrev pub IsWordFault : Result Word WordFault → WordFault → Type 0
@@ -53,4 +55,5 @@ text_of alphabet (a ∷ u) = bytes_of alphabet (a ∷ u)
 -- the text is read as the word, wherever such a word is read
 abbrev pub ReadsBack : List ℕ → List ℕ → Word → Type 0
 ReadsBack alphabet text word =
-    (allow_empty : Bool) → length word ≤ most_letters → (word ≡ [] → IsTrue allow_empty) → word_of alphabet allow_empty text ≡ Ok word
+    (allow_empty : Bool) → length word ≤ most_letters → (word ≡ [] → IsTrue allow_empty)
+    → word_of alphabet allow_empty text ≡ Ok word

@@ -10,5 +10,6 @@ pub fn alphabets_have_no_fault()
 
 /// The fault of a text is its first: all bytes before it are letters, and no two of them alike.
 pub fn fault_is_first()
-    ensures { (text : List ℕ) (fault : AlphabetFault) → alphabet_fault text ≡ Some fault → IsFirstFault text fault }
+    ensures { (text : List ℕ) (fault : AlphabetFault) → alphabet_fault text ≡ Some fault
+        → IsFirstFault text fault }
 {}

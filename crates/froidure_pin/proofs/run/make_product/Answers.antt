@@ -1,0 +1,130 @@
+use Rattle.std.proofs.Common.{◌≡◌, ◌↔◌, ℕ, ◌+◌, ◌*◌, ◌<◌, List, [], ◌∷◌, ◌++◌, length, get_or, Bool, true, false, IsTrue, Ok, refl, sym, ap, subst, subst₂, ◌∙◌, arith}
+use Rattle.std.specs.List.{position_or_len}
+use Rattle.indexmap.specs.IndexSet.{insert_key}
+use Rattle.froidure_pin.specs.Found.{entry, insert_factor, words_of}
+use Rattle.froidure_pin.specs.Growing.{IsAt, GrowsTo}
+use Rattle.froidure_pin.proofs.OneShape.{some_value}
+use Rattle.froidure_pin.proofs.Results.{on_ok, if_ok, along}
+use Rattle.froidure_pin.proofs.Search.{IsSetting, read_at, shapes_agree, found_more, product_is_value}
+use Rattle.froidure_pin.proofs.Telling.{rest_place, rest_within, tail_within}
+use Rattle.froidure_pin.proofs.Making.{made}
+use Rattle.froidure_pin.proofs.run.make_product.Given.{Over}
+use Rattle.froidure_pin.proofs.run.make_product.Goals as goal
+
+pub index-requires : goal.index-requires
+index-requires g c =
+    let generators : List g.row.E.Denot = c.args.generators.now.items in
+    let unused : g.row.E.Denot = some_value generators (omega (arith, c.requires.letter)) in
+    (c.requires.at unused).within
+
+pub multiply-requires : goal.multiply-requires
+multiply-requires g c =
+    let generators : List g.row.E.Denot = c.args.generators.now.items in
+    let setting : IsSetting g.E.Element.shape g.E.Element.product g.E.PartialEq.eq generators = record { products = g.met.E.Element.products; alike = g.met.E.Element.one_shape; shaped = c.requires.shape } in
+    let unused : g.row.E.Denot = some_value generators (omega (arith, c.requires.letter)) in
+    let elements : List g.row.E.Denot = c.args.growth.now.elements.keys in
+    let factors : List (ℕ × ℕ) = c.args.growth.now.factors.items in
+    let tails : List (ℕ × ℕ) = c.args.growth.now.tails.items in
+    let right : List ℕ = c.args.growth.now.right.items in
+    let left : List ℕ = c.args.left.now.items in
+    let number : ℕ = c.args.number in
+    let a : ℕ = c.args.letter in
+    let x : g.row.E.Denot = c.index.result.now in
+    let y : g.row.E.Denot = c.index-2.result.now in
+    let found = read_at elements number x (c.requires.at unused).within c.index.ensures in
+    shapes_agree setting unused (words_of factors) elements right number a a x y (c.requires.at unused).grown.found (c.requires.at unused).within c.requires.letter found (sym c.index-2.ensures)
+
+-- where the tail is, and the word without its first letter with the letter
+asked : (g : Over) (c : goal.After-len g)
+    → (c.args.number < length c.args.growth.now.tails.items)
+    × ((get_or c.args.growth.now.tails.items c.args.number (0, 0)).1 * c.len.result + c.args.letter < length c.args.growth.now.right.items)
+    × (entry c.len.result c.args.growth.now.right.items (get_or c.args.growth.now.tails.items c.args.number (0, 0)).1 c.args.letter < length c.args.growth.now.factors.items)
+asked g c =
+    let generators : List g.row.E.Denot = c.args.generators.now.items in
+    let setting : IsSetting g.E.Element.shape g.E.Element.product g.E.PartialEq.eq generators = record { products = g.met.E.Element.products; alike = g.met.E.Element.one_shape; shaped = c.requires.shape } in
+    let unused : g.row.E.Denot = some_value generators (omega (arith, c.requires.letter)) in
+    let elements : List g.row.E.Denot = c.args.growth.now.elements.keys in
+    let factors : List (ℕ × ℕ) = c.args.growth.now.factors.items in
+    let tails : List (ℕ × ℕ) = c.args.growth.now.tails.items in
+    let right : List ℕ = c.args.growth.now.right.items in
+    let left : List ℕ = c.args.left.now.items in
+    let number : ℕ = c.args.number in
+    let a : ℕ = c.args.letter in
+    let letters : length generators ≡ c.len.result = omega (arith, c.len.ensures) in (
+      tail_within setting unused elements factors tails right left number a (c.requires.at unused) c.requires.letter,
+      subst (λ n. (get_or tails number (0, 0)).1 * n + a < length right) letters (rest_place setting unused elements factors tails right left number a (c.requires.at unused) c.requires.letter),
+      subst (λ n. entry n right (get_or tails number (0, 0)).1 a < length factors) letters (rest_within setting unused elements factors tails right left number a (c.requires.at unused) c.requires.letter),
+    )
+
+pub tail_of_product-tail-requires-clause-within : goal.tail_of_product-tail-requires-clause-within
+tail_of_product-tail-requires-clause-within g c = (asked g c).0
+
+pub tail_of_product-tail-requires-clause-place : goal.tail_of_product-tail-requires-clause-place
+tail_of_product-tail-requires-clause-place g c = (asked g c).1
+
+pub tail_of_product-tail-requires-clause-known : goal.tail_of_product-tail-requires-clause-known
+tail_of_product-tail-requires-clause-known g c = (asked g c).2
+
+pub overflow_add-number : goal.overflow_add-number
+overflow_add-number g c =
+    let generators : List g.row.E.Denot = c.args.generators.now.items in
+    let setting : IsSetting g.E.Element.shape g.E.Element.product g.E.PartialEq.eq generators = record { products = g.met.E.Element.products; alike = g.met.E.Element.one_shape; shaped = c.requires.shape } in
+    let unused : g.row.E.Denot = some_value generators (omega (arith, c.requires.letter)) in
+    let elements : List g.row.E.Denot = c.args.growth.now.elements.keys in
+    let factors : List (ℕ × ℕ) = c.args.growth.now.factors.items in
+    let tails : List (ℕ × ℕ) = c.args.growth.now.tails.items in
+    let right : List ℕ = c.args.growth.now.right.items in
+    let left : List ℕ = c.args.left.now.items in
+    let number : ℕ = c.args.number in
+    let a : ℕ = c.args.letter in
+    let within = tail_within setting unused elements factors tails right left number a (c.requires.at unused) c.requires.letter in
+    grind arith
+
+-- what is found once the product is taken in, and what is counted with its step
+taken : (g : Over) (c : goal.After-goes_over g) (over : Bool) → c.goes_over.result ≡ Ok over → (unused : g.row.E.Denot)
+    → IsAt g.E.Element.product g.E.PartialEq.eq c.args.generators.now.items unused c.goes_over.new.self.elements.keys c.goes_over.new.self.factors.items c.goes_over.new.self.tails.items
+    c.goes_over.new.self.right.items c.args.left.now.items c.args.number (c.args.letter + 1)
+    × GrowsTo g.E.Element.product g.E.PartialEq.eq c.args.generators.now.items unused c.args.growth.now.factors.items c.goes_over.new.self.factors.items (length c.args.growth.now.right.items)
+    (length c.goes_over.new.self.right.items) c.args.number c.args.steps.now (c.args.steps.now + 1)
+taken g c over e unused =
+    let generators : List g.row.E.Denot = c.args.generators.now.items in
+    let setting : IsSetting g.E.Element.shape g.E.Element.product g.E.PartialEq.eq generators = record { products = g.met.E.Element.products; alike = g.met.E.Element.one_shape; shaped = c.requires.shape } in
+    let elements : List g.row.E.Denot = c.args.growth.now.elements.keys in
+    let factors : List (ℕ × ℕ) = c.args.growth.now.factors.items in
+    let tails : List (ℕ × ℕ) = c.args.growth.now.tails.items in
+    let right : List ℕ = c.args.growth.now.right.items in
+    let left : List ℕ = c.args.left.now.items in
+    let number : ℕ = c.args.number in
+    let a : ℕ = c.args.letter in
+    let x : g.row.E.Denot = c.index.result.now in
+    let y : g.row.E.Denot = c.index-2.result.now in
+    let p : g.row.E.Denot = c.in_ok-made.made in
+    let letters : length generators ≡ c.len.result = omega (arith, c.len.ensures) in
+    let tail : ((get_or tails number (0, 0)).0, entry (length generators) right (get_or tails number (0, 0)).1 a + 1) ≡ c.tail_of_product-tail.result = subst (λ n. ((get_or tails number (0, 0)).0, entry n right (get_or tails number (0, 0)).1 a + 1) ≡ c.tail_of_product-tail.result) (sym letters) (sym c.tail_of_product-tail.ensures) in
+    let found = read_at elements number x (c.requires.at unused).within c.index.ensures in
+    let read : get_or generators a y ≡ y = sym c.index-2.ensures in
+    let value = product_is_value setting unused (words_of factors) elements right number a x y p (c.requires.at unused).grown.found (c.requires.at unused).within c.requires.letter found read c.in_ok-made.ensures.made in
+    let keys = on_ok c.goes_over.result (c.goes_over.new.self.elements.keys ≡ insert_key g.E.PartialEq.eq elements p) over e c.goes_over.ensures.elements in
+    let fs = on_ok c.goes_over.result (c.goes_over.new.self.factors.items ≡ insert_factor g.E.PartialEq.eq elements factors p (number + 1) a) over e c.goes_over.ensures.factors in
+    let ts = on_ok c.goes_over.result (c.goes_over.new.self.tails.items ≡ insert_factor g.E.PartialEq.eq elements tails p c.tail_of_product-tail.result.0 c.tail_of_product-tail.result.1) over e c.goes_over.ensures.tails in
+    let rs = on_ok c.goes_over.result (c.goes_over.new.self.right.items ≡ right ++ position_or_len (g.E.PartialEq.eq p) elements ∷ []) over e c.goes_over.ensures.right in
+    let tails_are = ts ∙ sym (ap (λ (t : ℕ × ℕ). insert_factor g.E.PartialEq.eq elements tails p t.0 t.1) tail) in
+    let all = made setting unused elements factors tails right left number a (c.requires.at unused) c.requires.letter c.requires.least p value c.args.steps.now in (
+      along (λ es fs ts rs (s : ℕ). IsAt g.E.Element.product g.E.PartialEq.eq generators unused es fs ts rs left number (a + 1)) {e = number} {e' = number} (sym keys) (sym fs) (sym tails_are) (sym rs) refl all.0,
+      subst₂ (λ fs (rs : List ℕ). GrowsTo g.E.Element.product g.E.PartialEq.eq generators unused factors fs (length right) (length rs) number c.args.steps.now (c.args.steps.now + 1)) (sym fs) (sym rs) all.1,
+    )
+
+pub returns-clause-at : goal.returns-clause-at
+returns-clause-at g c = λ e unused. (taken g c false e unused).0
+
+pub returns-clause-grows : goal.returns-clause-grows
+returns-clause-grows g c = λ e unused.
+    subst (λ s. GrowsTo g.E.Element.product g.E.PartialEq.eq c.args.generators.now.items unused c.args.growth.now.factors.items c.goes_over.new.self.factors.items (length c.args.growth.now.right.items)
+    (length c.goes_over.new.self.right.items) c.args.number c.args.steps.now s) (sym c.in_ok-made.ensures.step) (taken g c false e unused).1
+
+pub returns-clause-over : goal.returns-clause-over
+returns-clause-over g c = λ e unused.
+    let setting : IsSetting g.E.Element.shape g.E.Element.product g.E.PartialEq.eq c.args.generators.now.items = record { products = g.met.E.Element.products; alike = g.met.E.Element.one_shape; shaped = c.requires.shape } in
+    let over = if_ok c.goes_over.result (λ over. IsTrue over ↔ (c.args.bound < length c.goes_over.new.self.elements.keys)) true e c.goes_over.ensures.over in
+    found_more setting unused (words_of c.goes_over.new.self.factors.items) c.goes_over.new.self.elements.keys c.goes_over.new.self.right.items (c.args.number + 1) (c.args.letter + 1) c.args.bound
+    (taken g c true e unused).0.grown.found (over.0 refl)
