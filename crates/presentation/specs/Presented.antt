@@ -11,7 +11,8 @@ pub record Presented : Type 0 where
 -- there is a letter for each byte, the sides of relations are elements, and there are at most 8,192
 pub record IsPresented (p : Presented) : Type 0 where
   pub letters : p.presentation.letters ≡ length p.alphabet
-  pub elements : AreElements p.presentation.is_monoid p.presentation.letters p.presentation.relations
+  pub elements : AreElements p.presentation.is_monoid p.presentation.letters
+      p.presentation.relations
   pub few : length p.presentation.relations ≤ 8192
 
 -- a side is the empty word, which is no element
@@ -21,7 +22,10 @@ HasEmptySide false u v = (u ≡ []) ⊎ (v ≡ [])
 
 -- p with one relation more
 abbrev pub with_relation : Presented → Word → Word → Presented
-with_relation p u v = record { alphabet = p.alphabet; presentation = with_relations p.presentation ((u, v) ∷ []) }
+with_relation p u v = record {
+  alphabet = p.alphabet;
+  presentation = with_relations p.presentation ((u, v) ∷ []);
+}
 
 -- p read from right to left
 abbrev pub backwards : Presented → Presented

@@ -24,16 +24,30 @@ impl Model for Congruence {
 
     ghost Value = { Posed };
 
-    ghost view = { λ c. record { alphabet = c.presentation.alphabet; congruence = record { presentation = c.presentation.presentation; kind = c.kind; pairs = c.pairs } } };
+    ghost view = { λ c. record {
+      alphabet = c.presentation.alphabet;
+      congruence = record
+          { presentation = c.presentation.presentation; kind = c.kind; pairs = c.pairs };
+    } };
 
-    ghost invariant = { λ c. IsPosed (record { alphabet = c.presentation.alphabet; congruence = record { presentation = c.presentation.presentation; kind = c.kind; pairs = c.pairs } }) };
+    ghost invariant = { λ c. IsPosed
+        (record {
+          alphabet = c.presentation.alphabet;
+          congruence = record
+              { presentation = c.presentation.presentation; kind = c.kind; pairs = c.pairs };
+        }) };
 }
 
 impl Congruence {
     /// The congruence that the pairs generate. Their sides are elements of the presentation.
     pub fn new(presentation: Presentation, kind: Kind, pairs: Pairs) -> Congruence
-        requires { AreElements presentation.presentation.is_monoid presentation.presentation.letters pairs }
-        ensures { result ≡ record { alphabet = presentation.alphabet; congruence = record { presentation = presentation.presentation; kind = kind; pairs = pairs } } }
+        requires { AreElements presentation.presentation.is_monoid presentation.presentation.letters
+            pairs }
+        ensures { result ≡ record {
+          alphabet = presentation.alphabet;
+          congruence = record
+              { presentation = presentation.presentation; kind = kind; pairs = pairs };
+        } }
     {
         let _relations = presentation.relations();
         Congruence {

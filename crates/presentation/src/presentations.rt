@@ -30,15 +30,28 @@ impl Model for Presentation {
 
     ghost Value = { Presented };
 
-    ghost view = { λ p. record { alphabet = p.alphabet; presentation = record { letters = length p.alphabet; is_monoid = p.monoid; relations = p.relations } } };
+    ghost view = { λ p. record {
+      alphabet = p.alphabet;
+      presentation = record
+          { letters = length p.alphabet; is_monoid = p.monoid; relations = p.relations };
+    } };
 
-    ghost invariant = { λ p. IsPresented (record { alphabet = p.alphabet; presentation = record { letters = length p.alphabet; is_monoid = p.monoid; relations = p.relations } }) };
+    ghost invariant = { λ p. IsPresented
+        (record {
+          alphabet = p.alphabet;
+          presentation = record
+              { letters = length p.alphabet; is_monoid = p.monoid; relations = p.relations };
+        }) };
 }
 
 impl Presentation {
     /// The free monoid or semigroup over the alphabet: no relation.
     pub fn new(alloc: Global, alphabet: Alphabet, monoid: bool) -> Presentation
-        ensures { result ≡ record { alphabet = alphabet; presentation = record { letters = length alphabet; is_monoid = monoid; relations = [] } } }
+        ensures { result ≡ record {
+          alphabet = alphabet;
+          presentation = record
+              { letters = length alphabet; is_monoid = monoid; relations = [] };
+        } }
     {
         Presentation {
             alphabet,
@@ -88,8 +101,11 @@ impl Presentation {
         requires left { IsOver self.old.presentation.letters u }
         requires right { IsOver self.old.presentation.letters v }
         ensures ok { OnOk result (self.new ≡ with_relation self.old u v) }
-        ensures empty_word { (result ≡ Err AddFault.EmptyWord) ↔ HasEmptySide self.old.presentation.is_monoid u v }
-        ensures too_many { (result ≡ Err AddFault.TooMany) ↔ (¬ (HasEmptySide self.old.presentation.is_monoid u v) × (length self.old.presentation.relations ≡ MOST_RELATIONS)) }
+        ensures empty_word { (result ≡ Err AddFault.EmptyWord)
+            ↔ HasEmptySide self.old.presentation.is_monoid u v }
+        ensures too_many { (result ≡ Err AddFault.TooMany)
+            ↔ (¬ (HasEmptySide self.old.presentation.is_monoid u v)
+            × (length self.old.presentation.relations ≡ MOST_RELATIONS)) }
         ensures err { OnErr result (self.new ≡ self.old) }
     {
         if !self.monoid && (u.is_empty() || v.is_empty()) {
@@ -120,8 +136,12 @@ impl Presentation {
     /// sides of the pairs are elements. Refused only where memory is wanting.
     pub fn with_pairs(&self, alloc: Global, pairs: &Pairs) -> Result<Presentation, NoMemory>
         requires few { length self.now.presentation.relations + length pairs.now ≤ MOST_RELATIONS }
-        requires elements { AreElements self.now.presentation.is_monoid self.now.presentation.letters pairs.now }
-        ensures { IfOk result (λ p. p ≡ record { alphabet = self.now.alphabet; presentation = with_relations self.now.presentation pairs.now }) }
+        requires elements { AreElements self.now.presentation.is_monoid
+            self.now.presentation.letters pairs.now }
+        ensures { IfOk result (λ p. p ≡ record {
+          alphabet = self.now.alphabet;
+          presentation = with_relations self.now.presentation pairs.now;
+        }) }
     {
         let alphabet = self.alphabet.copy(alloc)?;
         let relations = self.relations.concat(alloc, pairs)?;

@@ -65,10 +65,14 @@ count_of (MaxPlus p) = length p.generators
 -- both words are elements, and the congruence relates them, or they have one value
 abbrev pub SameClassOf : Problem → Word → Word → Type 0
 SameClassOf (Presented p) = SameClass p.congruence
-SameClassOf (Transf p) = SameValue (length p.generators) (pointwise ◌==◌) (value_by composed p.generators [])
-SameClassOf (PPerm p) = SameValue (length p.generators) (pointwise (option_eq ◌==◌)) (value_by partially_composed p.generators [])
-SameClassOf (BMat p) = SameValue (length p.generators) boolean_matrix_eq (value_by boolean_product p.generators no_matrix)
-SameClassOf (MaxPlus p) = SameValue (length p.generators) truncated_matrix_eq (value_by truncated_product p.generators no_truncated_matrix)
+SameClassOf (Transf p) = SameValue (length p.generators) (pointwise ◌==◌)
+    (value_by composed p.generators [])
+SameClassOf (PPerm p) = SameValue (length p.generators) (pointwise (option_eq ◌==◌))
+    (value_by partially_composed p.generators [])
+SameClassOf (BMat p) = SameValue (length p.generators) boolean_matrix_eq
+    (value_by boolean_product p.generators no_matrix)
+SameClassOf (MaxPlus p) = SameValue (length p.generators) truncated_matrix_eq
+    (value_by truncated_product p.generators no_truncated_matrix)
 
 -- the congruence has at most 8,192 relations and pairs together, and its pairs are two-sided or right ones
 pub record IsSolvable (c : Congruence) : Type 0 where
@@ -102,23 +106,36 @@ IsCongruenceDecided c b = EnumerationEnds c b ⊎ CompletionDecides c b.length
 -- the problem is decided within the budgets: some engine decides it, or the words have no more values than may be
 abbrev pub IsDecided : Problem → Budgets → Type 0
 IsDecided (Presented p) b = IsCongruenceDecided p.congruence b
-IsDecided (Transf p) b = HasAtMostValues (length p.generators) (pointwise ◌==◌) (value_by composed p.generators []) b.elements
-IsDecided (PPerm p) b = HasAtMostValues (length p.generators) (pointwise (option_eq ◌==◌)) (value_by partially_composed p.generators []) b.elements
-IsDecided (BMat p) b = HasAtMostValues (length p.generators) boolean_matrix_eq (value_by boolean_product p.generators no_matrix) b.elements
-IsDecided (MaxPlus p) b = HasAtMostValues (length p.generators) truncated_matrix_eq (value_by truncated_product p.generators no_truncated_matrix) b.elements
+IsDecided (Transf p) b = HasAtMostValues (length p.generators) (pointwise ◌==◌)
+    (value_by composed p.generators []) b.elements
+IsDecided (PPerm p) b = HasAtMostValues (length p.generators) (pointwise (option_eq ◌==◌))
+    (value_by partially_composed p.generators []) b.elements
+IsDecided (BMat p) b = HasAtMostValues (length p.generators) boolean_matrix_eq
+    (value_by boolean_product p.generators no_matrix) b.elements
+IsDecided (MaxPlus p) b = HasAtMostValues (length p.generators) truncated_matrix_eq
+    (value_by truncated_product p.generators no_truncated_matrix) b.elements
 
 -- the problem is not decided within the budgets: no engine decides it, or the words have more values
 abbrev pub IsUndecided : Problem → Budgets → Type 0
 IsUndecided (Presented p) b = IsCongruenceDecided p.congruence b → ⊥
-IsUndecided (Transf p) b = HasMoreValues (length p.generators) (pointwise ◌==◌) (value_by composed p.generators []) b.elements
-IsUndecided (PPerm p) b = HasMoreValues (length p.generators) (pointwise (option_eq ◌==◌)) (value_by partially_composed p.generators []) b.elements
-IsUndecided (BMat p) b = HasMoreValues (length p.generators) boolean_matrix_eq (value_by boolean_product p.generators no_matrix) b.elements
-IsUndecided (MaxPlus p) b = HasMoreValues (length p.generators) truncated_matrix_eq (value_by truncated_product p.generators no_truncated_matrix) b.elements
+IsUndecided (Transf p) b = HasMoreValues (length p.generators) (pointwise ◌==◌)
+    (value_by composed p.generators []) b.elements
+IsUndecided (PPerm p) b = HasMoreValues (length p.generators) (pointwise (option_eq ◌==◌))
+    (value_by partially_composed p.generators []) b.elements
+IsUndecided (BMat p) b = HasMoreValues (length p.generators) boolean_matrix_eq
+    (value_by boolean_product p.generators no_matrix) b.elements
+IsUndecided (MaxPlus p) b = HasMoreValues (length p.generators) truncated_matrix_eq
+    (value_by truncated_product p.generators no_truncated_matrix) b.elements
 
 -- the entries of a word's value, with a space between each two; words over relations have none
 abbrev pub value_text : Problem → Word → List ℕ
 value_text (Presented p) u = []
 value_text (Transf p) u = join_by decimal (codes " ") (value_by composed p.generators [] u)
-value_text (PPerm p) u = join_by decimal_or_dash (codes " ") (value_by partially_composed p.generators [] u)
-value_text (BMat p) u = let m : BooleanMatrix = value_by boolean_product p.generators no_matrix u in join_by bit_text (codes " ") m.entries
-value_text (MaxPlus p) u = let m : TruncatedMatrix = value_by truncated_product p.generators no_truncated_matrix u in join_by decimal_or_dash (codes " ") m.entries
+value_text (PPerm p) u = join_by decimal_or_dash (codes " ")
+    (value_by partially_composed p.generators [] u)
+value_text (BMat p) u =
+    let m : BooleanMatrix = value_by boolean_product p.generators no_matrix u in
+    join_by bit_text (codes " ") m.entries
+value_text (MaxPlus p) u =
+    let m : TruncatedMatrix = value_by truncated_product p.generators no_truncated_matrix u in
+    join_by decimal_or_dash (codes " ") m.entries

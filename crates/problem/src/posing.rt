@@ -29,7 +29,8 @@ impl<E: Element> Model for Posed<E> {
 
     ghost view = { λ p. record { letters = p.alphabet; generators = p.generators } };
 
-    ghost invariant = { λ p. (length p.generators ≡ length p.alphabet) × HaveOneShape E.shape p.generators };
+    ghost invariant = { λ p. (length p.generators ≡ length p.alphabet)
+        × HaveOneShape E.shape p.generators };
 }
 
 impl<E: Element> Posed<E> {
@@ -81,7 +82,8 @@ impl<E: Element> Posed<E> {
     pub fn value(&self, alloc: Global, word: &Word) -> Result<E, NoMemory>
         requires some { word.now ≢ [] }
         requires over { IsOver (length self.now.letters) word.now }
-        ensures { IfOk result (λ x. (unused : E) → x ≡ value_by E.product self.now.generators unused word.now) }
+        ensures { IfOk result (λ x. (unused : E)
+            → x ≡ value_by E.product self.now.generators unused word.now) }
     {
         let mut value = self.generator(word.letter(0)).copy(alloc)?;
         for place in 1..word.len() {

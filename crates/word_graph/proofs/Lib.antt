@@ -8,3 +8,9 @@ pub mod RowLaws
 pub mod StandardLaws
 pub mod WordLaws
 pub mod NumberLaws
+pub mod JoinedLaws
+pub mod ReadLaws
+pub mod TableLaws
+pub mod PrintLaws
+pub mod WalkThere
+pub mod ReprintLaws

@@ -25,18 +25,18 @@ pub max_append : (s : ℕ) (xs ys : List ℕ) → max_from s (xs ++ ys) ≡ max_
 max_append s [] ys = refl
 max_append s (x ∷ xs) ys = max_append (max s x) xs ys
 
-start_below : (s : ℕ) (xs : List ℕ) → s ≤ max_from s xs
+pub start_below : (s : ℕ) (xs : List ℕ) → s ≤ max_from s xs
 start_below s [] = omega arith
 start_below s (x ∷ xs) = let h = start_below (max s x) xs in omega (arith, h)
 
 -- each entry is at most the greatest
-entry_below : (s : ℕ) (xs : List ℕ) (b : ℕ) → b < length xs → get_or xs b 0 ≤ max_from s xs
+pub entry_below : (s : ℕ) (xs : List ℕ) (b : ℕ) → b < length xs → get_or xs b 0 ≤ max_from s xs
 entry_below s [] b h = absurd (omega arith)
 entry_below s (x ∷ xs) zero h = let k = start_below (max s x) xs in omega (arith, k)
 entry_below s (x ∷ xs) (suc b) h = entry_below (max s x) xs b (omega arith)
 
 -- where entries are numbered, each number up to the greatest is one of them
-numbered_has : (s x : ℕ) (xs : List ℕ) → IsNumberedFrom s xs → s < x → x ≤ max_from s xs → (b : ℕ) × (b < length xs) × (get_or xs b 0 ≡ x)
+pub numbered_has : (s x : ℕ) (xs : List ℕ) → IsNumberedFrom s xs → s < x → x ≤ max_from s xs → (b : ℕ) × (b < length xs) × (get_or xs b 0 ≡ x)
 numbered_has s x [] h less most = absurd (omega arith)
 numbered_has s x (n ∷ xs) h less most = go (cases_lt (max s n) x) (λ more. numbered_has (max s n) x xs h.1 more most)
   where
@@ -46,7 +46,7 @@ numbered_has s x (n ∷ xs) h less most = go (cases_lt (max s n) x) (λ more. nu
     go (inr here) further = (0, omega arith, omega (arith, h.0))
 
 -- an entry of the first rows is where an edge leads
-entry_found : (rows : Rows) (n b : ℕ) → b < length (entries (take n rows))
+pub entry_found : (rows : Rows) (n b : ℕ) → b < length (entries (take n rows))
     → (i c : ℕ) × (i < n) × (target (graph_of rows) i c ≡ Some (get_or (entries (take n rows)) b 0))
 entry_found rows zero b h = absurd (omega arith)
 entry_found [] (suc n) b h = absurd (omega arith)
@@ -68,7 +68,7 @@ entry_found (row ∷ rows) (suc n) b h = go (cases_lt b (length row)) (λ d l. e
     go (inr l) further = behind (b - length row) (omega (arith, l)) further
 
 -- and where an edge of the first rows leads is an entry
-entry_there : (rows : Rows) (n i c x : ℕ) → i < n → target (graph_of rows) i c ≡ Some x
+pub entry_there : (rows : Rows) (n i c x : ℕ) → i < n → target (graph_of rows) i c ≡ Some x
     → (b : ℕ) × (b < length (entries (take n rows))) × (get_or (entries (take n rows)) b 0 ≡ x)
 entry_there rows zero i c x h e = absurd (omega arith)
 entry_there [] (suc n) i c x h e = cc

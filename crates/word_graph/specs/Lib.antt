@@ -5,3 +5,5 @@ pub mod Steps
 pub mod Renumber
 pub mod Standard
 pub mod Numbered
+pub mod TableText
+pub mod Table

@@ -17,4 +17,5 @@ seen_at (Some n) seen = cond (nat_lt (suc seen) n) None (Some (max seen n))
 pub record IsSeenTo (rows : Rows) (node seen : ℕ) : Type 0 where
   pub numbered : IsNumberedFrom 0 (entries (take node rows))
   pub seen_is : seen ≡ max_from 0 (entries (take node rows))
-  pub appears : (i : ℕ) → 0 < i → i < node → (before letter : ℕ) × (before < i) × (target (graph_of rows) before letter ≡ Some i)
+  pub appears : (i : ℕ) → 0 < i → i < node
+      → (before letter : ℕ) × (before < i) × (target (graph_of rows) before letter ≡ Some i)

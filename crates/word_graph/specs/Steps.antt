@@ -23,7 +23,8 @@ walked steps places word =
     }
 
 -- they are a walk to the row i and letter a, and each step took one place
-pub record IsWalkedTo (k : ℕ) (g : Graph) (steps : List Step) (places : List (Option ℕ)) (i a : ℕ) : Type 0 where
+pub record IsWalkedTo (k : ℕ) (g : Graph) (steps : List Step) (places : List (Option ℕ))
+    (i a : ℕ) : Type 0 where
   pub word : ℕ → Word
   pub walk : IsWalkTo k g (walked steps places word) i a
   pub shape : length places ≡ length g
@@ -31,7 +32,8 @@ pub record IsWalkedTo (k : ℕ) (g : Graph) (steps : List Step) (places : List (
 
 -- the word of a step behind the words of the steps before it
 abbrev pub next_word : List Word → Step → Word
-next_word words s = cond (nat_lt s.parent (length words)) (slice_index_or words s.parent [] ++ s.letter ∷ []) []
+next_word words s =
+    cond (nat_lt s.parent (length words)) (slice_index_or words s.parent [] ++ s.letter ∷ []) []
 
 -- the words of steps behind words
 abbrev pub words_behind : List Word → List Step → List Word

@@ -32,7 +32,8 @@ pub record IsWalkTo (k : ℕ) (g : Graph) (w : Walked) (i a : ℕ) : Type 0 wher
   pub ascending : (j l : ℕ) → j < l → l < w.count → w.word j ≺ w.word l
   pub made : (j : ℕ)
       → 0 < j → j < w.count
-      → IsBefore (w.parent j) (w.letter j) i a × (w.parent j < j) × (w.letter j < k) × (w.word j ≡ w.word (w.parent j) ++ w.letter j ∷ [])
+      → IsBefore (w.parent j) (w.letter j) i a × (w.parent j < j) × (w.letter j < k)
+      × (w.word j ≡ w.word (w.parent j) ++ w.letter j ∷ [])
   pub placed : (m j : ℕ) → w.place m ≡ Some j → (j < w.count) × (w.node j ≡ m)
   pub back : (j : ℕ) → j < w.count → w.place (w.node j) ≡ Some j
   pub found : (p b m : ℕ)
@@ -66,7 +67,8 @@ pub record IsFirstMissing (k : ℕ) (g : Graph) (node letter : ℕ) : Type 0 whe
 -- h is g with the places of a walk for its nodes
 pub record IsRenumbering (g : Graph) (w : Walked) (h : Graph) : Type 0 where
   pub count : length h ≡ w.count
-  pub edges : (p b : ℕ) → p < w.count → target h p b ≡ option_and_then w.place (target g (w.node p) b)
+  pub edges : (p b : ℕ) → p < w.count
+      → target h p b ≡ option_and_then w.place (target g (w.node p) b)
   pub past : (p b : ℕ) → w.count ≤ p → target h p b ≡ None
 
 -- the word leads to the node, and no word that does comes before it
@@ -76,6 +78,8 @@ pub record IsLeastWord (g : Graph) (node : ℕ) (word : Word) : Type 0 where
 
 -- the nodes that are reached, in ascending order, each with its least word
 pub record AreLeastWords (g : Graph) (list : List (ℕ × Word)) : Type 0 where
-  pub ascending : (i j : ℕ) (d : ℕ × Word) → i < j → j < length list → (slice_index_or list i d).0 < (slice_index_or list j d).0
+  pub ascending : (i j : ℕ) (d : ℕ × Word) → i < j → j < length list
+      → (slice_index_or list i d).0 < (slice_index_or list j d).0
   pub least : All (λ p. IsLeastWord g p.0 p.1) list
-  pub all : (node : ℕ) (v : Word) → path g 0 v ≡ Some node → (i : ℕ) × (i < length list) × ((d : ℕ × Word) → (slice_index_or list i d).0 ≡ node)
+  pub all : (node : ℕ) (v : Word) → path g 0 v ≡ Some node
+      → (i : ℕ) × (i < length list) × ((d : ℕ × Word) → (slice_index_or list i d).0 ≡ node)

@@ -34,7 +34,10 @@ impl Model for WordGraph {
 
     ghost view = { λ g. g.rows.items };
 
-    ghost invariant = { λ g. record { graph : IsGraph g.letters g.rows.items; few : g.letters ≤ 256 } };
+    ghost invariant = { λ g. record {
+      graph : IsGraph g.letters g.rows.items;
+      few : g.letters ≤ 256;
+    } };
 }
 
 // The greatest node seen after an entry, unless it is more than one greater than all before.
@@ -68,6 +71,27 @@ impl WordGraph {
             letters,
             rows,
         })
+    }
+
+    // The graph with these rows, of so many letters each.
+    pub(crate) fn of_rows(alloc: Global, letters: usize, rows: Vec<Row>) -> WordGraph
+        requires few { letters ≤ MOST_LETTERS }
+        requires graph { IsGraph letters rows.items }
+        ensures { result ≡ rows.items }
+    {
+        WordGraph {
+            alloc,
+            letters,
+            rows,
+        }
+    }
+
+    // The rows.
+    pub(crate) fn rows(&self) -> &[Row]
+        ensures { result.now ≡ self.now }
+    {
+        let _letters = &self.letters;
+        self.rows.as_slice()
     }
 
     /// How many nodes there are: at least one.
@@ -125,7 +149,8 @@ impl WordGraph {
     /// Adds a node without edges, and tells its number. Refused only where memory is wanting, and then the graph
     /// stays as it was.
     pub fn add_node(&mut self) -> Result<usize, NoMemory>
-        ensures ok { IfOk result (λ node. (node ≡ length self.old) × ((k : ℕ) → IsGraph k self.old → self.new ≡ with_node k self.old)) }
+        ensures ok { IfOk result (λ node. (node ≡ length self.old)
+            × ((k : ℕ) → IsGraph k self.old → self.new ≡ with_node k self.old)) }
         ensures err { OnErr result (self.new ≡ self.old) }
     {
         let node = self.rows.len();
@@ -148,9 +173,11 @@ impl WordGraph {
 
     /// The least letter without an edge at the node. `None` exactly where the node has every edge.
     pub fn missing_letter(&self, node: usize) -> Option<Letter>
-        ensures some { IfSome result (λ a. (k : ℕ) → IsGraph k self.now → (a < k) × (target_of self.now node a ≡ None)) }
+        ensures some { IfSome result (λ a. (k : ℕ) → IsGraph k self.now
+            → (a < k) × (target_of self.now node a ≡ None)) }
         ensures least { IfSome result (λ a. (b : ℕ) → b < a → target_of self.now node b ≢ None) }
-        ensures none { IfNone result ((k b : ℕ) → IsGraph k self.now → b < k → target_of self.now node b ≢ None) }
+        ensures none { IfNone result ((k b : ℕ) → IsGraph k self.now → b < k
+            → target_of self.now node b ≢ None) }
     {
         for number in 0..self.letters {
             let letter = Letter::new(number as u8);
@@ -184,7 +211,8 @@ impl WordGraph {
 
     // Whether the nodes of a complete graph are numbered by first appearance.
     fn is_numbered(&self) -> bool
-        ensures { (k : ℕ) (rows : Rows) → IsGraph k self.now → self.now ≡ graph_of rows → IsTrue result ↔ IsStandard k rows }
+        ensures { (k : ℕ) (rows : Rows) → IsGraph k self.now → self.now ≡ graph_of rows
+            → IsTrue result ↔ IsStandard k rows }
     {
         let _letters = &self.letters;
         let mut seen = 0;
@@ -202,7 +230,10 @@ impl WordGraph {
 
     // The greatest node seen after the row of a node; none where an entry is more than one greater than all before.
     fn seen_in(&self, node: usize, seen: usize) -> Option<usize>
-        ensures { (rows : Rows) → self.now ≡ graph_of rows → MatchOption result (IsNumberedFrom seen (slice_index_or rows node []) → ⊥) (λ next. IsNumberedFrom seen (slice_index_or rows node []) × (next ≡ max_from seen (slice_index_or rows node []))) }
+        ensures { (rows : Rows) → self.now ≡ graph_of rows
+            → MatchOption result (IsNumberedFrom seen (slice_index_or rows node []) → ⊥)
+            (λ next. IsNumberedFrom seen (slice_index_or rows node [])
+            × (next ≡ max_from seen (slice_index_or rows node []))) }
     {
         let letters = self.letters();
         let mut greatest = seen;
@@ -235,7 +266,8 @@ impl WordGraph {
     pub fn standardise(&self, alloc: Global) -> Result<WordGraph, NoMemory>
         ensures shows { IfOk result (λ g. Shows g (SameEnd self.now)) }
         ensures graph { IfOk result (λ g. (k : ℕ) → IsGraph k self.now → IsGraph k g) }
-        ensures standard { IfOk result (λ g. (k : ℕ) → IsGraph k self.now → AllDefined k (SameEnd self.now) → IsStandardGraph k g) }
+        ensures standard { IfOk result (λ g. (k : ℕ) → IsGraph k self.now
+            → AllDefined k (SameEnd self.now) → IsStandardGraph k g) }
     {
         let Walk { steps, places } = Walk::over(alloc, self)?;
         let mut rows = Vec::new(alloc);

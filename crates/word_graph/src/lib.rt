@@ -4,10 +4,15 @@
 //! with finitely presented groups*, 1994, chapter 5; libsemigroups, `WordGraph`).
 #![tactic(auto)]
 
+pub mod facts;
+mod fault;
 mod graphs;
 mod rows;
+mod tables;
+mod texts;
 mod walks;
 
+pub use fault::TableFault;
 pub use graphs::{MOST_LETTERS, WordGraph};
 
 #[cfg(test)]

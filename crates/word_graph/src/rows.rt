@@ -1,9 +1,14 @@
 // Rows of a word graph.
-ghost use Rattle.std.specs.Prelude.{◌≡◌, ℕ, ◌<◌, List, map, length, replicate, Option, None, Some, slice_get, slice_set, unwrap_or, IfOk};
+ghost use Rattle.std.specs.Prelude.{◌≡◌, ℕ, ◌<◌, ◌++◌, List, map, length, replicate, Option, None, Some, slice_get, slice_set, unwrap_or, IfOk, OnOk};
+ghost use Rattle.std.specs.List.{flat_map};
+ghost use Rattle.std.specs.Option.{option_to_list};
+ghost use Rattle.std.specs.Ordering.{nat_cmp};
+ghost use Rattle.std.specs.Cmp.Lexicographic.{slice_cmp};
 ghost use Rattle.word_graph.specs.Renumber.{renumber};
 
 use ports::NoMemory;
 use std::alloc::Global;
+use std::cmp::Ordering;
 use std::marker::Model;
 use words::Letter;
 
@@ -45,6 +50,20 @@ impl Row {
         Ok(Row { entries })
     }
 
+    /// The row with these entries.
+    pub fn of(entries: Vec<Option<usize>>) -> Row
+        ensures { result ≡ entries.items }
+    {
+        Row { entries }
+    }
+
+    /// The entries, letter by letter.
+    pub fn entries(&self) -> &[Option<usize>]
+        ensures { result.now ≡ self.now }
+    {
+        self.entries.as_slice()
+    }
+
     /// Where the edge of the letter leads; `None` where there is none.
     pub fn get(&self, letter: Letter) -> Option<usize>
         ensures { result ≡ unwrap_or (slice_get self.now letter) None }
@@ -55,6 +74,38 @@ impl Row {
         } else {
             None
         }
+    }
+
+    /// The row whose edges lead to these nodes, letter by letter. Refused only where memory is wanting.
+    pub fn of_targets(alloc: Global, targets: &[usize]) -> Result<Row, NoMemory>
+        ensures { IfOk result (λ r. r ≡ map Some targets.now) }
+    {
+        let mut entries = Vec::new(alloc);
+        for target in targets {
+            entries.push(Some(*target))?;
+        }
+        Ok(Row { entries })
+    }
+
+    /// Adds the nodes that edges lead to, letter by letter. Refused only where memory is wanting.
+    pub fn push_targets(&self, targets: &mut Vec<usize>) -> Result<(), NoMemory>
+        ensures { OnOk result (targets.new.items ≡ targets.old.items
+            ++ flat_map option_to_list self.now) }
+    {
+        for entry in &self.entries {
+            if let Some(target) = entry {
+                targets.push(*target)?;
+            }
+        }
+        Ok(())
+    }
+
+    /// How the targets compare in the order of dictionaries, where each letter has an edge in both rows.
+    pub fn compare(&self, other: &Row) -> Ordering
+        ensures { (s t : List ℕ) → self.now ≡ map Some s → other.now ≡ map Some t
+            → result ≡ slice_cmp nat_cmp s t }
+    {
+        self.entries.as_slice().cmp(other.entries.as_slice())
     }
 
     /// From now on the edge of the letter leads there.

@@ -1,6 +1,7 @@
 use super::*;
 use ports::NoMemory;
 use std::alloc::Global;
+use std::cmp::Ordering;
 use std::test::Fail;
 use words::{Letter, Word};
 
@@ -82,5 +83,79 @@ fn lists_least_words_by_node(rt: HostRuntime) -> Result<(), Fail> {
     assert_eq!(rt; least[1].0, 1);
     assert_eq!(rt; least[1].1.len(), 2);
     assert_eq!(rt; least[2].1.len(), 1);
+    Ok(())
+}
+
+// What a text of a table over two letters is refused with; the text again where it is read.
+fn read_and_printed(alloc: Global, text: &[u8]) -> Result<Vec<u8>, TableFault> {
+    let table = WordGraph::read_table(alloc, 2, text)?;
+    let printed = table.print_table(alloc)?;
+    Ok(printed)
+}
+
+#[test]
+fn reads_and_prints_tables(rt: HostRuntime) -> Result<(), Fail> {
+    let alloc = rt.alloc();
+    let printed = read_and_printed(alloc, b"0,10/0,1/2,3/0,0/1,1/4,4/5,6/7,8/9,10/1,0/2,0")?;
+    assert_eq!(rt;
+        printed.as_slice(),
+        b"0,10/0,1/2,3/0,0/1,1/4,4/5,6/7,8/9,10/1,0/2,0".as_slice(),
+    );
+    let printed = read_and_printed(alloc, b"0,0")?;
+    assert_eq!(rt; printed.as_slice(), b"0,0".as_slice());
+    Ok(())
+}
+
+#[test]
+fn refuses_texts_at_the_least_place(rt: HostRuntime) -> Result<(), Fail> {
+    let alloc = rt.alloc();
+    assert!(rt;
+        matches!(
+            read_and_printed(alloc, b"0,1/1"),
+            Err(TableFault::BadTable(3))
+        )
+    );
+    assert!(rt;
+        matches!(
+            read_and_printed(alloc, b"0,2/0,0"),
+            Err(TableFault::BadTable(1))
+        )
+    );
+    assert!(rt;
+        matches!(
+            read_and_printed(alloc, b"00,0"),
+            Err(TableFault::BadTable(0))
+        )
+    );
+    assert!(rt; matches!(read_and_printed(alloc, b""), Err(TableFault::BadTable(0))));
+    assert!(rt;
+        matches!(
+            read_and_printed(alloc, b"0,0,0"),
+            Err(TableFault::BadTable(2))
+        )
+    );
+    Ok(())
+}
+
+#[test]
+fn compares_tables(rt: HostRuntime) -> Result<(), Fail> {
+    let alloc = rt.alloc();
+    let less = WordGraph::read_table(alloc, 1, b"1/0")?;
+    let more = WordGraph::read_table(alloc, 1, b"1/1")?;
+    assert_eq!(rt; less.compare(&more), Ordering::Less);
+    assert_eq!(rt; more.compare(&less), Ordering::Greater);
+    assert_eq!(rt; more.compare(&more), Ordering::Equal);
+    let targets = more.targets(alloc)?;
+    let made = WordGraph::of_targets(alloc, 1, 2, targets.as_slice());
+    assert!(rt; made.is_ok());
+    Ok(())
+}
+
+// Node 1 never appears.
+#[test]
+fn a_table_need_not_be_standard(rt: HostRuntime) -> Result<(), Fail> {
+    let table = WordGraph::read_table(rt.alloc(), 1, b"0/0")?;
+    assert!(rt; !table.is_standard());
+    assert_eq!(rt; table.nodes(), 2);
     Ok(())
 }

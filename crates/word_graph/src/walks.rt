@@ -54,7 +54,8 @@ impl Walk {
     // The root is found.
     fn at_root(alloc: Global, nodes: usize) -> Result<Walk, NoMemory>
         requires { 0 < nodes }
-        ensures walk { IfOk result (λ w. (k : ℕ) (g : Graph) → length g ≡ nodes → IsWalkedTo k g w.steps.items w.places.items 0 0) }
+        ensures walk { IfOk result (λ w. (k : ℕ) (g : Graph) → length g ≡ nodes
+            → IsWalkedTo k g w.steps.items w.places.items 0 0) }
         ensures steps { IfOk result (λ w. length w.steps.items ≡ 1) }
         ensures places { IfOk result (λ w. length w.places.items ≡ nodes) }
     {
@@ -73,7 +74,10 @@ impl Walk {
     fn follow(&mut self, graph: &WordGraph, place: usize, letter: Letter) -> Result<(), NoMemory>
         requires place { place < length self.old.steps.items }
         requires places { length self.old.places.items ≡ length graph.now }
-        ensures walk { OnOk result ((k : ℕ) → IsGraph k graph.now → letter < k → IsWalkedTo k graph.now self.old.steps.items self.old.places.items place letter → IsWalkedTo k graph.now self.new.steps.items self.new.places.items place (letter + 1)) }
+        ensures walk { OnOk result ((k : ℕ) → IsGraph k graph.now → letter < k
+            → IsWalkedTo k graph.now self.old.steps.items self.old.places.items place letter
+            → IsWalkedTo k graph.now self.new.steps.items self.new.places.items
+            place (letter + 1)) }
         ensures steps { length self.old.steps.items ≤ length self.new.steps.items }
         ensures places { length self.new.places.items ≡ length self.old.places.items }
     {
@@ -98,7 +102,9 @@ impl Walk {
     fn follow_row(&mut self, graph: &WordGraph, place: usize) -> Result<(), NoMemory>
         requires place { place < length self.old.steps.items }
         requires places { length self.old.places.items ≡ length graph.now }
-        ensures walk { OnOk result ((k : ℕ) → IsGraph k graph.now → IsWalkedTo k graph.now self.old.steps.items self.old.places.items place 0 → IsWalkedTo k graph.now self.new.steps.items self.new.places.items (place + 1) 0) }
+        ensures walk { OnOk result ((k : ℕ) → IsGraph k graph.now
+            → IsWalkedTo k graph.now self.old.steps.items self.old.places.items place 0
+            → IsWalkedTo k graph.now self.new.steps.items self.new.places.items (place + 1) 0) }
         ensures steps { length self.old.steps.items ≤ length self.new.steps.items }
         ensures places { length self.new.places.items ≡ length self.old.places.items }
     {
@@ -111,7 +117,8 @@ impl Walk {
 
     /// Finds all nodes that are reached. Refused only where memory is wanting.
     pub fn over(alloc: Global, graph: &WordGraph) -> Result<Walk, NoMemory>
-        ensures { IfOk result (λ w. (k : ℕ) → IsGraph k graph.now → IsWalkedTo k graph.now w.steps.items w.places.items (length w.steps.items) 0) }
+        ensures { IfOk result (λ w. (k : ℕ) → IsGraph k graph.now
+            → IsWalkedTo k graph.now w.steps.items w.places.items (length w.steps.items) 0) }
     {
         let _letters = graph.letters();
         let mut walk = Walk::at_root(alloc, graph.nodes())?;
@@ -151,7 +158,9 @@ impl WordGraph {
     /// The least word in short-lex order that has no path from the root, as the node that all but its last letter
     /// lead to, and that letter. `None` exactly where each word has a path. Refused only where memory is wanting.
     pub fn first_missing(&self, alloc: Global) -> Result<Option<(usize, Letter)>, NoMemory>
-        ensures { IfOk result (λ found. (k : ℕ) → IsGraph k self.now → MatchOption found (AllDefined k (SameEnd self.now)) (λ p. IsFirstMissing k self.now p.0 p.1)) }
+        ensures { IfOk result (λ found. (k : ℕ) → IsGraph k self.now
+            → MatchOption found (AllDefined k (SameEnd self.now))
+            (λ p. IsFirstMissing k self.now p.0 p.1)) }
     {
         let walk = Walk::over(alloc, self)?;
         for step in &walk.steps {

@@ -1,0 +1,88 @@
+-- Searching after a cursor.
+use Rattle.std.proofs.Common.{◌≡◌, ℕ, suc, ◌*◌, ◌<◌, ◌≤◌, List, [], ◌∷◌, ◌++◌, length, refl, sym, ◌∙◌, ap, subst, subst₂, arith, inl, inr, append-nil, append_assoc}
+use Rattle.std.proofs.lemmas.Bool.{cases_lt}
+use Rattle.theory.specs.Congruence.{Presentation}
+use Rattle.sims_one.specs.Targets.{seen, IsFront, AreAllowed, IsTable, IsWithin, IsBeyond}
+use Rattle.sims_one.specs.Search.{Before, IsLeastWithin, NoneWithin, IsLeastBeyond, NoneBeyond, IsLeastAfter, NoneAfter}
+use Rattle.sims_one.proofs.FrontLaws.{allowed_front, full_ends, before_itself, before_both, before_heads, common_front, Compared, compared}
+use Rattle.sims_one.proofs.FrontLaws.Compared.{begins, below, above}
+
+module _ (p : Presentation) (n : ℕ) where
+  -- a table has a target
+  some_target : 0 < p.letters → (u : List ℕ) → IsTable p n u → (m : ℕ) × (rest : List ℕ) × (u ≡ m ∷ rest)
+  some_target some [] table = absurd (omega (arith, table.full))
+  some_target some (m ∷ rest) table = (m, rest, refl)
+
+  pub first_found : 0 < p.letters → (found : List ℕ) → IsLeastWithin p n [] found → IsLeastAfter p n [] found
+  first_found some found l = record {
+    table = l.table;
+    after = let e = some_target some found l.table in subst (λ (xs : List ℕ). Before [] xs) (sym e.2) refl;
+    least = λ u table after before. l.least u table (record { rest = u; is = refl }) before;
+  }
+
+  pub first_none : NoneWithin p n [] → NoneAfter p n []
+  first_none none u table after = none u table (record { rest = u; is = refl })
+
+  -- no table after the cursor goes on behind t
+  abbrev pub NoneFrom : List ℕ → List ℕ → Type 0
+  NoneFrom cursor t = (u : List ℕ) → IsTable p n u → IsWithin t u → Before cursor u → ⊥
+
+  pub from_start : (cursor : List ℕ) → p.letters * seen cursor ≤ length cursor → NoneFrom cursor cursor
+  from_start cursor full u table w after = go w.rest w.is
+    where
+      go : (rest : List ℕ) → u ≡ cursor ++ rest → ⊥
+      go [] e = before_itself cursor (subst (λ (xs : List ℕ). Before cursor xs) (e ∙ append-nil cursor) after)
+      go (m ∷ rest) e = full_ends p.letters cursor m rest (subst (λ (xs : List ℕ). IsFront p.letters xs) e table.front) full
+
+  pub from_end : (cursor : List ℕ) → NoneFrom cursor [] → NoneAfter p n cursor
+  from_end cursor none u table after = none u table (record { rest = u; is = refl }) after
+
+  module _ (cursor t : List ℕ) (l : ℕ) (rest : List ℕ) (is : cursor ≡ t ++ l ∷ rest) (none : NoneFrom cursor (t ++ l ∷ [])) where
+    -- what comes after the cursor behind t has a greater target
+    beyond : (u : List ℕ) → IsTable p n u → IsWithin t u → Before cursor u → IsBeyond t (suc l) u
+    beyond u table w after = go w.rest w.is
+      where
+        go : (more : List ℕ) → u ≡ t ++ more → IsBeyond t (suc l) u
+        go [] e =
+            let h : Before (t ++ l ∷ rest) (t ++ []) = subst₂ Before is e after in
+            let k = sym (common_front t (l ∷ rest) []) ∙ h in cc
+        go (m ∷ more) e = elim (cases_lt l m) [
+          | inl less ↦ record { target = m; rest = more; is = e; from = omega arith }
+          | inr most ↦ elim (cases_lt m l) [
+            | inl lower ↦
+                let back : Before u cursor = subst₂ Before (sym e) (sym is) (before_heads t m l more rest lower) in
+                absurd (before_both u cursor back after)
+            | inr higher ↦
+                let same : m ≡ l = omega arith in
+                absurd (none u table (record { rest = more; is = e ∙ ap (λ z. t ++ z ∷ more) same ∙ sym (append_assoc t (l ∷ []) more) }) after)
+          ]
+        ]
+
+    pub from_more : NoneBeyond p n t (suc l) → NoneFrom cursor t
+    from_more past u table w after = past u table (beyond u table w after)
+
+    pub from_found : (found : List ℕ) → IsLeastBeyond p n t (suc l) found → IsLeastAfter p n cursor found
+    from_found found f = record {
+      table = f.table;
+      after = subst₂ Before (sym is) (sym f.beyond.is) (before_heads t l f.beyond.target rest f.beyond.rest (omega (arith, f.beyond.from)));
+      least = λ u table after before. go u table after before (compared t u);
+    }
+      where
+        go : (u : List ℕ) → IsTable p n u → Before cursor u → Before u found → Compared t u → ⊥
+        go u table after before (begins more e) = f.least u table (beyond u table (record { rest = more; is = e }) after) before
+        go u table after before (below h) =
+            before_both u found before (subst (λ (xs : List ℕ). Before xs u) (sym f.beyond.is) (h (f.beyond.target ∷ f.beyond.rest)))
+        go u table after before (above h) =
+            before_both cursor u after (subst (λ (xs : List ℕ). Before u xs) (sym is) (h (l ∷ rest)))
+
+  -- tables have allowed targets alone
+  pub none_beyond : (t : List ℕ) (first : ℕ) → (AreAllowed p n t → ⊥) → NoneBeyond p n t first
+  none_beyond t first not u table b =
+      not (allowed_front p n t (b.target ∷ b.rest) (subst (λ (xs : List ℕ). AreAllowed p n xs) b.is table.allowed))
+
+pub popped_within : (cursor s t : List ℕ) (l : ℕ) → (w : IsWithin s cursor) → s ≡ t ++ l ∷ [] → cursor ≡ t ++ l ∷ w.rest
+popped_within cursor s t l w e = w.is ∙ ap (λ (xs : List ℕ). xs ++ w.rest) e ∙ append_assoc t (l ∷ []) w.rest
+
+pub nothing_left : (s : List ℕ) → length s ≡ 0 → s ≡ []
+nothing_left [] h = refl
+nothing_left (x ∷ s) h = absurd (omega arith)

@@ -1,0 +1,3 @@
+pub mod Targets
+pub mod Search
+pub mod Graphs

@@ -1,0 +1,151 @@
+// The search for the tables of a presentation, one after another.
+ghost use Rattle.std.specs.Prelude.{◌≡◌, ◌≢◌, ℕ, ◌<◌, ◌≤◌, List, [], IfOk, OnOk, OnErr, IsErr, true, false, Option, None, Some, MatchOption};
+ghost use Rattle.theory.specs.Congruence.{Presentation as Relations};
+ghost use Rattle.theory.specs.Listing.{IsNext, IsLast};
+ghost use Rattle.theory.specs.Graph.{Graph};
+ghost use Rattle.theory.specs.LowIndex.{Rows, graph_of, IsStandard, IsLowIndex, TableLess};
+ghost use Rattle.word_graph.specs.Standard.{IsStandardGraph};
+ghost use Rattle.sims_one.specs.Targets.{cursor_of, table_of};
+ghost use Rattle.sims_one.specs.Search.{Search, IsNextGraph, IsFound, IsCursor};
+
+use crate::paths::greatest;
+use crate::search::find_next;
+use ports::NoMemory;
+use presentation::Presentation;
+use std::alloc::Global;
+use std::marker::Model;
+use word_graph::WordGraph;
+
+/// The most classes of the tables that are searched for.
+pub const MOST_CLASSES: usize = 16;
+
+/// A search for the standard tables of at most so many classes at which the relations of a presentation hold, in the
+/// order of their rows (libsemigroups, `Sims1`). In a semigroup the root is no class, and no edge leads to it.
+///
+/// Each call but `new` may find memory wanting. It then answers `NoMemory`, as does each later call.
+#[derive(Drop)]
+pub struct Sims {
+    alloc: Global,
+    presentation: Presentation,
+    classes: usize,
+    last: Vec<usize>,
+    failed: bool,
+}
+
+impl Model for Sims {
+    ghost use Rattle.std.specs.Prelude.{◌≤◌};
+    ghost use Rattle.sims_one.specs.Targets.{cursor_of};
+    ghost use Rattle.sims_one.specs.Search.{Search, IsCursor};
+
+    ghost Value = { Search };
+
+    ghost view = { λ s. record {
+      presentation = s.presentation.presentation;
+      classes = s.classes;
+      after = cursor_of s.presentation.presentation.letters s.last.items;
+      failed = s.failed;
+    } };
+
+    ghost invariant = { λ s. record {
+      few : s.classes ≤ 16;
+      cursor : IsCursor s.presentation.presentation.letters s.last.items;
+    } };
+}
+
+impl Sims {
+    /// The search from the first table on. Refused only where memory is wanting.
+    pub fn new(alloc: Global, presentation: &Presentation, n: usize) -> Result<Sims, NoMemory>
+        requires { n ≤ MOST_CLASSES }
+        ensures { IfOk result (λ s. s ≡ record {
+          presentation = presentation.now.presentation;
+          classes = n;
+          after = None;
+          failed = false;
+        }) }
+    {
+        let presentation = presentation.copy(alloc)?;
+        Ok(Sims {
+            alloc,
+            presentation,
+            classes: n,
+            last: Vec::new(alloc),
+            failed: false,
+        })
+    }
+
+    /// From now on the tables after this one, which is standard over the letters of the presentation, and need not be
+    /// a table of the search.
+    pub fn resume(&mut self, table: &WordGraph) -> Result<(), NoMemory>
+        requires { IsStandardGraph self.old.presentation.letters table.now }
+        ensures ok { OnOk result ((rows : Rows) → table.now ≡ graph_of rows
+            → self.new ≡ record self.old { after = Some rows }) }
+        ensures err { OnErr result (self.new ≡ record self.old { failed = true }) }
+        ensures failed { self.old.failed ≡ true → IsErr result }
+    {
+        if self.failed {
+            return Err(NoMemory);
+        }
+        let _letters = self.presentation.letters();
+        match table.targets(self.alloc) {
+            Ok(targets) => {
+                self.last = targets;
+                Ok(())
+            }
+            Err(fault) => {
+                self.failed = true;
+                Err(fault)
+            }
+        }
+    }
+
+    // The next table, and its targets.
+    fn find(&self) -> Result<Option<(Vec<usize>, WordGraph)>, NoMemory>
+        ensures { IfOk result (λ found. MatchOption found
+            (IsLast (IsLowIndex self.now.presentation self.now.classes) TableLess self.now.after)
+            (λ f. IsFound self.now f.0.items f.1)) }
+    {
+        let letters = self.presentation.letters();
+        let _relations = self.presentation.relations();
+        let Some(targets) = find_next(
+            self.alloc,
+            &self.presentation,
+            self.classes,
+            self.last.as_slice(),
+        )?
+        else {
+            return Ok(None);
+        };
+        let nodes = greatest(targets.as_slice()) + 1;
+        let graph = WordGraph::of_targets(self.alloc, letters, nodes, targets.as_slice())?;
+        Ok(Some((targets, graph)))
+    }
+
+    /// The next table: the least of those after the last one, or after the table of `resume`. `None` exactly where
+    /// there is none, and then nothing changes.
+    pub fn next(&mut self) -> Result<Option<WordGraph>, NoMemory>
+        ensures some { IfOk result (λ found. (g : Graph) → found ≡ Some g
+            → (rows : Rows)
+            × IsNextGraph self.old.presentation self.old.classes self.old.after g rows
+            × (self.new ≡ record self.old { after = Some rows })) }
+        ensures none { IfOk result (λ found. found ≡ None
+            → IsLast (IsLowIndex self.old.presentation self.old.classes) TableLess self.old.after) }
+        ensures same { IfOk result (λ found. found ≡ None → self.new ≡ self.old) }
+        ensures err { OnErr result (self.new ≡ record self.old { failed = true }) }
+        ensures failed { self.old.failed ≡ true → IsErr result }
+    {
+        if self.failed {
+            return Err(NoMemory);
+        }
+        match self.find() {
+            Ok(Some(found)) => {
+                self.last = found.0;
+                Ok(Some(found.1))
+            }
+            Ok(None) => Ok(None),
+            Err(fault) => {
+                self.failed = true;
+                Err(fault)
+            }
+        }
+    }
+}
