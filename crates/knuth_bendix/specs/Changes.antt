@@ -20,28 +20,36 @@ pub record SetsAside (left : Word) (rules kept old new : List (Word × Word)) : 
 pub record Rewrites (old new : List (Word × Word)) : Type 0 where
   pub lefts : lefts new ≡ lefts old
   pub falling : AreFalling new
-  pub linked : (i : ℕ) → i < length old → Linked (Listed new) (λ x. NoLater x (rule_at old i).1) (rule_at old i).1 (rule_at new i).1
+  pub linked : (i : ℕ) → i < length old
+      → Linked (Listed new) (λ x. NoLater x (rule_at old i).1) (rule_at old i).1 (rule_at new i).1
   -- rules that hold within a length stay so
-  pub within : (p : Presentation) (L : ℕ) → ((l r : Word) → Listed old l r → Within p L l r) → (l r : Word) → Listed new l r → Within p L l r
+  pub within : (p : Presentation) (L : ℕ) → ((l r : Word) → Listed old l r → Within p L l r)
+      → (l r : Word) → Listed new l r → Within p L l r
 
 -- the right side at a place is reduced now, or it is the old one and the word does not stand in it
 abbrev pub IsDone : Word → List (Word × Word) → List (Word × Word) → ℕ → Type 0
-IsDone f old new i = IsReduced (Listed new) (rule_at new i).1 ⊎ ((rule_at new i ≡ rule_at old i) × (IsFactor f (rule_at old i).1 → ⊥))
+IsDone f old new i = IsReduced (Listed new) (rule_at new i).1
+    ⊎ ((rule_at new i ≡ rule_at old i) × (IsFactor f (rule_at old i).1 → ⊥))
 
 -- a rule has been added: rules in which its left side stands became equations, right sides were rewritten, and its overlaps within the length were joined
-pub record AddsRule (L : ℕ) (left right : Word) (rules equations new_rules new_equations : List (Word × Word)) : Type 0 where
+pub record AddsRule (L : ℕ) (left right : Word)
+    (rules equations new_rules new_equations : List (Word × Word)) : Type 0 where
   pub kept : List (Word × Word)
   pub between : List (Word × Word)
   pub aside : SetsAside left rules kept equations between
   pub rewrites : Rewrites (kept ++ (left, right) ∷ []) new_rules
   pub done : (i : ℕ) → i < length new_rules → IsDone left (kept ++ (left, right) ∷ []) new_rules i
-  pub gains : (most : ℕ) → AreShort most new_rules → Gains (Some L) new_rules between new_equations (length new_rules * (most + most))
+  pub gains : (most : ℕ) → AreShort most new_rules
+      → Gains (Some L) new_rules between new_equations (length new_rules * (most + most))
   pub joined : (other : ℕ) → other < length new_rules
-      → AreJoined (Some L) new_rules new_equations (rule_at new_rules (length kept)) (rule_at new_rules other)
-      × AreJoined (Some L) new_rules new_equations (rule_at new_rules other) (rule_at new_rules (length kept))
+      → AreJoined (Some L) new_rules new_equations (rule_at new_rules (length kept))
+      (rule_at new_rules other)
+      × AreJoined (Some L) new_rules new_equations (rule_at new_rules other)
+      (rule_at new_rules (length kept))
 
 -- the two words were rewritten, and if they became different, these are the sides of a rule that has been added
-pub record Joins (L : ℕ) (u v : Word) (rules equations new_rules new_equations : List (Word × Word)) : Type 0 where
+pub record Joins (L : ℕ) (u v : Word)
+    (rules equations new_rules new_equations : List (Word × Word)) : Type 0 where
   pub left : Word
   pub right : Word
   pub down_left : Reduces (Listed rules) u left

@@ -39,6 +39,7 @@ pub record IsSound (p : Presentation) (L : ℕ) (h : Held) : Type 0 where
   -- the words to which overlaps lead are linked below the overlap
   pub overlaps : (a b c v w : Word) → b ≢ [] → Listed h.rules (a ++ b) v → Listed h.rules (b ++ c) w
       → length (a ++ (b ++ c)) ≤ L → Linked (Known h) (IsBelow (a ++ (b ++ c))) (v ++ c) (a ++ w)
-  pub relations : (r s : Word) → EitherWay p.relations r s → length r ≤ L → length s ≤ L → Linked (Known h) (IsShort L) r s
+  pub relations : (r s : Word) → EitherWay p.relations r s → length r ≤ L → length s ≤ L
+      → Linked (Known h) (IsShort L) r s
   -- each rule has made a word reducible
   pub count : length h.rules + still_reduced p.letters L h.rules ≤ length (words_up_to p.letters L)

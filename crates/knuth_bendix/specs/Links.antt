@@ -38,9 +38,12 @@ abbrev pub IsCovered : (Word → Word → Type 0) → (Word → Word → Type 0)
 IsCovered S S' = (u v : Word) → S u v → Linked S' (IsNoMore u v) u v
 
 -- the rules fall and stand apart, the overlaps that fit are linked below, and the relations that fit through short words
-pub record IsLinkedUp (p : Presentation) (L : ℕ) (S : Word → Word → Type 0) (rules : List (Word × Word)) : Type 0 where
+pub record IsLinkedUp (p : Presentation) (L : ℕ) (S : Word → Word → Type 0)
+    (rules : List (Word × Word)) : Type 0 where
   pub falls : (l r : Word) → Listed rules l r → r ≺ l
   pub apart : (l r f g : Word) → Listed rules l r → Listed rules f g → IsProperFactor f l → ⊥
-  pub overlaps : (a b c v w : Word) → b ≢ [] → Listed rules (a ++ b) v → Listed rules (b ++ c) w → length (a ++ (b ++ c)) ≤ L
+  pub overlaps : (a b c v w : Word) → b ≢ [] → Listed rules (a ++ b) v → Listed rules (b ++ c) w
+      → length (a ++ (b ++ c)) ≤ L
       → Linked S (IsBelow (a ++ (b ++ c))) (v ++ c) (a ++ w)
-  pub relations : (r s : Word) → EitherWay p.relations r s → length r ≤ L → length s ≤ L → Linked S (IsShort L) r s
+  pub relations : (r s : Word) → EitherWay p.relations r s → length r ≤ L → length s ≤ L
+      → Linked S (IsShort L) r s

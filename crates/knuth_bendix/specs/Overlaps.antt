@@ -19,7 +19,11 @@ overlaps_by f g shared = drop (length f - shared) f ≡ take shared g
 
 -- the words to which two rules lead from the word in which their left sides share so many letters
 abbrev pub critical_pair : Word × Word → Word × Word → ℕ → Word × Word
-critical_pair p q shared = (replaced q.0 0 shared p.1, replaced p.0 (length p.0 - shared) shared q.1)
+critical_pair p q shared = (
+  replaced q.0 0 shared p.1,
+  replaced p.0
+      (length p.0 - shared) shared q.1,
+)
 
 -- the left sides of the rules share so many letters, some and not all, in a word within the limit
 pub record IsOverlap (limit : Option ℕ) (p q : Word × Word) (shared : ℕ) : Type 0 where
@@ -38,12 +42,14 @@ pub record IsJoinedBy (rules equations : List (Word × Word)) (u v : Word) : Typ
   pub met : (left ≡ right) ⊎ Listed equations left right
 
 -- each overlap of the two rules is joined
-abbrev pub AreJoined : Option ℕ → List (Word × Word) → List (Word × Word) → Word × Word → Word × Word → Type 0
+abbrev pub AreJoined : Option ℕ → List (Word × Word) → List (Word × Word) → Word × Word
+    → Word × Word → Type 0
 AreJoined limit rules equations p q = (shared : ℕ) → IsOverlap limit p q shared
     → IsJoinedBy rules equations (critical_pair p q shared).0 (critical_pair p q shared).1
 
 -- u and v are the different reduced words to which an overlap of the two rules leads
-pub record IsApart (limit : Option ℕ) (rules : List (Word × Word)) (p q : Word × Word) (u v : Word) : Type 0 where
+pub record IsApart (limit : Option ℕ) (rules : List (Word × Word)) (p q : Word × Word)
+    (u v : Word) : Type 0 where
   pub shared : ℕ
   pub overlap : IsOverlap limit p q shared
   pub down_left : Reduces (Listed rules) (critical_pair p q shared).0 u
@@ -53,9 +59,12 @@ pub record IsApart (limit : Option ℕ) (rules : List (Word × Word)) (p q : Wor
   pub differ : u ≢ v
 
 -- the overlap of the rules at two places leads to the reduced words left and right
-pub record ReducesTo (rules : List (Word × Word)) (first second shared : ℕ) (left right : Word) : Type 0 where
-  pub down_left : Reduces (Listed rules) (critical_pair (rule_at rules first) (rule_at rules second) shared).0 left
-  pub down_right : Reduces (Listed rules) (critical_pair (rule_at rules first) (rule_at rules second) shared).1 right
+pub record ReducesTo (rules : List (Word × Word)) (first second shared : ℕ)
+    (left right : Word) : Type 0 where
+  pub down_left : Reduces (Listed rules)
+      (critical_pair (rule_at rules first) (rule_at rules second) shared).0 left
+  pub down_right : Reduces (Listed rules)
+      (critical_pair (rule_at rules first) (rule_at rules second) shared).1 right
   pub end_left : IsReduced (Listed rules) left
   pub end_right : IsReduced (Listed rules) right
 

@@ -28,10 +28,12 @@ growth k L = length (words_up_to k L) + length (words_up_to k L) * (L + L) + 1
 
 -- words within the length that are still reduced, and then equations
 abbrev pub left_of : Presentation → ℕ → List (Word × Word) → List (Word × Word) → ℕ
-left_of p L rules equations = still_reduced p.letters L rules * growth p.letters L + length equations
+left_of p L rules equations = still_reduced p.letters L rules * growth p.letters L + length
+    equations
 
 -- what the last turn left
-pub record IsRun (p : Presentation) (L : ℕ) (rules equations : List (Word × Word)) (said : Progress) : Type 0 where
+pub record IsRun (p : Presentation) (L : ℕ) (rules equations : List (Word × Word))
+    (said : Progress) : Type 0 where
   pub short : AreShort L rules
   pub sound : said ≢ NoMemory → IsSound p L (record { rules = rules; equations = equations })
   pub decided : said ≡ Decided → CompletionEnds p L
@@ -39,16 +41,20 @@ pub record IsRun (p : Presentation) (L : ℕ) (rules equations : List (Word × W
   pub kept : (said ≡ Decided) ⊎ (said ≡ Spent) → AreRules p L rules
 
 -- what a completion holds between two turns
-pub record IsCompletion (p : Presentation) (L : ℕ) (rules equations : List (Word × Word)) (said : Progress) : Type 0 where
+pub record IsCompletion (p : Presentation) (L : ℕ) (rules equations : List (Word × Word))
+    (said : Progress) : Type 0 where
   pub elements : AreElements p.is_monoid p.letters p.relations
   pub run : IsRun p L rules equations said
 
 -- a turn that met no want of memory
-pub record IsTurn (p : Presentation) (L : ℕ) (rules equations new_rules new_equations : List (Word × Word)) (progress : Progress) : Type 0 where
+pub record IsTurn (p : Presentation) (L : ℕ)
+    (rules equations new_rules new_equations : List (Word × Word))
+    (progress : Progress) : Type 0 where
   pub more : progress ≡ More → left_of p L new_rules new_equations < left_of p L rules equations
   pub run : IsRun p L new_rules new_equations progress
 
 -- the relations both of whose sides are within the length
 pub record AreShortRelations (L : ℕ) (relations equations : List (Word × Word)) : Type 0 where
   pub all : (r s : Word) → Listed relations r s → length r ≤ L → length s ≤ L → Listed equations r s
-  pub are : (r s : Word) → Listed equations r s → Listed relations r s × (length r ≤ L) × (length s ≤ L)
+  pub are : (r s : Word) → Listed equations r s
+      → Listed relations r s × (length r ≤ L) × (length s ≤ L)

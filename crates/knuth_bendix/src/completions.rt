@@ -37,9 +37,16 @@ impl Model for Completion {
 
     ghost Value = { CompletionRun };
 
-    ghost view = { λ c. record { presentation = c.presentation.presentation; length = c.length; rules = c.rules; left = left_of c.presentation.presentation c.length c.rules c.equations; said = c.said } };
+    ghost view = { λ c. record {
+      presentation = c.presentation.presentation;
+      length = c.length;
+      rules = c.rules;
+      left = left_of c.presentation.presentation c.length c.rules c.equations;
+      said = c.said;
+    } };
 
-    ghost invariant = { λ c. IsCompletion c.presentation.presentation c.length c.rules c.equations c.said };
+    ghost invariant = { λ c. IsCompletion c.presentation.presentation c.length c.rules c.equations
+        c.said };
 }
 
 // Whether neither side of the relation has more letters than the bound.
@@ -83,8 +90,11 @@ fn ends(
     length: usize,
     rules: &Rules,
 ) -> Result<bool, NoMemory>
-    requires { IsSound presentation.now.presentation length (record { rules = rules.now; equations = [] }) }
-    ensures { IfOk result (λ ends. MatchBool ends (CompletionEnds presentation.now.presentation length) (CompletionEnds presentation.now.presentation length → ⊥)) }
+    requires { IsSound presentation.now.presentation length
+        (record { rules = rules.now; equations = [] }) }
+    ensures { IfOk result (λ ends. MatchBool ends
+        (CompletionEnds presentation.now.presentation length)
+        (CompletionEnds presentation.now.presentation length → ⊥)) }
 {
     if !are_short(presentation.relations(), length) {
         return Ok(false);
@@ -112,8 +122,10 @@ fn go_on(
     rules: Rules,
     equations: &mut Equations,
 ) -> Result<(Rules, Progress), NoMemory>
-    requires { IsSound presentation.now.presentation length (record { rules = rules; equations = equations.old }) }
-    ensures { IfOk result (λ turn. IsTurn presentation.now.presentation length rules equations.old turn.0 equations.new turn.1) }
+    requires { IsSound presentation.now.presentation length
+        (record { rules = rules; equations = equations.old }) }
+    ensures { IfOk result (λ turn. IsTurn presentation.now.presentation length rules equations.old
+        turn.0 equations.new turn.1) }
 {
     match equations.pop() {
         Some(pair) => {
@@ -129,7 +141,8 @@ fn go_on(
 
 // What a turn leaves: after want of memory no rules are held.
 fn left_by(alloc: Global, turn: Result<(Rules, Progress), NoMemory>) -> (Rules, Progress)
-    ensures { MatchResult turn (λ t. result ≡ t) (λ _. (result.0 ≡ []) × (result.1 ≡ Progress.NoMemory)) }
+    ensures { MatchResult turn (λ t. result ≡ t)
+        (λ _. (result.0 ≡ []) × (result.1 ≡ Progress.NoMemory)) }
 {
     match turn {
         Ok(turn) => turn,
@@ -158,15 +171,21 @@ impl Racer for Completion {
     /// that fits, the last turn tests the overlaps of any length. After it two words within the length have one normal
     /// form exactly where the relation of that length relates them. No rule that is held has a longer side.
     fn advance(&mut self) -> Progress
-        ensures task { (self.new.presentation ≡ self.old.presentation) × (self.new.length ≡ self.old.length) }
+        ensures task { (self.new.presentation ≡ self.old.presentation)
+            × (self.new.length ≡ self.old.length) }
         ensures said { self.new.said ≡ result }
-        ensures decided { result ≡ Answer.Decided → CompletionEnds self.new.presentation self.new.length }
-        ensures spent { result ≡ Answer.Spent → ¬ (CompletionEnds self.new.presentation self.new.length) }
+        ensures decided { result ≡ Answer.Decided
+            → CompletionEnds self.new.presentation self.new.length }
+        ensures spent { result ≡ Answer.Spent
+            → ¬ (CompletionEnds self.new.presentation self.new.length) }
         ensures more { result ≡ Answer.More → self.new.left < self.old.left }
-        ensures stays_decided { self.old.said ≡ Answer.Decided → (result ≡ Answer.Decided) × (self.new ≡ self.old) }
-        ensures stays_spent { self.old.said ≡ Answer.Spent → (result ≡ Answer.Spent) × (self.new ≡ self.old) }
+        ensures stays_decided { self.old.said ≡ Answer.Decided
+            → (result ≡ Answer.Decided) × (self.new ≡ self.old) }
+        ensures stays_spent { self.old.said ≡ Answer.Spent
+            → (result ≡ Answer.Spent) × (self.new ≡ self.old) }
         ensures stays_out_of_memory { self.old.said ≡ Answer.NoMemory → result ≡ Answer.NoMemory }
-        ensures rules { (result ≡ Answer.Decided) ⊎ (result ≡ Answer.Spent) → AreRules self.new.presentation self.new.length self.new.rules }
+        ensures rules { (result ≡ Answer.Decided) ⊎ (result ≡ Answer.Spent)
+            → AreRules self.new.presentation self.new.length self.new.rules }
         ensures short { AreShort self.new.length self.new.rules }
     {
         let Progress::More = self.said else {
@@ -222,8 +241,10 @@ impl Completion {
     /// of their left sides (Sims 1994, 2.6; libsemigroups, `active_rules`). Refused only where memory is wanting.
     pub fn rules(&self) -> Result<Rules, NoMemory>
         requires { self.now.said ≡ Progress.Decided }
-        ensures list { IfOk result (IsRuleList (SameClass (of_presentation self.now.presentation))) }
-        ensures rules { IfOk result (λ r. (u v : Letters) → Listed r u v ↔ Rule self.now.presentation self.now.length u v) }
+        ensures list { IfOk result (IsRuleList
+            (SameClass (of_presentation self.now.presentation))) }
+        ensures rules { IfOk result (λ r. (u v : Letters)
+            → Listed r u v ↔ Rule self.now.presentation self.now.length u v) }
         ensures ends { CompletionEnds self.now.presentation self.now.length }
     {
         let mut rules = self.rules.copy(self.alloc)?.into_vec();

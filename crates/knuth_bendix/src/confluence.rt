@@ -18,7 +18,9 @@ fn pair_is_joined(
 ) -> Result<bool, NoMemory>
     requires first { first < length rules.now }
     requires second { second < length rules.now }
-    ensures { IfOk result (λ joined. MatchBool joined (AreJoined None rules.now [] (rule_at rules.now first) (rule_at rules.now second)) ((u : Letters) × (v : Letters) × IsSplit None rules.now u v)) }
+    ensures { IfOk result (λ joined. MatchBool joined
+        (AreJoined None rules.now [] (rule_at rules.now first) (rule_at rules.now second))
+        ((u : Letters) × (v : Letters) × IsSplit None rules.now u v)) }
 {
     let mut equations = Equations::new(alloc);
     join_overlaps(alloc, rules, first, second, None, &mut equations)?;
@@ -28,7 +30,10 @@ fn pair_is_joined(
 // Whether each overlap of a rule with a later one, however long, leads to one word.
 fn row_is_joined(alloc: Global, rules: &Rules, first: usize) -> Result<bool, NoMemory>
     requires { first < length rules.now }
-    ensures { IfOk result (λ joined. MatchBool joined ((second : ℕ) → second < length rules.now → AreJoined None rules.now [] (rule_at rules.now first) (rule_at rules.now second)) ((u : Letters) × (v : Letters) × IsSplit None rules.now u v)) }
+    ensures { IfOk result (λ joined. MatchBool joined
+        ((second : ℕ) → second < length rules.now
+        → AreJoined None rules.now [] (rule_at rules.now first) (rule_at rules.now second))
+        ((u : Letters) × (v : Letters) × IsSplit None rules.now u v)) }
 {
     for second in 0..rules.len() {
         if !pair_is_joined(alloc, rules, first, second)? {
@@ -40,7 +45,10 @@ fn row_is_joined(alloc: Global, rules: &Rules, first: usize) -> Result<bool, NoM
 
 /// Whether each overlap of the rules, however long, leads to one word (Sims 1994, 2.3). Refused only where memory is wanting.
 pub fn are_joined(alloc: Global, rules: &Rules) -> Result<bool, NoMemory>
-    ensures { IfOk result (λ joined. MatchBool joined ((first second : ℕ) → first < length rules.now → second < length rules.now → AreJoined None rules.now [] (rule_at rules.now first) (rule_at rules.now second)) ((u : Letters) × (v : Letters) × IsSplit None rules.now u v)) }
+    ensures { IfOk result (λ joined. MatchBool joined
+        ((first second : ℕ) → first < length rules.now → second < length rules.now
+        → AreJoined None rules.now [] (rule_at rules.now first) (rule_at rules.now second))
+        ((u : Letters) × (v : Letters) × IsSplit None rules.now u v)) }
 {
     for first in 0..rules.len() {
         if !row_is_joined(alloc, rules, first)? {

@@ -49,7 +49,8 @@ impl Equations {
 
     /// Takes the first pair; `None` exactly where there is none.
     pub fn pop(&mut self) -> Option<(Word, Word)>
-        ensures { MatchOption result ((self.old ≡ []) × (self.new ≡ [])) (λ pair. self.old ≡ pair ∷ self.new) }
+        ensures { MatchOption result ((self.old ≡ []) × (self.new ≡ []))
+            (λ pair. self.old ≡ pair ∷ self.new) }
     {
         self.pairs.pop_front()
     }

@@ -84,7 +84,8 @@ fn reduced_pair(
 // Puts the words to which an overlap leads at the end of the equations, where they differ.
 fn push_different(left: Word, right: Word, equations: &mut Equations) -> Result<(), NoMemory>
     ensures same { OnOk result (left ≡ right → equations.new ≡ equations.old) }
-    ensures different { OnOk result ((left ≡ right → ⊥) → equations.new ≡ equations.old ++ (left, right) ∷ []) }
+    ensures different { OnOk result
+        ((left ≡ right → ⊥) → equations.new ≡ equations.old ++ (left, right) ∷ []) }
 {
     if left.letters() != right.letters() {
         equations.push(left, right)?;
@@ -106,8 +107,12 @@ fn join_overlap(
     requires second { second < length rules.now }
     requires shared_first { shared ≤ length (rule_at rules.now first).0 }
     requires shared_second { shared ≤ length (rule_at rules.now second).0 }
-    ensures gains { OnOk result ((limit : Option ℕ) → IsOverlap limit (rule_at rules.now first) (rule_at rules.now second) shared → Gains limit rules.now equations.old equations.new 1) }
-    ensures joined { OnOk result (IsJoinedBy rules.now equations.new (critical_pair (rule_at rules.now first) (rule_at rules.now second) shared).0 (critical_pair (rule_at rules.now first) (rule_at rules.now second) shared).1) }
+    ensures gains { OnOk result ((limit : Option ℕ)
+        → IsOverlap limit (rule_at rules.now first) (rule_at rules.now second) shared
+        → Gains limit rules.now equations.old equations.new 1) }
+    ensures joined { OnOk result (IsJoinedBy rules.now equations.new
+        (critical_pair (rule_at rules.now first) (rule_at rules.now second) shared).0
+        (critical_pair (rule_at rules.now first) (rule_at rules.now second) shared).1) }
 {
     let (left, right) = reduced_pair(alloc, rules, first, second, shared)?;
     push_different(left, right, equations)?;
@@ -126,8 +131,10 @@ pub fn join_overlaps(
 ) -> Result<(), NoMemory>
     requires first { first < length rules.now }
     requires second { second < length rules.now }
-    ensures gains { OnOk result (Gains limit rules.now equations.old equations.new (length (rule_at rules.now first).0)) }
-    ensures joined { OnOk result (AreJoined limit rules.now equations.new (rule_at rules.now first) (rule_at rules.now second)) }
+    ensures gains { OnOk result (Gains limit rules.now equations.old equations.new
+        (length (rule_at rules.now first).0)) }
+    ensures joined { OnOk result (AreJoined limit rules.now equations.new (rule_at rules.now first)
+        (rule_at rules.now second)) }
 {
     let shortest = rules.rule(first).0.len().min(rules.rule(second).0.len());
     for shared in 1..shortest {
@@ -147,9 +154,13 @@ pub fn join_all(
     equations: &mut Equations,
 ) -> Result<(), NoMemory>
     requires { newest < length rules.now }
-    ensures gains { OnOk result ((most : ℕ) → AreShort most rules.now → Gains limit rules.now equations.old equations.new (length rules.now * (most + most))) }
+    ensures gains { OnOk result ((most : ℕ) → AreShort most rules.now
+        → Gains limit rules.now equations.old equations.new (length rules.now * (most + most))) }
     ensures joined { OnOk result ((other : ℕ) → other < length rules.now
-        → AreJoined limit rules.now equations.new (rule_at rules.now newest) (rule_at rules.now other) × AreJoined limit rules.now equations.new (rule_at rules.now other) (rule_at rules.now newest)) }
+        → AreJoined limit rules.now equations.new (rule_at rules.now newest)
+        (rule_at rules.now other)
+        × AreJoined limit rules.now equations.new (rule_at rules.now other)
+        (rule_at rules.now newest)) }
 {
     for other in 0..rules.len() {
         join_overlaps(alloc, rules, newest, other, limit, equations)?;

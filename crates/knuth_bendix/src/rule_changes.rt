@@ -24,8 +24,10 @@ fn set_one_aside(
     equations: &mut Equations,
 ) -> Result<(), NoMemory>
     requires { rule.1 ≺ rule.0 }
-    ensures kept { OnOk result (kept.new ≡ kept.old ++ filter (λ r. not (stands_in left.now r.0)) (rule ∷ [])) }
-    ensures equations { OnOk result (equations.new ≡ equations.old ++ filter (λ r. stands_in left.now r.0) (rule ∷ [])) }
+    ensures kept { OnOk result (kept.new
+        ≡ kept.old ++ filter (λ r. not (stands_in left.now r.0)) (rule ∷ [])) }
+    ensures equations { OnOk result
+        (equations.new ≡ equations.old ++ filter (λ r. stands_in left.now r.0) (rule ∷ [])) }
 {
     if has_factor(&rule.0, left) {
         equations.push(rule.0, rule.1)
@@ -55,7 +57,8 @@ fn rewrite_right(rules: &mut Rules, place: usize, newest: usize) -> Result<(), N
     requires place { place < length rules.old }
     requires newest { newest < length rules.old }
     ensures rewrites { OnOk result (Rewrites rules.old rules.new) }
-    ensures others { OnOk result ((i : ℕ) → i < length rules.old → (i ≡ place → ⊥) → rule_at rules.new i ≡ rule_at rules.old i) }
+    ensures others { OnOk result ((i : ℕ) → i < length rules.old → (i ≡ place → ⊥)
+        → rule_at rules.new i ≡ rule_at rules.old i) }
     ensures done { OnOk result (IsDone (rule_at rules.old newest).0 rules.old rules.new place) }
 {
     if has_factor(&rules.rule(place).1, &rules.rule(newest).0) {
@@ -69,7 +72,8 @@ fn rewrite_right(rules: &mut Rules, place: usize, newest: usize) -> Result<(), N
 fn rewrite_rights(rules: &mut Rules, newest: usize) -> Result<(), NoMemory>
     requires { newest < length rules.old }
     ensures rewrites { OnOk result (Rewrites rules.old rules.new) }
-    ensures done { OnOk result ((i : ℕ) → i < length rules.new → IsDone (rule_at rules.old newest).0 rules.old rules.new i) }
+    ensures done { OnOk result ((i : ℕ) → i < length rules.new
+        → IsDone (rule_at rules.old newest).0 rules.old rules.new i) }
 {
     for place in 0..rules.len() {
         rewrite_right(rules, place, newest)?;
@@ -88,7 +92,8 @@ fn add_rule(
     equations: &mut Equations,
 ) -> Result<Rules, NoMemory>
     requires { right ≺ left }
-    ensures { IfOk result (λ new. AddsRule length left right rules equations.old new equations.new) }
+    ensures { IfOk result (λ new. AddsRule length left right rules equations.old new
+        equations.new) }
 {
     let mut rules = set_aside(alloc, rules, &left, equations)?;
     let newest = rules.len();
@@ -107,7 +112,8 @@ pub fn join(
     length: usize,
     equations: &mut Equations,
 ) -> Result<Rules, NoMemory>
-    ensures { IfOk result (λ new. Joins length pair.now.0 pair.now.1 rules equations.old new equations.new) }
+    ensures { IfOk result (λ new. Joins length pair.now.0 pair.now.1 rules equations.old new
+        equations.new) }
 {
     let left = rules.reduce(&pair.0)?;
     let right = rules.reduce(&pair.1)?;

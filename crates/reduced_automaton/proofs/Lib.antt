@@ -3,8 +3,12 @@ pub mod Standing
 pub mod Reducing
 pub mod StateLaws
 pub mod StateLists
-pub mod EdgeSteps
 pub mod Searches
 pub mod DepthLaws
 pub mod NextPaths
 pub mod ReadingLaws
+pub mod TrieLaws
+pub mod LevelLaws
+pub mod LinkLaws
+pub mod TableLaws
+pub mod ReductionLaws

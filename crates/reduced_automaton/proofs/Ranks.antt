@@ -4,17 +4,9 @@ use Rattle.std.specs.Cmp.Lexicographic.{slice_cmp}
 use Rattle.std.proofs.Math.Nat.{mul-le-mul_right}
 use Rattle.std.proofs.lemmas.Bool.{cases_lt}
 use Rattle.theory.specs.Word.{Word, IsOver}
+pub use Rattle.reduced_automaton.specs.Reductions.{rank_from, rank}
 use Rattle.theory.specs.ShortLex.{◌≺◌}
 use Rattle.theory.proofs.Words.{before_cases, then_Less, nat_from_Less, nat_from_Equal}
-
--- the number that the letters after a number make, the first letter most significant
-abbrev pub rank_from : ℕ → ℕ → Word → ℕ
-rank_from k n [] = n
-rank_from k n (a ∷ u) = rank_from k (n * k + suc a) u
-
--- the place of a word over k letters
-abbrev pub rank : ℕ → Word → ℕ
-rank k = rank_from k 0
 
 -- one letter more, after a lesser number
 next_less : (k n m a b : ℕ) → n < m → a < k → n * k + suc a < m * k + suc b

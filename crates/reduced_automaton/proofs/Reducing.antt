@@ -1,5 +1,5 @@
 -- Rewriting ends: each step leads to a word of a lower place.
-use Rattle.std.proofs.Common.{◌≡◌, ℕ, suc, ◌+◌, ◌<◌, ◌≤◌, max, List, [], ◌∷◌, ◌++◌, length, take, drop, get_or, sym, ◌∙◌, ap, ap₂, subst, arith, take-append-drop}
+use Rattle.std.proofs.Common.{◌≡◌, ℕ, ◌+◌, ◌<◌, ◌≤◌, List, [], ◌∷◌, ◌++◌, length, take, drop, get_or, sym, ◌∙◌, ap, ap₂, subst, arith, take-append-drop}
 use Rattle.std.proofs.lemmas.List.{get_or_default}
 use Rattle.std.proofs.lemmas.List.Elements.{All-nil, All-cons}
 use Rattle.theory.specs.Word.{Word, IsOver}
@@ -10,28 +10,15 @@ use Rattle.theory.proofs.Words.{over_append, over_left, over_right}
 use Rattle.theory.proofs.Chains.{joined_refl, joined_trans, joined_one}
 use Rattle.theory.proofs.Completeness.{step_falls}
 use Rattle.reduced_automaton.specs.Rules.{AreFalling, AreOver, AppliesAt, replaced}
+pub use Rattle.reduced_automaton.specs.Reductions.{letters_in, letters_in_rules, letters_for}
 use Rattle.reduced_automaton.proofs.Ranks.{rank, rank_below}
 use Rattle.reduced_automaton.proofs.Standing.{applied, applied_over, listed_falls}
-
--- one more than the greatest letter of a word
-abbrev pub letters_in : Word → ℕ
-letters_in [] = 0
-letters_in (a ∷ u) = max (suc a) (letters_in u)
-
--- one more than the greatest letter of rules
-abbrev pub letters_in_rules : List (Word × Word) → ℕ
-letters_in_rules [] = 0
-letters_in_rules (r ∷ rs) = max (max (letters_in r.0) (letters_in r.1)) (letters_in_rules rs)
-
--- as many letters as a word and rules need
-abbrev pub letters_for : List (Word × Word) → Word → ℕ
-letters_for rules u = max (letters_in u) (letters_in_rules rules)
 
 pub over_more : (k m : ℕ) (u : Word) → k ≤ m → IsOver k u → IsOver m u
 over_more k m [] h over = tt
 over_more k m (a ∷ u) h over = let less = over.0 in (omega (arith, less), over_more k m u h over.1)
 
-over_itself : (k : ℕ) (u : Word) → letters_in u ≤ k → IsOver k u
+pub over_itself : (k : ℕ) (u : Word) → letters_in u ≤ k → IsOver k u
 over_itself k [] h = tt
 over_itself k (a ∷ u) h = (omega arith, over_itself k u (omega arith))
 
@@ -40,7 +27,7 @@ rules_over k [] h = All-nil (λ (r : Word × Word). IsOver k r.0 × IsOver k r.1
 rules_over k (r ∷ rs) h =
     All-cons (λ (r : Word × Word). IsOver k r.0 × IsOver k r.1) r rs (over_itself k r.0 (omega arith), over_itself k r.1 (omega arith)) (rules_over k rs (omega arith))
 
-over_for : (rules : List (Word × Word)) (word : Word) → AreOver (letters_for rules word) rules
+pub over_for : (rules : List (Word × Word)) (word : Word) → AreOver (letters_for rules word) rules
 over_for rules word = rules_over (letters_for rules word) rules (omega arith)
 
 -- the rules lead from the word to another with no greater letters

@@ -13,13 +13,13 @@ use Rattle.reduced_automaton.specs.States.{HasEnd, IsLongest, Leads, AreStates}
 use Rattle.reduced_automaton.proofs.Standing.{filled, listed_falls, listed_at}
 
 -- of two ends of one word the shorter stands at the end of the longer
-end_of_end : (x s y t : Word) → x ++ s ≡ y ++ t → length t ≤ length s → (z : Word) × (s ≡ z ++ t)
+pub end_of_end : (x s y t : Word) → x ++ s ≡ y ++ t → length t ≤ length s → (z : Word) × (s ≡ z ++ t)
 end_of_end x s y t e h =
     let cut = cut_between x s y t e (omega (arith, ap length e, length-append x s, length-append y t, h)) in
     (cut.0, cut.2)
 
 -- a front of a reduced word is reduced
-reduced_front : (rules : List (Word × Word)) (u v : Word) → IsReduced (Listed rules) (u ++ v) → IsReduced (Listed rules) u
+pub reduced_front : (rules : List (Word × Word)) (u v : Word) → IsReduced (Listed rules) (u ++ v) → IsReduced (Listed rules) u
 reduced_front rules u v reduced w s =
     reduced (s.before ++ (s.to ++ (s.after ++ v))) (record {
       before = s.before;
@@ -33,7 +33,7 @@ reduced_front rules u v reduced w s =
     })
 
 -- a word with a left side at its end is not reduced
-end_reduces : (rules : List (Word × Word)) (u : Word) → HasEnd rules u → IsReduced (Listed rules) u → ⊥
+pub end_reduces : (rules : List (Word × Word)) (u : Word) → HasEnd rules u → IsReduced (Listed rules) u → ⊥
 end_reduces rules u h reduced =
     reduced (h.before ++ (h.right ++ [])) (record {
       before = h.before;
@@ -47,13 +47,13 @@ end_reduces rules u h reduced =
     })
 
 module _ (rules : List (Word × Word)) (falling : AreFalling rules) where
-  empty_reduced : IsReduced (Listed rules) []
+  pub empty_reduced : IsReduced (Listed rules) []
   empty_reduced v s =
       let some = filled s.from s.to (listed_falls rules falling s.from s.to s.base) in
       omega (arith, some, ap length s.source, length-append s.before (s.from ++ s.after), length-append s.from s.after)
 
   -- one letter more
-  reduced_more : (u : Word) (a : ℕ) → IsReduced (Listed rules) u → (HasEnd rules (u ++ a ∷ []) → ⊥) → IsReduced (Listed rules) (u ++ a ∷ [])
+  pub reduced_more : (u : Word) (a : ℕ) → IsReduced (Listed rules) u → (HasEnd rules (u ++ a ∷ []) → ⊥) → IsReduced (Listed rules) (u ++ a ∷ [])
   reduced_more u a reduced none v s = elim (last_letter s.after) [
     | inl e ↦
         none (record {
@@ -89,7 +89,7 @@ module _ (rules : List (Word × Word)) (falling : AreFalling rules) where
         (has' (omega (arith, ap length e, length-append p (a ∷ []))))
 
     -- a left side at the end of the word and a letter stands at the end of the state and the letter
-    end_kept : (u : Word) (place a : ℕ) → IsLongest states u place → HasEnd rules (u ++ a ∷ []) → HasEnd rules (get_or states place [] ++ a ∷ [])
+    pub end_kept : (u : Word) (place a : ℕ) → IsLongest states u place → HasEnd rules (u ++ a ∷ []) → HasEnd rules (get_or states place [] ++ a ∷ [])
     end_kept u place a is h = elim (last_letter h.left) [
       | inl e ↦ let some = filled h.left h.right (listed_falls rules falling h.left h.right h.listed) in absurd (omega (arith, some, ap length e))
       | inr l ↦
@@ -106,7 +106,7 @@ module _ (rules : List (Word × Word)) (falling : AreFalling rules) where
     ]
 
     -- and back
-    end_back : (u : Word) (place a : ℕ) → IsLongest states u place → HasEnd rules (get_or states place [] ++ a ∷ []) → HasEnd rules (u ++ a ∷ [])
+    pub end_back : (u : Word) (place a : ℕ) → IsLongest states u place → HasEnd rules (get_or states place [] ++ a ∷ []) → HasEnd rules (u ++ a ∷ [])
     end_back u place a is h =
         record {
           left = h.left;
@@ -119,7 +119,7 @@ module _ (rules : List (Word × Word)) (falling : AreFalling rules) where
         }
 
     -- the longest state at the end of the state and a letter is that of the word and the letter
-    longest_more : (u : Word) (place next a : ℕ) → IsLongest states u place → IsLongest states (get_or states place [] ++ a ∷ []) next → IsLongest states (u ++ a ∷ []) next
+    pub longest_more : (u : Word) (place next a : ℕ) → IsLongest states u place → IsLongest states (get_or states place [] ++ a ∷ []) next → IsLongest states (u ++ a ∷ []) next
     longest_more u place next a is more =
         record {
           within = more.within;
@@ -142,7 +142,7 @@ module _ (rules : List (Word × Word)) (falling : AreFalling rules) where
               has
         ]
 
-    empty_longest : IsLongest states [] 0
+    pub empty_longest : IsLongest states [] 0
     empty_longest = record {
       within = are.prefixes.some;
       before = [];

@@ -7,10 +7,11 @@ use Rattle.theory.specs.Graph.{Graph, IsGraph, path, target}
 use Rattle.theory.specs.Listing.{IsNext}
 use Rattle.word_graph.specs.Gaps.{count_none}
 
--- words over so many letters, and rules for them
+-- words over so many letters, rules for them, and the states by which they are read
 pub record Reading : Type 0 where
   pub letters : ℕ
   pub rules : List (Word × Word)
+  pub states : List Word
 
 -- a word over the letters to which no rule applies
 pub record IsReducedWord (a : Reading) (u : Word) : Type 0 where
@@ -42,7 +43,8 @@ Allows (Some most) n = n ≤ most
 -- the greatest length of a path from each node, where there is one
 pub record AreDepths (k : ℕ) (g : Graph) (depths : List (Option ℕ)) : Type 0 where
   pub count : length depths ≡ length g
-  pub depth : (node n : ℕ) → node < length g → GoesOn k g node n ↔ Allows (slice_index_or depths node None) n
+  pub depth : (node n : ℕ) → node < length g
+      → GoesOn k g node n ↔ Allows (slice_index_or depths node None) n
 
 -- the edge of the letter a leads from the node to one whose depth allows n letters more
 pub record LeadsOn (g : Graph) (depths : List (Option ℕ)) (node n a : ℕ) : Type 0 where
@@ -51,7 +53,8 @@ pub record LeadsOn (g : Graph) (depths : List (Option ℕ)) (node n a : ℕ) : T
   pub allows : Allows (slice_index_or depths next None) n
 
 -- a is the least such letter, of those that are not below the first
-pub record IsLeastLetter (g : Graph) (depths : List (Option ℕ)) (node n first a next : ℕ) : Type 0 where
+pub record IsLeastLetter (g : Graph) (depths : List (Option ℕ))
+    (node n first a next : ℕ) : Type 0 where
   pub from : first ≤ a
   pub is : target g node a ≡ Some next
   pub allows : Allows (slice_index_or depths next None) n
@@ -60,7 +63,8 @@ pub record IsLeastLetter (g : Graph) (depths : List (Option ℕ)) (node n first 
 -- a node before a round: without a depth it has a path of as many letters as the round's number, and a depth is lower and right
 abbrev pub IsSettled : ℕ → Graph → ℕ → ℕ → Option ℕ → Type 0
 IsSettled k g round node None = GoesOn k g node round
-IsSettled k g round node (Some most) = (most < round) × GoesOn k g node most × (GoesOn k g node (most + 1) → ⊥)
+IsSettled k g round node (Some most) = (most < round) × GoesOn k g node most
+    × (GoesOn k g node (most + 1) → ⊥)
 
 -- the depths before a round
 pub record AreSettled (k : ℕ) (g : Graph) (round : ℕ) (depths : List (Option ℕ)) : Type 0 where
@@ -68,10 +72,13 @@ pub record AreSettled (k : ℕ) (g : Graph) (round : ℕ) (depths : List (Option
   pub at : (node : ℕ) → node < length g → IsSettled k g round node (slice_index_or depths node None)
 
 -- the depths within a round, when the nodes below this one are done
-pub record AreSettledTo (k : ℕ) (g : Graph) (round done : ℕ) (depths : List (Option ℕ)) : Type 0 where
+pub record AreSettledTo (k : ℕ) (g : Graph) (round done : ℕ)
+    (depths : List (Option ℕ)) : Type 0 where
   pub count : length depths ≡ length g
-  pub before : (node : ℕ) → node < done → node < length g → IsSettled k g (round + 1) node (slice_index_or depths node None)
-  pub behind : (node : ℕ) → done ≤ node → node < length g → IsSettled k g round node (slice_index_or depths node None)
+  pub before : (node : ℕ) → node < done → node < length g
+      → IsSettled k g (round + 1) node (slice_index_or depths node None)
+  pub behind : (node : ℕ) → done ≤ node → node < length g
+      → IsSettled k g round node (slice_index_or depths node None)
 
 -- where there was a change fewer nodes have no depth, and else all is as it was
 abbrev pub IsChange : Bool → List (Option ℕ) → List (Option ℕ) → Type 0
@@ -91,11 +98,13 @@ IsLastOfLength k g node u = (v : Word) → HasPath k g node v → length v ≡ l
 -- the nodes to which the proper prefixes of u lead from the root, as far as there are edges
 pub record AreNodesAlong (g : Graph) (u : Word) (nodes : List ℕ) : Type 0 where
   pub few : length nodes ≤ length u
-  pub at : (place : ℕ) → place < length nodes → path g 0 (take place u) ≡ Some (slice_index nodes place)
+  pub at : (place : ℕ) → place < length nodes
+      → path g 0 (take place u) ≡ Some (slice_index nodes place)
   pub end : length nodes < length u → path g 0 (take (length nodes) u) ≡ None
 
 -- so many letters of u, the letter a, and then the least word of n letters from the node make the next word after u
 pub record IsRise (k : ℕ) (g : Graph) (u : Word) (place a node n : ℕ) : Type 0 where
   pub within : place ≤ length u
   pub goes : GoesOn k g node n
-  pub next : (v : Word) → IsLeastPath k g node n v → IsNext (HasPath k g 0) ◌≺◌ (Some u) (take place u ++ a ∷ v)
+  pub next : (v : Word) → IsLeastPath k g node n v
+      → IsNext (HasPath k g 0) ◌≺◌ (Some u) (take place u ++ a ∷ v)

@@ -2,8 +2,6 @@
 use Rattle.std.specs.Prelude.{◌≡◌, ℕ, ◌<◌, ◌≤◌, List, [], ◌∷◌, ◌++◌, length, take, slice_index_or, Contains, Option, None, Some}
 use Rattle.theory.specs.Word.{Word}
 use Rattle.theory.specs.Completion.{Listed}
-use Rattle.theory.specs.Graph.{Graph, IsGraph, target}
-use Rattle.word_graph.specs.Walk.{IsBefore}
 
 -- a left side stands at the end of u
 pub record HasEnd (rules : List (Word × Word)) (u : Word) : Type 0 where
@@ -24,7 +22,8 @@ pub record IsLongest (states : List Word) (u : Word) (place : ℕ) : Type 0 wher
   pub within : place < length states
   pub before : Word
   pub is : u ≡ before ++ slice_index_or states place []
-  pub longest : (x s : Word) → u ≡ x ++ s → Contains states s → length s ≤ length (slice_index_or states place [])
+  pub longest : (x s : Word) → u ≡ x ++ s → Contains states s
+      → length s ≤ length (slice_index_or states place [])
 
 -- where u leads: nowhere if a left side stands at its end, and else to the longest state that does
 abbrev pub Leads : List (Word × Word) → List Word → Word → Option ℕ → Type 0
@@ -46,7 +45,8 @@ pub record AreStatesTo (rules : List (Word × Word)) (number : ℕ) (states : Li
   pub prefixes : ArePrefixes states
   pub lefts : (n : ℕ)
       → n < number → n < length rules
-      → HavePrefixes states (slice_index_or rules n ([], [])).0 (length (slice_index_or rules n ([], [])).0)
+      → HavePrefixes states (slice_index_or rules n ([], [])).0
+      (length (slice_index_or rules n ([], [])).0)
 
 abbrev pub AreStates : List (Word × Word) → List Word → Type 0
 AreStates rules = AreStatesTo rules (length rules)
@@ -56,11 +56,3 @@ pub record Grown (old : List Word) (u : Word) (count : ℕ) (states : List Word)
   pub prefixes : ArePrefixes states
   pub kept : (w : Word) → Contains old w → Contains states w
   pub added : HavePrefixes states u count
-
--- the edges before the row of the node and the letter are there, and no other
-pub record IsFilledTo (k : ℕ) (rules : List (Word × Word)) (states : List Word) (g : Graph) (node letter : ℕ) : Type 0 where
-  pub graph : IsGraph k g
-  pub count : length g ≡ length states
-  pub filled : (n b : ℕ)
-      → n < length states → b < k → IsBefore n b node letter → Leads rules states (slice_index_or states n [] ++ b ∷ []) (target g n b)
-  pub free : (n b : ℕ) → (IsBefore n b node letter → ⊥) → target g n b ≡ None

@@ -1,42 +1,50 @@
 // The automaton of a list of rules.
-ghost use Rattle.std.specs.Prelude.{◌≡◌, ◌≤◌, ◌↔◌, false, IfOk, IsTrue, MatchOption};
+ghost use Rattle.std.specs.Prelude.{◌≡◌, ◌<◌, ◌≤◌, ◌↔◌, false, length, IfOk, IsTrue, MatchOption};
 ghost use Rattle.std.specs.Option.{option_copied};
 ghost use Rattle.theory.specs.Word.{IsOver};
 ghost use Rattle.theory.specs.ShortLex.{◌≺◌};
-ghost use Rattle.theory.specs.Completion.{IsReduced, Listed, Reduces};
+ghost use Rattle.theory.specs.Completion.{IsReduced, Listed};
 ghost use Rattle.theory.specs.Listing.{IsLast, IsNext, AreFinite, AreInfinite, GoesOnOrEnds};
 ghost use Rattle.reduced_automaton.specs.Rules.{AreOver};
 ghost use Rattle.reduced_automaton.specs.Automaton.{IsReducedWord};
+ghost use Rattle.reduced_automaton.specs.States.{Leads};
+ghost use Rattle.reduced_automaton.specs.Tables.{IsStateList};
+ghost use Rattle.reduced_automaton.specs.Tries.{Reads, longer};
 
 use crate::depths::depths_of;
 use crate::readers::next_path;
 use crate::rule_lists::Rules;
-use crate::states::reader_of;
+use crate::table::{Table, move_by};
 use ports::NoMemory;
 use std::alloc::Global;
 use std::marker::Model;
-use word_graph::WordGraph;
-use words::Word;
+use words::{Letter, Word};
 
 /// A finite automaton that reads just the words over so many letters to which no rule of a list applies (Sims 1994,
 /// 3.5; libsemigroups, the Gilman graph of `KnuthBendix`).
 #[derive(Drop)]
 pub struct Automaton {
-    alloc: Global,
+    pub(crate) alloc: Global,
     letters: usize,
     rules: Rules,
-    graph: WordGraph,
+    table: Table,
     depths: Vec<Option<usize>>,
 }
 
 impl Model for Automaton {
-    ghost use Rattle.reduced_automaton.specs.Automaton.{AreDepths, IsReader, Reading};
+    ghost use Rattle.reduced_automaton.specs.Automaton.{Reading};
+    ghost use Rattle.reduced_automaton.specs.Tables.{IsAutomaton};
+    ghost use Rattle.reduced_automaton.specs.Tries.{words_of};
 
     ghost Value = { Reading };
 
-    ghost view = { λ a. record { letters = a.letters; rules = a.rules } };
+    ghost view = { λ a. record {
+      letters = a.letters;
+      rules = a.rules;
+      states = words_of a.rules a.table.prefixes;
+    } };
 
-    ghost invariant = { λ a. (IsReader a.letters a.rules a.graph) × (AreDepths a.letters a.graph a.depths.items) };
+    ghost invariant = { λ a. IsAutomaton a.letters a.rules a.table a.depths.items };
 }
 
 impl Automaton {
@@ -45,18 +53,54 @@ impl Automaton {
     pub fn build(alloc: Global, letters: usize, rules: &Rules) -> Result<Automaton, NoMemory>
         requires few { letters ≤ 256 }
         requires over { AreOver letters rules.now }
-        ensures { IfOk result (λ a. a ≡ record { letters = letters; rules = rules.now }) }
+        ensures letters { IfOk result (λ a. a.letters ≡ letters) }
+        ensures rules { IfOk result (λ a. a.rules ≡ rules.now) }
     {
+        let _count = rules.len();
         let rules = rules.copy(alloc)?;
-        let graph = reader_of(alloc, letters, &rules)?;
-        let depths = depths_of(alloc, &graph)?;
+        let table = Table::of(alloc, letters, &rules)?;
+        let depths = depths_of(alloc, &table)?;
         Ok(Automaton {
             alloc,
             letters,
             rules,
-            graph,
+            table,
             depths,
         })
+    }
+
+    /// How many states there are. What the states are is told here: the empty word is the first, and the others are the
+    /// proper prefixes of left sides. It takes no memory.
+    pub fn states(&self) -> usize
+        ensures count { result ≡ length self.now.states }
+        ensures states { IsStateList self.now.rules self.now.states }
+    {
+        let _rules = &self.rules;
+        self.table.nodes()
+    }
+
+    // The longest state at the end of the state and the letter, and the rule whose left side stands there.
+    pub(crate) fn read(&self, state: usize, letter: Letter) -> (usize, Option<usize>)
+        requires { state < length self.now.states }
+        ensures { Reads self.now.rules self.now.states
+            (longer self.now.states state letter) result.0 result.1 }
+    {
+        let _count = self.rules.len();
+        if self.table.letters() <= letter.number() {
+            return (0, None);
+        }
+        self.table.entry(state, letter.number())
+    }
+
+    /// Where the state's word with the letter leads: `None` exactly where a left side stands at its end, and else the
+    /// longest state that does. It takes no memory.
+    pub fn step_from(&self, state: usize, letter: Letter) -> Option<usize>
+        requires { state < length self.now.states }
+        ensures { Leads self.now.rules self.now.states
+            (longer self.now.states state letter) result }
+    {
+        let read = self.read(state, letter);
+        move_by(read.1, read.0)
     }
 
     /// The rules.
@@ -71,7 +115,7 @@ impl Automaton {
         requires { IsOver self.now.letters word.now }
         ensures { IsTrue result ↔ IsReduced (Listed self.now.rules) word.now }
     {
-        self.graph.path(0, word).is_some()
+        self.table.path(word).is_some()
     }
 
     /// Whether infinitely many words over the letters are reduced; else they have a list. It takes no memory.
@@ -91,14 +135,6 @@ impl Automaton {
             (IsLast (IsReducedWord self.now) ◌≺◌ (option_copied after.entry))
             (IsNext (IsReducedWord self.now) ◌≺◌ (option_copied after.entry))) }
     {
-        next_path(self.alloc, &self.graph, self.depths.as_slice(), after)
-    }
-
-    /// A word to which the rules lead from the word, and to which none applies. Refused only where memory is wanting.
-    pub fn reduce(&self, word: &Word) -> Result<Word, NoMemory>
-        ensures reached { IfOk result (λ w. Reduces (Listed self.now.rules) word.now w) }
-        ensures reduced { IfOk result (λ w. IsReduced (Listed self.now.rules) w) }
-    {
-        self.rules.reduce(word)
+        next_path(self.alloc, &self.table, self.depths.as_slice(), after)
     }
 }

@@ -7,10 +7,14 @@
 
 mod automata;
 mod depths;
+mod levels;
+mod links;
 mod readers;
+mod reductions;
 mod rewriting;
 mod rule_lists;
-mod states;
+mod table;
+mod tries;
 
 pub use automata::Automaton;
 pub use rewriting::{has_factor, replaced};

@@ -5,13 +5,14 @@ ghost use Rattle.theory.specs.Graph.{IsGraph};
 ghost use Rattle.theory.specs.Word.{Word as Letters};
 ghost use Rattle.theory.specs.ShortLex.{◌≺◌};
 ghost use Rattle.theory.specs.Listing.{IsLast, IsNext};
+ghost use Rattle.reduced_automaton.specs.Tables.{edges};
 ghost use Rattle.reduced_automaton.specs.Automaton.{AreDepths, AreNodesAlong, GoesOn, HasPath, IsLastOfLength, IsLeastPath, IsRise};
 
 use crate::depths::least_letter;
 use crate::rewriting::word_of;
+use crate::table::Table;
 use ports::NoMemory;
 use std::alloc::Global;
-use word_graph::WordGraph;
 use words::{Letter, Word};
 
 // Where the next word leaves a word: behind so many letters, by a letter to a node, from which so many letters follow.
@@ -24,8 +25,8 @@ struct Rise {
 }
 
 // The nodes to which the proper prefixes of the word lead from the root, as far as there are edges.
-fn nodes_along(alloc: Global, graph: &WordGraph, word: &Word) -> Result<Vec<usize>, NoMemory>
-    ensures { IfOk result (λ nodes. AreNodesAlong graph.now word.now nodes.items) }
+fn nodes_along(alloc: Global, graph: &Table, word: &Word) -> Result<Vec<usize>, NoMemory>
+    ensures { IfOk result (λ nodes. AreNodesAlong (edges graph.now) word.now nodes.items) }
 {
     let mut nodes = Vec::new(alloc);
     let mut node = 0;
@@ -41,15 +42,17 @@ fn nodes_along(alloc: Global, graph: &WordGraph, word: &Word) -> Result<Vec<usiz
 
 // The last place at which a greater letter leads on to a word of the same length.
 fn rise_within(
-    graph: &WordGraph,
+    graph: &Table,
     depths: &[Option<usize>],
     word: &Word,
     nodes: &[usize],
 ) -> Option<Rise>
-    requires depths { (k : ℕ) → IsGraph k graph.now → AreDepths k graph.now depths.now }
-    requires nodes { AreNodesAlong graph.now word.now nodes.now }
-    ensures { (k : ℕ) → IsGraph k graph.now → MatchOption result (IsLastOfLength k graph.now 0 word.now)
-        (λ rise. IsRise k graph.now word.now rise.place rise.letter rise.node rise.count) }
+    requires depths { (k : ℕ) → IsGraph k (edges graph.now)
+        → AreDepths k (edges graph.now) depths.now }
+    requires nodes { AreNodesAlong (edges graph.now) word.now nodes.now }
+    ensures { (k : ℕ) → IsGraph k (edges graph.now)
+        → MatchOption result (IsLastOfLength k (edges graph.now) 0 word.now)
+        (λ rise. IsRise k (edges graph.now) word.now rise.place rise.letter rise.node rise.count) }
 {
     let _letters = graph.letters();
     for place in (0..nodes.len()).rev() {
@@ -68,16 +71,13 @@ fn rise_within(
 }
 
 // Where the next word leaves the word, which may be longer.
-fn rise_after(
-    graph: &WordGraph,
-    depths: &[Option<usize>],
-    word: &Word,
-    nodes: &[usize],
-) -> Option<Rise>
-    requires depths { (k : ℕ) → IsGraph k graph.now → AreDepths k graph.now depths.now }
-    requires nodes { AreNodesAlong graph.now word.now nodes.now }
-    ensures { (k : ℕ) → IsGraph k graph.now → MatchOption result (IsLast (HasPath k graph.now 0) ◌≺◌ (Some word.now))
-        (λ rise. IsRise k graph.now word.now rise.place rise.letter rise.node rise.count) }
+fn rise_after(graph: &Table, depths: &[Option<usize>], word: &Word, nodes: &[usize]) -> Option<Rise>
+    requires depths { (k : ℕ) → IsGraph k (edges graph.now)
+        → AreDepths k (edges graph.now) depths.now }
+    requires nodes { AreNodesAlong (edges graph.now) word.now nodes.now }
+    ensures { (k : ℕ) → IsGraph k (edges graph.now)
+        → MatchOption result (IsLast (HasPath k (edges graph.now) 0) ◌≺◌ (Some word.now))
+        (λ rise. IsRise k (edges graph.now) word.now rise.place rise.letter rise.node rise.count) }
 {
     let _letters = graph.letters();
     if let Some(rise) = rise_within(graph, depths, word, nodes) {
@@ -94,15 +94,18 @@ fn rise_after(
 
 // Puts the least word of so many letters from the node at the end.
 fn extend_least(
-    graph: &WordGraph,
+    graph: &Table,
     depths: &[Option<usize>],
     word: &mut Word,
     node: usize,
     count: usize,
 ) -> Result<(), NoMemory>
-    requires depths { (k : ℕ) → IsGraph k graph.now → AreDepths k graph.now depths.now }
-    requires goes { (k : ℕ) → IsGraph k graph.now → GoesOn k graph.now node count }
-    ensures { OnOk result ((k : ℕ) → IsGraph k graph.now → (v : Letters) × (word.new ≡ word.old ++ v) × IsLeastPath k graph.now node count v) }
+    requires depths { (k : ℕ) → IsGraph k (edges graph.now)
+        → AreDepths k (edges graph.now) depths.now }
+    requires goes { (k : ℕ) → IsGraph k (edges graph.now) → GoesOn k (edges graph.now) node count }
+    ensures { OnOk result ((k : ℕ) → IsGraph k (edges graph.now)
+        → (v : Letters) × (word.new ≡ word.old ++ v)
+        × IsLeastPath k (edges graph.now) node count v) }
 {
     let _letters = graph.letters();
     let mut at = node;
@@ -127,14 +130,14 @@ fn prefix(alloc: Global, word: &Word, count: usize) -> Result<Word, NoMemory>
 // The least word with a path from the root that comes after the word.
 fn path_after(
     alloc: Global,
-    graph: &WordGraph,
+    graph: &Table,
     depths: &[Option<usize>],
     word: &Word,
 ) -> Result<Option<Word>, NoMemory>
-    requires { (k : ℕ) → IsGraph k graph.now → AreDepths k graph.now depths.now }
-    ensures { IfOk result (λ next. (k : ℕ) → IsGraph k graph.now → MatchOption next
-        (IsLast (HasPath k graph.now 0) ◌≺◌ (Some word.now))
-        (IsNext (HasPath k graph.now 0) ◌≺◌ (Some word.now))) }
+    requires { (k : ℕ) → IsGraph k (edges graph.now) → AreDepths k (edges graph.now) depths.now }
+    ensures { IfOk result (λ next. (k : ℕ) → IsGraph k (edges graph.now) → MatchOption next
+        (IsLast (HasPath k (edges graph.now) 0) ◌≺◌ (Some word.now))
+        (IsNext (HasPath k (edges graph.now) 0) ◌≺◌ (Some word.now))) }
 {
     let _letters = graph.letters();
     let nodes = nodes_along(alloc, graph, word)?;
@@ -151,14 +154,14 @@ fn path_after(
 /// exactly where there is none. Refused only where memory is wanting.
 pub fn next_path(
     alloc: Global,
-    graph: &WordGraph,
+    graph: &Table,
     depths: &[Option<usize>],
     after: Option<&Word>,
 ) -> Result<Option<Word>, NoMemory>
-    requires { (k : ℕ) → IsGraph k graph.now → AreDepths k graph.now depths.now }
-    ensures { IfOk result (λ next. (k : ℕ) → IsGraph k graph.now → MatchOption next
-        (IsLast (HasPath k graph.now 0) ◌≺◌ (option_copied after.entry))
-        (IsNext (HasPath k graph.now 0) ◌≺◌ (option_copied after.entry))) }
+    requires { (k : ℕ) → IsGraph k (edges graph.now) → AreDepths k (edges graph.now) depths.now }
+    ensures { IfOk result (λ next. (k : ℕ) → IsGraph k (edges graph.now) → MatchOption next
+        (IsLast (HasPath k (edges graph.now) 0) ◌≺◌ (option_copied after.entry))
+        (IsNext (HasPath k (edges graph.now) 0) ◌≺◌ (option_copied after.entry))) }
 {
     match after {
         None => Ok(Some(Word::new(alloc))),

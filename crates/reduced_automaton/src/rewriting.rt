@@ -62,7 +62,8 @@ impl Rules {
     // The number of the first rule whose left side stands in the word at the place.
     fn rule_at(&self, word: &[Letter], place: usize) -> Option<usize>
         requires { place ≤ length word.now }
-        ensures { MatchOption result ((number : ℕ) → AppliesAt self.now word.now place number → ⊥) (AppliesAt self.now word.now place) }
+        ensures { MatchOption result ((number : ℕ) → AppliesAt self.now word.now place number → ⊥)
+            (AppliesAt self.now word.now place) }
     {
         for number in 0..self.items.len() {
             if word[place..].starts_with(self.items[number].0.letters()) {
@@ -74,7 +75,8 @@ impl Rules {
 
     // The first place at which a rule applies, with the number of the rule.
     fn first_rule(&self, word: &[Letter]) -> Option<(usize, usize)>
-        ensures { MatchOption result (IsReduced (Listed self.now) word.now) (λ found. AppliesAt self.now word.now found.0 found.1) }
+        ensures { MatchOption result (IsReduced (Listed self.now) word.now)
+            (λ found. AppliesAt self.now word.now found.0 found.1) }
     {
         let _items = &self.items;
         for place in 0..word.len() {

@@ -99,7 +99,8 @@ impl Rules {
     pub fn set_right(&mut self, place: usize, right: Word)
         requires within { place < length self.old }
         requires falls { right ≺ (slice_index_or self.old place ([], [])).0 }
-        ensures { self.new ≡ slice_set self.old place ((slice_index_or self.old place ([], [])).0, right) }
+        ensures { self.new ≡ slice_set self.old place
+            ((slice_index_or self.old place ([], [])).0, right) }
     {
         let rule = &mut self.items[place];
         rule.1 = right;

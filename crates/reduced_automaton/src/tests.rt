@@ -6,7 +6,7 @@ use super::*;
 use ports::NoMemory;
 use std::alloc::Global;
 use std::test::Fail;
-use words::{Alphabet, Word, shortlex};
+use words::{Alphabet, Letter, Word, shortlex};
 
 // Rules of the symmetric group of degree 3, where a has order 2 and b order 3.
 const SYMMETRIC: [(&[u8], &[u8]); 6] = [
@@ -209,6 +209,20 @@ fn reduces_words(rt: HostRuntime) -> Result<(), Fail> {
     assert_eq!(rt; text.as_slice(), b"c.c.".as_slice());
     let text = reduced(rt.alloc(), b"bc", &BICYCLIC, b"ccb")?;
     assert_eq!(rt; text.as_slice(), b"ccb.ccb.!".as_slice());
+    Ok(())
+}
+
+// The one state is the empty word, and the letter makes the left side.
+#[test]
+fn a_left_side_leads_nowhere(rt: HostRuntime) -> Result<(), Fail> {
+    let alphabet = alphabet(rt.alloc(), b"ab")?;
+    let rules = rules_of(rt.alloc(), &alphabet, &[(b"a", b"")])?;
+    let automaton = Automaton::build(rt.alloc(), alphabet.len(), &rules)?;
+    assert_eq!(rt; automaton.states(), 1);
+    if 0 < automaton.states() {
+        assert_eq!(rt; automaton.step_from(0, Letter::new(0)), None);
+        assert_eq!(rt; automaton.step_from(0, Letter::new(1)), Some(0));
+    }
     Ok(())
 }
 

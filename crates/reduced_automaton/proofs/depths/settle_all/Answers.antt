@@ -1,4 +1,5 @@
 use Rattle.std.proofs.Common.{arith, ◌∙◌, subst, Bool}
+use Rattle.reduced_automaton.specs.Tables.{edges}
 use Rattle.reduced_automaton.specs.Automaton.{IsChange}
 use Rattle.reduced_automaton.proofs.DepthLaws.{change_more, change_same, round_end}
 use Rattle.reduced_automaton.proofs.depths.settle_all.Goals as goal
@@ -23,4 +24,4 @@ loop-node-preserved c =
 
 pub returns-clause-settled : goal.returns-clause-settled
 returns-clause-settled c = λ k graph is.
-    round_end k c.args.graph.now graph c.args.round c.loop-node.node c.loop-node.depths.items (omega arith) (c.loop-node.invariant.settled k graph is)
+    round_end k (edges c.args.graph.now) graph c.args.round c.loop-node.node c.loop-node.depths.items (omega arith) (c.loop-node.invariant.settled k graph is)

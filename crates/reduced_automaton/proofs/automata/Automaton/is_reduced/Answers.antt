@@ -4,12 +4,14 @@ use Rattle.theory.specs.Word.{IsOver}
 use Rattle.theory.specs.Graph.{path}
 use Rattle.theory.specs.Completion.{IsReduced, Listed}
 use Rattle.reduced_automaton.specs.Automaton.{Reading}
+use Rattle.reduced_automaton.specs.Tables.{edges}
+use Rattle.reduced_automaton.specs.Tries.{words_of}
 use Rattle.reduced_automaton.proofs.ReadingLaws.{reduced_is}
 use Rattle.reduced_automaton.proofs.automata.Automaton.is_reduced.Goals as goal
 
 pub returns : goal.returns
 returns c =
-    let a : Reading = record { letters = c.self.inside.letters; rules = c.self.inside.rules } in
-    let there : c.is_some.result ≡ is_some (path c.self.inside.graph 0 c.args.word.now) = c.is_some.ensures ∙ ap is_some c.path.ensures in
+    let a : Reading = record { letters = c.self.inside.letters; rules = c.self.inside.rules; states = words_of c.self.inside.rules c.self.inside.table.prefixes } in
+    let there : c.is_some.result ≡ is_some (path (edges c.self.inside.table) 0 c.args.word.now) = c.is_some.ensures ∙ ap is_some c.path.ensures in
     let P : Reading → Type 0 = λ r. IsOver r.letters c.args.word.now → (c.is_some.result ≡ true) ↔ IsReduced (Listed r.rules) c.args.word.now in
-    subst P c.self.view_is (λ over. reduced_is a c.self.inside.graph c.self.invariant.0 c.args.word.now over c.is_some.result there) c.requires
+    subst P c.self.view_is (λ over. reduced_is a (edges c.self.inside.table) c.self.invariant.reader c.args.word.now over c.is_some.result there) c.requires

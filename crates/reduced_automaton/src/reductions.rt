@@ -1,0 +1,139 @@
+// Reduction of a word, which is read once with a stack of states.
+ghost use Rattle.std.specs.Prelude.{◌≡◌, ℕ, ◌+◌, ◌-◌, ◌<◌, ◌≤◌, [], ◌∷◌, ◌++◌, length, take, reverse, true, false, IfOk, OnOk};
+ghost use Rattle.theory.specs.Completion.{IsReduced, Listed, Reduces};
+ghost use Rattle.reduced_automaton.specs.Reductions.{IsReductionAt, IsReductionOf, kept, weight_at, weight_of};
+
+use crate::automata::Automaton;
+use crate::rewriting::word_of;
+use ports::NoMemory;
+use std::alloc::Global;
+use words::{Letter, Word};
+
+// The letters that are read, the states of each front of them, and the letters that are left, the next one last.
+#[derive(Drop)]
+struct Reduction {
+    done: Vec<Letter>,
+    states: Vec<usize>,
+    rest: Vec<Letter>,
+}
+
+// Puts the letters at the end, the last one first.
+fn put_reversed(rest: &mut Vec<Letter>, letters: &[Letter]) -> Result<(), NoMemory>
+    ensures { OnOk result (rest.new.items ≡ rest.old.items ++ reverse letters.now) }
+{
+    for place in (0..letters.len()).rev() {
+        rest.push(letters[place])?;
+    }
+    Ok(())
+}
+
+// Nothing is read of the word.
+fn unread(alloc: Global, word: &Word) -> Result<Reduction, NoMemory>
+    ensures done { IfOk result (λ r. r.done.items ≡ []) }
+    ensures states { IfOk result (λ r. r.states.items ≡ 0 ∷ []) }
+    ensures rest { IfOk result (λ r. r.rest.items ≡ reverse word.now) }
+{
+    let mut states = Vec::new(alloc);
+    states.push(0)?;
+    let mut rest = Vec::new(alloc);
+    put_reversed(&mut rest, word.letters())?;
+    Ok(Reduction {
+        done: Vec::new(alloc),
+        states,
+        rest,
+    })
+}
+
+// The letter is read, and the state follows.
+fn push(reduction: &mut Reduction, letter: Letter, state: usize) -> Result<(), NoMemory>
+    ensures done { OnOk result
+        (reduction.new.done.items ≡ reduction.old.done.items ++ letter ∷ []) }
+    ensures states { OnOk result
+        (reduction.new.states.items ≡ reduction.old.states.items ++ state ∷ []) }
+    ensures rest { OnOk result (reduction.new.rest.items ≡ reduction.old.rest.items) }
+{
+    reduction.done.push(letter)?;
+    reduction.states.push(state)?;
+    Ok(())
+}
+
+// A left side ends at the next letter: back to where it began, with the right side to be read.
+fn go_back(reduction: &mut Reduction, rule: &(Word, Word)) -> Result<(), NoMemory>
+    requires some { 0 < length rule.now.0 }
+    requires within { length rule.now.0 ≤ length reduction.old.done.items + 1 }
+    ensures done { OnOk result (reduction.new.done.items
+        ≡ take (kept reduction.old rule.now.0) reduction.old.done.items) }
+    ensures states { OnOk result (reduction.new.states.items
+        ≡ take (kept reduction.old rule.now.0 + 1) reduction.old.states.items) }
+    ensures rest { OnOk result
+        (reduction.new.rest.items ≡ reduction.old.rest.items ++ reverse rule.now.1) }
+{
+    let keep = reduction.done.len() - (rule.0.len() - 1);
+    reduction.done.truncate(keep);
+    reduction.states.truncate(keep + 1);
+    put_reversed(&mut reduction.rest, rule.1.letters())?;
+    Ok(())
+}
+
+impl Automaton {
+    // Reads one letter.
+    fn read_letter(
+        &self,
+        word: &Word,
+        reduction: &mut Reduction,
+        letter: Letter,
+    ) -> Result<(), NoMemory>
+        requires { IsReductionAt self.now word.now letter reduction.old }
+        ensures reducing { OnOk result (IsReductionOf self.now word.now reduction.new) }
+        ensures less { OnOk result (weight_of self.now word.now reduction.new
+            < weight_at self.now word.now letter reduction.old) }
+    {
+        let _states = self.states();
+        let _count = self.rules().len();
+        let state = reduction.states[reduction.done.len()];
+        let read = self.read(state, letter);
+        if let Some(number) = read.1 {
+            go_back(reduction, self.rules().rule(number))?;
+            return Ok(());
+        }
+        push(reduction, letter, read.0)?;
+        Ok(())
+    }
+
+    // Reads the next letter, if there is one.
+    fn read_next(&self, word: &Word, reduction: &mut Reduction) -> Result<bool, NoMemory>
+        requires { IsReductionOf self.now word.now reduction.old }
+        ensures reducing { OnOk result (IsReductionOf self.now word.now reduction.new) }
+        ensures more { IfOk result (λ more. more ≡ true
+            → weight_of self.now word.now reduction.new
+            < weight_of self.now word.now reduction.old) }
+        ensures end { IfOk result (λ more. more ≡ false → (reduction.new.rest.items ≡ [])
+            × (weight_of self.now word.now reduction.new
+            ≤ weight_of self.now word.now reduction.old)) }
+    {
+        match reduction.rest.pop() {
+            None => Ok(false),
+            Some(letter) => {
+                self.read_letter(word, reduction, letter)?;
+                Ok(true)
+            }
+        }
+    }
+
+    /// A word to which the rules lead from the word, and to which none applies. The word is read once, letter by letter,
+    /// and where a left side ends, reading goes on where it began with the right side. Refused only where memory is
+    /// wanting.
+    pub fn reduce(&self, word: &Word) -> Result<Word, NoMemory>
+        ensures reached { IfOk result (λ w. Reduces (Listed self.now.rules) word.now w) }
+        ensures reduced { IfOk result (λ w. IsReduced (Listed self.now.rules) w) }
+    {
+        let _states = self.states();
+        let _count = self.rules().len();
+        let mut reduction = unread(self.alloc, word)?;
+        let mut more = true;
+        while more {
+            more = self.read_next(word, &mut reduction)?;
+        }
+        word_of(self.alloc, reduction.done.as_slice())
+    }
+}

@@ -1,0 +1,133 @@
+// The table of the automaton: for each state and letter the state that follows, or the rule whose left side ends.
+ghost use Rattle.std.specs.Prelude.{◌≡◌, ℕ, ◌+◌, ◌*◌, ◌<◌, ◌≤◌, length, slice_index_or, take, Option, None, IfOk};
+ghost use Rattle.theory.specs.Graph.{target as target_of, path as path_of, IsGraph};
+ghost use Rattle.reduced_automaton.specs.Rules.{AreOver};
+ghost use Rattle.reduced_automaton.specs.Tables.{IsTableOf, Moves, edges, move_by};
+
+use crate::levels::order_of;
+use crate::links::tables_of;
+use crate::rule_lists::Rules;
+use crate::tries::{Prefix, place, trie_of};
+use ports::NoMemory;
+use std::alloc::Global;
+use std::marker::Model;
+use words::{Letter, Word};
+
+/// For each state and letter the longest state at their end, and where a left side stands there the number of its rule:
+/// rows of so many letters in one vector.
+#[derive(Drop)]
+pub struct Table {
+    letters: usize,
+    prefixes: Vec<Prefix>,
+    targets: Vec<usize>,
+    ends: Vec<Option<usize>>,
+}
+
+impl Model for Table {
+    ghost use Rattle.reduced_automaton.specs.Tables.{IsTable, Moves};
+
+    ghost Value = { Moves };
+
+    ghost view = { λ t. record {
+      letters = t.letters;
+      prefixes = t.prefixes.items;
+      targets = t.targets.items;
+      ends = t.ends.items;
+    } };
+
+    ghost invariant = { λ t. IsTable (record {
+      letters = t.letters;
+      prefixes = t.prefixes.items;
+      targets = t.targets.items;
+      ends = t.ends.items;
+    }) };
+}
+
+/// Where an entry leads: nowhere, if a left side ends there.
+pub fn move_by(end: Option<usize>, target: usize) -> Option<usize>
+    ensures { result ≡ move_by end target }
+{
+    match end {
+        None => Some(target),
+        Some(_) => None,
+    }
+}
+
+impl Table {
+    /// The table of the rules. Refused only where memory is wanting.
+    pub fn of(alloc: Global, letters: usize, rules: &Rules) -> Result<Table, NoMemory>
+        requires few { letters ≤ 256 }
+        requires over { AreOver letters rules.now }
+        ensures { IfOk result (IsTableOf letters rules.now) }
+    {
+        let trie = trie_of(alloc, letters, rules)?;
+        let order = order_of(alloc, &trie, letters, rules)?;
+        let tables = tables_of(alloc, &trie, letters, rules, order.as_slice())?;
+        Ok(Table {
+            letters,
+            prefixes: trie.prefixes,
+            targets: tables.targets,
+            ends: tables.ends,
+        })
+    }
+
+    /// How many letters there are. What holds of every table is told here: as a graph it has as many entries in a row,
+    /// and each edge leads to a node.
+    pub fn letters(&self) -> usize
+        ensures letters { result ≡ self.now.letters }
+        ensures graph { IsGraph result (edges self.now) }
+        ensures few { result ≤ 256 }
+    {
+        self.letters
+    }
+
+    /// How many states there are.
+    pub fn nodes(&self) -> usize
+        ensures states { result ≡ length self.now.prefixes }
+        ensures nodes { result ≡ length (edges self.now) }
+        ensures rooted { 0 < result }
+    {
+        self.prefixes.len()
+    }
+
+    /// The longest state at the end of the state and the letter, and the rule whose left side stands there.
+    pub fn entry(&self, node: usize, letter: usize) -> (usize, Option<usize>)
+        requires node { node < length self.now.prefixes }
+        requires letter { letter < self.now.letters }
+        ensures target { result.0 ≡ slice_index_or self.now.targets
+            (node * self.now.letters + letter) 0 }
+        ensures end { result.1 ≡ slice_index_or self.now.ends
+            (node * self.now.letters + letter) None }
+    {
+        let place = place(self.prefixes.len(), self.letters, node, letter);
+        (self.targets[place], self.ends[place])
+    }
+
+    /// Where the edge of the letter leads from the node. `None` exactly where there is no such edge.
+    pub fn target(&self, node: usize, letter: Letter) -> Option<usize>
+        ensures { result ≡ target_of (edges self.now) node letter }
+    {
+        if self.nodes() <= node {
+            return None;
+        }
+        if self.letters() <= letter.number() {
+            return None;
+        }
+        let entry = self.entry(node, letter.number());
+        move_by(entry.1, entry.0)
+    }
+
+    /// Where the word leads from the root. `None` exactly where an edge is missing on the way.
+    pub fn path(&self, word: &Word) -> Option<usize>
+        ensures { result ≡ path_of (edges self.now) 0 word.now }
+    {
+        let mut at = 0;
+        for i in 0..word.len() {
+            match self.target(at, word.letter(i)) {
+                None => return None,
+                Some(next) => at = next,
+            }
+        }
+        Some(at)
+    }
+}
