@@ -17,7 +17,7 @@ relabel_same hi lo n e = grind (arith, e)
 pub relabel_other : (hi lo n : ℕ) → n ≢ hi → relabel hi lo n ≡ n
 relabel_other hi lo n e = grind (arith, e)
 
-relabel_zero : (hi lo : ℕ) → lo ≤ hi → relabel hi lo 0 ≡ 0
+pub relabel_zero : (hi lo : ℕ) → lo ≤ hi → relabel hi lo 0 ≡ 0
 relabel_zero hi lo h = elim (cases_eq 0 hi) [ inl e ↦ relabel_same hi lo 0 e ∙ omega arith | inr d ↦ relabel_other hi lo 0 d ]
 
 relabel_to : (hi lo : ℕ) → relabel hi lo lo ≡ lo
@@ -56,7 +56,7 @@ apart_classing k g x y class is shape own =
     cases n = elim (cases_lt n (length g)) [ inl h ↦ inl (h, own n h) | inr h ↦ inr (get_or_past class n 0 (omega (arith, shape, h))) ]
 
 -- hi becomes lo
-relabel_classing : (g : Graph) (x y : ℕ) (class : List ℕ) (hi lo : ℕ) → lo ≤ hi → slice_index class lo ≡ lo → IsReached g lo → ((u v : Word) (n m : ℕ) → path g 0 u ≡ Some n → path g 0 v ≡ Some m → slice_index class n ≡ hi → slice_index class m ≡ lo → MergedNodes g x y u v) → IsClassing g x y class → IsClassing g x y (map (relabel hi lo) class)
+pub relabel_classing : (g : Graph) (x y : ℕ) (class : List ℕ) (hi lo : ℕ) → lo ≤ hi → slice_index class lo ≡ lo → IsReached g lo → ((u v : Word) (n m : ℕ) → path g 0 u ≡ Some n → path g 0 v ≡ Some m → slice_index class n ≡ hi → slice_index class m ≡ lo → MergedNodes g x y u v) → IsClassing g x y class → IsClassing g x y (map (relabel hi lo) class)
 relabel_classing g x y class hi lo h own there related c =
     record {
       shape = length-map class (relabel hi lo) ∙ c.shape;

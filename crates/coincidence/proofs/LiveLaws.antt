@@ -17,11 +17,11 @@ use Rattle.word_graph.proofs.WalkLaws.{some_same}
 use Rattle.coincidence.proofs.FollowsLaws.{path_more}
 use Rattle.coincidence.proofs.MergeLaws.{folded_path, folded_relates}
 
-and_cases : (a b : Bool) → (a && b) ≡ true → (a ≡ true) × (b ≡ true)
+pub and_cases : (a b : Bool) → (a && b) ≡ true → (a ≡ true) × (b ≡ true)
 and_cases true b h = (refl, h)
 and_cases false b h = cc
 
-eq_true : (n m : ℕ) → nat_eq n m ≡ true → n ≡ m
+pub eq_true : (n m : ℕ) → nat_eq n m ≡ true → n ≡ m
 eq_true n m h = grind (arith, h)
 
 true_eq : (n m : ℕ) → n ≡ m → nat_eq n m ≡ true
@@ -37,7 +37,7 @@ count_no_more (true ∷ bs) (c ∷ cs) e h =
     let one : ◌≡◌ {A = ℕ} (cond c 1 0) 1 = rw on refl in
     omega (arith, one, count_no_more bs cs (omega arith) (λ n on. h (suc n) on))
 
-count_fewer : (is was : List Bool) (d : ℕ) → length is ≡ length was → ((n : ℕ) → IsOn is n → IsOn was n) → IsOn was d → (IsOn is d → ⊥) → count_on is < count_on was
+pub count_fewer : (is was : List Bool) (d : ℕ) → length is ≡ length was → ((n : ℕ) → IsOn is n → IsOn was n) → IsOn was d → (IsOn is d → ⊥) → count_on is < count_on was
 count_fewer [] [] d e h on off = absurd (off on)
 count_fewer [] (c ∷ cs) d e h on off = absurd (omega arith)
 count_fewer (b ∷ bs) [] d e h on off = absurd (omega arith)

@@ -9,7 +9,8 @@ use Rattle.theory.specs.Graph.{Graph, target, path, SameEnd}
 pub record IsEdged (old new : Graph) (j a m : ℕ) : Type 0 where
   pub edge : target new j a ≡ Some m
   pub kept : (n b t : ℕ) → target old n b ≡ Some t → target new n b ≡ Some t
-  pub back : (n b t : ℕ) → target new n b ≡ Some t → (target old n b ≡ Some t) ⊎ ((n ≡ j) × (b ≡ a) × (t ≡ m))
+  pub back : (n b t : ℕ) → target new n b ≡ Some t
+      → (target old n b ≡ Some t) ⊎ ((n ≡ j) × (b ≡ a) × (t ≡ m))
 
 -- the first side of a pair leads from the node to m, and all but the last letter a of the second to j
 pub record IsRead (pairs : List (Word × Word)) (g : Graph) (node j a m : ℕ) : Type 0 where
@@ -35,5 +36,6 @@ ClosedThere c g at = Follows c.presentation.relations c.pairs (SameEnd g) (Leads
 
 -- a relation is read at such a node that is reached, or a pair at the root
 pub data IsDue (c : Congruence) (g : Graph) (at : Option ℕ) (j a m : ℕ) : Type 0 where
-  by_relation : (node : ℕ) (w : Word) → IsReadAt at node → path g 0 w ≡ Some node → IsRead c.presentation.relations g node j a m → IsDue c g at j a m
+  by_relation : (node : ℕ) (w : Word) → IsReadAt at node → path g 0 w ≡ Some node
+      → IsRead c.presentation.relations g node j a m → IsDue c g at j a m
   by_pair : IsRead c.pairs g 0 j a m → IsDue c g at j a m

@@ -6,3 +6,12 @@ pub mod Live
 pub mod DueSpec
 pub mod Marks
 pub mod Table
+pub mod Pending
+pub mod Cells
+pub mod Links
+pub mod Absorbing
+pub mod Joining
+pub mod Reading
+pub mod Drawing
+pub mod Ordering
+pub mod Kept

@@ -10,7 +10,14 @@ use Rattle.coincidence.specs.Live.{IsOn}
 pub record IsCarried (old new : Graph) (class : List ℕ) : Type 0 where
   pub shape : length class ≡ length old
   pub below : (n : ℕ) → slice_index class n ≤ n
-  pub follows : (w : Word) (n : ℕ) → path old 0 w ≡ Some n → path new 0 w ≡ Some (slice_index class n)
+  pub follows : (w : Word) (n : ℕ) → path old 0 w ≡ Some n
+      → path new 0 w ≡ Some (slice_index class n)
+
+-- each node of new has the least of the numbers that the words which lead there had in old
+pub record KeepsNumbers (old new : Graph) : Type 0 where
+  pub least : (w : Word) (n m : ℕ) → path new 0 w ≡ Some n → path old 0 w ≡ Some m → n ≤ m
+  pub from : (w : Word) (n : ℕ) → path new 0 w ≡ Some n
+      → (v : Word) × (path old 0 v ≡ Some n) × (path new 0 v ≡ Some n)
 
 -- exactly the classes of marked nodes are marked afterwards
 pub record AreCarried (class : List ℕ) (was is : List Bool) : Type 0 where
@@ -20,8 +27,10 @@ pub record AreCarried (class : List ℕ) (was is : List Bool) : Type 0 where
 
 -- a word's node is marked in new exactly where the word is related there to one whose node was marked in old
 pub record KeepsMarks (old : Graph) (was : List Bool) (new : Graph) (is : List Bool) : Type 0 where
-  pub kept : (u v : Word) (n m : ℕ) → path old 0 v ≡ Some m → IsOn was m → path new 0 v ≡ Some n → path new 0 u ≡ Some n → IsOn is n
-  pub from : (u : Word) (n : ℕ) → path new 0 u ≡ Some n → IsOn is n → (v : Word) × (m : ℕ) × (path old 0 v ≡ Some m) × IsOn was m × (path new 0 v ≡ Some n)
+  pub kept : (u v : Word) (n m : ℕ) → path old 0 v ≡ Some m → IsOn was m → path new 0 v ≡ Some n
+      → path new 0 u ≡ Some n → IsOn is n
+  pub from : (u : Word) (n : ℕ) → path new 0 u ≡ Some n → IsOn is n
+      → (v : Word) × (m : ℕ) × (path old 0 v ≡ Some m) × IsOn was m × (path new 0 v ≡ Some n)
 
 -- of the words that lead to nodes without a mark, the least leads to this node
 pub record IsFirstUnmarked (g : Graph) (marked : List Bool) (node : ℕ) : Type 0 where
@@ -32,10 +41,12 @@ pub record IsFirstUnmarked (g : Graph) (marked : List Bool) (node : ℕ) : Type 
 
 -- of the first n words, which lead to these nodes, the place is that of the least whose node has no mark
 abbrev pub IsLeastUnmarked : List (ℕ × Word) → List Bool → ℕ → Option ℕ → Type 0
-IsLeastUnmarked least marked n None = (i : ℕ) (d : ℕ × Word) → i < n → IsOn marked (slice_index_or least i d).0
+IsLeastUnmarked least marked n None = (i : ℕ) (d : ℕ × Word) → i < n
+    → IsOn marked (slice_index_or least i d).0
 IsLeastUnmarked least marked n (Some place) =
     (place < n) × ((d : ℕ × Word) → IsOn marked (slice_index_or least place d).0 → ⊥)
-    × ((i : ℕ) (d : ℕ × Word) → i < n → (IsOn marked (slice_index_or least i d).0 → ⊥) → NoLater (slice_index_or least place d).1 (slice_index_or least i d).1)
+    × ((i : ℕ) (d : ℕ × Word) → i < n → (IsOn marked (slice_index_or least i d).0 → ⊥)
+    → NoLater (slice_index_or least place d).1 (slice_index_or least i d).1)
 
 -- each node that a word leads to is marked
 abbrev pub AllMarked : Graph → List Bool → Type 0

@@ -1,25 +1,63 @@
 -- Coset tables, as contracts see them.
-use Rattle.std.specs.Prelude.{◌≡◌, ℕ, Bool, true, false, List, [], ◌∷◌, ◌++◌, length}
+use Rattle.std.specs.Prelude.{◌≡◌, ℕ, Bool, true, false, List, [], ◌∷◌, ◌++◌, length, cond, replicate, None}
 use Rattle.theory.specs.Congruence.{Congruence, IsWellFormed}
 use Rattle.theory.specs.Graph.{Graph, IsGraph}
 use Rattle.word_graph.specs.Edges.{with_edge, with_node}
+use Rattle.coincidence.specs.Links.{Links, IsSources}
 use Rattle.coincidence.specs.Live.{IsOn, IsLiveGraph}
+use Rattle.coincidence.specs.Kept.{IsKept}
+use Rattle.coincidence.specs.Pending.{IsClosedBut}
+use Rattle.coincidence.specs.declared.order.Order.{Order}
+use Rattle.coincidence.specs.declared.pending.Pending.{Pending}
 
--- what it was made for, a row for each node, which nodes are live and which marked, and whether memory was wanting
+-- what it was made for, a row for each node, the lists of sources, which nodes are live and which marked, and whether
+-- memory was wanting
 pub record CosetTable : Type 0 where
   pub congruence : Congruence
   pub graph : Graph
+  pub firsts : Graph
+  pub nexts : Graph
   pub live : List Bool
   pub marked : List Bool
   pub failed : Bool
 
--- the live nodes are those that are reached, and only they are marked
+-- its edges with the lists of their sources
+abbrev pub links_of : CosetTable → Links
+links_of t = record { graph = t.graph; firsts = t.firsts; nexts = t.nexts }
+
+-- the live nodes are those that are reached, only they are marked, and each node has a list of sources for each letter
 pub record IsTable (t : CosetTable) : Type 0 where
   pub congruence : IsWellFormed t.congruence
   pub graph : IsGraph t.congruence.presentation.letters t.graph
   pub live : IsLiveGraph t.graph t.live
   pub shape : length t.marked ≡ length t.graph
   pub marked : t.failed ≡ false → (n : ℕ) → IsOn t.marked n → IsOn t.live n
+  pub sources : t.failed ≡ false
+      → (node letter : ℕ) → (list : List ℕ) × IsSources (links_of t) node letter list
+
+-- the root alone, without edges
+abbrev pub bare : Congruence → Graph
+bare c = replicate c.presentation.letters None ∷ []
+
+-- what contracts see: once memory was wanting, the root alone
+abbrev pub shown : Congruence → Bool → Links → List Bool → List Bool → CosetTable
+shown c failed links live marked = record {
+  congruence = c;
+  graph = cond failed (bare c) links.graph;
+  firsts = cond failed (bare c) links.firsts;
+  nexts = cond failed (bare c) links.nexts;
+  live = cond failed (true ∷ []) live;
+  marked = cond failed (false ∷ []) marked;
+  failed = failed;
+}
+
+-- the parts of a table show one, and unless memory was wanting, all is closed but for what is pending, and the order is
+-- that of the nodes
+pub record IsHeld (c : Congruence) (failed : Bool) (links : Links) (live marked : List Bool)
+    (o : Order) (pending : List Pending) : Type 0 where
+  pub table : IsTable (shown c failed links live marked)
+  pub closed : failed ≡ false → IsClosedBut c.presentation.relations links.graph live pending
+  pub order : failed ≡ false → IsKept c.presentation.letters links.graph marked o
 
 abbrev pub IsLive : CosetTable → ℕ → Type 0
 IsLive t n = IsOn t.live n
@@ -31,7 +69,8 @@ IsMarked t n = IsOn t.marked n
 pub record IsDefined (old new : CosetTable) (node letter made : ℕ) : Type 0 where
   pub congruence : new.congruence ≡ old.congruence
   pub fresh : made ≡ length old.graph
-  pub graph : new.graph ≡ with_edge (with_node old.congruence.presentation.letters old.graph) node letter made
+  pub graph : new.graph ≡ with_edge
+      (with_node old.congruence.presentation.letters old.graph) node letter made
   pub live : new.live ≡ old.live ++ true ∷ []
   pub marked : new.marked ≡ old.marked ++ false ∷ []
   pub failed : new.failed ≡ false

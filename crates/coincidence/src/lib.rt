@@ -5,10 +5,17 @@
 //! *Computation with finitely presented groups*, 1994, chapter 5; libsemigroups, `ToddCoxeter`).
 #![tactic(auto)]
 
-mod draw;
+mod absorb;
+mod cells;
+mod closing;
+mod copies;
 mod due;
+mod edges;
+mod joins;
 mod marks;
-mod merge;
+mod order;
+mod pending;
+mod reads;
 mod tables;
 
 pub use tables::Table;

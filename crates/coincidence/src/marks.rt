@@ -1,26 +1,12 @@
 // Marks of nodes.
 ghost use Rattle.std.specs.Prelude.{◌≡◌, ℕ, ◌+◌, ◌<◌, ◌≤◌, All, length, slice_index, IfOk, MatchOption};
 ghost use Rattle.word_graph.specs.Walk.{AreLeastWords};
-ghost use Rattle.coincidence.specs.Marks.{AllMarked, AreCarried, IsFirstUnmarked, IsLeastUnmarked};
+ghost use Rattle.coincidence.specs.Marks.{AllMarked, IsFirstUnmarked, IsLeastUnmarked};
 
 use ports::NoMemory;
 use std::alloc::Global;
 use word_graph::WordGraph;
 use words::{Word, shortlex};
-
-/// Marks go to where their nodes have gone.
-pub fn carry_marks(marked: &mut Vec<bool>, class: &Vec<usize>)
-    requires shape { length class.now.items ≡ length marked.old.items }
-    requires below { (n : ℕ) → slice_index class.now.items n ≤ n }
-    ensures { AreCarried class.now.items marked.old.items marked.new.items }
-{
-    for node in 0..marked.len() {
-        if marked[node] {
-            marked[node] = false;
-            marked[class[node]] = true;
-        }
-    }
-}
 
 // The place of the lesser of two words whose nodes have no mark: of the one at a place so far, and of the next.
 fn lesser_unmarked(
@@ -66,7 +52,8 @@ pub fn first_unmarked(
     marked: &Vec<bool>,
 ) -> Result<Option<usize>, NoMemory>
     requires { length marked.now.items ≡ length graph.now }
-    ensures { IfOk result (λ found. MatchOption found (AllMarked graph.now marked.now.items) (IsFirstUnmarked graph.now marked.now.items)) }
+    ensures { IfOk result (λ found. MatchOption found (AllMarked graph.now marked.now.items)
+        (IsFirstUnmarked graph.now marked.now.items)) }
 {
     let _letters = graph.letters();
     let least = graph.least_words(alloc)?;

@@ -8,12 +8,16 @@ ghost use Rattle.theory.specs.Graph.{target as target_of, path, SameEnd, PathsRe
 ghost use Rattle.word_graph.specs.Standard.{IsStandardGraph};
 ghost use Rattle.word_graph.specs.Walk.{IsFirstMissing};
 ghost use Rattle.coincidence.specs.Closing.{ClosedThere};
-ghost use Rattle.coincidence.specs.Marks.{AllMarked, IsFirstUnmarked, KeepsMarks};
+ghost use Rattle.coincidence.specs.Links.{IsSources};
+ghost use Rattle.coincidence.specs.Marks.{AllMarked, IsFirstUnmarked, KeepsMarks, KeepsNumbers};
 ghost use Rattle.coincidence.specs.Merged.{MergedNodes};
-ghost use Rattle.coincidence.specs.Table.{CosetTable, IsTable, IsLive, IsDefined};
+ghost use Rattle.coincidence.specs.Table.{CosetTable, IsTable, IsLive, IsDefined, links_of};
 
-use crate::draw::{close_in, define_in, identify_in};
-use crate::marks::{carry_marks, first_unmarked};
+use crate::closing::{close_in, define_in, identify_in};
+use crate::copies::word_graph;
+use crate::edges::Edges;
+use crate::order::Order;
+use crate::pending::Pending;
 use ports::NoMemory;
 use presentation::Congruence;
 use std::alloc::Global;
@@ -23,28 +27,33 @@ use words::Letter;
 
 /// The coset table of a congruence (libsemigroups, `ToddCoxeter`): a partial rooted word graph with root 0, of which
 /// some nodes are live, and of these some marked. The live nodes are exactly those that some word leads to from the
-/// root, and only they have edges. The root is always live.
+/// root, and only they have edges. The root is always live. For each node and letter, the nodes whose edge of the letter
+/// leads to the node stand in a list.
 ///
-/// Each call but `target` may find memory wanting. It then answers `NoMemory`, as does each later call, and what the
-/// graph shows from then on is not told.
+/// Each call that gives a `Result` may find memory wanting. It then answers `NoMemory`, as does each later call, and
+/// the table shows the root alone.
 #[derive(Drop)]
 pub struct Table {
     alloc: Global,
     congruence: Congruence,
-    graph: WordGraph,
+    edges: Edges,
     live: Vec<bool>,
     marked: Vec<bool>,
+    order: Order,
+    pending: Vec<Pending>,
     failed: bool,
 }
 
 impl Model for Table {
-    ghost use Rattle.coincidence.specs.Table.{CosetTable, IsTable};
+    ghost use Rattle.coincidence.specs.Table.{CosetTable, IsHeld, shown};
 
     ghost Value = { CosetTable };
 
-    ghost view = { λ t. record { congruence = t.congruence.congruence; graph = t.graph; live = t.live.items; marked = t.marked.items; failed = t.failed } };
+    ghost view = { λ t. shown t.congruence.congruence t.failed t.edges t.live.items
+        t.marked.items };
 
-    ghost invariant = { λ t. IsTable (record { congruence = t.congruence.congruence; graph = t.graph; live = t.live.items; marked = t.marked.items; failed = t.failed }) };
+    ghost invariant = { λ t. IsHeld t.congruence.congruence t.failed t.edges t.live.items
+        t.marked.items t.order t.pending.items };
 }
 
 impl Table {
@@ -53,20 +62,30 @@ impl Table {
     pub fn new(alloc: Global, congruence: &Congruence) -> Result<Table, NoMemory>
         requires { IsRightSided congruence.now.congruence }
         ensures table { IfOk result IsTable }
-        ensures new { IfOk result (λ t. t ≡ record { congruence = congruence.now.congruence; graph = replicate congruence.now.congruence.presentation.letters None ∷ []; live = true ∷ []; marked = false ∷ []; failed = false }) }
+        ensures congruence { IfOk result (λ t. t.congruence ≡ congruence.now.congruence) }
+        ensures graph { IfOk result (λ t. t.graph
+            ≡ replicate congruence.now.congruence.presentation.letters None ∷ []) }
+        ensures live { IfOk result (λ t. t.live ≡ true ∷ []) }
+        ensures marked { IfOk result (λ t. t.marked ≡ false ∷ []) }
+        ensures ok { IfOk result (λ t. t.failed ≡ false) }
     {
         let congruence = congruence.copy(alloc)?;
-        let graph = WordGraph::new(alloc, congruence.presentation().letters(), 1)?;
+        let edges = Edges::new(alloc, congruence.presentation().letters())?;
         let mut live = Vec::new(alloc);
         live.push(true)?;
         let mut marked = Vec::new(alloc);
         marked.push(false)?;
+        let order = Order::new(alloc)?;
+        let mut pending = Vec::new(alloc);
+        pending.push(Pending::NewNode(0))?;
         Ok(Table {
             alloc,
             congruence,
-            graph,
+            edges,
             live,
             marked,
+            order,
+            pending,
             failed: false,
         })
     }
@@ -77,7 +96,32 @@ impl Table {
         requires { self.now.failed ≡ false }
         ensures { result ≡ target_of self.now.graph node letter }
     {
-        self.graph.target(node, letter)
+        self.edges.target(node, letter)
+    }
+
+    /// The first in the list of the nodes whose edge of the letter leads to the node. `None` exactly where there is
+    /// none. No call on the table has found memory wanting.
+    pub fn first_source(&self, node: usize, letter: Letter) -> Option<usize>
+        requires { self.now.failed ≡ false }
+        ensures first { result ≡ target_of self.now.firsts node letter }
+        ensures list { (list : List ℕ) × IsSources (links_of self.now) node letter list }
+    {
+        let _letters = self.edges.letters();
+        self.edges.first_source(node, letter)
+    }
+
+    /// The node after this one in the list of the nodes whose edge of the letter leads where its own does. `None`
+    /// exactly where it is the last. The node has an edge of the letter, and no call on the table has found memory
+    /// wanting.
+    pub fn next_source(&self, node: usize, letter: Letter) -> Option<usize>
+        requires failed { self.now.failed ≡ false }
+        requires edge { target_of self.now.graph node letter ≢ None }
+        ensures next { result ≡ target_of self.now.nexts node letter }
+        ensures list { (to : ℕ) → target_of self.now.graph node letter ≡ Some to
+            → (list : List ℕ) × IsSources (links_of self.now) to letter list }
+    {
+        let _letters = self.edges.letters();
+        self.edges.next_source(node, letter)
     }
 
     /// Makes an edge of the letter from the live node to a new node, which is live and not marked, and tells its
@@ -99,11 +143,24 @@ impl Table {
             self.failed = true;
             return Err(NoMemory);
         };
+        let Ok(()) = self.order.add_node() else {
+            self.failed = true;
+            return Err(NoMemory);
+        };
         let letters = self.congruence.presentation().letters();
-        match define_in(&mut self.graph, &mut self.live, letters, node, letter) {
-            Ok(fresh) => Ok(fresh),
+        match define_in(
+            &mut self.edges,
+            &mut self.live,
+            &mut self.pending,
+            letters,
+            node,
+            letter,
+        ) {
+            Ok(fresh) => {
+                let _letters = self.edges.letters();
+                Ok(fresh)
+            }
             Err(fault) => {
-                self.marked.pop();
                 self.failed = true;
                 Err(fault)
             }
@@ -117,8 +174,11 @@ impl Table {
     pub fn identify(&mut self, x: usize, y: usize) -> Result<(), NoMemory>
         requires x { IsLive self.old x }
         requires y { IsLive self.old y }
-        ensures relates { OnOk result (PathsRelate self.new.graph (MergedNodes self.old.graph x y)) }
-        ensures marks { OnOk result (KeepsMarks self.old.graph self.old.marked self.new.graph self.new.marked) }
+        ensures relates { OnOk result (PathsRelate self.new.graph
+            (MergedNodes self.old.graph x y)) }
+        ensures marks { OnOk result (KeepsMarks self.old.graph self.old.marked self.new.graph
+            self.new.marked) }
+        ensures numbers { OnOk result (KeepsNumbers self.old.graph self.new.graph) }
         ensures nodes { OnOk result (length self.new.graph ≡ length self.old.graph) }
         ensures ok { OnOk result (self.new.failed ≡ false) }
         ensures err { OnErr result (self.new.failed ≡ true) }
@@ -129,9 +189,18 @@ impl Table {
         if self.failed {
             return Err(NoMemory);
         }
-        match identify_in(self.alloc, &mut self.graph, &mut self.live, x, y) {
-            Ok(class) => {
-                carry_marks(&mut self.marked, &class);
+        match identify_in(
+            self.alloc,
+            &mut self.edges,
+            &mut self.live,
+            &mut self.marked,
+            &mut self.order,
+            &mut self.pending,
+            x,
+            y,
+        ) {
+            Ok(()) => {
+                let _letters = self.edges.letters();
                 Ok(())
             }
             Err(fault) => {
@@ -144,8 +213,11 @@ impl Table {
     // Draws what follows from the relations, read at every node or at one alone, and from the pairs.
     fn close(&mut self, at: Option<usize>) -> Result<(), NoMemory>
         requires at { ForSome at (IsLive self.old) }
-        ensures relates { OnOk result (PathsRelate self.new.graph (ClosedThere self.old.congruence self.old.graph at)) }
-        ensures marks { OnOk result (KeepsMarks self.old.graph self.old.marked self.new.graph self.new.marked) }
+        ensures relates { OnOk result (PathsRelate self.new.graph
+            (ClosedThere self.old.congruence self.old.graph at)) }
+        ensures marks { OnOk result (KeepsMarks self.old.graph self.old.marked self.new.graph
+            self.new.marked) }
+        ensures numbers { OnOk result (KeepsNumbers self.old.graph self.new.graph) }
         ensures nodes { OnOk result (length self.new.graph ≡ length self.old.graph) }
         ensures ok { OnOk result (self.new.failed ≡ false) }
         ensures err { OnErr result (self.new.failed ≡ true) }
@@ -159,12 +231,15 @@ impl Table {
         match close_in(
             self.alloc,
             &self.congruence,
-            &mut self.graph,
+            &mut self.edges,
             &mut self.live,
+            &mut self.marked,
+            &mut self.order,
+            &mut self.pending,
             at,
         ) {
-            Ok(class) => {
-                carry_marks(&mut self.marked, &class);
+            Ok(()) => {
+                let _letters = self.edges.letters();
                 Ok(())
             }
             Err(fault) => {
@@ -179,8 +254,12 @@ impl Table {
     /// follows from it (the row of a word: Sims 1994, 5.2). Marks go with their words, as at `identify`.
     pub fn close_at(&mut self, node: usize) -> Result<(), NoMemory>
         requires { IsLive self.old node }
-        ensures relates { OnOk result ((w : Letters) → path self.old.graph 0 w ≡ Some node → PathsRelate self.new.graph (ClosedAt self.old.congruence (SameEnd self.old.graph) w)) }
-        ensures marks { OnOk result (KeepsMarks self.old.graph self.old.marked self.new.graph self.new.marked) }
+        ensures relates { OnOk result ((w : Letters) → path self.old.graph 0 w ≡ Some node
+            → PathsRelate self.new.graph
+            (ClosedAt self.old.congruence (SameEnd self.old.graph) w)) }
+        ensures marks { OnOk result (KeepsMarks self.old.graph self.old.marked self.new.graph
+            self.new.marked) }
+        ensures numbers { OnOk result (KeepsNumbers self.old.graph self.new.graph) }
         ensures nodes { OnOk result (length self.new.graph ≡ length self.old.graph) }
         ensures ok { OnOk result (self.new.failed ≡ false) }
         ensures err { OnErr result (self.new.failed ≡ true) }
@@ -195,8 +274,11 @@ impl Table {
     /// empty word, until nothing new follows: the paths then relate what they related before, and what follows from
     /// it. Marks go with their words, as at `identify`.
     pub fn close_all(&mut self) -> Result<(), NoMemory>
-        ensures relates { OnOk result (PathsRelate self.new.graph (ClosedAll self.old.congruence (SameEnd self.old.graph))) }
-        ensures marks { OnOk result (KeepsMarks self.old.graph self.old.marked self.new.graph self.new.marked) }
+        ensures relates { OnOk result (PathsRelate self.new.graph
+            (ClosedAll self.old.congruence (SameEnd self.old.graph))) }
+        ensures marks { OnOk result (KeepsMarks self.old.graph self.old.marked self.new.graph
+            self.new.marked) }
+        ensures numbers { OnOk result (KeepsNumbers self.old.graph self.new.graph) }
         ensures nodes { OnOk result (length self.new.graph ≡ length self.old.graph) }
         ensures ok { OnOk result (self.new.failed ≡ false) }
         ensures err { OnErr result (self.new.failed ≡ true) }
@@ -210,7 +292,8 @@ impl Table {
     /// Marks the live node, and changes nothing else.
     pub fn mark(&mut self, node: usize) -> Result<(), NoMemory>
         requires { IsLive self.old node }
-        ensures ok { OnOk result (self.new ≡ record self.old { marked = slice_set self.old.marked node true }) }
+        ensures ok { OnOk result (self.new
+            ≡ record self.old { marked = slice_set self.old.marked node true }) }
         ensures err { OnErr result (self.new.failed ≡ true) }
         ensures failed { self.old.failed ≡ true → IsErr result }
         ensures congruence { self.new.congruence ≡ self.old.congruence }
@@ -226,7 +309,9 @@ impl Table {
     /// The node of the least word in short-lex order whose node is not marked. `None` exactly where each live node is
     /// marked.
     pub fn first_unprocessed(&mut self) -> Result<Option<usize>, NoMemory>
-        ensures first { IfOk result (λ found. MatchOption found (AllMarked self.old.graph self.old.marked) (IsFirstUnmarked self.old.graph self.old.marked)) }
+        ensures first { IfOk result (λ found. MatchOption found
+            (AllMarked self.old.graph self.old.marked)
+            (IsFirstUnmarked self.old.graph self.old.marked)) }
         ensures same { OnOk result (self.new ≡ self.old) }
         ensures err { OnErr result (self.new.failed ≡ true) }
         ensures failed { self.old.failed ≡ true → IsErr result }
@@ -236,7 +321,11 @@ impl Table {
         if self.failed {
             return Err(NoMemory);
         }
-        match first_unmarked(self.alloc, &self.graph, &self.marked) {
+        let letters = self.congruence.presentation().letters();
+        match self
+            .order
+            .first_unmarked(self.alloc, &self.edges, letters, &self.marked)
+        {
             Ok(found) => Ok(found),
             Err(fault) => {
                 self.failed = true;
@@ -248,7 +337,9 @@ impl Table {
     /// The least word in short-lex order that has no path, as the live node that all but its last letter lead to, and
     /// that letter. `None` exactly where each word has a path.
     pub fn first_missing(&mut self) -> Result<Option<(usize, Letter)>, NoMemory>
-        ensures first { IfOk result (λ found. MatchOption found (AllDefined self.old.congruence.presentation.letters (SameEnd self.old.graph)) (λ p. IsFirstMissing self.old.congruence.presentation.letters self.old.graph p.0 p.1)) }
+        ensures first { IfOk result (λ found. MatchOption found
+            (AllDefined self.old.congruence.presentation.letters (SameEnd self.old.graph))
+            (λ p. IsFirstMissing self.old.congruence.presentation.letters self.old.graph p.0 p.1)) }
         ensures same { OnOk result (self.new ≡ self.old) }
         ensures err { OnErr result (self.new.failed ≡ true) }
         ensures failed { self.old.failed ≡ true → IsErr result }
@@ -258,7 +349,8 @@ impl Table {
         if self.failed {
             return Err(NoMemory);
         }
-        match self.graph.first_missing(self.alloc) {
+        let letters = self.congruence.presentation().letters();
+        match self.order.first_missing(&self.edges, letters) {
             Ok(found) => Ok(found),
             Err(fault) => {
                 self.failed = true;
@@ -272,7 +364,8 @@ impl Table {
     pub fn graph(&mut self) -> Result<WordGraph, NoMemory>
         ensures shows { IfOk result (λ g. Shows g (SameEnd self.old.graph)) }
         ensures graph { IfOk result (λ g. IsGraph self.old.congruence.presentation.letters g) }
-        ensures standard { IfOk result (λ g. AllDefined self.old.congruence.presentation.letters (SameEnd self.old.graph) → IsStandardGraph self.old.congruence.presentation.letters g) }
+        ensures standard { IfOk result (λ g. AllDefined self.old.congruence.presentation.letters
+            (SameEnd self.old.graph) → IsStandardGraph self.old.congruence.presentation.letters g) }
         ensures same { OnOk result (self.new ≡ self.old) }
         ensures err { OnErr result (self.new.failed ≡ true) }
         ensures failed { self.old.failed ≡ true → IsErr result }
@@ -291,15 +384,21 @@ impl Table {
         }
     }
 
-    /// As [`graph`](Table::graph), of a table that is only lent. Refused only where memory is wanting, which no later
-    /// call answers for.
+    /// As [`graph`](Table::graph), of a table that is only lent. Refused only where memory is wanting, for which no later
+    /// call answers, or was for an earlier one.
     pub fn live_graph(&self) -> Result<WordGraph, NoMemory>
         ensures shows { IfOk result (λ g. Shows g (SameEnd self.now.graph)) }
         ensures graph { IfOk result (λ g. IsGraph self.now.congruence.presentation.letters g) }
-        ensures standard { IfOk result (λ g. AllDefined self.now.congruence.presentation.letters (SameEnd self.now.graph) → IsStandardGraph self.now.congruence.presentation.letters g) }
+        ensures standard { IfOk result (λ g. AllDefined self.now.congruence.presentation.letters
+            (SameEnd self.now.graph) → IsStandardGraph self.now.congruence.presentation.letters g) }
+        ensures failed { self.now.failed ≡ true → IsErr result }
     {
         let _congruence = &self.congruence;
-        let graph = self.graph.standardise(self.alloc)?;
-        Ok(graph)
+        if self.failed {
+            return Err(NoMemory);
+        }
+        let graph = word_graph(&self.edges, self.alloc)?;
+        let standard = graph.standardise(self.alloc)?;
+        Ok(standard)
     }
 }

@@ -53,7 +53,8 @@ pub record IsFresh (t : CosetTable) (made : ℕ) (next : Option (ℕ × ℕ)) : 
   pub none_due : next ≡ None
 
 -- what the last turn left
-pub record IsRun (t : CosetTable) (budget made : ℕ) (begun : Bool) (next : Option (ℕ × ℕ)) (said : Progress) : Type 0 where
+pub record IsRun (t : CosetTable) (budget made : ℕ) (begun : Bool) (next : Option (ℕ × ℕ))
+    (said : Progress) : Type 0 where
   pub table : IsTable t
   pub decided : said ≡ Decided → FelschEnds t.congruence budget
   pub complete : said ≡ Decided → AllDefined t.congruence.presentation.letters (SameEnd t.graph)

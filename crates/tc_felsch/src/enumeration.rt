@@ -34,7 +34,14 @@ impl Model for Felsch {
 
     ghost Value = { FelschRun };
 
-    ghost view = { λ f. record { congruence = f.table.congruence; budget = f.budget; made = f.made; begun = f.begun; graph = f.table.graph; said = f.said } };
+    ghost view = { λ f. record {
+      congruence = f.table.congruence;
+      budget = f.budget;
+      made = f.made;
+      begun = f.begun;
+      graph = f.table.graph;
+      said = f.said;
+    } };
 
     ghost invariant = { λ f. IsRun f.table f.budget f.made f.begun f.next f.said };
 }
@@ -42,9 +49,11 @@ impl Model for Felsch {
 // Makes the definition that is due, if there is one.
 fn define_due(table: &mut Table, due: Option<(usize, Letter)>) -> Result<(), NoMemory>
     requires table { IsTable table.old }
-    requires due { IfSome due (λ p. IsFirstMissing table.old.congruence.presentation.letters table.old.graph p.0 p.1) }
+    requires due { IfSome due (λ p. IsFirstMissing table.old.congruence.presentation.letters
+        table.old.graph p.0 p.1) }
     ensures none { OnOk result (due ≡ None → table.new ≡ table.old) }
-    ensures some { OnOk result (IfSome due (λ p. IsDefined table.old table.new p.0 p.1 (length table.old.graph))) }
+    ensures some { OnOk result (IfSome due
+        (λ p. IsDefined table.old table.new p.0 p.1 (length table.old.graph))) }
     ensures congruence { table.new.congruence ≡ table.old.congruence }
     ensures table { IsTable table.new }
 {
@@ -63,10 +72,17 @@ fn go_on(
     due: Option<(usize, Letter)>,
 ) -> Result<Option<(usize, Letter)>, NoMemory>
     requires table { IsTable table.old }
-    requires due { IfSome due (λ p. IsFirstMissing table.old.congruence.presentation.letters table.old.graph p.0 p.1) }
-    ensures start { OnOk result (due ≡ None → table.old.graph ≡ replicate table.old.congruence.presentation.letters None ∷ [] → IsAtStage table.new.congruence 0 table.new.graph) }
-    ensures stage { OnOk result (IsSome due → (i : ℕ) → IsAtStage table.old.congruence i table.old.graph → IsAtStage table.new.congruence (suc i) table.new.graph) }
-    ensures next { IfOk result (λ next. MatchOption next (AllDefined table.new.congruence.presentation.letters (SameEnd table.new.graph)) (λ p. IsFirstMissing table.new.congruence.presentation.letters table.new.graph p.0 p.1)) }
+    requires due { IfSome due (λ p. IsFirstMissing table.old.congruence.presentation.letters
+        table.old.graph p.0 p.1) }
+    ensures start { OnOk result (due ≡ None
+        → table.old.graph ≡ replicate table.old.congruence.presentation.letters None ∷ []
+        → IsAtStage table.new.congruence 0 table.new.graph) }
+    ensures stage { OnOk result (IsSome due → (i : ℕ)
+        → IsAtStage table.old.congruence i table.old.graph
+        → IsAtStage table.new.congruence (suc i) table.new.graph) }
+    ensures next { IfOk result (λ next. MatchOption next
+        (AllDefined table.new.congruence.presentation.letters (SameEnd table.new.graph))
+        (λ p. IsFirstMissing table.new.congruence.presentation.letters table.new.graph p.0 p.1)) }
     ensures congruence { table.new.congruence ≡ table.old.congruence }
     ensures table { IsTable table.new }
 {
@@ -115,17 +131,22 @@ impl Racer for Felsch {
     /// One definition with all that follows from it; at the first turn, what follows without a definition. After it
     /// the graph shows the facts of the stage with so many definitions, unless memory was wanting.
     fn advance(&mut self) -> Progress
-        ensures task { (self.new.congruence ≡ self.old.congruence) × (self.new.budget ≡ self.old.budget) }
+        ensures task { (self.new.congruence ≡ self.old.congruence)
+            × (self.new.budget ≡ self.old.budget) }
         ensures said { self.new.said ≡ result }
         ensures decided { result ≡ Answer.Decided → FelschEnds self.new.congruence self.new.budget }
         ensures spent { result ≡ Answer.Spent → ¬ (FelschEnds self.new.congruence self.new.budget) }
         ensures more { result ≡ Answer.More → left_of self.new < left_of self.old }
-        ensures stays_decided { self.old.said ≡ Answer.Decided → (result ≡ Answer.Decided) × (self.new ≡ self.old) }
-        ensures stays_spent { self.old.said ≡ Answer.Spent → (result ≡ Answer.Spent) × (self.new ≡ self.old) }
+        ensures stays_decided { self.old.said ≡ Answer.Decided
+            → (result ≡ Answer.Decided) × (self.new ≡ self.old) }
+        ensures stays_spent { self.old.said ≡ Answer.Spent
+            → (result ≡ Answer.Spent) × (self.new ≡ self.old) }
         ensures stays_out_of_memory { self.old.said ≡ Answer.NoMemory → result ≡ Answer.NoMemory }
-        ensures stage { result ≢ Answer.NoMemory → IsAtStage self.new.congruence self.new.made self.new.graph }
+        ensures stage { result ≢ Answer.NoMemory
+            → IsAtStage self.new.congruence self.new.made self.new.graph }
         ensures within { result ≢ Answer.NoMemory → self.new.made ≤ self.new.budget }
-        ensures made { self.old.said ≡ Answer.More → result ≢ Answer.NoMemory → self.new.made ≡ self.old.made + cond self.old.begun 1 0 }
+        ensures made { self.old.said ≡ Answer.More → result ≢ Answer.NoMemory
+            → self.new.made ≡ self.old.made + cond self.old.begun 1 0 }
         ensures begun { self.new.begun ≡ true }
     {
         let Progress::More = self.said else {
@@ -150,7 +171,14 @@ impl Felsch {
     /// has right pairs, or none. Refused only where memory is wanting.
     pub fn new(alloc: Global, congruence: &Congruence, defs: usize) -> Result<Felsch, NoMemory>
         requires { IsRightSided congruence.now.congruence }
-        ensures { IfOk result (λ f. f ≡ record { congruence = congruence.now.congruence; budget = defs; made = 0; begun = false; graph = replicate congruence.now.congruence.presentation.letters None ∷ []; said = Progress.More }) }
+        ensures { IfOk result (λ f. f ≡ record {
+          congruence = congruence.now.congruence;
+          budget = defs;
+          made = 0;
+          begun = false;
+          graph = replicate congruence.now.congruence.presentation.letters None ∷ [];
+          said = Progress.More;
+        }) }
     {
         let table = Table::new(alloc, congruence)?;
         Ok(Felsch {
@@ -174,11 +202,13 @@ impl Felsch {
     /// facts of the last stage, at which each word is defined. Refused only where memory is wanting.
     pub fn graph(&self) -> Result<WordGraph, NoMemory>
         requires { self.now.said ≡ Progress.Decided }
-        ensures standard { IfOk result (λ g. IsStandardGraph self.now.congruence.presentation.letters g) }
+        ensures standard { IfOk result (λ g. IsStandardGraph
+            self.now.congruence.presentation.letters g) }
         ensures shows { IfOk result (λ g. Shows g (SameEnd self.now.graph)) }
         ensures stage { IfOk result (λ g. IsAtStage self.now.congruence self.now.made g) }
         ensures graph { IfOk result (λ g. IsGraph self.now.congruence.presentation.letters g) }
-        ensures complete { IfOk result (λ g. AllDefined self.now.congruence.presentation.letters (SameEnd g)) }
+        ensures complete { IfOk result (λ g. AllDefined self.now.congruence.presentation.letters
+            (SameEnd g)) }
     {
         let _budget = self.budget;
         let graph = self.table.live_graph()?;

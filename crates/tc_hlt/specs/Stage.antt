@@ -47,7 +47,8 @@ answer_of unmet made budget = cond unmet (cond (nat_lt made budget) More Spent) 
 
 -- a word's node is marked exactly where the word is related to one of the list
 abbrev pub MarksMet : CosetTable → List Word → Type 0
-MarksMet t U = (u : Word) (n : ℕ) → path t.graph 0 u ≡ Some n → IsOn t.marked n ↔ IsMet (SameEnd t.graph) U u
+MarksMet t U = (u : Word) (n : ℕ) → path t.graph 0 u ≡ Some n
+    → IsOn t.marked n ↔ IsMet (SameEnd t.graph) U u
 
 -- the table shows the facts after so many rows, and marks what is met
 pub record HasRows (t : CosetTable) (made : ℕ) : Type 0 where
@@ -78,7 +79,8 @@ Stands t false made node = IsFresh t × (made ≡ 0) × (node ≡ 0)
 Stands t true made node = IsReady t made node
 
 -- what the last turn left
-pub record IsRun (t : CosetTable) (c : Congruence) (budget made : ℕ) (begun : Bool) (next : ℕ) (said : Progress) : Type 0 where
+pub record IsRun (t : CosetTable) (c : Congruence) (budget made : ℕ) (begun : Bool) (next : ℕ)
+    (said : Progress) : Type 0 where
   pub table : IsTable t
   pub congruence : c ≡ t.congruence
   pub decided : said ≡ Decided → HltEnds t.congruence budget

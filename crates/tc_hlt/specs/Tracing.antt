@@ -18,7 +18,8 @@ pub record IsGrown (D : Word → Word → Type 0) (old new : CosetTable) (node :
   pub marks : (n : ℕ) → IsOn new.marked n ↔ IsOn old.marked n
   pub failed : new.failed ≡ false
   pub there : (x v : Word) → path old.graph 0 x ≡ Some node → D x v → SameEnd new.graph v v
-  pub within : (U : List Word) (x : Word) → path old.graph 0 x ≡ Some node → ((v : Word) → D x v → HltFacts old.congruence U v v)
+  pub within : (U : List Word) (x : Word) → path old.graph 0 x ≡ Some node
+      → ((v : Word) → D x v → HltFacts old.congruence U v v)
       → IsWithin old.congruence U old.graph → IsWithin old.congruence U new.graph
 
 -- v is x and the letter

@@ -34,9 +34,17 @@ impl Model for Hlt {
 
     ghost Value = { HltRun };
 
-    ghost view = { λ h. record { congruence = h.table.congruence; budget = h.budget; made = h.made; begun = h.begun; graph = h.table.graph; said = h.said } };
+    ghost view = { λ h. record {
+      congruence = h.table.congruence;
+      budget = h.budget;
+      made = h.made;
+      begun = h.begun;
+      graph = h.table.graph;
+      said = h.said;
+    } };
 
-    ghost invariant = { λ h. IsRun h.table h.congruence.congruence h.budget h.made h.begun h.next h.said };
+    ghost invariant = { λ h. IsRun h.table h.congruence.congruence h.budget h.made h.begun h.next
+        h.said };
 }
 
 // Traces both sides of each pair from the root, and makes their ends one.
@@ -157,17 +165,22 @@ impl Racer for Hlt {
     /// One row with all that follows from it; at the first turn, before it, what the pairs give. Without a budget no
     /// row is made. After it the graph shows the facts of the stage with so many rows, unless memory was wanting.
     fn advance(&mut self) -> Progress
-        ensures task { (self.new.congruence ≡ self.old.congruence) × (self.new.budget ≡ self.old.budget) }
+        ensures task { (self.new.congruence ≡ self.old.congruence)
+            × (self.new.budget ≡ self.old.budget) }
         ensures said { self.new.said ≡ result }
         ensures decided { result ≡ Answer.Decided → HltEnds self.new.congruence self.new.budget }
         ensures spent { result ≡ Answer.Spent → ¬ (HltEnds self.new.congruence self.new.budget) }
         ensures more { result ≡ Answer.More → left_of self.new < left_of self.old }
-        ensures stays_decided { self.old.said ≡ Answer.Decided → (result ≡ Answer.Decided) × (self.new ≡ self.old) }
-        ensures stays_spent { self.old.said ≡ Answer.Spent → (result ≡ Answer.Spent) × (self.new ≡ self.old) }
+        ensures stays_decided { self.old.said ≡ Answer.Decided
+            → (result ≡ Answer.Decided) × (self.new ≡ self.old) }
+        ensures stays_spent { self.old.said ≡ Answer.Spent
+            → (result ≡ Answer.Spent) × (self.new ≡ self.old) }
         ensures stays_out_of_memory { self.old.said ≡ Answer.NoMemory → result ≡ Answer.NoMemory }
-        ensures stage { result ≢ Answer.NoMemory → IsAtStage self.new.congruence self.new.made self.new.graph }
+        ensures stage { result ≢ Answer.NoMemory
+            → IsAtStage self.new.congruence self.new.made self.new.graph }
         ensures within { result ≢ Answer.NoMemory → self.new.made ≤ self.new.budget }
-        ensures made { self.old.said ≡ Answer.More → result ≢ Answer.NoMemory → self.new.made ≡ min (self.old.made + 1) self.old.budget }
+        ensures made { self.old.said ≡ Answer.More → result ≢ Answer.NoMemory
+            → self.new.made ≡ min (self.old.made + 1) self.old.budget }
         ensures begun { self.new.begun ≡ true }
     {
         let Progress::More = self.said else {
@@ -198,7 +211,14 @@ impl Hlt {
     /// pairs, or none. Refused only where memory is wanting.
     pub fn new(alloc: Global, congruence: &Congruence, rows: usize) -> Result<Hlt, NoMemory>
         requires { IsRightSided congruence.now.congruence }
-        ensures { IfOk result (λ h. h ≡ record { congruence = congruence.now.congruence; budget = rows; made = 0; begun = false; graph = replicate congruence.now.congruence.presentation.letters None ∷ []; said = Progress.More }) }
+        ensures { IfOk result (λ h. h ≡ record {
+          congruence = congruence.now.congruence;
+          budget = rows;
+          made = 0;
+          begun = false;
+          graph = replicate congruence.now.congruence.presentation.letters None ∷ [];
+          said = Progress.More;
+        }) }
     {
         let table = Table::new(alloc, congruence)?;
         Ok(Hlt {
@@ -224,11 +244,13 @@ impl Hlt {
     /// is wanting.
     pub fn graph(&self) -> Result<WordGraph, NoMemory>
         requires { self.now.said ≡ Progress.Decided }
-        ensures standard { IfOk result (λ g. IsStandardGraph self.now.congruence.presentation.letters g) }
+        ensures standard { IfOk result (λ g. IsStandardGraph
+            self.now.congruence.presentation.letters g) }
         ensures shows { IfOk result (λ g. Shows g (SameEnd self.now.graph)) }
         ensures end { IfOk result (λ g. IsAtEnd self.now.congruence self.now.made g) }
         ensures graph { IfOk result (λ g. IsGraph self.now.congruence.presentation.letters g) }
-        ensures complete { IfOk result (λ g. AllDefined self.now.congruence.presentation.letters (SameEnd g)) }
+        ensures complete { IfOk result (λ g. AllDefined self.now.congruence.presentation.letters
+            (SameEnd g)) }
     {
         let _budget = self.budget;
         let graph = self.table.live_graph()?;

@@ -1,4 +1,4 @@
-ghost use Rattle.std.specs.Prelude.{IfOk};
+ghost use Rattle.std.specs.Prelude.{◌≡◌, IfOk};
 ghost use Rattle.theory.specs.Word.{IsOver};
 
 use super::*;
@@ -100,5 +100,21 @@ fn pairs_come_before_rows(rt: HostRuntime) -> Result<(), Fail> {
     assert_eq!(rt; engine.advance(), Progress::More);
     assert_eq!(rt; engine.advance(), Progress::Decided);
     assert_eq!(rt; nodes(&engine)?, 3);
+    Ok(())
+}
+
+// The value, as another thread may have it.
+fn sent<T: Send>(value: T) -> T
+    ensures { result ≡ value }
+{
+    value
+}
+
+#[test]
+fn goes_to_another_thread(rt: HostRuntime) -> Result<(), Fail> {
+    let alloc = rt.alloc();
+    let mut engine = sent(enumeration(alloc, cyclic(alloc)?, 2)?);
+    assert_eq!(rt; engine.advance(), Progress::More);
+    assert_eq!(rt; engine.advance(), Progress::Spent);
     Ok(())
 }

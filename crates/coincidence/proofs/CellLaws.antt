@@ -1,0 +1,109 @@
+-- Tables that stand in one list.
+use Rattle.std.proofs.Common.{◌≡◌, ◌≢◌, ℕ, zero, suc, ◌+◌, ◌*◌, ◌<◌, ◌≤◌, List, [], ◌∷◌, ◌++◌, refl, sym, ◌∙◌, ap, arith, ◌⊎◌, inl, inr, Option, None, length, subst, get_or, set, take, drop, replicate}
+use Rattle.std.proofs.lemmas.Bool.{cases_eq, cases_lt}
+use Rattle.std.proofs.Math.Nat.{suc-mul, mul-le-mul_right}
+use Rattle.std.proofs.Math.Seq.{take-set-lt, take-length}
+use Rattle.std.proofs.lemmas.List.{length-replicate, get_or-set_same, get_or-set_other, take-append-le, drop-append-le, take-set-le, drop-set-lt, drop-set-add, get_or-take, get_or-drop, length-take-le, length-drop, get_or_past}
+use Rattle.theory.specs.Graph.{Graph, target}
+use Rattle.word_graph.proofs.EdgeLaws.{target_is}
+use Rattle.coincidence.specs.Cells.{rows_of, with_entry}
+
+-- the entry lies within the list
+pub place_within : (n k node a : ℕ) → node < n → a < k → node * k + a < n * k
+place_within n k node a hn ha =
+    let up : suc node * k ≤ n * k = mul-le-mul_right k (omega (arith, hn)) in
+    omega (arith, up, suc-mul node k, ha)
+
+pub length_rows : (k n : ℕ) (xs : List (Option ℕ)) → length (rows_of k n xs) ≡ n
+length_rows k zero xs = refl
+length_rows k (suc n) xs = ap suc (length_rows k n (drop k xs))
+
+-- the first row, and those after it
+long : (k n : ℕ) (xs : List (Option ℕ)) → length xs ≡ suc n * k → (k ≤ length xs) × (length (drop k xs) ≡ n * k)
+long k n xs e = (omega (arith, e, suc-mul n k), omega (arith, e, suc-mul n k, length-drop k xs))
+
+pub width_rows : (k n : ℕ) (xs : List (Option ℕ)) → length xs ≡ n * k → (i : ℕ) (d : List (Option ℕ)) → i < n → length (get_or (rows_of k n xs) i d) ≡ k
+width_rows k zero xs e i d h = absurd (omega (arith, h))
+width_rows k (suc n) xs e zero d h = length-take-le k xs (long k n xs e).0
+width_rows k (suc n) xs e (suc i) d h = width_rows k n (drop k xs) (long k n xs e).1 i d (omega (arith, h))
+
+pub read_rows : (k n : ℕ) (xs : List (Option ℕ)) (node a : ℕ) → node < n → a < k → get_or (get_or (rows_of k n xs) node []) a None ≡ get_or xs (node * k + a) None
+read_rows k zero xs node a hn ha = absurd (omega (arith, hn))
+read_rows k (suc n) xs zero a hn ha = get_or-take k xs a None ha ∙ ap (λ z. get_or xs z None) (let e : a ≡ zero * k + a = omega arith in e)
+read_rows k (suc n) xs (suc node) a hn ha =
+    read_rows k n (drop k xs) node a (omega (arith, hn)) ha ∙ get_or-drop k xs (node * k + a) None
+    ∙ ap (λ z. get_or xs z None) (let e : k + (node * k + a) ≡ suc node * k + a = omega (arith, suc-mul node k) in e)
+
+pub write_rows : (k n : ℕ) (xs : List (Option ℕ)) (node a : ℕ) (x : Option ℕ) → node < n → a < k → rows_of k n (set xs (node * k + a) x) ≡ with_entry (rows_of k n xs) node a x
+write_rows k zero xs node a x hn ha = absurd (omega (arith, hn))
+write_rows k (suc n) xs zero a x hn ha =
+    let at : zero * k + a ≡ a = omega arith in
+    rw (at, take-set-lt k xs a x ha, drop-set-lt k xs a x ha) refl
+write_rows k (suc n) xs (suc node) a x hn ha =
+    let at : suc node * k + a ≡ k + (node * k + a) = omega (arith, suc-mul node k) in
+    let first : take k (set xs (k + (node * k + a)) x) ≡ take k xs = take-set-le k xs (k + (node * k + a)) x (omega arith) in
+    let rest : drop k (set xs (k + (node * k + a)) x) ≡ set (drop k xs) (node * k + a) x = drop-set-add k xs (node * k + a) x in
+    rw (at, first, rest) (ap (λ z. take k xs ∷ z) (write_rows k n (drop k xs) node a x (omega (arith, hn)) ha))
+
+pub read_target : (k n : ℕ) (xs : List (Option ℕ)) (node a : ℕ) → node < n → a < k → target (rows_of k n xs) node a ≡ get_or xs (node * k + a) None
+read_target k n xs node a hn ha = target_is (rows_of k n xs) node a ∙ read_rows k n xs node a hn ha
+
+-- nothing stands past the letters and the nodes
+pub past_letters : (k n : ℕ) (xs : List (Option ℕ)) (node a : ℕ) → length xs ≡ n * k → k ≤ a → target (rows_of k n xs) node a ≡ None
+past_letters k n xs node a e h = target_is (rows_of k n xs) node a ∙ go (cases_lt node n)
+  where
+    go : (node < n) ⊎ (n ≤ node) → get_or (get_or (rows_of k n xs) node []) a None ≡ None
+    go (inl less) = get_or_past (get_or (rows_of k n xs) node []) a None (omega (arith, h, width_rows k n xs e node [] less))
+    go (inr more) =
+        let gone : get_or (rows_of k n xs) node [] ≡ [] = get_or_past (rows_of k n xs) node [] (omega (arith, more, length_rows k n xs)) in
+        rw gone refl
+
+pub past_nodes : (k n : ℕ) (xs : List (Option ℕ)) (node a : ℕ) → n ≤ node → target (rows_of k n xs) node a ≡ None
+past_nodes k n xs node a more =
+    let gone : get_or (rows_of k n xs) node [] ≡ [] = get_or_past (rows_of k n xs) node [] (omega (arith, more, length_rows k n xs)) in
+    target_is (rows_of k n xs) node a ∙ rw gone refl
+
+-- one row more
+pub add_rows : (k n : ℕ) (xs row : List (Option ℕ)) → length xs ≡ n * k → length row ≡ k → rows_of k (suc n) (xs ++ row) ≡ rows_of k n xs ++ row ∷ []
+add_rows k zero xs row e h = go xs (omega (arith, e))
+  where
+    go : (xs : List (Option ℕ)) → length xs ≡ 0 → rows_of k (suc zero) (xs ++ row) ≡ row ∷ []
+    go [] d = let all : take k row ≡ row = subst (λ z. take z row ≡ row) h (take-length row) in rw all refl
+    go (x ∷ xs) d = absurd (omega (arith, d))
+add_rows k (suc n) xs row e h =
+    let first : take k (xs ++ row) ≡ take k xs = take-append-le k xs row (long k n xs e).0 in
+    let rest : drop k (xs ++ row) ≡ drop k xs ++ row = drop-append-le k xs row (long k n xs e).0 in
+    rw (first, rest) (ap (λ z. take k xs ∷ z) (add_rows k n (drop k xs) row (long k n xs e).1 h))
+
+-- the rows of a table have one width
+pub one_width : (k l n : ℕ) (xs : List (Option ℕ)) → length xs ≡ n * k → 0 < n → ((i : ℕ) (d : List (Option ℕ)) → i < length (rows_of k n xs) → length (get_or (rows_of k n xs) i d) ≡ l) → k ≡ l
+one_width k l n xs e h w = sym (width_rows k n xs e 0 [] h) ∙ w 0 [] (omega (arith, h, length_rows k n xs))
+
+-- a node and a letter of the table
+pub within_rows : (k n node a : ℕ) (g : Graph) (xs : List (Option ℕ)) → length xs ≡ n * k → rows_of k n xs ≡ g → node < length g → a < length (get_or g node []) → (node < n) × (a < k)
+within_rows k n node a g xs e view hn ha =
+    let less : node < n = subst (λ z. node < z) (sym (ap length view) ∙ length_rows k n xs) hn in
+    let wide : length (get_or g node []) ≡ k = sym (ap (λ z. length (get_or z node [])) view) ∙ width_rows k n xs e node [] less in
+    (less, subst (λ z. a < z) wide ha)
+
+-- a list of nothing
+pub all_none : (xs : List (Option ℕ)) → ((i : ℕ) → i < length xs → get_or xs i None ≡ None) → xs ≡ replicate (length xs) None
+all_none [] h = refl
+all_none (x ∷ xs) h = let head : x ≡ None = h 0 (omega arith) in let tail = all_none xs (λ i l. h (suc i) (omega (arith, l))) in ap (λ z. z ∷ xs) head ∙ ap (λ z. None ∷ z) tail
+
+pub none_more : (xs : List (Option ℕ)) (place : ℕ) → place < length xs → ((i : ℕ) → i < place → get_or xs i None ≡ None) → (i : ℕ) → i < place + 1 → get_or (set xs place None) i None ≡ None
+none_more xs place h so_far i l = go (cases_eq i place)
+  where
+    go : (i ≡ place) ⊎ (i ≢ place) → get_or (set xs place None) i None ≡ None
+    go (inl e) = ap (λ z. get_or (set xs place None) z None) e ∙ get_or-set_same xs place None None h
+    go (inr d) = get_or-set_other xs place i None None d ∙ so_far i (omega (arith, l, d))
+
+-- the root alone
+pub cleared : (k n : ℕ) (xs : List (Option ℕ)) → 0 < n → length xs ≡ n * k → length (take k xs) ≡ k
+cleared k zero xs h e = absurd (omega (arith, h))
+cleared k (suc n) xs h e = length-take-le k xs (long k n xs e).0
+
+pub cleared_rows : (k m : ℕ) → m ≡ k → rows_of k 1 (replicate m None) ≡ replicate k None ∷ []
+cleared_rows k m e =
+    let all : take k (replicate k None) ≡ replicate {A = Option ℕ} k None = subst (λ z. take z (replicate k None) ≡ replicate {A = Option ℕ} k None) (length-replicate k None) (take-length (replicate k None)) in
+    subst (λ z. rows_of k 1 (replicate z None) ≡ replicate k None ∷ []) (sym e) (ap (λ z. z ∷ []) all)

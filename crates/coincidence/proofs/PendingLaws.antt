@@ -1,0 +1,164 @@
+-- What is closed apart from new nodes and edges.
+use Rattle.std.proofs.Common.{◌≡◌, ℕ, List, [], ◌∷◌, ◌++◌, refl, sym, ◌∙◌, ap, ◌⊎◌, inl, inr, Bool, Option, Some, None, subst, option_and_then}
+use Rattle.std.proofs.lemmas.Bool.{cases_eq}
+use Rattle.theory.specs.Word.{Word}
+use Rattle.theory.specs.Graph.{Graph, target, path, IsClosedAt}
+use Rattle.theory.proofs.GraphLaws.{path_append}
+use Rattle.word_graph.proofs.WalkLaws.{some_same}
+use Rattle.coincidence.specs.Live.{IsOn, IsLiveGraph}
+use Rattle.coincidence.specs.Closing.{IsEdged}
+use Rattle.coincidence.specs.Pending.{IsAmong, IsSettled, IsClosedBut, Crosses, IsClosedThrough, IsRenewed}
+use Rattle.coincidence.specs.declared.pending.Pending.{Pending}
+use Rattle.coincidence.specs.declared.pending.Pending.TheVariants.{NewNode, NewEdge}
+
+-- the last of a list, and those before it
+pub among_push : {X : Type 0} (x y : X) (xs : List X) → IsAmong x (xs ++ y ∷ []) → IsAmong x xs ⊎ (x ≡ y)
+among_push x y [] (inl e) = inr e
+among_push x y [] (inr h) = absurd h
+among_push x y (z ∷ xs) (inl e) = inl (inl e)
+among_push x y (z ∷ xs) (inr h) = elim (among_push x y xs h) [ inl k ↦ inl (inr k) | inr e ↦ inr e ]
+
+pub among_before : {X : Type 0} (x y : X) (xs : List X) → IsAmong x xs → IsAmong x (xs ++ y ∷ [])
+among_before x y [] h = absurd h
+among_before x y (z ∷ xs) (inl e) = inl e
+among_before x y (z ∷ xs) (inr h) = inr (among_before x y xs h)
+
+pub among_last : {X : Type 0} (y : X) (xs : List X) → IsAmong y (xs ++ y ∷ [])
+among_last y [] = inl refl
+among_last y (z ∷ xs) = inr (among_last y xs)
+
+-- what is read in the new graph without crossing a pending edge was read so in the old one
+settled_before : (old new : Graph) (was is : List Bool) (before after : List Pending) → IsRenewed old new was is before after
+    → (n m : ℕ) (u : Word) → path new n u ≡ Some m → IsSettled new after n u → (path old n u ≡ Some m) × IsSettled old before n u
+settled_before old new was is before after renewed n m [] e s = (e, tt)
+settled_before old new was is before after renewed n m (a ∷ u) e s = go (target new n a) refl (λ t h. settled_before old new was is before after renewed t m u h) e
+  where
+    Was : Type 0
+    Was = (path old n (a ∷ u) ≡ Some m) × IsSettled old before n (a ∷ u)
+
+    go : (x : Option ℕ) → target new n a ≡ x
+        → ((t : ℕ) → path new t u ≡ Some m → IsSettled new after t u → (path old t u ≡ Some m) × IsSettled old before t u)
+        → option_and_then (λ next. path new next u) x ≡ Some m → Was
+    go None h further e = cc
+    go (Some t) h further e = elim (renewed.edges n a t h) [
+      | inl pending ↦ absurd (s.0 pending)
+      | inr there ↦
+          let rest = further t e (s.1 t h) in
+          let clear : IsSettled old before n (a ∷ u) = (
+            λ k. s.0 (renewed.pending (NewEdge n a) k),
+            λ t' h'. let same : t ≡ t' = some_same t t' (sym there ∙ h') in subst (λ z. IsSettled old before z u) same rest.1,
+          ) in
+          (rw there rest.0, clear)
+    ]
+
+-- a path from a live node ends at one
+pub path_live : (g : Graph) (live : List Bool) → IsLiveGraph g live → (n m : ℕ) (u : Word) → IsOn live n → path g n u ≡ Some m → IsOn live m
+path_live g live is n m u on e = let w = is.reached n on in is.lives m (w.0 ++ u, path_append g 0 n w.0 u w.1 ∙ e)
+
+-- what was closed stays closed, whatever becomes of the graph, where all that is new is pending
+pub closed_renewed : (pairs : List (Word × Word)) (old new : Graph) (was is : List Bool) (before after : List Pending)
+    → IsLiveGraph new is → IsRenewed old new was is before after → IsClosedBut pairs old was before → IsClosedBut pairs new is after
+closed_renewed pairs old new was is before after live renewed closed node r s a m j on old_node sides first second clear clear' =
+    let r' = settled_before old new was is before after renewed node m r first clear in
+    let s' = settled_before old new was is before after renewed node j s second clear' in
+    let here : IsOn was node = elim (renewed.nodes node on) [ inl fresh ↦ absurd (old_node fresh) | inr h ↦ h ] in
+    renewed.kept j a m (path_live new is live node j s on second) (path_live new is live node m r on first)
+    (closed node r s a m j here (λ k. old_node (renewed.pending (NewNode node) k)) sides r'.0 s'.0 r'.1 s'.1)
+
+-- a table with the root alone
+pub closed_start : (pairs : List (Word × Word)) (g : Graph) (live : List Bool) → ((n : ℕ) → IsOn live n → n ≡ 0) → IsClosedBut pairs g live (NewNode 0 ∷ [])
+closed_start pairs g live root node r s a m j on old_node = absurd (old_node (inl (ap NewNode (root node on))))
+
+-- with nothing pending all is closed
+settled_all : (g : Graph) (n : ℕ) (u : Word) → IsSettled g [] n u
+settled_all g n [] = tt
+settled_all g n (a ∷ u) = (λ h. h, λ next e. settled_all g next u)
+
+pub closed_end : (pairs : List (Word × Word)) (g : Graph) (live : List Bool) → IsClosedBut pairs g live [] → (node : ℕ) → IsOn live node → IsClosedAt pairs g node
+closed_end pairs g live closed node on = λ r s a m j sides first second. closed node r s a m j on (λ h. h) sides first second (settled_all g node r) (settled_all g node s)
+
+-- a word that crosses none of the others crosses the last edge or none
+settled_or_crosses : (g : Graph) (pending : List Pending) (x b n m : ℕ) (u : Word) → path g n u ≡ Some m → IsSettled g pending n u
+    → IsSettled g (pending ++ NewEdge x b ∷ []) n u ⊎ Crosses g n u x b
+settled_or_crosses g pending x b n m [] e s = inl tt
+settled_or_crosses g pending x b n m (a ∷ u) e s = go (target g n a) refl (λ t h k. settled_or_crosses g pending x b t m u h k) e
+  where
+    Either : Type 0
+    Either = IsSettled g (pending ++ NewEdge x b ∷ []) n (a ∷ u) ⊎ Crosses g n (a ∷ u) x b
+
+    here : (n ≡ x) × (a ≡ b) → Either
+    here p = inr (record { front = []; back = u; word = ap (λ z. z ∷ u) p.1; leads = ap (λ z. Some z) p.0 })
+
+    later : (t : ℕ) → target g n a ≡ Some t → ((n ≡ x) × (a ≡ b) → ⊥) → IsSettled g (pending ++ NewEdge x b ∷ []) t u ⊎ Crosses g t u x b → Either
+    later t h other (inl clear) = inl (
+      λ k. elim (among_push (NewEdge n a) (NewEdge x b) pending k) [ inl among ↦ s.0 among | inr e ↦ other (edge_same n a x b e) ],
+      λ t' h'. subst (λ z. IsSettled g (pending ++ NewEdge x b ∷ []) z u) (some_same t t' (sym h ∙ h')) clear,
+    )
+      where
+        edge_same : (n a x b : ℕ) → NewEdge n a ≡ NewEdge x b → (n ≡ x) × (a ≡ b)
+        edge_same n a x b e = (let p : n ≡ x = cc in p, let q : a ≡ b = cc in q)
+    later t h other (inr k) = inr (record { front = a ∷ k.front; back = k.back; word = ap (λ z. a ∷ z) k.word; leads = rw h (k.leads) })
+
+    go : (y : Option ℕ) → target g n a ≡ y
+        → ((t : ℕ) → path g t u ≡ Some m → IsSettled g pending t u → IsSettled g (pending ++ NewEdge x b ∷ []) t u ⊎ Crosses g t u x b)
+        → option_and_then (λ next. path g next u) y ≡ Some m → Either
+    go None h further e = cc
+    go (Some t) h further e = elim (cases_eq n x) [
+      | inr other ↦ later t h (λ p. other p.0) (further t e (s.1 t h))
+      | inl same ↦ elim (cases_eq a b) [
+        | inr other ↦ later t h (λ p. other p.1) (further t e (s.1 t h))
+        | inl letter ↦ here (same, letter)
+      ]
+    ]
+
+-- an edge is settled once all that crosses it is closed
+pub closed_edge : (pairs : List (Word × Word)) (g : Graph) (live : List Bool) (pending : List Pending) (x b : ℕ) → IsClosedThrough pairs g live x b
+    → IsClosedBut pairs g live (pending ++ NewEdge x b ∷ []) → IsClosedBut pairs g live pending
+closed_edge pairs g live pending x b through closed node r s a m j on old_node sides first second clear clear' =
+    elim (settled_or_crosses g pending x b node m r first clear) [
+      | inr crosses ↦ through node r s a m j on sides first second (inl crosses)
+      | inl quiet ↦ elim (settled_or_crosses g pending x b node j s second clear') [
+        | inr crosses ↦ through node r s a m j on sides first second (inr crosses)
+        | inl quiet' ↦ closed node r s a m j on (λ k. elim (among_push (NewNode node) (NewEdge x b) pending k) [ inl among ↦ old_node among | inr e ↦ cc ]) sides first second quiet quiet'
+      ]
+    ]
+
+-- a word that crosses no pending edge crosses none of one more node
+settled_node : (g : Graph) (pending : List Pending) (x n : ℕ) (u : Word) → IsSettled g pending n u → IsSettled g (pending ++ NewNode x ∷ []) n u
+settled_node g pending x n [] s = tt
+settled_node g pending x n (a ∷ u) s = (
+  λ k. elim (among_push (NewEdge n a) (NewNode x) pending k) [ inl among ↦ s.0 among | inr e ↦ cc ],
+  λ next h. settled_node g pending x next u (s.1 next h),
+)
+
+-- a node is settled once the relations are closed there
+pub closed_node : (pairs : List (Word × Word)) (g : Graph) (live : List Bool) (pending : List Pending) (x : ℕ) → (IsOn live x → IsClosedAt pairs g x)
+    → IsClosedBut pairs g live (pending ++ NewNode x ∷ []) → IsClosedBut pairs g live pending
+closed_node pairs g live pending x here closed node r s a m j on old_node sides first second clear clear' =
+    elim (cases_eq node x) [
+      | inl same ↦ here (subst (IsOn live) same on) r s a m j sides (subst (λ z. path g z r ≡ Some m) same first) (subst (λ z. path g z s ≡ Some j) same second)
+      | inr other ↦ closed node r s a m j on (λ k. elim (among_push (NewNode node) (NewNode x) pending k) [ inl among ↦ old_node among | inr e ↦ other (node_same node x e) ]) sides first second
+          (settled_node g pending x node r clear) (settled_node g pending x node s clear')
+    ]
+  where
+    node_same : (n x : ℕ) → NewNode n ≡ NewNode x → n ≡ x
+    node_same n x e = cc
+
+-- nothing has changed
+pub renewed_same : (g : Graph) (live : List Bool) (pending : List Pending) → IsRenewed g g live live pending pending
+renewed_same g live pending = record { edges = λ n a t e. inr e; nodes = λ n on. inr on; pending = λ p h. h; kept = λ j a m _ _ e. e }
+
+-- one edge more, which is pending
+pub renewed_edged : (old new : Graph) (live : List Bool) (pending : List Pending) (j a m : ℕ) → IsEdged old new j a m → IsRenewed old new live live pending (pending ++ NewEdge j a ∷ [])
+renewed_edged old new live pending j a m f = record {
+  edges = λ n b t e. elim (f.back n b t e) [
+    | inl o ↦ inr o
+    | inr p ↦ inl (subst (λ z. IsAmong z (pending ++ NewEdge j a ∷ [])) (edge_is n b p.0 p.1) (among_last (NewEdge j a) pending))
+  ];
+  nodes = λ n on. inr on;
+  pending = λ p h. among_before p (NewEdge j a) pending h;
+  kept = λ n b t _ _ e. f.kept n b t e;
+}
+  where
+    edge_is : (n b : ℕ) → n ≡ j → b ≡ a → NewEdge j a ≡ NewEdge n b
+    edge_is n b e d = cc

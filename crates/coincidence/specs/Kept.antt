@@ -1,0 +1,65 @@
+-- The order of nodes, as the code keeps it.
+use Rattle.std.specs.Prelude.{◌≡◌, ℕ, ◌+◌, ◌*◌, ◌-◌, ◌<◌, ◌≤◌, List, Bool, length, slice_index_or, Option, Some, None}
+use Rattle.theory.specs.Word.{Word}
+use Rattle.theory.specs.Graph.{Graph}
+use Rattle.word_graph.specs.Gaps.{count_none}
+use Rattle.word_graph.specs.Walk.{Walked, IsFirstMissing}
+use Rattle.coincidence.specs.Live.{IsOn}
+use Rattle.coincidence.specs.Ordering.{IsOrderTo}
+use Rattle.coincidence.specs.declared.order.Step.{Step}
+use Rattle.coincidence.specs.declared.order.Order.{Order}
+use Rattle.coincidence.specs.declared.order.Ahead.{Ahead}
+use Rattle.coincidence.specs.declared.order.Ahead.TheVariants.{More, Missing, Whole}
+
+-- the step at a place
+abbrev pub step_at : List Step → ℕ → Step
+step_at steps j = slice_index_or steps j (record { node = 0; parent = 0; letter = 0 })
+
+-- what the steps and places found
+abbrev pub walked : List Step → List (Option ℕ) → (ℕ → Word) → Walked
+walked steps places word = record {
+  count = length steps;
+  node = λ j. (step_at steps j).node;
+  parent = λ j. (step_at steps j).parent;
+  letter = λ j. (step_at steps j).letter;
+  word = word;
+  place = λ m. slice_index_or places m None;
+}
+
+-- the steps are the order of the nodes as far as the walk has come, and the nodes before done are marked
+pub record IsKeptAs (k : ℕ) (g : Graph) (marked : List Bool) (steps : List Step)
+    (places : List (Option ℕ)) (row letter done : ℕ) : Type 0 where
+  pub word : ℕ → Word
+  pub order : IsOrderTo k g (walked steps places word) row letter
+  pub shape : length places ≡ length g
+  pub gaps : count_none places + length steps ≡ length g
+  pub within : letter ≤ k
+  pub front : done ≤ length steps
+  pub met : (j : ℕ) → j < done → IsOn marked (step_at steps j).node
+
+abbrev pub IsKept : ℕ → Graph → List Bool → Order → Type 0
+IsKept k g marked o = IsKeptAs k g marked o.steps.items o.places.items o.row o.letter o.done
+
+-- the node has a place
+abbrev pub IsPlaced : Order → ℕ → Type 0
+IsPlaced o n = (j : ℕ) × (slice_index_or o.places.items n None ≡ Some j)
+
+-- edges that the walk has yet to come to
+abbrev pub cells_left : ℕ → Graph → Order → ℕ
+cells_left k g o = length g * (k + 1) - (o.row * (k + 1) + o.letter)
+
+-- what the walk has come to
+abbrev pub IsAhead : ℕ → Graph → Order → Order → Ahead → Type 0
+IsAhead k g old new More = cells_left k g new < cells_left k g old
+IsAhead k g old new (Missing n a) = IsFirstMissing k g n a
+IsAhead k g old new Whole = length new.steps.items ≤ new.row
+
+-- the order was cut where nodes were lost, and nothing else
+pub record IsMended (old new : Order) (was is : List Bool) : Type 0 where
+  pub kept : (k : ℕ) (g : Graph) (marked : List Bool) → IsKept k g marked old
+      → IsKept k g marked new
+  pub lives : ((n : ℕ) → IsPlaced old n → IsOn was n) → (n : ℕ) → IsPlaced new n → IsOn is n
+
+-- it is an order of some graph
+abbrev pub IsSome : Order → Type 0
+IsSome o = (k : ℕ) × (g : Graph) × (marked : List Bool) × IsKept k g marked o

@@ -1,0 +1,144 @@
+// Tables of nodes times letters that stand in one vector.
+ghost use Rattle.std.specs.Prelude.{◌≡◌, ℕ, ◌+◌, ◌*◌, ◌<◌, ◌≤◌, All, List, [], ◌∷◌, ◌++◌, length, replicate, slice_index_or, None, IfOk, OnOk, OnErr};
+ghost use Rattle.theory.specs.Graph.{target};
+ghost use Rattle.word_graph.specs.Edges.{with_node};
+ghost use Rattle.coincidence.specs.Cells.{with_entry};
+
+use ports::NoMemory;
+use std::alloc::Global;
+use std::marker::Model;
+use words::Letter;
+
+// A node or none for each node and letter, row after row in one vector.
+#[derive(Drop)]
+pub struct Cells {
+    nodes: usize,
+    letters: usize,
+    entries: Vec<Option<usize>>,
+}
+
+impl Model for Cells {
+    ghost use Rattle.std.specs.Prelude.{◌≡◌, ◌*◌, ◌<◌, length};
+    ghost use Rattle.theory.specs.Graph.{Graph};
+    ghost use Rattle.coincidence.specs.Cells.{rows_of};
+
+    ghost Value = { Graph };
+
+    ghost view = { λ c. rows_of c.letters c.nodes c.entries.items };
+
+    ghost invariant = { λ c. record
+        { some : 0 < c.nodes; entries : length c.entries.items ≡ c.nodes * c.letters } };
+}
+
+// Where the entry of the node and letter stands.
+fn place(nodes: usize, letters: usize, node: usize, letter: usize) -> usize
+    requires room { nodes * letters ≤ usize.MAX }
+    requires node { node < nodes }
+    requires letter { letter < letters }
+    ensures place { result ≡ node * letters + letter }
+    ensures within { result < nodes * letters }
+{
+    node * letters + letter
+}
+
+// One entry more for each letter, and nothing in it. Only want of memory refuses it, and then nothing has changed.
+fn push_row(entries: &mut Vec<Option<usize>>, letters: usize) -> Result<(), NoMemory>
+    ensures ok { OnOk result (entries.new.items ≡ entries.old.items ++ replicate letters None) }
+    ensures err { OnErr result (entries.new.items ≡ entries.old.items) }
+{
+    let len = entries.len();
+    for _ in 0..letters {
+        let Ok(()) = entries.push(None) else {
+            entries.truncate(len);
+            return Err(NoMemory);
+        };
+    }
+    Ok(())
+}
+
+// Nothing is left in any entry.
+fn empty(entries: &mut Vec<Option<usize>>)
+    ensures { entries.new.items ≡ replicate (length entries.old.items) None }
+{
+    for place in 0..entries.len() {
+        entries[place] = None;
+    }
+}
+
+impl Cells {
+    /// The root alone, without entries. Refused only where memory is wanting.
+    pub fn new(alloc: Global, letters: usize) -> Result<Cells, NoMemory>
+        ensures { IfOk result (λ c. c ≡ replicate letters None ∷ []) }
+    {
+        let mut entries = Vec::new(alloc);
+        push_row(&mut entries, letters)?;
+        Ok(Cells {
+            nodes: 1,
+            letters,
+            entries,
+        })
+    }
+
+    /// How many nodes there are.
+    pub fn nodes(&self) -> usize
+        ensures { result ≡ length self.now }
+    {
+        self.nodes
+    }
+
+    /// How many letters there are: as many as each row has entries.
+    pub fn letters(&self) -> usize
+        ensures rows { All (λ row. length row ≡ result) self.now }
+        ensures some { 0 < length self.now }
+    {
+        self.letters
+    }
+
+    /// The entry of the node and letter. `None` also where there is no such node or letter.
+    pub fn get(&self, node: usize, letter: Letter) -> Option<usize>
+        ensures { result ≡ target self.now node letter }
+    {
+        if self.nodes <= node {
+            return None;
+        }
+        if self.letters <= letter.number() {
+            return None;
+        }
+        let place = place(self.nodes, self.letters, node, letter.number());
+        self.entries[place]
+    }
+
+    /// Puts an entry in the place of the one that was there.
+    pub fn put(&mut self, node: usize, letter: Letter, entry: Option<usize>)
+        requires node { node < length self.old }
+        requires letter { letter < length (slice_index_or self.old node []) }
+        ensures { self.new ≡ with_entry self.old node letter entry }
+    {
+        let place = place(self.nodes, self.letters, node, letter.number());
+        self.entries[place] = entry;
+    }
+
+    /// One node more, without entries. Only want of memory refuses it, and then nothing has changed.
+    pub fn add_row(&mut self) -> Result<(), NoMemory>
+        ensures ok { OnOk result ((k : ℕ) → All (λ row. length row ≡ k) self.old
+            → self.new ≡ with_node k self.old) }
+        ensures err { OnErr result (self.new ≡ self.old) }
+    {
+        let Some(nodes) = self.nodes.checked_add(1) else {
+            return Err(NoMemory);
+        };
+        push_row(&mut self.entries, self.letters)?;
+        self.nodes = nodes;
+        Ok(())
+    }
+
+    /// Takes all nodes but the root away, and all entries. It asks for no memory.
+    pub fn clear(&mut self)
+        ensures { (k : ℕ) → All (λ row. length row ≡ k) self.old
+            → self.new ≡ replicate k None ∷ [] }
+    {
+        self.entries.truncate(self.letters);
+        empty(&mut self.entries);
+        self.nodes = 1;
+    }
+}
