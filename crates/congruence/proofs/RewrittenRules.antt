@@ -15,6 +15,7 @@ use Rattle.theory.proofs.Chains.{joined_map, step_more}
 use Rattle.theory.proofs.Completed.{completed_least, completed_reduced}
 use Rattle.theory.proofs.KindLaws.{pairs_as_relations, relations_well_formed}
 use Rattle.theory.proofs.Related.{element_over}
+use Rattle.reduced_automaton.specs.Automaton.{Reading}
 use Rattle.reduced_automaton.specs.Rules.{AreOver}
 use Rattle.reduced_automaton.proofs.ReadingLaws.{list_same}
 use Rattle.congruence.specs.Engines.{related_presentation}
@@ -69,7 +70,7 @@ module _ (c : Congruence) (rules : List (Word × Word)) (formed : IsWellFormed c
   from_rule : (u v : Word) → Rule (related_presentation c) are.length u v → Listed rules u v
   from_rule u v = (are.reduced u v).1
 
-  pub decides_by : DecidesBy c (record { letters = c.presentation.letters; rules = rules })
+  pub decides_by : DecidesBy c (record { letters = c.presentation.letters; rules = rules; states = [] })
   decides_by =
       let two = two_sided c are.two_sided in
       let whole = relations_well_formed c formed in
@@ -109,3 +110,9 @@ sides_over c rules are =
     rules_over (SameClass (of_presentation (related_presentation c))) c.presentation.letters
     (λ u v h. (element_over c.presentation.is_monoid c.presentation.letters u h.left, element_over c.presentation.is_monoid c.presentation.letters v h.right))
     None rules are.list
+
+-- whatever the states are
+pub decides_with : (c : Congruence) (a : Reading) → a.letters ≡ c.presentation.letters → AreRulesOf c a.rules → IsWellFormed c → DecidesBy c a
+decides_with c a letters are formed =
+    let by = decides_by c a.rules formed are in
+    record { well_formed = formed; letters = letters; decides = by.decides; least = by.least; list = by.list }

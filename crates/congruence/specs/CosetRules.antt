@@ -17,7 +17,8 @@ abbrev pub Falls : Graph → List (ℕ × Word) → Word → Type 0
 Falls g least u = normal_of g least u ≺ u
 
 -- the left side is the word of a place with the letter behind it; it falls to the right side, and without its first letter does not fall
-pub record IsRuleAt (g : Graph) (least : List (ℕ × Word)) (place letter : ℕ) (rule : Word × Word) : Type 0 where
+pub record IsRuleAt (g : Graph) (least : List (ℕ × Word)) (place letter : ℕ)
+    (rule : Word × Word) : Type 0 where
   pub left : rule.0 ≡ word_at least place ++ letter ∷ []
   pub right : rule.1 ≡ normal_of g least rule.0
   pub falls : rule.1 ≺ rule.0
@@ -26,10 +27,12 @@ pub record IsRuleAt (g : Graph) (least : List (ℕ × Word)) (place letter : ℕ
 -- the rule of the place and the letter, where there is one
 abbrev pub IsRuleOf : Graph → List (ℕ × Word) → ℕ → ℕ → Option (Word × Word) → Type 0
 IsRuleOf g least place letter found =
-    MatchOption found ((rule : Word × Word) → IsRuleAt g least place letter rule → ⊥) (IsRuleAt g least place letter)
+    MatchOption found ((rule : Word × Word) → IsRuleAt g least place letter rule → ⊥)
+    (IsRuleAt g least place letter)
 
 -- the rules of the places before i and all letters, and of the place i and the letters before a, in order
-pub record AreRulesTo (k : ℕ) (g : Graph) (least : List (ℕ × Word)) (i a : ℕ) (rules : List (Word × Word)) : Type 0 where
+pub record AreRulesTo (k : ℕ) (g : Graph) (least : List (ℕ × Word)) (i a : ℕ)
+    (rules : List (Word × Word)) : Type 0 where
   pub sound : (rule : Word × Word)
       → Contains rules rule
       → (j b : ℕ) × IsBefore j b i a × (j < length least) × (b < k) × IsRuleAt g least j b rule

@@ -46,7 +46,13 @@ left_of (Hlt h) = hlt.left_of h
 left_of (Completion k) = k.left
 
 abbrev pub as_racer : Ghosts Engine
-as_racer = record { Task = EngineTask; task = task_of; condition = ends_within; measure = left_of; said = said_of }
+as_racer = record {
+  Task = EngineTask;
+  task = task_of;
+  condition = ends_within;
+  measure = left_of;
+  said = said_of;
+}
 
 -- the presentation whose relations are those of the congruence and its pairs
 abbrev pub related_presentation : Congruence → Presentation
@@ -57,7 +63,9 @@ abbrev pub tasks_for : Congruence → Budgets → List EngineTask
 tasks_for c b =
     Definitions (record { congruence = as_right c; budget = b.defs })
     ∷ Rows (record { congruence = as_right c; budget = b.rows })
-    ∷ cond (is_two_sided c) (Rewriting (record { presentation = related_presentation c; length = b.length }) ∷ []) []
+    ∷ cond (is_two_sided c)
+    (Rewriting (record { presentation = related_presentation c; length = b.length }) ∷ [])
+    []
 
 -- the task is one for the congruence, within some budget
 abbrev pub IsTaskFor : Congruence → EngineTask → Type 0
@@ -71,8 +79,13 @@ pub record IsCompletionFor (c : Congruence) (L : ℕ) (k : CompletionRun) : Type
   pub length : k.length ≡ L
   pub said : k.said ≡ More
 
+-- the lanes are those for the congruence, within some budgets
+abbrev pub HasTasksFor : Congruence → List (Lane Engine) → Type 0
+HasTasksFor c lanes = (b : Budgets) × (tasks as_racer lanes ≡ tasks_for c b)
+
 -- the lanes for a congruence, at the end of a race with this outcome
-pub record IsEndOf (c : Congruence) (b : Budgets) (outcome : Outcome) (lanes : List (Lane Engine)) : Type 0 where
+pub record IsEndOf (c : Congruence) (b : Budgets) (outcome : Outcome)
+    (lanes : List (Lane Engine)) : Type 0 where
   pub tasks : tasks as_racer lanes ≡ tasks_for c b
   pub word : ℕ
   pub sound : IsSound as_racer (state_at word lanes)

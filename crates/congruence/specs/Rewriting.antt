@@ -21,7 +21,9 @@ pub record DecidesBy (c : Congruence) (a : Reading) : Type 0 where
   pub well_formed : IsWellFormed c
   pub letters : a.letters ≡ c.presentation.letters
   pub decides : (u v x y : Word)
-      → Reduces (Listed a.rules) u x → IsReduced (Listed a.rules) x → Reduces (Listed a.rules) v y → IsReduced (Listed a.rules) y
+      → Reduces (Listed a.rules) u x → IsReduced (Listed a.rules) x
+      → Reduces (Listed a.rules) v y → IsReduced (Listed a.rules) y
       → Related c u v ↔ (x ≡ y)
-  pub least : (u : Word) → IsElement c.presentation.is_monoid c.presentation.letters u → IsLeast (SameClass c) u ↔ IsReduced (Listed a.rules) u
+  pub least : (u : Word) → IsElement c.presentation.is_monoid c.presentation.letters u
+      → IsLeast (SameClass c) u ↔ IsReduced (Listed a.rules) u
   pub list : IsRuleList (SameClass c) a.rules

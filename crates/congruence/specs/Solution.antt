@@ -52,13 +52,16 @@ pub record IsSolution (c : Congruence) (g : Graph) (least : List (ℕ × Word)) 
   pub decides : (u v : Word) → IsOver c.presentation.letters u → Related c u v ↔ SameEnd g u v
   pub some : first_class c.presentation.is_monoid ≤ length least
   pub ascending : AreAscending least
-  pub classes : (i : ℕ) → first_class c.presentation.is_monoid ≤ i → i < length least → IsLeast (SameClass c) (word_at least i)
+  pub classes : (i : ℕ) → first_class c.presentation.is_monoid ≤ i → i < length least
+      → IsLeast (SameClass c) (word_at least i)
   pub reached : (u : Word) (node : ℕ)
       → IsElement c.presentation.is_monoid c.presentation.letters u → path g 0 u ≡ Some node
-      → (first_class c.presentation.is_monoid ≤ node) × (node < length least) × SameClass c u (word_at least node)
+      → (first_class c.presentation.is_monoid ≤ node) × (node < length least)
+      × SameClass c u (word_at least node)
 
 -- of the words from the first class on, those from the place on come after the cursor, and those before it do not
-pub record IsPlaceAfter (first : ℕ) (least : List (ℕ × Word)) (cursor : Option Word) (place : ℕ) : Type 0 where
+pub record IsPlaceAfter (first : ℕ) (least : List (ℕ × Word)) (cursor : Option Word)
+    (place : ℕ) : Type 0 where
   pub within : (first ≤ place) × (place ≤ length least)
   pub before : (i : ℕ) → first ≤ i → i < place → IsAfter ◌≺◌ cursor (word_at least i) → ⊥
   pub after : (i : ℕ) → place ≤ i → i < length least → IsAfter ◌≺◌ cursor (word_at least i)

@@ -20,7 +20,9 @@ IsCongruenceIn (MaxPlus p) c = ⊥
 
 -- a known verdict is of the congruence, which some engine decides within its budget, and keeps the lanes of a race that one of them won; else each is spent
 abbrev pub Decides : Congruence → Budgets → Verdict → Type 0
-Decides c b (Known solved) = IsCongruenceDecided c b × (solved.congruence ≡ c) × ((winner : ℕ) × IsEndOf c b (Won winner) solved.lanes)
+Decides c b (Known solved) =
+    IsCongruenceDecided c b × (solved.congruence ≡ c)
+    × ((winner : ℕ) × IsEndOf c b (Won winner) solved.lanes)
 Decides c b (Undecided lanes) = (IsCongruenceDecided c b → ⊥) × IsEndOf c b AllSpent lanes
 
 -- a verdict is of the problem's congruence

@@ -79,8 +79,10 @@ impl Solved {
 
     /// Whether the two words, which are elements, are of one class. Refused only where memory is wanting.
     pub fn equal(&self, u: &Word, v: &Word) -> Result<bool, NoMemory>
-        requires left { IsElement self.now.congruence.presentation.is_monoid self.now.congruence.presentation.letters u.now }
-        requires right { IsElement self.now.congruence.presentation.is_monoid self.now.congruence.presentation.letters v.now }
+        requires left { IsElement self.now.congruence.presentation.is_monoid
+            self.now.congruence.presentation.letters u.now }
+        requires right { IsElement self.now.congruence.presentation.is_monoid
+            self.now.congruence.presentation.letters v.now }
         ensures { IfOk result (λ same. IsTrue same ↔ SameClass self.now.congruence u.now v.now) }
     {
         match &self.classes {
@@ -92,7 +94,8 @@ impl Solved {
     /// The normal form of the word, which is an element: the least word of its class in short-lex order. Refused only
     /// where memory is wanting.
     pub fn normal(&self, u: &Word) -> Result<Word, NoMemory>
-        requires { IsElement self.now.congruence.presentation.is_monoid self.now.congruence.presentation.letters u.now }
+        requires { IsElement self.now.congruence.presentation.is_monoid
+            self.now.congruence.presentation.letters u.now }
         ensures { IfOk result (IsNormal (SameClass self.now.congruence) u.now) }
     {
         match &self.classes {

@@ -242,8 +242,10 @@ impl CosetClasses {
 
     /// Whether the two words, which are elements, are of one class. Refused only where memory is wanting.
     pub fn equal(&self, u: &Word, v: &Word) -> Result<bool, NoMemory>
-        requires left { IsElement self.now.presentation.is_monoid self.now.presentation.letters u.now }
-        requires right { IsElement self.now.presentation.is_monoid self.now.presentation.letters v.now }
+        requires left { IsElement self.now.presentation.is_monoid self.now.presentation.letters
+            u.now }
+        requires right { IsElement self.now.presentation.is_monoid self.now.presentation.letters
+            v.now }
         ensures { IfOk result (λ same. IsTrue same ↔ SameClass self.now u.now v.now) }
     {
         Ok(self.graph.path(0, u) == self.graph.path(0, v))

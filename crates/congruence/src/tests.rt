@@ -5,6 +5,7 @@ ghost use Rattle.theory.specs.Congruence.{is_two_sided};
 
 use super::*;
 use crate::solving::decide;
+use ports::Open;
 use presentation::{Congruence, Kind, Pairs, Presentation};
 use problem::{Budgets, Problem};
 use race::LaneState;
@@ -69,13 +70,14 @@ fn known<R: Abort + Threads + Sync>(
     congruence: Congruence,
     budgets: &Budgets,
 ) -> Result<Option<Solved>, Fail>
-    requires { (congruence.congruence.kind ≡ Kind.TwoSided) ⊎ (congruence.congruence.kind ≡ Kind.Right) }
+    requires { (congruence.congruence.kind ≡ Kind.TwoSided)
+        ⊎ (congruence.congruence.kind ≡ Kind.Right) }
     ensures { IfOk result (λ known. IfSome known (λ s. s.congruence ≡ congruence.congruence)) }
 {
     assert!(rt; congruence.presentation().relations().len() < 10);
     assert!(rt; congruence.pairs().len() < 10);
     let problem = Problem::Presented(congruence);
-    match solve(rt, alloc, &problem, budgets, 1)? {
+    match solve(rt, alloc, &problem, budgets, 2, &Open)? {
         Verdict::Known(solved) => Ok(Some(solved)),
         Verdict::Undecided(_) => Ok(None),
     }
@@ -364,7 +366,14 @@ fn cyclic_race<R: Abort + Threads + Sync>(
     let presentation = presented(alloc, "a", true, &[("aaa", "")])?;
     let congruence = Congruence::new(presentation, Kind::TwoSided, Pairs::new(alloc));
     assert!(rt; congruence.presentation().relations().len() < 10);
-    match solve(rt, alloc, &Problem::Presented(congruence), budgets, 1)? {
+    match solve(
+        rt,
+        alloc,
+        &Problem::Presented(congruence),
+        budgets,
+        1,
+        &Open,
+    )? {
         Verdict::Known(solved) => states(rt, solved.lanes()),
         Verdict::Undecided(ended) => states(rt, &ended),
     }

@@ -19,11 +19,14 @@ pub record DraftOf (V : Type 0) : Type 0 where
 
 abbrev pub draft_code : {V : Type 0} → Coded V → Coded (DraftOf V)
 draft_code {V} code =
-    code_by ((ℕ × ℕ) × (List ℕ × List V)) (coded× (coded× coded_ℕ coded_ℕ) (coded× (coded_list coded_ℕ) (coded_list code)))
-    (λ d. (d.sizes, (d.letters, d.generators))) (λ p. record { sizes = p.0; letters = p.1.0; generators = p.1.1 }) (λ _. refl)
+    code_by ((ℕ × ℕ) × (List ℕ × List V))
+    (coded× (coded× coded_ℕ coded_ℕ) (coded× (coded_list coded_ℕ) (coded_list code)))
+    (λ d. (d.sizes, (d.letters, d.generators)))
+    (λ p. record { sizes = p.0; letters = p.1.0; generators = p.1.1 }) (λ _. refl)
 
 -- each generator has a letter and is of the one shape, and the letters are different ones from `a` to `z`
-pub record IsDraft {V : Type 0} (shape_of : V → ℕ × ℕ) (shape : ℕ × ℕ) (letters : List ℕ) (generators : List V) : Type 0 where
+pub record IsDraft {V : Type 0} (shape_of : V → ℕ × ℕ) (shape : ℕ × ℕ) (letters : List ℕ)
+    (generators : List V) : Type 0 where
   pub one_each : length generators ≡ length letters
   pub one_shape : All (λ g. shape_of g ≡ shape) generators
   pub sound : first_fault [] letters ≡ None
@@ -34,17 +37,26 @@ start_of sizes = record { sizes = sizes; letters = []; generators = [] }
 
 -- a letter that no generator has yet
 abbrev pub new_letter_of : List ℕ → Token → Result ℕ Cause
-new_letter_of letters name = and_then (λ x. if list_any (λ y. y == x) letters then Err RepeatedLetter else Ok x) (ok_or (letter_of name) NotALetter)
+new_letter_of letters name = and_then
+    (λ x. if list_any (λ y. y == x) letters then Err RepeatedLetter else Ok x)
+    (ok_or (letter_of name) NotALetter)
 
 -- one generator more
 abbrev pub add_generator : {V : Type 0} → DraftOf V → ℕ → V → DraftOf V
-add_generator d x g = record { sizes = d.sizes; letters = d.letters ++ x ∷ []; generators = d.generators ++ g ∷ [] }
+add_generator d x g = record {
+  sizes = d.sizes;
+  letters = d.letters ++ x ∷ [];
+  generators = d.generators ++ g ∷ [];
+}
 
 -- the generator with this name and these entries, which are read by the numbers of the header
-abbrev pub with_generator : {V : Type 0} → (ℕ × ℕ → List Field → Result V Cause) → DraftOf V → Token → List Field → Result (DraftOf V) Cause
+abbrev pub with_generator : {V : Type 0} → (ℕ × ℕ → List Field → Result V Cause) → DraftOf V → Token
+    → List Field → Result (DraftOf V) Cause
 with_generator generator_of d name fields =
-    and_then (λ x. and_then (λ g. Ok (add_generator d x g)) (generator_of d.sizes fields)) (new_letter_of d.letters name)
+    and_then (λ x. and_then (λ g. Ok (add_generator d x g)) (generator_of d.sizes fields))
+    (new_letter_of d.letters name)
 
 -- the generators with their letters, of which there are some
 abbrev pub posed_of : {V : Type 0} → DraftOf V → Result (PosedOf V) Cause
-posed_of d = if length d.letters == 0 then Err NoGenerator else Ok (record { letters = d.letters; generators = d.generators })
+posed_of d = if length d.letters == 0 then Err NoGenerator
+    else Ok (record { letters = d.letters; generators = d.generators })

@@ -31,11 +31,13 @@ bit Bad = None
 -- the entries of all fields, if each has one
 abbrev pub all_of : {A : Type 0} → (Field → Option A) → List Field → Option (List A)
 all_of entry [] = Some []
-all_of entry (f ∷ fs) = option_and_then (λ x. option_and_then (λ xs. Some (x ∷ xs)) (all_of entry fs)) (entry f)
+all_of entry (f ∷ fs) = option_and_then
+    (λ x. option_and_then (λ xs. Some (x ∷ xs)) (all_of entry fs)) (entry f)
 
 -- as many entries as there should be, and each as it should be
 abbrev pub entries_of : {A : Type 0} → ℕ → (Field → Option A) → List Field → Result (List A) Cause
-entries_of count entry fields = if length fields == count then ok_or (all_of entry fields) BadEntry else Err WrongNumberOfEntries
+entries_of count entry fields = if length fields == count then ok_or
+    (all_of entry fields) BadEntry else Err WrongNumberOfEntries
 
 -- no image twice
 abbrev pub is_injective : List (Option ℕ) → Bool
@@ -50,14 +52,17 @@ transformation_of sizes = entries_of sizes.0 (below sizes.0)
 -- the partial permutation of as many points as the header says
 abbrev pub partial_permutation_of : ℕ × ℕ → List Field → Result (List (Option ℕ)) Cause
 partial_permutation_of sizes fields =
-    and_then (λ images. if is_injective images then Ok images else Err NotInjective) (entries_of sizes.0 (below_or_dash sizes.0) fields)
+    and_then (λ images. if is_injective images then Ok images else Err NotInjective)
+    (entries_of sizes.0 (below_or_dash sizes.0) fields)
 
 -- the Boolean matrix of the header's dimension, row by row
 abbrev pub boolean_matrix_of : ℕ × ℕ → List Field → Result BooleanMatrix Cause
 boolean_matrix_of sizes fields =
-    and_then (λ entries. Ok (record { dimension = sizes.0; entries = entries })) (entries_of (sizes.0 * sizes.0) bit fields)
+    and_then (λ entries. Ok (record { dimension = sizes.0; entries = entries }))
+    (entries_of (sizes.0 * sizes.0) bit fields)
 
 -- the max-plus matrix of the header's dimension and bound, row by row
 abbrev pub truncated_matrix_of : ℕ × ℕ → List Field → Result TruncatedMatrix Cause
 truncated_matrix_of sizes fields =
-    and_then (λ entries. Ok (record { dimension = sizes.0; bound = sizes.1; entries = entries })) (entries_of (sizes.0 * sizes.0) (below_or_dash (sizes.1 + 1)) fields)
+    and_then (λ entries. Ok (record { dimension = sizes.0; bound = sizes.1; entries = entries }))
+    (entries_of (sizes.0 * sizes.0) (below_or_dash (sizes.1 + 1)) fields)

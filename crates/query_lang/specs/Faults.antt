@@ -47,5 +47,6 @@ fault_at_line n line.NoMemory = script.NoMemory
 
 -- the first fault of the lines, by its cause's number; want of memory says nothing of them
 abbrev pub IsScriptFault : {A : Type 0} → Result A (ℕ × Cause) → ScriptFault → Type 0
-IsScriptFault outcome (script.Bad line number) = (cause : Cause) × (outcome ≡ Err (line, cause)) × (number ≡ number_of_cause cause)
+IsScriptFault outcome (script.Bad line number) = (cause : Cause) × (outcome ≡ Err (line, cause))
+    × (number ≡ number_of_cause cause)
 IsScriptFault outcome script.NoMemory = Unit {0}

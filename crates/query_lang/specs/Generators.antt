@@ -13,10 +13,14 @@ use Rattle.query_lang.specs.Entries.{transformation_of, partial_permutation_of, 
 
 -- the generator of the draft's kind with this name and these entries
 abbrev pub draft_with : Draft → Token → List Field → Result Draft Cause
-draft_with (Transf d) name fields = and_then (λ e. Ok (Transf e)) (with_generator transformation_of d name fields)
-draft_with (PPerm d) name fields = and_then (λ e. Ok (PPerm e)) (with_generator partial_permutation_of d name fields)
-draft_with (BMat d) name fields = and_then (λ e. Ok (BMat e)) (with_generator boolean_matrix_of d name fields)
-draft_with (MaxPlus d) name fields = and_then (λ e. Ok (MaxPlus e)) (with_generator truncated_matrix_of d name fields)
+draft_with (Transf d) name fields = and_then (λ e. Ok (Transf e))
+    (with_generator transformation_of d name fields)
+draft_with (PPerm d) name fields = and_then (λ e. Ok (PPerm e))
+    (with_generator partial_permutation_of d name fields)
+draft_with (BMat d) name fields = and_then (λ e. Ok (BMat e))
+    (with_generator boolean_matrix_of d name fields)
+draft_with (MaxPlus d) name fields = and_then (λ e. Ok (MaxPlus e))
+    (with_generator truncated_matrix_of d name fields)
 
 -- what the generators pose
 abbrev pub problem_of : Draft → Result Problem Cause

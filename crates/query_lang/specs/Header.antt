@@ -20,19 +20,25 @@ size_of greatest tokens = Err WrongNumberOfWords
 -- a dimension from 1 to 16, and a bound from 0 to 65535
 abbrev pub sizes_of : List Token → Result (ℕ × ℕ) Cause
 sizes_of (dimension ∷ bound ∷ []) =
-    and_then (λ d. and_then (λ t. Ok (d, t)) (ok_or (number_within 0 65535 bound) BadNumber)) (ok_or (number_within 1 16 dimension) BadNumber)
+    and_then (λ d. and_then (λ t. Ok (d, t)) (ok_or (number_within 0 65535 bound) BadNumber))
+    (ok_or (number_within 1 16 dimension) BadNumber)
 sizes_of tokens = Err WrongNumberOfWords
 
 -- the letters of a monoid or a semigroup
 abbrev pub outline_of : Bool → List Token → Result Posed Cause
-outline_of is_monoid tokens = and_then (λ letters. Ok (free_over is_monoid letters)) (and_then alphabet_of (one_token tokens))
+outline_of is_monoid tokens = and_then (λ letters. Ok (free_over is_monoid letters))
+    (and_then alphabet_of (one_token tokens))
 
 -- `trans D`, `pperm D`, `bmat D` or `mpt D T`
 abbrev pub header_of : Line → Result Draft Cause
 header_of [] = Err UnknownHeader
 header_of (name ∷ tokens) =
-    if is_word (codes "trans") name then and_then (λ d. Ok (Transf (start_of (d, 0)))) (size_of 64 tokens)
-    else if is_word (codes "pperm") name then and_then (λ d. Ok (PPerm (start_of (d, 0)))) (size_of 64 tokens)
-    else if is_word (codes "bmat") name then and_then (λ d. Ok (BMat (start_of (d, 0)))) (size_of 16 tokens)
-    else if is_word (codes "mpt") name then and_then (λ sizes. Ok (MaxPlus (start_of sizes))) (sizes_of tokens)
+    if is_word (codes "trans") name then and_then (λ d. Ok (Transf (start_of (d, 0))))
+    (size_of 64 tokens)
+    else if is_word (codes "pperm") name then and_then (λ d. Ok (PPerm (start_of (d, 0))))
+    (size_of 64 tokens)
+    else if is_word (codes "bmat") name then and_then (λ d. Ok (BMat (start_of (d, 0))))
+    (size_of 16 tokens)
+    else if is_word (codes "mpt") name then and_then (λ sizes. Ok (MaxPlus (start_of sizes)))
+    (sizes_of tokens)
     else Err UnknownHeader

@@ -27,7 +27,8 @@ element_of letters allow_empty t = with_cause (word_of letters allow_empty t)
 -- two words, of which the first is read first
 abbrev pub both_elements : List ℕ → Bool → Token → Token → Result (Word × Word) Cause
 both_elements letters allow_empty s t =
-    and_then (λ u. and_then (λ v. Ok (u, v)) (element_of letters allow_empty t)) (element_of letters allow_empty s)
+    and_then (λ u. and_then (λ v. Ok (u, v)) (element_of letters allow_empty t))
+    (element_of letters allow_empty s)
 
 -- one token
 abbrev pub one_token : List Token → Result Token Cause
@@ -45,4 +46,5 @@ one_word letters allow_empty tokens = and_then (element_of letters allow_empty) 
 
 -- two words
 abbrev pub two_words : List ℕ → Bool → List Token → Result (Word × Word) Cause
-two_words letters allow_empty tokens = and_then (λ p. both_elements letters allow_empty p.0 p.1) (two_tokens tokens)
+two_words letters allow_empty tokens = and_then (λ p. both_elements letters allow_empty p.0 p.1)
+    (two_tokens tokens)

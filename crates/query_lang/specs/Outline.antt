@@ -23,14 +23,18 @@ most_pairs = 4096
 
 -- pairs of a kind on a presentation
 abbrev pub outlined : Presented → Kind → List (Word × Word) → Posed
-outlined p kind pairs = record { alphabet = p.alphabet; congruence = record { presentation = p.presentation; kind = kind; pairs = pairs } }
+outlined p kind pairs = record {
+  alphabet = p.alphabet;
+  congruence = record { presentation = p.presentation; kind = kind; pairs = pairs };
+}
 
 -- the relations and the pairs are not too many; the pairs are two-sided or right ones, and their sides elements
 pub record IsOutline (o : Posed) : Type 0 where
   pub few_relations : length o.congruence.presentation.relations ≤ most_relations
   pub few_pairs : length o.congruence.pairs ≤ most_pairs
   pub sided : (o.congruence.kind ≡ TwoSided) ⊎ (o.congruence.kind ≡ Right)
-  pub elements : AreElements o.congruence.presentation.is_monoid o.congruence.presentation.letters o.congruence.pairs
+  pub elements : AreElements o.congruence.presentation.is_monoid o.congruence.presentation.letters
+      o.congruence.pairs
 
 -- why letters are refused; a token is never empty, and `alphabet_fault` never tells want of memory
 abbrev pub cause_of_alphabet : AlphabetFault → Cause
@@ -50,7 +54,11 @@ alphabet_of t = unless_fault (alphabet_fault t) t
 -- no relation and no pair yet: a two-sided congruence on the free monoid or semigroup
 abbrev pub free_over : Bool → List ℕ → Posed
 free_over is_monoid alphabet =
-    record { alphabet = alphabet; congruence = of_presentation (record { letters = length alphabet; is_monoid = is_monoid; relations = [] }) }
+    record {
+      alphabet = alphabet;
+      congruence = of_presentation
+          (record { letters = length alphabet; is_monoid = is_monoid; relations = [] });
+    }
 
 -- the word is an element, as a side of a relation or a pair is
 abbrev pub IsSide : Posed → Word → Type 0
@@ -63,12 +71,18 @@ sides_of o = both_elements o.alphabet o.congruence.presentation.is_monoid
 -- one relation more
 abbrev pub add_relation : Posed → Word × Word → Posed
 add_relation o p =
-    record o { congruence = record o.congruence { presentation = with_relations o.congruence.presentation (p ∷ []) } }
+    record o {
+      congruence = record o.congruence
+          { presentation = with_relations o.congruence.presentation (p ∷ []) };
+    }
 
 -- one pair more; the pairs are of this kind
 abbrev pub add_pair : Posed → Kind → Word × Word → Posed
 add_pair o kind p =
-    record o { congruence = record o.congruence { kind = kind; pairs = o.congruence.pairs ++ p ∷ [] } }
+    record o {
+      congruence = record o.congruence
+          { kind = kind; pairs = o.congruence.pairs ++ p ∷ [] };
+    }
 
 -- the relation with these sides, if there may be one more
 abbrev pub related : Posed → Token → Token → Result Posed Cause
@@ -79,7 +93,8 @@ related o left right =
 -- `U V` of a relation, which may stand before the pairs
 abbrev pub with_relation : Posed → List Token → Result Posed Cause
 with_relation o tokens =
-    if length o.congruence.pairs == 0 then and_then (λ t. related o t.0 t.1) (two_tokens tokens) else Err cause.LineOutOfOrder
+    if length o.congruence.pairs == 0 then and_then (λ t. related o t.0 t.1)
+    (two_tokens tokens) else Err cause.LineOutOfOrder
 
 abbrev pub is_same_kind : Kind → Kind → Bool
 is_same_kind TwoSided TwoSided = true

@@ -45,21 +45,26 @@ count_of t = ok_or (number_within 0 1000000 t) BadNumber
 
 -- the word behind which a page begins
 abbrev pub cursor_of : List ℕ → Bool → Token → Token → Result Word Cause
-cursor_of letters allow_empty after t = if is_word (codes "after") after then element_of letters allow_empty t else Err AfterExpected
+cursor_of letters allow_empty after t = if is_word
+    (codes "after") after then element_of letters allow_empty t else Err AfterExpected
 
 -- `N`, or `N after U`
 abbrev pub page_of : List ℕ → Bool → List Token → Result Query Cause
 page_of letters allow_empty (count ∷ []) = and_then (λ n. Ok (Classes n None)) (count_of count)
 page_of letters allow_empty (count ∷ after ∷ cursor ∷ []) =
-    and_then (λ n. and_then (λ u. Ok (Classes n (Some u))) (cursor_of letters allow_empty after cursor)) (count_of count)
+    and_then (λ n. and_then (λ u. Ok (Classes n (Some u)))
+    (cursor_of letters allow_empty after cursor)) (count_of count)
 page_of letters allow_empty tokens = Err WrongNumberOfWords
 
 -- the query of this name, by the tokens behind the name
 abbrev pub query_of : List ℕ → Bool → QueryName → List Token → Result Query Cause
 query_of letters allow_empty name.Index tokens = bare Index tokens
-query_of letters allow_empty name.Equal tokens = and_then (λ p. Ok (Equal p.0 p.1)) (two_words letters allow_empty tokens)
-query_of letters allow_empty name.Normal tokens = and_then (λ u. Ok (Normal u)) (one_word letters allow_empty tokens)
+query_of letters allow_empty name.Equal tokens = and_then (λ p. Ok (Equal p.0 p.1))
+    (two_words letters allow_empty tokens)
+query_of letters allow_empty name.Normal tokens = and_then (λ u. Ok (Normal u))
+    (one_word letters allow_empty tokens)
 query_of letters allow_empty name.Classes tokens = page_of letters allow_empty tokens
 query_of letters allow_empty name.Rules tokens = bare RuleList tokens
-query_of letters allow_empty name.Element tokens = and_then (λ u. Ok (ElementOf u)) (one_word letters allow_empty tokens)
+query_of letters allow_empty name.Element tokens = and_then (λ u. Ok (ElementOf u))
+    (one_word letters allow_empty tokens)
 query_of letters allow_empty name.Cayley tokens = bare Cayley tokens

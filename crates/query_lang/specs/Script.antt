@@ -25,13 +25,15 @@ use Rattle.query_lang.specs.QueryLines.{name_needs_generators, query_name_of, qu
 -- the query behind the others, if the problem allows it
 abbrev pub with_asked : ScriptOf → Query → Result ScriptOf Cause
 with_asked s query =
-    if is_allowed s.problem query then Ok (record s { queries = s.queries ++ query ∷ [] }) else Err QueryNotAllowed
+    if is_allowed s.problem query then Ok
+    (record s { queries = s.queries ++ query ∷ [] }) else Err QueryNotAllowed
 
 -- one query more; one that needs generators is unknown in a presentation
 abbrev pub asked : ScriptOf → QueryName → List Token → Result ScriptOf Cause
 asked s name tokens =
     if is_presented s.problem && name_needs_generators name then Err UnknownLine
-    else and_then (with_asked s) (query_of (letters_of s.problem) (has_empty_word s.problem) name tokens)
+    else and_then (with_asked s) (query_of (letters_of s.problem)
+    (has_empty_word s.problem) name tokens)
 
 -- whether the script is a presentation
 abbrev pub is_presentation : Reader → Bool
@@ -41,13 +43,15 @@ is_presentation (Asking script) = is_presented script.problem
 
 -- the script so far: a presentation, or what has a generator
 abbrev pub finished : Reader → Result ScriptOf Cause
-finished (Posing draft) = and_then (λ p. Ok (record { problem = p; queries = [] })) (problem_of draft)
+finished (Posing draft) = and_then (λ p. Ok (record { problem = p; queries = [] }))
+    (problem_of draft)
 finished (Relating outline) = Ok (record { problem = Presented outline; queries = [] })
 finished (Asking script) = Ok script
 
 -- the generator line `x = ENTRIES`, which may stand before the queries
 abbrev pub generator_line : Reader → Token → List Token → Result Reader Cause
-generator_line (Posing draft) name entries = and_then (λ d. Ok (Posing d)) (draft_with draft name (map field_of entries))
+generator_line (Posing draft) name entries = and_then (λ d. Ok (Posing d))
+    (draft_with draft name (map field_of entries))
 generator_line (Relating outline) name entries = Err UnknownLine
 generator_line (Asking script) name entries = Err LineOutOfOrder
 
@@ -59,16 +63,19 @@ outline_so_far (Asking script) = Err LineOutOfOrder
 
 -- the relation `rel U V`
 abbrev pub relation_line : Reader → List Token → Result Reader Cause
-relation_line r tokens = and_then (λ outline. and_then (λ o. Ok (Relating o)) (with_relation outline tokens)) (outline_so_far r)
+relation_line r tokens = and_then
+    (λ outline. and_then (λ o. Ok (Relating o)) (with_relation outline tokens)) (outline_so_far r)
 
 -- the pair `twosided U V` or `right U V`
 abbrev pub pair_line : Reader → Kind → List Token → Result Reader Cause
-pair_line r kind tokens = and_then (λ outline. and_then (λ o. Ok (Relating o)) (with_pair outline kind tokens)) (outline_so_far r)
+pair_line r kind tokens = and_then
+    (λ outline. and_then (λ o. Ok (Relating o)) (with_pair outline kind tokens)) (outline_so_far r)
 
 -- a query, which may stand after the generators, or after the relations and the pairs
 abbrev pub query_line : Reader → Token → List Token → Result Reader Cause
 query_line r first tokens =
-    and_then (λ name. and_then (λ script. and_then (λ s. Ok (Asking s)) (asked script name tokens)) (finished r)) (ok_or (query_name_of first) UnknownLine)
+    and_then (λ name. and_then (λ script. and_then (λ s. Ok (Asking s)) (asked script name tokens))
+    (finished r)) (ok_or (query_name_of first) UnknownLine)
 
 -- a line after the header of a presentation
 abbrev pub presentation_line : Reader → Line → Result Reader Cause
@@ -84,7 +91,8 @@ abbrev pub element_line : Reader → Line → Result Reader Cause
 element_line r [] = Err UnknownLine
 element_line r (first ∷ []) = query_line r first []
 element_line r (first ∷ second ∷ tokens) =
-    if is_word (codes "=") second then generator_line r first tokens else query_line r first (second ∷ tokens)
+    if is_word (codes "=") second then generator_line r first tokens else query_line r first
+    (second ∷ tokens)
 
 -- a line after the header
 abbrev pub with_line : Reader → Line → Result Reader Cause
@@ -95,7 +103,8 @@ abbrev pub header_line : Line → Result Reader Cause
 header_line [] = Err UnknownHeader
 header_line (name ∷ tokens) =
     if is_word (codes "monoid") name then and_then (λ o. Ok (Relating o)) (outline_of true tokens)
-    else if is_word (codes "semigroup") name then and_then (λ o. Ok (Relating o)) (outline_of false tokens)
+    else if is_word (codes "semigroup") name then and_then (λ o. Ok (Relating o))
+    (outline_of false tokens)
     else and_then (λ d. Ok (Posing d)) (header_of (name ∷ tokens))
 
 -- a line that is not skipped, after what the lines before it gave: nothing, before the header
@@ -105,7 +114,8 @@ read_line (Some r) line = with_line r line
 
 -- a line, which may be skipped
 abbrev pub take_line : Option Reader → List ℕ → Result (Option Reader) Cause
-take_line s bytes = if is_kept (tokens_of bytes) then and_then (λ r. Ok (Some r)) (read_line s (tokens_of bytes)) else Ok s
+take_line s bytes = if is_kept (tokens_of bytes) then and_then (λ r. Ok (Some r))
+    (read_line s (tokens_of bytes)) else Ok s
 
 -- the fault of a line: its number and its cause
 abbrev pub at_line : {A : Type 0} → ℕ → Result A Cause → Result A (ℕ × Cause)
@@ -115,7 +125,8 @@ at_line n (Err cause) = Err (n, cause)
 -- the lines from the number n on: what they give, or the first fault
 abbrev pub read_lines : ℕ → Option Reader → List (List ℕ) → Result (Option Reader) (ℕ × Cause)
 read_lines n s [] = Ok s
-read_lines n s (bytes ∷ lines) = and_then (λ t. read_lines (suc n) t lines) (at_line n (take_line s bytes))
+read_lines n s (bytes ∷ lines) = and_then (λ t. read_lines (suc n) t lines)
+    (at_line n (take_line s bytes))
 
 -- a script has a header, and a generator where it is no presentation
 abbrev pub whole_of : Option Reader → Result ScriptOf Cause
@@ -124,4 +135,5 @@ whole_of (Some r) = finished r
 
 -- the script that the bytes are, or their first fault; what is missing at the end is a fault of the last line
 abbrev pub script_of : List ℕ → Result ScriptOf (ℕ × Cause)
-script_of bytes = and_then (λ s. at_line (length (cut_lines bytes)) (whole_of s)) (read_lines 1 None (cut_lines bytes))
+script_of bytes = and_then (λ s. at_line (length (cut_lines bytes)) (whole_of s))
+    (read_lines 1 None (cut_lines bytes))

@@ -43,7 +43,8 @@ number_of t =
 
 -- a number in its range
 abbrev pub number_within : ℕ → ℕ → Token → Option ℕ
-number_within low high t = option_and_then (λ n. if nat_le low n && nat_le n high then Some n else None) (number_of t)
+number_within low high t = option_and_then
+    (λ n. if nat_le low n && nat_le n high then Some n else None) (number_of t)
 
 -- one of the bytes `a` to `z`
 abbrev pub letter_of : Token → Option ℕ

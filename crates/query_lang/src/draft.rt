@@ -33,9 +33,14 @@ impl<E: Generator> Model for Listed<E> {
 
     ghost coded = { draft_code E.code };
 
-    ghost view = { λ d. record { sizes = d.sizes; letters = d.letters.items; generators = d.generators.items } };
+    ghost view = { λ d. record {
+      sizes = d.sizes;
+      letters = d.letters.items;
+      generators = d.generators.items;
+    } };
 
-    ghost invariant = { λ d. IsDraft E.shape (E.shape_for d.sizes) d.letters.items d.generators.items };
+    ghost invariant = { λ d. IsDraft E.shape
+        (E.shape_for d.sizes) d.letters.items d.generators.items };
 }
 
 // A letter that is not there yet.
@@ -69,8 +74,10 @@ impl<E: Generator> Listed<E> {
         name: &[u8],
         fields: &[Field],
     ) -> Result<Listed<E>, LineFault>
-        ensures ok { IfOk result (λ next. with_generator E.generator_of self name.now fields.now ≡ Ok next) }
-        ensures err { IfErr result (IsLineFault (with_generator E.generator_of self name.now fields.now)) }
+        ensures ok { IfOk result (λ next. with_generator E.generator_of self name.now fields.now
+            ≡ Ok next) }
+        ensures err { IfErr result (IsLineFault
+            (with_generator E.generator_of self name.now fields.now)) }
     {
         let Listed {
             sizes,
@@ -124,8 +131,10 @@ impl Draft {
         name: &[u8],
         entries: &[&[u8]],
     ) -> Result<Draft, LineFault>
-        ensures ok { IfOk result (λ next. draft_with self name.now (map field_of (texts entries.now)) ≡ Ok next) }
-        ensures err { IfErr result (IsLineFault (draft_with self name.now (map field_of (texts entries.now)))) }
+        ensures ok { IfOk result (λ next. draft_with self name.now
+            (map field_of (texts entries.now)) ≡ Ok next) }
+        ensures err { IfErr result (IsLineFault
+            (draft_with self name.now (map field_of (texts entries.now)))) }
     {
         let fields = fields_of(alloc, entries)?;
         match self {

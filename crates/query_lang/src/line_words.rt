@@ -33,10 +33,12 @@ pub fn both_elements(
     first: &[u8],
     second: &[u8],
 ) -> Result<(Word, Word), LineFault>
-    ensures ok { IfOk result (λ words. both_elements alphabet.now allow_empty first.now second.now ≡ Ok words) }
+    ensures ok { IfOk result (λ words. both_elements alphabet.now allow_empty first.now second.now
+        ≡ Ok words) }
     ensures first { IfOk result (λ words. IsElement allow_empty (length alphabet.now) words.0) }
     ensures second { IfOk result (λ words. IsElement allow_empty (length alphabet.now) words.1) }
-    ensures err { IfErr result (IsLineFault (both_elements alphabet.now allow_empty first.now second.now)) }
+    ensures err { IfErr result (IsLineFault
+        (both_elements alphabet.now allow_empty first.now second.now)) }
 {
     let first = element_of(alloc, alphabet, allow_empty, first)?;
     let second = element_of(alloc, alphabet, allow_empty, second)?;
@@ -72,9 +74,11 @@ pub fn one_word(
     allow_empty: bool,
     tokens: &[&[u8]],
 ) -> Result<Word, LineFault>
-    ensures ok { IfOk result (λ word. one_word alphabet.now allow_empty (texts tokens.now) ≡ Ok word) }
+    ensures ok { IfOk result (λ word. one_word alphabet.now allow_empty (texts tokens.now)
+        ≡ Ok word) }
     ensures element { IfOk result (IsElement allow_empty (length alphabet.now)) }
-    ensures err { IfErr result (IsLineFault (one_word alphabet.now allow_empty (texts tokens.now))) }
+    ensures err { IfErr result (IsLineFault
+        (one_word alphabet.now allow_empty (texts tokens.now))) }
 {
     element_of(alloc, alphabet, allow_empty, one_token(tokens)?)
 }
@@ -86,10 +90,12 @@ pub fn two_words(
     allow_empty: bool,
     tokens: &[&[u8]],
 ) -> Result<(Word, Word), LineFault>
-    ensures ok { IfOk result (λ words. two_words alphabet.now allow_empty (texts tokens.now) ≡ Ok words) }
+    ensures ok { IfOk result (λ words. two_words alphabet.now allow_empty (texts tokens.now)
+        ≡ Ok words) }
     ensures first { IfOk result (λ words. IsElement allow_empty (length alphabet.now) words.0) }
     ensures second { IfOk result (λ words. IsElement allow_empty (length alphabet.now) words.1) }
-    ensures err { IfErr result (IsLineFault (two_words alphabet.now allow_empty (texts tokens.now))) }
+    ensures err { IfErr result (IsLineFault
+        (two_words alphabet.now allow_empty (texts tokens.now))) }
 {
     let (first, second) = two_tokens(tokens)?;
     both_elements(alloc, alphabet, allow_empty, first, second)

@@ -91,9 +91,11 @@ fn cursor_of(
     after: &[u8],
     token: &[u8],
 ) -> Result<Word, LineFault>
-    ensures ok { IfOk result (λ word. cursor_of alphabet.now allow_empty after.now token.now ≡ Ok word) }
+    ensures ok { IfOk result (λ word. cursor_of alphabet.now allow_empty after.now token.now
+        ≡ Ok word) }
     ensures element { IfOk result (IsElement allow_empty (length alphabet.now)) }
-    ensures err { IfErr result (IsLineFault (cursor_of alphabet.now allow_empty after.now token.now)) }
+    ensures err { IfErr result (IsLineFault
+        (cursor_of alphabet.now allow_empty after.now token.now)) }
 {
     if is_word(b"after", after) {
         element_of(alloc, alphabet, allow_empty, token)
@@ -109,7 +111,8 @@ fn page_of(
     allow_empty: bool,
     tokens: &[&[u8]],
 ) -> Result<Query, LineFault>
-    ensures ok { IfOk result (λ query. page_of alphabet.now allow_empty (texts tokens.now) ≡ Ok query) }
+    ensures ok { IfOk result (λ query. page_of alphabet.now allow_empty (texts tokens.now)
+        ≡ Ok query) }
     ensures over { IfOk result (IsQueryOver allow_empty (length alphabet.now)) }
     ensures needs { IfOk result (λ query. needs_generators query ≡ false) }
     ensures err { IfErr result (IsLineFault (page_of alphabet.now allow_empty (texts tokens.now))) }
@@ -140,10 +143,12 @@ pub fn query_of(
     name: QueryName,
     tokens: &[&[u8]],
 ) -> Result<Query, LineFault>
-    ensures ok { IfOk result (λ query. query_of alphabet.now allow_empty name (texts tokens.now) ≡ Ok query) }
+    ensures ok { IfOk result (λ query. query_of alphabet.now allow_empty name (texts tokens.now)
+        ≡ Ok query) }
     ensures over { IfOk result (IsQueryOver allow_empty (length alphabet.now)) }
     ensures needs { IfOk result (λ query. needs_generators query ≡ name_needs_generators name) }
-    ensures err { IfErr result (IsLineFault (query_of alphabet.now allow_empty name (texts tokens.now))) }
+    ensures err { IfErr result (IsLineFault
+        (query_of alphabet.now allow_empty name (texts tokens.now))) }
 {
     match name {
         QueryName::Index => Ok(bare(Query::Index, tokens)?),

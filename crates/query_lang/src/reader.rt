@@ -57,8 +57,10 @@ impl Reader {
         name: &[u8],
         entries: &[&[u8]],
     ) -> Result<Reader, LineFault>
-        ensures ok { IfOk result (λ next. generator_line self name.now (texts entries.now) ≡ Ok next) }
-        ensures err { IfErr result (IsLineFault (generator_line self name.now (texts entries.now))) }
+        ensures ok { IfOk result (λ next. generator_line self name.now (texts entries.now)
+            ≡ Ok next) }
+        ensures err { IfErr result (IsLineFault
+            (generator_line self name.now (texts entries.now))) }
     {
         match self {
             Reader::Posing(draft) => Ok(Reader::Posing(draft.with_generator(

@@ -15,19 +15,32 @@ use Rattle.report.specs.Lines.{undecided_line, index_line, infinite_line, equal_
 
 -- the lines of all rows of the Cayley graphs
 abbrev pub cayley_lines : List ℕ → ℕ → List Word → (ℕ → ℕ → ℕ) → (ℕ → ℕ → ℕ) → List (List ℕ)
-cayley_lines letters k words right left = map (λ i. cayley_line letters k i (slice_index_or words i []) (right i) (left i)) (range_with_len 0 (length words))
+cayley_lines letters k words right left =
+    map (λ i. cayley_line letters k i (slice_index_or words i []) (right i) (left i))
+    (range_with_len 0 (length words))
 
 -- the lines of a query whose answer is defined, with the bound up to which an index is written out
 abbrev pub AreLines : Problem → ℕ → Query → List (List ℕ) → Type 0
-AreLines p bound Index lines = ((n : ℕ) × HasIndex (SameClassOf p) n × (lines ≡ index_line bound n ∷ [])) ⊎ (IsInfinite (SameClassOf p) × (lines ≡ infinite_line ∷ []))
-AreLines p bound (Equal u v) lines = (SameClassOf p u v × (lines ≡ equal_line true ∷ [])) ⊎ ((SameClassOf p u v → ⊥) × (lines ≡ equal_line false ∷ []))
-AreLines p bound (Normal u) lines = (w : Word) × IsNormal (SameClassOf p) u w × (lines ≡ normal_line (letters_of p) w ∷ [])
+AreLines p bound Index lines =
+    ((n : ℕ) × HasIndex (SameClassOf p) n × (lines ≡ index_line bound n ∷ []))
+    ⊎ (IsInfinite (SameClassOf p) × (lines ≡ infinite_line ∷ []))
+AreLines p bound (Equal u v) lines =
+    (SameClassOf p u v × (lines ≡ equal_line true ∷ []))
+    ⊎ ((SameClassOf p u v → ⊥) × (lines ≡ equal_line false ∷ []))
+AreLines p bound (Normal u) lines =
+    (w : Word) × IsNormal (SameClassOf p) u w
+    × (lines ≡ normal_line (letters_of p) w ∷ [])
 AreLines p bound (Classes count after) lines =
-    (words : List Word) × (more : Bool) × IsPage (IsLeast (SameClassOf p)) ◌≺◌ after count words more × (lines ≡ map (word_line (letters_of p)) words ++ end_line more ∷ [])
-AreLines p bound RuleList lines = (rules : List (Word × Word)) × IsRuleList (SameClassOf p) rules × (lines ≡ map (rule_line (letters_of p)) rules ++ end_line false ∷ [])
+    (words : List Word) × (more : Bool)
+    × IsPage (IsLeast (SameClassOf p)) ◌≺◌ after count words more
+    × (lines ≡ map (word_line (letters_of p)) words ++ end_line more ∷ [])
+AreLines p bound RuleList lines =
+    (rules : List (Word × Word)) × IsRuleList (SameClassOf p) rules
+    × (lines ≡ map (rule_line (letters_of p)) rules ++ end_line false ∷ [])
 AreLines p bound (ElementOf u) lines = lines ≡ element_line (value_text p u) ∷ []
 AreLines p bound Cayley lines =
-    (words : List Word) × (right : (ℕ → ℕ → ℕ)) × (left : (ℕ → ℕ → ℕ)) × AreCayleyGraphs (SameClassOf p) (count_of p) words right left
+    (words : List Word) × (right : (ℕ → ℕ → ℕ)) × (left : (ℕ → ℕ → ℕ))
+    × AreCayleyGraphs (SameClassOf p) (count_of p) words right left
     × (lines ≡ cayley_lines (letters_of p) (count_of p) words right left ++ end_line false ∷ [])
 
 -- whether a query is answered only where the problem is decided
@@ -41,12 +54,14 @@ waits (ElementOf u) = false
 waits Cayley = true
 
 -- the answer of a query is defined: the problem is decided within the budgets, where the query waits for that
-pub record IsDefined (p : Problem) (budgets : Budgets) (bound : ℕ) (query : Query) (lines : List (List ℕ)) : Type 0 where
+pub record IsDefined (p : Problem) (budgets : Budgets) (bound : ℕ) (query : Query)
+    (lines : List (List ℕ)) : Type 0 where
   pub decided : IsTrue (waits query) → IsDecided p budgets
   pub are_lines : AreLines p bound query lines
 
 -- the answer of a query is that the problem is not decided within the budgets
-pub record IsLeftUndecided (p : Problem) (budgets : Budgets) (query : Query) (lines : List (List ℕ)) : Type 0 where
+pub record IsLeftUndecided (p : Problem) (budgets : Budgets) (query : Query)
+    (lines : List (List ℕ)) : Type 0 where
   pub waiting : IsTrue (waits query)
   pub undecided : IsUndecided p budgets
   pub line : lines ≡ undecided_line ∷ []

@@ -23,22 +23,29 @@ IsClosureOf (problem.Presented p) (Transf t) = ⊥
 IsClosureOf (problem.Presented p) (PPerm t) = ⊥
 IsClosureOf (problem.Presented p) (BMat t) = ⊥
 IsClosureOf (problem.Presented p) (MaxPlus t) = ⊥
-IsClosureOf (problem.Transf p) (Transf t) = IsWholeTable (λ x. (length x, 0)) composed (pointwise ◌==◌) p.generators [] t
+IsClosureOf (problem.Transf p) (Transf t) =
+    IsWholeTable (λ x. (length x, 0)) composed (pointwise ◌==◌) p.generators [] t
 IsClosureOf (problem.Transf p) (PPerm t) = ⊥
 IsClosureOf (problem.Transf p) (BMat t) = ⊥
 IsClosureOf (problem.Transf p) (MaxPlus t) = ⊥
 IsClosureOf (problem.PPerm p) (Transf t) = ⊥
-IsClosureOf (problem.PPerm p) (PPerm t) = IsWholeTable (λ x. (length x, 0)) partially_composed (pointwise (option_eq ◌==◌)) p.generators [] t
+IsClosureOf (problem.PPerm p) (PPerm t) =
+    IsWholeTable (λ x. (length x, 0)) partially_composed (pointwise (option_eq ◌==◌))
+    p.generators [] t
 IsClosureOf (problem.PPerm p) (BMat t) = ⊥
 IsClosureOf (problem.PPerm p) (MaxPlus t) = ⊥
 IsClosureOf (problem.BMat p) (Transf t) = ⊥
 IsClosureOf (problem.BMat p) (PPerm t) = ⊥
-IsClosureOf (problem.BMat p) (BMat t) = IsWholeTable (λ m. (m.dimension, 0)) boolean_product boolean_matrix_eq p.generators no_matrix t
+IsClosureOf (problem.BMat p) (BMat t) =
+    IsWholeTable (λ m. (m.dimension, 0)) boolean_product boolean_matrix_eq
+    p.generators no_matrix t
 IsClosureOf (problem.BMat p) (MaxPlus t) = ⊥
 IsClosureOf (problem.MaxPlus p) (Transf t) = ⊥
 IsClosureOf (problem.MaxPlus p) (PPerm t) = ⊥
 IsClosureOf (problem.MaxPlus p) (BMat t) = ⊥
-IsClosureOf (problem.MaxPlus p) (MaxPlus t) = IsWholeTable (λ m. (m.dimension, m.bound)) truncated_product truncated_matrix_eq p.generators no_truncated_matrix t
+IsClosureOf (problem.MaxPlus p) (MaxPlus t) =
+    IsWholeTable (λ m. (m.dimension, m.bound)) truncated_product truncated_matrix_eq
+    p.generators no_truncated_matrix t
 
 -- how many elements there are
 abbrev pub count_in : Closure → ℕ

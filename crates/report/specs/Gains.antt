@@ -23,25 +23,29 @@ is_undecided Defined = false
 is_undecided Undecided = true
 
 -- the sink gained the lines of a query whose answer is defined
-pub record GainsLines (p : Problem) (bound : ℕ) (query : Query) (old new : Option (List ℕ)) : Type 0 where
+pub record GainsLines (p : Problem) (bound : ℕ) (query : Query)
+    (old new : Option (List ℕ)) : Type 0 where
   pub lines : List (List ℕ)
   pub are_lines : AreLines p bound query lines
   pub gained : TakesAll old new (bytes_of lines)
 
 -- the sink gained a prefix of them
-pub record GainsSome (p : Problem) (bound : ℕ) (query : Query) (old new : Option (List ℕ)) : Type 0 where
+pub record GainsSome (p : Problem) (bound : ℕ) (query : Query)
+    (old new : Option (List ℕ)) : Type 0 where
   pub lines : List (List ℕ)
   pub are_lines : AreLines p bound query lines
   pub gained : TakesPrefix old new (bytes_of lines)
 
 -- the sink gained the answer of a query
-pub record GainsAnswer (p : Problem) (budgets : Budgets) (bound : ℕ) (query : Query) (undecided : Bool) (old new : Option (List ℕ)) : Type 0 where
+pub record GainsAnswer (p : Problem) (budgets : Budgets) (bound : ℕ) (query : Query)
+    (undecided : Bool) (old new : Option (List ℕ)) : Type 0 where
   pub lines : List (List ℕ)
   pub is_answer : IsAnswer p budgets bound query lines undecided
   pub gained : TakesAll old new (bytes_of lines)
 
 -- the sink gained a prefix of the answer of a query
-pub record GainsPrefix (p : Problem) (budgets : Budgets) (bound : ℕ) (query : Query) (old new : Option (List ℕ)) : Type 0 where
+pub record GainsPrefix (p : Problem) (budgets : Budgets) (bound : ℕ) (query : Query)
+    (old new : Option (List ℕ)) : Type 0 where
   pub lines : List (List ℕ)
   pub undecided : Bool
   pub is_answer : IsAnswer p budgets bound query lines undecided
@@ -49,17 +53,20 @@ pub record GainsPrefix (p : Problem) (budgets : Budgets) (bound : ℕ) (query : 
 
 -- the sink gained nothing, or a prefix of the answer of a query
 abbrev pub GainsPart : Problem → Budgets → ℕ → Query → Option (List ℕ) → Option (List ℕ) → Type 0
-GainsPart p budgets bound query old new = TakesAll old new [] ⊎ GainsPrefix p budgets bound query old new
+GainsPart p budgets bound query old new =
+    TakesAll old new [] ⊎ GainsPrefix p budgets bound query old new
 
 -- the sink gained a page of the least words of R's classes
-pub record GainsPage (R : Word → Word → Type 0) (letters : List ℕ) (after : Option Word) (count : ℕ) (old new : Option (List ℕ)) : Type 0 where
+pub record GainsPage (R : Word → Word → Type 0) (letters : List ℕ) (after : Option Word) (count : ℕ)
+    (old new : Option (List ℕ)) : Type 0 where
   pub words : List Word
   pub more : Bool
   pub is_page : IsPage (IsLeast R) ◌≺◌ after count words more
   pub gained : TakesAll old new (bytes_of (page_lines letters words more))
 
 -- the sink gained a prefix of one
-pub record GainsSomePage (R : Word → Word → Type 0) (letters : List ℕ) (after : Option Word) (count : ℕ) (old new : Option (List ℕ)) : Type 0 where
+pub record GainsSomePage (R : Word → Word → Type 0) (letters : List ℕ) (after : Option Word)
+    (count : ℕ) (old new : Option (List ℕ)) : Type 0 where
   pub words : List Word
   pub more : Bool
   pub is_page : IsPage (IsLeast R) ◌≺◌ after count words more

@@ -8,7 +8,10 @@ abbrev pub IsNumbered : (Word → Word → Type 0) → List Word → ℕ → Wor
 IsNumbered R words i u = (i < length words) × R u (slice_index_or words i [])
 
 -- the least words of all classes, and the numbers of each of them times each of k letters, and of each letter times each of them
-pub record AreCayleyGraphs (R : Word → Word → Type 0) (k : ℕ) (words : List Word) (right left : ℕ → ℕ → ℕ) : Type 0 where
+pub record AreCayleyGraphs (R : Word → Word → Type 0) (k : ℕ) (words : List Word)
+    (right left : ℕ → ℕ → ℕ) : Type 0 where
   pub listed : IsClassList R words
-  pub on_right : (i a : ℕ) → i < length words → a < k → IsNumbered R words (right i a) (slice_index_or words i [] ++ a ∷ [])
-  pub on_left : (i a : ℕ) → i < length words → a < k → IsNumbered R words (left i a) (a ∷ slice_index_or words i [])
+  pub on_right : (i a : ℕ) → i < length words → a < k
+      → IsNumbered R words (right i a) (slice_index_or words i [] ++ a ∷ [])
+  pub on_left : (i a : ℕ) → i < length words → a < k
+      → IsNumbered R words (left i a) (a ∷ slice_index_or words i [])

@@ -54,4 +54,5 @@ module _ (letters : List ℕ) where
   -- an element's number and word, and the numbers of its products by k letters on the right and on the left
   abbrev pub cayley_line : ℕ → ℕ → Word → (ℕ → ℕ) → (ℕ → ℕ) → List ℕ
   cayley_line k i w right left =
-      decimal i ++ (codes " " ++ (text_of letters w ++ (codes " right" ++ (numbers_text k right ++ (codes " left" ++ (numbers_text k left ++ codes "\n"))))))
+      decimal i ++ (codes " " ++ (text_of letters w ++ (codes " right"
+      ++ (numbers_text k right ++ (codes " left" ++ (numbers_text k left ++ codes "\n"))))))

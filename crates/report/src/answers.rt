@@ -18,7 +18,7 @@ use crate::line::Line;
 use crate::listings::{page_start, write_page, write_rules};
 use crate::single::{write_count, write_equal, write_normal_form, write_over};
 use crate::state::{State, Verdict};
-use ports::{Sink, WriteFault, write_all};
+use ports::{Gate, Sink, WriteFault, write_all};
 use problem::Problem;
 use query_lang::{Query, Script};
 use std::alloc::Global;
@@ -41,9 +41,12 @@ fn write_index<O: Sink>(
     bound: usize,
     sink: &mut O,
 ) -> Result<(), WriteFault>
-    ensures written { OnOk result (TakesAll (O.taken sink.old) (O.taken sink.new) (index_line bound count)) }
-    ensures part { OnErr result (TakesPrefix (O.taken sink.old) (O.taken sink.new) (index_line bound count)) }
-    ensures failed { IsErrOf result WriteFault.Failed → Rose (O.faults sink.old) (O.faults sink.new) }
+    ensures written { OnOk result (TakesAll (O.taken sink.old) (O.taken sink.new)
+        (index_line bound count)) }
+    ensures part { OnErr result (TakesPrefix (O.taken sink.old) (O.taken sink.new)
+        (index_line bound count)) }
+    ensures failed { IsErrOf result WriteFault.Failed
+        → Rose (O.faults sink.old) (O.faults sink.new) }
     ensures kept { O.faults sink.old ≤ O.faults sink.new }
     ensures quiet { OnOk result (O.faults sink.new ≡ O.faults sink.old) }
 {
@@ -64,9 +67,14 @@ fn write_normal<O: Sink>(
 ) -> Result<(), WriteFault>
     requires closure { IsClosureOf problem.now closure.now }
     requires word { IsElement false (count_of problem.now) word.now }
-    ensures written { OnOk result (TakesAll (O.taken sink.old) (O.taken sink.new) (normal_line (letters_of problem.now) (slice_index_or (words_of closure.now) (number_in closure.now word.now) []))) }
-    ensures part { OnErr result (TakesPrefix (O.taken sink.old) (O.taken sink.new) (normal_line (letters_of problem.now) (slice_index_or (words_of closure.now) (number_in closure.now word.now) []))) }
-    ensures failed { IsErrOf result WriteFault.Failed → Rose (O.faults sink.old) (O.faults sink.new) }
+    ensures written { OnOk result (TakesAll (O.taken sink.old) (O.taken sink.new)
+        (normal_line (letters_of problem.now)
+        (slice_index_or (words_of closure.now) (number_in closure.now word.now) []))) }
+    ensures part { OnErr result (TakesPrefix (O.taken sink.old) (O.taken sink.new)
+        (normal_line (letters_of problem.now)
+        (slice_index_or (words_of closure.now) (number_in closure.now word.now) []))) }
+    ensures failed { IsErrOf result WriteFault.Failed
+        → Rose (O.faults sink.old) (O.faults sink.new) }
     ensures kept { O.faults sink.old ≤ O.faults sink.new }
     ensures quiet { OnOk result (O.faults sink.new ≡ O.faults sink.old) }
 {
@@ -83,9 +91,12 @@ fn write_element<O: Sink>(
 ) -> Result<(), WriteFault>
     requires generated { is_presented problem.now ≡ false }
     requires word { IsElement false (length (letters_of problem.now)) word.now }
-    ensures written { OnOk result (TakesAll (O.taken sink.old) (O.taken sink.new) (element_line (value_text problem.now word.now))) }
-    ensures part { OnErr result (TakesPrefix (O.taken sink.old) (O.taken sink.new) (element_line (value_text problem.now word.now))) }
-    ensures failed { IsErrOf result WriteFault.Failed → Rose (O.faults sink.old) (O.faults sink.new) }
+    ensures written { OnOk result (TakesAll (O.taken sink.old) (O.taken sink.new)
+        (element_line (value_text problem.now word.now))) }
+    ensures part { OnErr result (TakesPrefix (O.taken sink.old) (O.taken sink.new)
+        (element_line (value_text problem.now word.now))) }
+    ensures failed { IsErrOf result WriteFault.Failed
+        → Rose (O.faults sink.old) (O.faults sink.new) }
     ensures kept { O.faults sink.old ≤ O.faults sink.new }
     ensures quiet { OnOk result (O.faults sink.new ≡ O.faults sink.old) }
 {
@@ -106,9 +117,12 @@ fn write_known<O: Sink>(
 ) -> Result<(), WriteFault>
     requires closure { IsClosureOf problem.now closure.now }
     requires query { IsQueryOf problem.now query.now }
-    ensures written { OnOk result (GainsLines problem.now bound query.now (O.taken sink.old) (O.taken sink.new)) }
-    ensures part { OnErr result (TakesAll (O.taken sink.old) (O.taken sink.new) [] ⊎ GainsSome problem.now bound query.now (O.taken sink.old) (O.taken sink.new)) }
-    ensures failed { IsErrOf result WriteFault.Failed → Rose (O.faults sink.old) (O.faults sink.new) }
+    ensures written { OnOk result (GainsLines problem.now bound query.now (O.taken sink.old)
+        (O.taken sink.new)) }
+    ensures part { OnErr result (TakesAll (O.taken sink.old) (O.taken sink.new) []
+        ⊎ GainsSome problem.now bound query.now (O.taken sink.old) (O.taken sink.new)) }
+    ensures failed { IsErrOf result WriteFault.Failed
+        → Rose (O.faults sink.old) (O.faults sink.new) }
     ensures kept { O.faults sink.old ≤ O.faults sink.new }
     ensures quiet { OnOk result (O.faults sink.new ≡ O.faults sink.old) }
 {
@@ -141,9 +155,12 @@ fn write_decided<O: Sink>(
     requires query { IsQueryOf problem.now query.now }
     requires kept { MatchOption state.now.verdict ⊥ (IsVerdictOf problem.now state.now.budgets) }
     requires waits { IsTrue (waits query.now) }
-    ensures written { IfOk result (λ answered. GainsAnswer problem.now state.now.budgets state.now.classes query.now (is_undecided answered) (O.taken sink.old) (O.taken sink.new)) }
-    ensures part { OnErr result (GainsPart problem.now state.now.budgets state.now.classes query.now (O.taken sink.old) (O.taken sink.new)) }
-    ensures failed { IsErrOf result WriteFault.Failed → Rose (O.faults sink.old) (O.faults sink.new) }
+    ensures written { IfOk result (λ answered. GainsAnswer problem.now state.now.budgets
+        state.now.classes query.now (is_undecided answered) (O.taken sink.old) (O.taken sink.new)) }
+    ensures part { OnErr result (GainsPart problem.now state.now.budgets state.now.classes query.now
+        (O.taken sink.old) (O.taken sink.new)) }
+    ensures failed { IsErrOf result WriteFault.Failed
+        → Rose (O.faults sink.old) (O.faults sink.new) }
     ensures kept { O.faults sink.old ≤ O.faults sink.new }
     ensures quiet { OnOk result (O.faults sink.new ≡ O.faults sink.old) }
 {
@@ -167,27 +184,32 @@ fn write_decided<O: Sink>(
 /// Writes the answer of a query of the script, each line as one piece, and tells whether it is
 /// defined. The value of a word is told whatever the budgets are; the other queries are answered where
 /// the problem is decided within them, and else with the line `undecided`. A problem by relations is
-/// decided with the number of workers of the state, at least one, which changes no answer.
+/// decided with the number of workers of the state, at least one, which changes no answer; with
+/// more than one each turn of their race is behind the gate.
 ///
 /// `Failed` comes only where the sink failed, and `NoMemory` for want of memory; the sink has then
 /// gained a prefix of the answer. What the state keeps is of this script's problem, and what it
 /// keeps afterwards too; nothing else in it changes.
-pub fn write_answer<R: Threads + Sync, O: Sink>(
+pub fn write_answer<R: Threads + Sync, O: Sink, G: Gate + Sync>(
     rt: &R,
     alloc: Global,
     script: &Script,
     query: &Query,
     state: &mut State,
     sink: &mut O,
+    gate: &G,
 ) -> Result<Answered, WriteFault>
     requires query { IsQueryOf script.now.problem query.now }
     requires kept { IfSome state.old.verdict (IsVerdictOf script.now.problem state.old.budgets) }
     requires workers { 0 < state.old.workers }
     ensures kept { IfSome state.new.verdict (IsVerdictOf script.now.problem state.new.budgets) }
     ensures settings { KeepsSettings state.old state.new }
-    ensures written { IfOk result (λ answered. GainsAnswer script.now.problem state.old.budgets state.old.classes query.now (is_undecided answered) (O.taken sink.old) (O.taken sink.new)) }
-    ensures part { OnErr result (GainsPart script.now.problem state.old.budgets state.old.classes query.now (O.taken sink.old) (O.taken sink.new)) }
-    ensures failed { IsErrOf result WriteFault.Failed → Rose (O.faults sink.old) (O.faults sink.new) }
+    ensures written { IfOk result (λ answered. GainsAnswer script.now.problem state.old.budgets
+        state.old.classes query.now (is_undecided answered) (O.taken sink.old) (O.taken sink.new)) }
+    ensures part { OnErr result (GainsPart script.now.problem state.old.budgets state.old.classes
+        query.now (O.taken sink.old) (O.taken sink.new)) }
+    ensures failed { IsErrOf result WriteFault.Failed
+        → Rose (O.faults sink.old) (O.faults sink.new) }
     ensures kept_faults { O.faults sink.old ≤ O.faults sink.new }
     ensures quiet { OnOk result (O.faults sink.new ≡ O.faults sink.old) }
 {
@@ -196,6 +218,6 @@ pub fn write_answer<R: Threads + Sync, O: Sink>(
         write_element(alloc, problem, word, sink)?;
         return Ok(Answered::Defined);
     }
-    state.decide(rt, alloc, problem)?;
+    state.decide(rt, alloc, problem, gate)?;
     write_decided(alloc, problem, query, state, sink)
 }

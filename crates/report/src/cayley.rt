@@ -26,7 +26,8 @@ fn put_right(
 ) -> Result<(), NoMemory>
     requires closure { IsClosureOf problem.now closure.now }
     requires number { number < count_in closure.now }
-    ensures { OnOk result (line.new ≡ line.old ++ numbers_text (count_of problem.now) (right_of closure.now number)) }
+    ensures { OnOk result (line.new
+        ≡ line.old ++ numbers_text (count_of problem.now) (right_of closure.now number)) }
 {
     for letter in 0..problem.alphabet().len() {
         line.text(b" ")?;
@@ -44,7 +45,8 @@ fn put_left(
 ) -> Result<(), NoMemory>
     requires closure { IsClosureOf problem.now closure.now }
     requires number { number < count_in closure.now }
-    ensures { OnOk result (line.new ≡ line.old ++ numbers_text (count_of problem.now) (left_of closure.now number)) }
+    ensures { OnOk result (line.new
+        ≡ line.old ++ numbers_text (count_of problem.now) (left_of closure.now number)) }
 {
     for letter in 0..problem.alphabet().len() {
         line.text(b" ")?;
@@ -62,7 +64,10 @@ fn row_of(
 ) -> Result<Line, NoMemory>
     requires closure { IsClosureOf problem.now closure.now }
     requires number { number < count_in closure.now }
-    ensures { IfOk result (λ line. line ++ codes "\n" ≡ cayley_line (letters_of problem.now) (count_of problem.now) number (slice_index_or (words_of closure.now) number []) (right_of closure.now number) (left_of closure.now number)) }
+    ensures { IfOk result (λ line. line ++ codes "\n"
+        ≡ cayley_line (letters_of problem.now) (count_of problem.now) number
+        (slice_index_or (words_of closure.now) number [])
+        (right_of closure.now number) (left_of closure.now number)) }
 {
     let word = closure.word(number)?;
     let mut line = Line::starting(alloc, b"")?;
@@ -85,9 +90,16 @@ pub fn write_cayley<O: Sink>(
     sink: &mut O,
 ) -> Result<(), WriteFault>
     requires { IsClosureOf problem.now closure.now }
-    ensures written { OnOk result (TakesAll (O.taken sink.old) (O.taken sink.new) (bytes_of (cayley_lines (letters_of problem.now) (count_of problem.now) (words_of closure.now) (right_of closure.now) (left_of closure.now) ++ end_line false ∷ []))) }
-    ensures part { OnErr result (TakesPrefix (O.taken sink.old) (O.taken sink.new) (bytes_of (cayley_lines (letters_of problem.now) (count_of problem.now) (words_of closure.now) (right_of closure.now) (left_of closure.now) ++ end_line false ∷ []))) }
-    ensures failed { IsErrOf result WriteFault.Failed → Rose (O.faults sink.old) (O.faults sink.new) }
+    ensures written { OnOk result (TakesAll (O.taken sink.old) (O.taken sink.new)
+        (bytes_of (cayley_lines (letters_of problem.now) (count_of problem.now)
+        (words_of closure.now) (right_of closure.now) (left_of closure.now)
+        ++ end_line false ∷ []))) }
+    ensures part { OnErr result (TakesPrefix (O.taken sink.old) (O.taken sink.new)
+        (bytes_of (cayley_lines (letters_of problem.now) (count_of problem.now)
+        (words_of closure.now) (right_of closure.now) (left_of closure.now)
+        ++ end_line false ∷ []))) }
+    ensures failed { IsErrOf result WriteFault.Failed
+        → Rose (O.faults sink.old) (O.faults sink.new) }
     ensures kept { O.faults sink.old ≤ O.faults sink.new }
     ensures quiet { OnOk result (O.faults sink.new ≡ O.faults sink.old) }
 {

@@ -38,9 +38,13 @@ fn write_classes<O: Sink>(
     sink: &mut O,
 ) -> Result<(), WriteFault>
     requires { solved.now.congruence.presentation.letters ≡ length alphabet.now }
-    ensures written { OnOk result (GainsPage (SameClass solved.now.congruence) alphabet.now (option_copied after.entry) count (O.taken sink.old) (O.taken sink.new)) }
-    ensures part { OnErr result (TakesAll (O.taken sink.old) (O.taken sink.new) [] ⊎ GainsSomePage (SameClass solved.now.congruence) alphabet.now (option_copied after.entry) count (O.taken sink.old) (O.taken sink.new)) }
-    ensures failed { IsErrOf result WriteFault.Failed → Rose (O.faults sink.old) (O.faults sink.new) }
+    ensures written { OnOk result (GainsPage (SameClass solved.now.congruence) alphabet.now
+        (option_copied after.entry) count (O.taken sink.old) (O.taken sink.new)) }
+    ensures part { OnErr result (TakesAll (O.taken sink.old) (O.taken sink.new) []
+        ⊎ GainsSomePage (SameClass solved.now.congruence) alphabet.now
+        (option_copied after.entry) count (O.taken sink.old) (O.taken sink.new)) }
+    ensures failed { IsErrOf result WriteFault.Failed
+        → Rose (O.faults sink.old) (O.faults sink.new) }
     ensures kept { O.faults sink.old ≤ O.faults sink.new }
     ensures quiet { OnOk result (O.faults sink.new ≡ O.faults sink.old) }
 {
@@ -69,9 +73,12 @@ pub fn write_solved<O: Sink>(
 ) -> Result<(), WriteFault>
     requires solved { IsCongruenceIn problem.now solved.now.congruence }
     requires query { IsQueryOf problem.now query.now }
-    ensures written { OnOk result (GainsLines problem.now bound query.now (O.taken sink.old) (O.taken sink.new)) }
-    ensures part { OnErr result (TakesAll (O.taken sink.old) (O.taken sink.new) [] ⊎ GainsSome problem.now bound query.now (O.taken sink.old) (O.taken sink.new)) }
-    ensures failed { IsErrOf result WriteFault.Failed → Rose (O.faults sink.old) (O.faults sink.new) }
+    ensures written { OnOk result (GainsLines problem.now bound query.now (O.taken sink.old)
+        (O.taken sink.new)) }
+    ensures part { OnErr result (TakesAll (O.taken sink.old) (O.taken sink.new) []
+        ⊎ GainsSome problem.now bound query.now (O.taken sink.old) (O.taken sink.new)) }
+    ensures failed { IsErrOf result WriteFault.Failed
+        → Rose (O.faults sink.old) (O.faults sink.new) }
     ensures kept { O.faults sink.old ≤ O.faults sink.new }
     ensures quiet { OnOk result (O.faults sink.new ≡ O.faults sink.old) }
 {

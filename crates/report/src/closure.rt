@@ -59,8 +59,10 @@ fn counted_table<E: Element, L: Ledger>(
     requires few { vec_len generators.now ≤ 256 }
     requires shape { HaveOneShape E.shape generators.now.items }
     ensures { IfOk result (λ found. (unused : E) → MatchOption found
-        (HasMoreValues (length generators.now.items) E.eq (value_by E.product generators.now.items unused) bound)
-        (λ table. HasAtMostValues (length generators.now.items) E.eq (value_by E.product generators.now.items unused) bound
+        (HasMoreValues (length generators.now.items) E.eq
+        (value_by E.product generators.now.items unused) bound)
+        (λ table. HasAtMostValues (length generators.now.items) E.eq
+        (value_by E.product generators.now.items unused) bound
         × IsWholeTable E.shape E.product E.eq generators.now.items unused table)) }
 {
     let mut steps = Steps::<L>::open(blank);
@@ -80,8 +82,10 @@ fn table_of<E: Element>(
     requires few { vec_len generators.now ≤ 256 }
     requires shape { HaveOneShape E.shape generators.now.items }
     ensures { IfOk result (λ found. (unused : E) → MatchOption found
-        (HasMoreValues (length generators.now.items) E.eq (value_by E.product generators.now.items unused) bound)
-        (λ table. HasAtMostValues (length generators.now.items) E.eq (value_by E.product generators.now.items unused) bound
+        (HasMoreValues (length generators.now.items) E.eq
+        (value_by E.product generators.now.items unused) bound)
+        (λ table. HasAtMostValues (length generators.now.items) E.eq
+        (value_by E.product generators.now.items unused) bound
         × IsWholeTable E.shape E.product E.eq generators.now.items unused table)) }
 {
     counted_table::<E, Brand>(alloc, Blank::new(1), generators, bound)
@@ -92,7 +96,8 @@ impl Closure {
     /// the bound. Only want of memory refuses it.
     pub fn of(alloc: Global, problem: &Problem, bound: usize) -> Result<Option<Closure>, NoMemory>
         requires { is_presented problem.now ≡ false }
-        ensures { IfOk result (λ found. (budgets : Budgets) → budgets.elements ≡ bound → MatchOption found
+        ensures { IfOk result (λ found. (budgets : Budgets) → budgets.elements ≡ bound
+            → MatchOption found
             (IsUndecided problem.now budgets)
             (λ closure. IsDecided problem.now budgets × IsClosureOf problem.now closure)) }
     {
@@ -159,7 +164,8 @@ impl Closure {
 
     /// The reduced rules, in short-lex order of their left sides. Only want of memory refuses it.
     pub fn rules(&self) -> Result<Vec<(Word, Word)>, NoMemory>
-        ensures { IfOk result (λ rules. (p : Problem) → IsClosureOf p self.now → IsRuleList (SameClassOf p) rules.items) }
+        ensures { IfOk result (λ rules. (p : Problem) → IsClosureOf p self.now
+            → IsRuleList (SameClassOf p) rules.items) }
     {
         with_table!(self, table => table.rules())
     }

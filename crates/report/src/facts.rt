@@ -8,6 +8,8 @@ ghost use Rattle.report.specs.Answer.{IsAnswer};
 /// A query has one answer: the problem, the budgets and the bound determine its lines, and whether it
 /// is left undecided.
 pub fn answer_is_one()
-    ensures { (p : Problem) (budgets : Budgets) (bound : ℕ) (query : Query) (lines others : List (List ℕ)) (undecided other : Bool)
-        → IsAnswer p budgets bound query lines undecided → IsAnswer p budgets bound query others other → (lines ≡ others) × (undecided ≡ other) }
+    ensures { (p : Problem) (budgets : Budgets) (bound : ℕ) (query : Query)
+        (lines others : List (List ℕ)) (undecided other : Bool)
+        → IsAnswer p budgets bound query lines undecided
+        → IsAnswer p budgets bound query others other → (lines ≡ others) × (undecided ≡ other) }
 {}

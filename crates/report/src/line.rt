@@ -61,9 +61,12 @@ impl Line {
     /// Ends the line with a line feed, and writes it. `Failed` comes only where the sink failed; after
     /// a refusal the sink has gained a prefix of the line.
     pub fn write<O: Sink>(mut self, sink: &mut O) -> Result<(), WriteFault>
-        ensures all { OnOk result (TakesAll (O.taken sink.old) (O.taken sink.new) (self ++ codes "\n")) }
-        ensures prefix { OnErr result (TakesPrefix (O.taken sink.old) (O.taken sink.new) (self ++ codes "\n")) }
-        ensures failed { IsErrOf result WriteFault.Failed → Rose (O.faults sink.old) (O.faults sink.new) }
+        ensures all { OnOk result (TakesAll (O.taken sink.old) (O.taken sink.new)
+            (self ++ codes "\n")) }
+        ensures prefix { OnErr result (TakesPrefix (O.taken sink.old) (O.taken sink.new)
+            (self ++ codes "\n")) }
+        ensures failed { IsErrOf result WriteFault.Failed
+            → Rose (O.faults sink.old) (O.faults sink.new) }
         ensures kept { O.faults sink.old ≤ O.faults sink.new }
         ensures quiet { OnOk result (O.faults sink.new ≡ O.faults sink.old) }
     {

@@ -64,9 +64,14 @@ fn write_words<O: Sink>(
 ) -> Result<(), WriteFault>
     requires closure { IsClosureOf problem.now closure.now }
     requires within { (start ≤ end) × (end ≤ count_in closure.now) }
-    ensures written { OnOk result (TakesAll (O.taken sink.old) (O.taken sink.new) (flat_map (word_line (letters_of problem.now)) (take (end - start) (drop start (words_of closure.now))))) }
-    ensures part { OnErr result (TakesPrefix (O.taken sink.old) (O.taken sink.new) (flat_map (word_line (letters_of problem.now)) (take (end - start) (drop start (words_of closure.now))))) }
-    ensures failed { IsErrOf result WriteFault.Failed → Rose (O.faults sink.old) (O.faults sink.new) }
+    ensures written { OnOk result (TakesAll (O.taken sink.old) (O.taken sink.new)
+        (flat_map (word_line (letters_of problem.now))
+        (take (end - start) (drop start (words_of closure.now))))) }
+    ensures part { OnErr result (TakesPrefix (O.taken sink.old) (O.taken sink.new)
+        (flat_map (word_line (letters_of problem.now))
+        (take (end - start) (drop start (words_of closure.now))))) }
+    ensures failed { IsErrOf result WriteFault.Failed
+        → Rose (O.faults sink.old) (O.faults sink.new) }
     ensures kept { O.faults sink.old ≤ O.faults sink.new }
     ensures quiet { OnOk result (O.faults sink.new ≡ O.faults sink.old) }
 {
@@ -85,9 +90,12 @@ pub fn write_word<O: Sink>(
     sink: &mut O,
 ) -> Result<(), WriteFault>
     requires { IsOver (length alphabet.now) word.now }
-    ensures written { OnOk result (TakesAll (O.taken sink.old) (O.taken sink.new) (word_line alphabet.now word.now)) }
-    ensures part { OnErr result (TakesPrefix (O.taken sink.old) (O.taken sink.new) (word_line alphabet.now word.now)) }
-    ensures failed { IsErrOf result WriteFault.Failed → Rose (O.faults sink.old) (O.faults sink.new) }
+    ensures written { OnOk result (TakesAll (O.taken sink.old) (O.taken sink.new)
+        (word_line alphabet.now word.now)) }
+    ensures part { OnErr result (TakesPrefix (O.taken sink.old) (O.taken sink.new)
+        (word_line alphabet.now word.now)) }
+    ensures failed { IsErrOf result WriteFault.Failed
+        → Rose (O.faults sink.old) (O.faults sink.new) }
     ensures kept { O.faults sink.old ≤ O.faults sink.new }
     ensures quiet { OnOk result (O.faults sink.new ≡ O.faults sink.old) }
 {
@@ -99,8 +107,10 @@ pub fn write_word<O: Sink>(
 /// Writes the line that ends a listing.
 pub fn write_end<O: Sink>(more: bool, sink: &mut O) -> Result<(), WriteFault>
     ensures written { OnOk result (TakesAll (O.taken sink.old) (O.taken sink.new) (end_line more)) }
-    ensures part { OnErr result (TakesPrefix (O.taken sink.old) (O.taken sink.new) (end_line more)) }
-    ensures failed { IsErrOf result WriteFault.Failed → Rose (O.faults sink.old) (O.faults sink.new) }
+    ensures part { OnErr result (TakesPrefix (O.taken sink.old) (O.taken sink.new)
+        (end_line more)) }
+    ensures failed { IsErrOf result WriteFault.Failed
+        → Rose (O.faults sink.old) (O.faults sink.new) }
     ensures kept { O.faults sink.old ≤ O.faults sink.new }
     ensures quiet { OnOk result (O.faults sink.new ≡ O.faults sink.old) }
 {
@@ -122,9 +132,16 @@ pub fn write_page<O: Sink>(
 ) -> Result<(), WriteFault>
     requires closure { IsClosureOf problem.now closure.now }
     requires within { start ≤ count_in closure.now }
-    ensures written { OnOk result (TakesAll (O.taken sink.old) (O.taken sink.new) (bytes_of (map (word_line (letters_of problem.now)) (take count (drop start (words_of closure.now))) ++ end_line (nat_lt count (length (drop start (words_of closure.now)))) ∷ []))) }
-    ensures part { OnErr result (TakesPrefix (O.taken sink.old) (O.taken sink.new) (bytes_of (map (word_line (letters_of problem.now)) (take count (drop start (words_of closure.now))) ++ end_line (nat_lt count (length (drop start (words_of closure.now)))) ∷ []))) }
-    ensures failed { IsErrOf result WriteFault.Failed → Rose (O.faults sink.old) (O.faults sink.new) }
+    ensures written { OnOk result (TakesAll (O.taken sink.old) (O.taken sink.new)
+        (bytes_of (map (word_line (letters_of problem.now))
+        (take count (drop start (words_of closure.now)))
+        ++ end_line (nat_lt count (length (drop start (words_of closure.now)))) ∷ []))) }
+    ensures part { OnErr result (TakesPrefix (O.taken sink.old) (O.taken sink.new)
+        (bytes_of (map (word_line (letters_of problem.now))
+        (take count (drop start (words_of closure.now)))
+        ++ end_line (nat_lt count (length (drop start (words_of closure.now)))) ∷ []))) }
+    ensures failed { IsErrOf result WriteFault.Failed
+        → Rose (O.faults sink.old) (O.faults sink.new) }
     ensures kept { O.faults sink.old ≤ O.faults sink.new }
     ensures quiet { OnOk result (O.faults sink.new ≡ O.faults sink.old) }
 {
@@ -149,9 +166,12 @@ fn write_rule<O: Sink>(
 ) -> Result<(), WriteFault>
     requires left { IsOver (length alphabet.now) rule.now.0 }
     requires right { IsOver (length alphabet.now) rule.now.1 }
-    ensures written { OnOk result (TakesAll (O.taken sink.old) (O.taken sink.new) (rule_line alphabet.now rule.now)) }
-    ensures part { OnErr result (TakesPrefix (O.taken sink.old) (O.taken sink.new) (rule_line alphabet.now rule.now)) }
-    ensures failed { IsErrOf result WriteFault.Failed → Rose (O.faults sink.old) (O.faults sink.new) }
+    ensures written { OnOk result (TakesAll (O.taken sink.old) (O.taken sink.new)
+        (rule_line alphabet.now rule.now)) }
+    ensures part { OnErr result (TakesPrefix (O.taken sink.old) (O.taken sink.new)
+        (rule_line alphabet.now rule.now)) }
+    ensures failed { IsErrOf result WriteFault.Failed
+        → Rose (O.faults sink.old) (O.faults sink.new) }
     ensures kept { O.faults sink.old ≤ O.faults sink.new }
     ensures quiet { OnOk result (O.faults sink.new ≡ O.faults sink.old) }
 {
@@ -169,10 +189,14 @@ pub fn write_rules<O: Sink>(
     rules: &Vec<(Word, Word)>,
     sink: &mut O,
 ) -> Result<(), WriteFault>
-    requires { All (λ rule. IsOver (length alphabet.now) rule.0 × IsOver (length alphabet.now) rule.1) rules.now.items }
-    ensures written { OnOk result (TakesAll (O.taken sink.old) (O.taken sink.new) (bytes_of (map (rule_line alphabet.now) rules.now.items ++ end_line false ∷ []))) }
-    ensures part { OnErr result (TakesPrefix (O.taken sink.old) (O.taken sink.new) (bytes_of (map (rule_line alphabet.now) rules.now.items ++ end_line false ∷ []))) }
-    ensures failed { IsErrOf result WriteFault.Failed → Rose (O.faults sink.old) (O.faults sink.new) }
+    requires { All (λ rule. IsOver (length alphabet.now) rule.0
+        × IsOver (length alphabet.now) rule.1) rules.now.items }
+    ensures written { OnOk result (TakesAll (O.taken sink.old) (O.taken sink.new)
+        (bytes_of (map (rule_line alphabet.now) rules.now.items ++ end_line false ∷ []))) }
+    ensures part { OnErr result (TakesPrefix (O.taken sink.old) (O.taken sink.new)
+        (bytes_of (map (rule_line alphabet.now) rules.now.items ++ end_line false ∷ []))) }
+    ensures failed { IsErrOf result WriteFault.Failed
+        → Rose (O.faults sink.old) (O.faults sink.new) }
     ensures kept { O.faults sink.old ≤ O.faults sink.new }
     ensures quiet { OnOk result (O.faults sink.new ≡ O.faults sink.old) }
 {

@@ -12,9 +12,12 @@ use words::{Alphabet, Word};
 
 /// Writes how many classes there are.
 pub fn write_count<O: Sink>(alloc: Global, count: usize, sink: &mut O) -> Result<(), WriteFault>
-    ensures written { OnOk result (TakesAll (O.taken sink.old) (O.taken sink.new) (count_line count)) }
-    ensures part { OnErr result (TakesPrefix (O.taken sink.old) (O.taken sink.new) (count_line count)) }
-    ensures failed { IsErrOf result WriteFault.Failed → Rose (O.faults sink.old) (O.faults sink.new) }
+    ensures written { OnOk result (TakesAll (O.taken sink.old) (O.taken sink.new)
+        (count_line count)) }
+    ensures part { OnErr result (TakesPrefix (O.taken sink.old) (O.taken sink.new)
+        (count_line count)) }
+    ensures failed { IsErrOf result WriteFault.Failed
+        → Rose (O.faults sink.old) (O.faults sink.new) }
     ensures kept { O.faults sink.old ≤ O.faults sink.new }
     ensures quiet { OnOk result (O.faults sink.new ≡ O.faults sink.old) }
 {
@@ -25,9 +28,12 @@ pub fn write_count<O: Sink>(alloc: Global, count: usize, sink: &mut O) -> Result
 
 /// Writes that there are more classes than the bound.
 pub fn write_over<O: Sink>(alloc: Global, bound: usize, sink: &mut O) -> Result<(), WriteFault>
-    ensures written { OnOk result (TakesAll (O.taken sink.old) (O.taken sink.new) (over_line bound)) }
-    ensures part { OnErr result (TakesPrefix (O.taken sink.old) (O.taken sink.new) (over_line bound)) }
-    ensures failed { IsErrOf result WriteFault.Failed → Rose (O.faults sink.old) (O.faults sink.new) }
+    ensures written { OnOk result (TakesAll (O.taken sink.old) (O.taken sink.new)
+        (over_line bound)) }
+    ensures part { OnErr result (TakesPrefix (O.taken sink.old) (O.taken sink.new)
+        (over_line bound)) }
+    ensures failed { IsErrOf result WriteFault.Failed
+        → Rose (O.faults sink.old) (O.faults sink.new) }
     ensures kept { O.faults sink.old ≤ O.faults sink.new }
     ensures quiet { OnOk result (O.faults sink.new ≡ O.faults sink.old) }
 {
@@ -40,7 +46,8 @@ pub fn write_over<O: Sink>(alloc: Global, bound: usize, sink: &mut O) -> Result<
 pub fn write_infinite<O: Sink>(sink: &mut O) -> Result<(), WriteFault>
     ensures written { OnOk result (TakesAll (O.taken sink.old) (O.taken sink.new) infinite_line) }
     ensures part { OnErr result (TakesPrefix (O.taken sink.old) (O.taken sink.new) infinite_line) }
-    ensures failed { IsErrOf result WriteFault.Failed → Rose (O.faults sink.old) (O.faults sink.new) }
+    ensures failed { IsErrOf result WriteFault.Failed
+        → Rose (O.faults sink.old) (O.faults sink.new) }
     ensures kept { O.faults sink.old ≤ O.faults sink.new }
     ensures quiet { OnOk result (O.faults sink.new ≡ O.faults sink.old) }
 {
@@ -49,9 +56,12 @@ pub fn write_infinite<O: Sink>(sink: &mut O) -> Result<(), WriteFault>
 
 /// Writes whether two words are related.
 pub fn write_equal<O: Sink>(same: bool, sink: &mut O) -> Result<(), WriteFault>
-    ensures written { OnOk result (TakesAll (O.taken sink.old) (O.taken sink.new) (equal_line same)) }
-    ensures part { OnErr result (TakesPrefix (O.taken sink.old) (O.taken sink.new) (equal_line same)) }
-    ensures failed { IsErrOf result WriteFault.Failed → Rose (O.faults sink.old) (O.faults sink.new) }
+    ensures written { OnOk result (TakesAll (O.taken sink.old) (O.taken sink.new)
+        (equal_line same)) }
+    ensures part { OnErr result (TakesPrefix (O.taken sink.old) (O.taken sink.new)
+        (equal_line same)) }
+    ensures failed { IsErrOf result WriteFault.Failed
+        → Rose (O.faults sink.old) (O.faults sink.new) }
     ensures kept { O.faults sink.old ≤ O.faults sink.new }
     ensures quiet { OnOk result (O.faults sink.new ≡ O.faults sink.old) }
 {
@@ -70,9 +80,12 @@ pub fn write_normal_form<O: Sink>(
     sink: &mut O,
 ) -> Result<(), WriteFault>
     requires { IsOver (length alphabet.now) normal.now }
-    ensures written { OnOk result (TakesAll (O.taken sink.old) (O.taken sink.new) (normal_line alphabet.now normal.now)) }
-    ensures part { OnErr result (TakesPrefix (O.taken sink.old) (O.taken sink.new) (normal_line alphabet.now normal.now)) }
-    ensures failed { IsErrOf result WriteFault.Failed → Rose (O.faults sink.old) (O.faults sink.new) }
+    ensures written { OnOk result (TakesAll (O.taken sink.old) (O.taken sink.new)
+        (normal_line alphabet.now normal.now)) }
+    ensures part { OnErr result (TakesPrefix (O.taken sink.old) (O.taken sink.new)
+        (normal_line alphabet.now normal.now)) }
+    ensures failed { IsErrOf result WriteFault.Failed
+        → Rose (O.faults sink.old) (O.faults sink.new) }
     ensures kept { O.faults sink.old ≤ O.faults sink.new }
     ensures quiet { OnOk result (O.faults sink.new ≡ O.faults sink.old) }
 {

@@ -5,7 +5,7 @@ ghost use Rattle.report.specs.Kept.{IsVerdictOf, KeepsSettings};
 
 use super::closure::Closure;
 use congruence::{Solved, Verdict as Outcome, solve};
-use ports::NoMemory;
+use ports::{Gate, NoMemory};
 use problem::{Budgets, Problem};
 use std::alloc::Global;
 use std::thread::Threads;
@@ -48,11 +48,12 @@ impl State {
     }
 
     // Finds out about the problem, where that was not done yet.
-    pub(crate) fn decide<R: Threads + Sync>(
+    pub(crate) fn decide<R: Threads + Sync, G: Gate + Sync>(
         &mut self,
         rt: &R,
         alloc: Global,
         problem: &Problem,
+        gate: &G,
     ) -> Result<(), NoMemory>
         requires posable { IsPosable problem.now }
         requires workers { 0 < self.old.workers }
@@ -62,7 +63,7 @@ impl State {
         ensures found { OnOk result (MatchOption self.new.verdict ⊥ (λ _. Unit {0})) }
     {
         if self.verdict.is_none() {
-            let verdict = verdict_of(rt, alloc, problem, self.budgets, self.workers)?;
+            let verdict = verdict_of(rt, alloc, problem, self.budgets, self.workers, gate)?;
             self.verdict = Some(verdict);
         }
         Ok(())
@@ -70,7 +71,8 @@ impl State {
 
     // What was found of the problem, if it was looked for.
     pub(crate) fn verdict(&self) -> Option<&Verdict>
-        ensures { MatchOption result (self.now.verdict ≡ None) (λ verdict. self.now.verdict ≡ Some verdict.now) }
+        ensures { MatchOption result (self.now.verdict ≡ None)
+            (λ verdict. self.now.verdict ≡ Some verdict.now) }
     {
         self.verdict.as_ref()
     }
@@ -83,39 +85,41 @@ impl State {
     }
 }
 
-// What is found of a problem within the budgets, by a number of workers.
-fn verdict_of<R: Threads + Sync>(
+// What is found of a problem within the budgets, by a number of workers, each turn behind the gate.
+fn verdict_of<R: Threads + Sync, G: Gate + Sync>(
     rt: &R,
     alloc: Global,
     problem: &Problem,
     budgets: Budgets,
     workers: usize,
+    gate: &G,
 ) -> Result<Verdict, NoMemory>
     requires posable { IsPosable problem.now }
     requires workers { 0 < workers }
     ensures { IfOk result (IsVerdictOf problem.now budgets) }
 {
     if problem.is_presented() {
-        solved_of(rt, alloc, problem, budgets, workers)
+        solved_of(rt, alloc, problem, budgets, workers, gate)
     } else {
         known_of(alloc, problem, budgets)
     }
 }
 
 // What is found of a problem by relations.
-fn solved_of<R: Threads + Sync>(
+fn solved_of<R: Threads + Sync, G: Gate + Sync>(
     rt: &R,
     alloc: Global,
     problem: &Problem,
     budgets: Budgets,
     workers: usize,
+    gate: &G,
 ) -> Result<Verdict, NoMemory>
     requires presented { is_presented problem.now ≡ true }
     requires posable { IsPosable problem.now }
     requires workers { 0 < workers }
     ensures { IfOk result (IsVerdictOf problem.now budgets) }
 {
-    match solve(rt, alloc, problem, &budgets, workers)? {
+    match solve(rt, alloc, problem, &budgets, workers, gate)? {
         Outcome::Known(solved) => Ok(Verdict::Solved(solved)),
         Outcome::Undecided(_) => Ok(Verdict::Undecided),
     }

@@ -1,6 +1,6 @@
 // Answers, as a sink takes them.
 use super::*;
-use ports::MemSink;
+use ports::{MemSink, Open};
 use problem::Budgets;
 use query_lang::read_script;
 use std::test::Fail;
@@ -27,7 +27,7 @@ fn answer<R: Threads + Sync + AllocGlobal>(
     );
     let mut sink = MemSink::new(alloc, 3, Vec::new(alloc));
     let answered = match script.queries() {
-        [query] => Some(write_answer(rt, alloc, &script, query, &mut state, &mut sink)?),
+        [query] => Some(write_answer(rt, alloc, &script, query, &mut state, &mut sink, &Open)?),
         _ => None,
     };
     Ok((answered, sink.taken().to_vec(alloc)?))

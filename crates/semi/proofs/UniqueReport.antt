@@ -7,6 +7,7 @@ use Rattle.problem.specs.declared.kinds.Problem.{Problem}
 use Rattle.query_lang.specs.declared.cause.Cause.{Cause}
 use Rattle.query_lang.specs.declared.script.Query.{Query}
 use Rattle.query_lang.specs.Script.{ScriptOf}
+use Rattle.report.specs.Answer.{IsAnswer}
 use Rattle.report.proofs.GainLemmas.{prefix_more}
 use Rattle.report.proofs.UniqueAnswer as unique
 use Rattle.settings.specs.declared.Settings.{Settings}
@@ -38,11 +39,25 @@ module _ (settings : Settings) (problem : Problem) where
 same_script : (p q : ScriptOf) → ◌≡◌ {A = Result ScriptOf (ℕ × Cause)} (Ok p) (Ok q) → p ≡ q
 same_script p q e = cc
 
-pub one_report : (settings : Settings) (input r s : List ℕ) (u v : Bool) → IsReport settings input r u → IsReport settings input s v → (r ≡ s) × (u ≡ v)
-one_report settings input r s u v p q =
+-- settings with the same budgets and bound have the same answers
+same_answers : (s t : Settings) (problem : Problem) (queries : List Query) (answers : List Answer) → budgets_of s ≡ budgets_of t → s.classes ≡ t.classes
+    → AreAnswers t problem queries answers → AreAnswers s problem queries answers
+same_answers s t problem [] [] budgets classes e = tt
+same_answers s t problem [] (a ∷ answers) budgets classes e = absurd e
+same_answers s t problem (q ∷ queries) [] budgets classes e = absurd e
+same_answers s t problem (q ∷ queries) (a ∷ answers) budgets classes e =
+    let bound = subst (λ n. IsAnswer problem (budgets_of t) n q a.lines a.undecided) (sym classes) e.0 in (
+      subst (λ b. IsAnswer problem b s.classes q a.lines a.undecided) (sym budgets) bound,
+      same_answers s t problem queries answers budgets classes e.1,
+    )
+
+pub one_report : (settings others : Settings) (input r s : List ℕ) (u v : Bool) → budgets_of settings ≡ budgets_of others → settings.classes ≡ others.classes
+    → IsReport settings input r u → IsReport others input s v → (r ≡ s) × (u ≡ v)
+one_report settings others input r s u v budgets classes p q =
+    let answered = same_answers settings others q.script.problem q.script.queries q.are_lines.answers budgets classes q.are_lines.correct in
     let scripts : p.script ≡ q.script = same_script p.script q.script (sym p.is_script.reads ∙ q.is_script.reads) in
     let correct : AreAnswers settings q.script.problem q.script.queries p.are_lines.answers = subst (λ t. AreAnswers settings t.problem t.queries p.are_lines.answers) scripts p.are_lines.correct in
-    let same = one_list settings q.script.problem q.script.queries p.are_lines.answers q.are_lines.answers correct q.are_lines.correct in (
+    let same = one_list settings q.script.problem q.script.queries p.are_lines.answers q.are_lines.answers correct answered in (
       p.are_lines.lines ∙ ap (flat_map lines_of) same ∙ sym q.are_lines.lines,
       p.are_lines.status ∙ ap (list_any is_undecided) same ∙ sym q.are_lines.status,
     )

@@ -32,24 +32,32 @@ is_undecided a = a.undecided
 
 -- what may be used up on a problem under these settings
 abbrev pub budgets_of : Settings → Budgets
-budgets_of settings = record { defs = settings.defs; rows = settings.rows; length = settings.length; elements = settings.elements }
+budgets_of settings = record {
+  defs = settings.defs;
+  rows = settings.rows;
+  length = settings.length;
+  elements = settings.elements;
+}
 
 -- the answer of a query
 abbrev pub IsAnswerOf : Settings → Problem → Query → Answer → Type 0
-IsAnswerOf settings problem query a = IsAnswer problem (budgets_of settings) settings.classes query a.lines a.undecided
+IsAnswerOf settings problem query a =
+    IsAnswer problem (budgets_of settings) settings.classes query a.lines a.undecided
 
 -- the answers of the queries, one by one
 abbrev pub AreAnswers : Settings → Problem → List Query → List Answer → Type 0
 AreAnswers settings problem [] [] = Unit {0}
 AreAnswers settings problem [] (a ∷ answers) = ⊥
 AreAnswers settings problem (q ∷ queries) [] = ⊥
-AreAnswers settings problem (q ∷ queries) (a ∷ answers) = IsAnswerOf settings problem q a × AreAnswers settings problem queries answers
+AreAnswers settings problem (q ∷ queries) (a ∷ answers) =
+    IsAnswerOf settings problem q a × AreAnswers settings problem queries answers
 
 -- the answers of the first queries
 abbrev pub AreFirstAnswers : Settings → Problem → List Query → List Answer → Type 0
 AreFirstAnswers settings problem queries [] = Unit {0}
 AreFirstAnswers settings problem [] (a ∷ answers) = ⊥
-AreFirstAnswers settings problem (q ∷ queries) (a ∷ answers) = IsAnswerOf settings problem q a × AreFirstAnswers settings problem queries answers
+AreFirstAnswers settings problem (q ∷ queries) (a ∷ answers) =
+    IsAnswerOf settings problem q a × AreFirstAnswers settings problem queries answers
 
 -- the input is this script
 pub record IsScript (input : List ℕ) (script : ScriptOf) : Type 0 where
@@ -59,7 +67,8 @@ pub record IsScript (input : List ℕ) (script : ScriptOf) : Type 0 where
 -- the input is refused for this fault: it is too long, or else this is its first fault
 abbrev pub IsRefusal : List ℕ → Fault → Type 0
 IsRefusal input TooLong = most_bytes < length input
-IsRefusal input (Script line cause) = (length input ≤ most_bytes) × IsScriptFault (script_of input) (Bad line cause)
+IsRefusal input (Script line cause) =
+    (length input ≤ most_bytes) × IsScriptFault (script_of input) (Bad line cause)
 IsRefusal input Arguments = ⊥
 IsRefusal input Read = ⊥
 IsRefusal input Write = ⊥
@@ -70,7 +79,8 @@ abbrev pub IsRefused : List ℕ → Type 0
 IsRefused input = (fault : Fault) × IsRefusal input fault
 
 -- the lines of the answers of these queries, in order, and whether an answer is undecided
-pub record AreLines (settings : Settings) (problem : Problem) (queries : List Query) (report : List ℕ) (undecided : Bool) : Type 0 where
+pub record AreLines (settings : Settings) (problem : Problem) (queries : List Query)
+    (report : List ℕ) (undecided : Bool) : Type 0 where
   pub answers : List Answer
   pub correct : AreAnswers settings problem queries answers
   pub lines : report ≡ flat_map lines_of answers
@@ -83,25 +93,29 @@ pub record IsReport (settings : Settings) (input report : List ℕ) (undecided :
   pub are_lines : AreLines settings script.problem script.queries report undecided
 
 -- the sink gained the lines of these queries
-pub record GainsLines (settings : Settings) (problem : Problem) (queries : List Query) (undecided : Bool) (old new : Option (List ℕ)) : Type 0 where
+pub record GainsLines (settings : Settings) (problem : Problem) (queries : List Query)
+    (undecided : Bool) (old new : Option (List ℕ)) : Type 0 where
   pub report : List ℕ
   pub are_lines : AreLines settings problem queries report undecided
   pub gained : TakesAll old new report
 
 -- the sink gained the report of the input
-pub record GainsReport (settings : Settings) (input : List ℕ) (undecided : Bool) (old new : Option (List ℕ)) : Type 0 where
+pub record GainsReport (settings : Settings) (input : List ℕ) (undecided : Bool)
+    (old new : Option (List ℕ)) : Type 0 where
   pub report : List ℕ
   pub is_report : IsReport settings input report undecided
   pub gained : TakesAll old new report
 
 -- the sink gained a prefix of the lines of the first of these queries
-pub record GainsPart (settings : Settings) (problem : Problem) (queries : List Query) (old new : Option (List ℕ)) : Type 0 where
+pub record GainsPart (settings : Settings) (problem : Problem) (queries : List Query)
+    (old new : Option (List ℕ)) : Type 0 where
   pub answers : List Answer
   pub correct : AreFirstAnswers settings problem queries answers
   pub gained : TakesPrefix old new (flat_map lines_of answers)
 
 -- the sink gained a beginning of the report of the input
-pub record GainsBeginning (settings : Settings) (input : List ℕ) (old new : Option (List ℕ)) : Type 0 where
+pub record GainsBeginning (settings : Settings) (input : List ℕ)
+    (old new : Option (List ℕ)) : Type 0 where
   pub script : ScriptOf
   pub is_script : IsScript input script
   pub part : GainsPart settings script.problem script.queries old new
@@ -110,11 +124,12 @@ pub record GainsBeginning (settings : Settings) (input : List ℕ) (old new : Op
 pub record IsStateOf (settings : Settings) (problem : Problem) (state : State) : Type 0 where
   pub budgets : state.budgets ≡ budgets_of settings
   pub classes : state.classes ≡ settings.classes
-  pub workers : 0 < state.workers
+  pub workers : state.workers ≡ settings.workers
   pub verdict : IfSome state.verdict (IsVerdictOf problem state.budgets)
 
 -- the sink gained this line, or a prefix of it where one of its two counts rose
-pub record GainsLine (line : List ℕ) (old new : Option (List ℕ)) (faults faults' refusals refusals' : ℕ) : Type 0 where
+pub record GainsLine (line : List ℕ) (old new : Option (List ℕ))
+    (faults faults' refusals refusals' : ℕ) : Type 0 where
   pub whole : (Rose faults faults' → ⊥) → (Rose refusals refusals' → ⊥) → TakesAll old new line
   pub prefix : TakesPrefix old new line
 

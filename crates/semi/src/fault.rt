@@ -106,10 +106,14 @@ impl Fault {
     // Writes what the fault says. It asks for no memory.
     fn write_text<E: Sink>(self, err: &mut E) -> Result<(), WriteFault>
         ensures all { OnOk result (TakesAll (E.taken err.old) (E.taken err.new) (text_of self)) }
-        ensures prefix { OnErr result (TakesPrefix (E.taken err.old) (E.taken err.new) (text_of self)) }
-        ensures quiet { OnOk result ((E.faults err.new ≡ E.faults err.old) × (E.refusals err.new ≡ E.refusals err.old)) }
-        ensures failed { IsErrOf result WriteFault.Failed → Rose (E.faults err.old) (E.faults err.new) }
-        ensures refused { IsErrOf result WriteFault.NoMemory → Rose (E.refusals err.old) (E.refusals err.new) }
+        ensures prefix { OnErr result (TakesPrefix (E.taken err.old) (E.taken err.new)
+            (text_of self)) }
+        ensures quiet { OnOk result ((E.faults err.new ≡ E.faults err.old)
+            × (E.refusals err.new ≡ E.refusals err.old)) }
+        ensures failed { IsErrOf result WriteFault.Failed
+            → Rose (E.faults err.old) (E.faults err.new) }
+        ensures refused { IsErrOf result WriteFault.NoMemory
+            → Rose (E.refusals err.old) (E.refusals err.new) }
     {
         match self {
             Fault::TooLong => write_all(err, b"script too long"),
@@ -123,10 +127,14 @@ impl Fault {
 
     // Writes the line of the fault, with the program's name and the line feed.
     fn write_line<E: Sink>(self, err: &mut E) -> Result<(), WriteFault>
-        ensures all { OnOk result (TakesAll (E.taken err.old) (E.taken err.new) (line_of_fault self)) }
-        ensures prefix { OnErr result (TakesPrefix (E.taken err.old) (E.taken err.new) (line_of_fault self)) }
-        ensures failed { IsErrOf result WriteFault.Failed → Rose (E.faults err.old) (E.faults err.new) }
-        ensures refused { IsErrOf result WriteFault.NoMemory → Rose (E.refusals err.old) (E.refusals err.new) }
+        ensures all { OnOk result (TakesAll (E.taken err.old) (E.taken err.new)
+            (line_of_fault self)) }
+        ensures prefix { OnErr result (TakesPrefix (E.taken err.old) (E.taken err.new)
+            (line_of_fault self)) }
+        ensures failed { IsErrOf result WriteFault.Failed
+            → Rose (E.faults err.old) (E.faults err.new) }
+        ensures refused { IsErrOf result WriteFault.NoMemory
+            → Rose (E.refusals err.old) (E.refusals err.new) }
     {
         write_all(err, b"semi: ")?;
         self.write_text(err)?;
@@ -137,7 +145,8 @@ impl Fault {
     /// changes no status.
     pub fn tell<E: Sink>(self, err: &mut E) -> u8
         ensures status { result ≡ status_of self }
-        ensures told { GainsLineOf self (E.taken err.old) (E.taken err.new) (E.faults err.old) (E.faults err.new) (E.refusals err.old) (E.refusals err.new) }
+        ensures told { GainsLineOf self (E.taken err.old) (E.taken err.new) (E.faults err.old)
+            (E.faults err.new) (E.refusals err.old) (E.refusals err.new) }
     {
         let _ = self.write_line(err);
         self.status()
@@ -146,11 +155,15 @@ impl Fault {
 
 // Writes the number of a line and the text of its cause.
 fn write_place<E: Sink>(err: &mut E, line: usize, cause: u8) -> Result<(), WriteFault>
-    ensures all { OnOk result (TakesAll (E.taken err.old) (E.taken err.new) (text_of (fault.Script line cause))) }
-    ensures prefix { OnErr result (TakesPrefix (E.taken err.old) (E.taken err.new) (text_of (fault.Script line cause))) }
-    ensures quiet { OnOk result ((E.faults err.new ≡ E.faults err.old) × (E.refusals err.new ≡ E.refusals err.old)) }
+    ensures all { OnOk result (TakesAll (E.taken err.old) (E.taken err.new)
+        (text_of (fault.Script line cause))) }
+    ensures prefix { OnErr result (TakesPrefix (E.taken err.old) (E.taken err.new)
+        (text_of (fault.Script line cause))) }
+    ensures quiet { OnOk result ((E.faults err.new ≡ E.faults err.old)
+        × (E.refusals err.new ≡ E.refusals err.old)) }
     ensures failed { IsErrOf result WriteFault.Failed → Rose (E.faults err.old) (E.faults err.new) }
-    ensures refused { IsErrOf result WriteFault.NoMemory → Rose (E.refusals err.old) (E.refusals err.new) }
+    ensures refused { IsErrOf result WriteFault.NoMemory
+        → Rose (E.refusals err.old) (E.refusals err.new) }
 {
     let mut buffer = Buffer::new();
     write_all(err, b"line ")?;

@@ -9,9 +9,12 @@ mod fault;
 mod tests;
 mod top;
 mod whole;
+#[cfg(test)]
+mod worker_tests;
 
 use adapters::{InputSource, OutputSink};
 use fault::Fault;
+use ports::Open;
 use std::env;
 use std::io::ErrorKind;
 use std::process::ExitCode;
@@ -32,7 +35,15 @@ fn main(rt: HostRuntime) -> ExitCode {
     let mut out = OutputSink::new(rt.stdout());
     let mut err = OutputSink::new(rt.stderr());
     let status = match arguments(&rt) {
-        Ok(words) => semi(&rt, rt.alloc(), &words, &mut source, &mut out, &mut err),
+        Ok(words) => semi(
+            &rt,
+            rt.alloc(),
+            &words,
+            &mut source,
+            &mut out,
+            &mut err,
+            &Open,
+        ),
         Err(fault) => fault.tell(&mut err),
     };
     ExitCode::from(status)

@@ -2,7 +2,7 @@ ghost use Rattle.std.specs.Prelude.{◌≡◌, IfOk};
 
 use super::adapters::{InputSource, OutputSink};
 use super::top::semi;
-use ports::{Failed, MemSink, MemSource, Sink, Source, WriteFault};
+use ports::{Failed, Gate, MemSink, MemSource, Open, Sink, Source, WriteFault};
 use std::alloc::Global;
 use std::io;
 use std::io::{ErrorKind, Read, Write};
@@ -14,32 +14,43 @@ const MAPS: &str = "trans 3\na = 1 0 2\nb = 1 2 0\nc = 0 0 2\nindex\nindex\n";
 
 // What a run came to.
 #[derive(Drop)]
-struct Outcome {
-    status: u8,
-    out: Vec<u8>,
-    err: Vec<u8>,
+pub(crate) struct Outcome {
+    pub(crate) status: u8,
+    pub(crate) out: Vec<u8>,
+    pub(crate) err: Vec<u8>,
 }
 
 // The calls of the outside that fail, each by its number from 1; 0 for none.
 #[derive(Clone, Copy)]
-struct Failing {
+pub(crate) struct Failing {
     read: u64,
     write: u64,
     tell: u64,
 }
 
-const NONE: Failing = Failing {
+pub(crate) const NONE: Failing = Failing {
     read: 0,
     write: 0,
     tell: 0,
 };
 
-// A run on a script that is read in pieces of 8 bytes and written in pieces of 5.
+// A run with no gate.
 fn run<R: Threads + Sync + AllocGlobal>(
     rt: &R,
     words: &[&str],
     script: &[u8],
     failing: Failing,
+) -> Result<Outcome, Fail> {
+    run_at(rt, words, script, failing, &Open)
+}
+
+// A run on a script that is read in pieces of 8 bytes and written in pieces of 5.
+pub(crate) fn run_at<R: Threads + Sync + AllocGlobal, G: Gate + Sync>(
+    rt: &R,
+    words: &[&str],
+    script: &[u8],
+    failing: Failing,
+    gate: &G,
 ) -> Result<Outcome, Fail> {
     let alloc = rt.alloc();
     let mut line = Vec::new(alloc);
@@ -49,7 +60,7 @@ fn run<R: Threads + Sync + AllocGlobal>(
     let mut source = MemSource::new(script.to_vec(alloc)?, 8, vec![in alloc; failing.read]?);
     let mut out = MemSink::new(alloc, 5, vec![in alloc; failing.write]?);
     let mut err = MemSink::new(alloc, 5, vec![in alloc; failing.tell]?);
-    let status = semi(rt, alloc, &line, &mut source, &mut out, &mut err);
+    let status = semi(rt, alloc, &line, &mut source, &mut out, &mut err, gate);
     Ok(Outcome {
         status,
         out: out.taken().to_vec(alloc)?,

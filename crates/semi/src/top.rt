@@ -10,35 +10,49 @@ ghost use Rattle.semi.specs.declared.fault.Fault.{Fault};
 
 use crate::fault::Fault;
 use crate::whole::{take_script, write_report};
-use ports::{Sink, Source};
+use ports::{Gate, Sink, Source};
 use settings::settings_of;
 use std::alloc::Global;
 use std::thread::Threads;
 
 // Reads the script and writes its report, and tells whether an answer is undecided.
-fn run<R: Threads + Sync, S: Source, O: Sink>(
+fn run<R: Threads + Sync, S: Source, O: Sink, G: Gate + Sync>(
     rt: &R,
     alloc: Global,
     words: &Vec<String>,
     source: &mut S,
     out: &mut O,
+    gate: &G,
 ) -> Result<bool, Fault>
-    ensures reported { IfOk result (λ undecided. Under (map string_bytes words.now.items) (λ settings. IfSome (S.left source.old) (λ input. GainsReport settings input undecided (O.taken out.old) (O.taken out.new)))) }
-    ensures arguments { IsErrOf result Fault.Arguments → AreRefused (map string_bytes words.now.items) }
-    ensures rejected { AreRefused (map string_bytes words.now.items) → IfErr result (λ fault. (fault ≡ Fault.Arguments) ⊎ (fault ≡ Fault.NoMemory)) }
-    ensures refused { IfErr result (λ fault. status_of fault ≡ 2 → IfSome (S.left source.old) (λ input. IsRefusal input fault)) }
+    ensures reported { IfOk result (λ undecided. Under (map string_bytes words.now.items)
+        (λ settings. IfSome (S.left source.old)
+        (λ input. GainsReport settings input undecided (O.taken out.old) (O.taken out.new)))) }
+    ensures arguments { IsErrOf result Fault.Arguments
+        → AreRefused (map string_bytes words.now.items) }
+    ensures rejected { AreRefused (map string_bytes words.now.items)
+        → IfErr result (λ fault. (fault ≡ Fault.Arguments) ⊎ (fault ≡ Fault.NoMemory)) }
+    ensures refused { IfErr result (λ fault. status_of fault ≡ 2
+        → IfSome (S.left source.old) (λ input. IsRefusal input fault)) }
     ensures read { IsErrOf result Fault.Read → Rose (S.faults source.old) (S.faults source.new) }
     ensures write { IsErrOf result Fault.Write → Rose (O.faults out.old) (O.faults out.new) }
-    ensures beginning { IsErrOf result Fault.Write → Under (map string_bytes words.now.items) (λ settings. IfSome (S.left source.old) (λ input. GainsBeginning settings input (O.taken out.old) (O.taken out.new))) }
-    ensures memory { IsErrOf result Fault.NoMemory → (out.new ≡ out.old) ⊎ Under (map string_bytes words.now.items) (λ settings. IfSome (S.left source.old) (λ input. GainsBeginning settings input (O.taken out.old) (O.taken out.new))) }
+    ensures beginning { IsErrOf result Fault.Write
+        → Under (map string_bytes words.now.items)
+        (λ settings. IfSome (S.left source.old)
+        (λ input. GainsBeginning settings input (O.taken out.old) (O.taken out.new))) }
+    ensures memory { IsErrOf result Fault.NoMemory
+        → (out.new ≡ out.old) ⊎ Under (map string_bytes words.now.items)
+        (λ settings. IfSome (S.left source.old)
+        (λ input. GainsBeginning settings input (O.taken out.old) (O.taken out.new))) }
     ensures out_untouched { IfErr result (λ fault. status_of fault ≤ 4 → out.new ≡ out.old) }
     ensures source_untouched { IsErrOf result Fault.Arguments → source.new ≡ source.old }
-    ensures quiet { OnOk result ((S.faults source.new ≡ S.faults source.old) × (O.faults out.new ≡ O.faults out.old)) }
-    ensures quiet_refused { IfErr result (λ fault. status_of fault ≡ 2 → S.faults source.new ≡ S.faults source.old) }
+    ensures quiet { OnOk result ((S.faults source.new ≡ S.faults source.old)
+        × (O.faults out.new ≡ O.faults out.old)) }
+    ensures quiet_refused { IfErr result
+        (λ fault. status_of fault ≡ 2 → S.faults source.new ≡ S.faults source.old) }
 {
     let settings = settings_of(alloc, words)?;
     let script = take_script(alloc, source)?;
-    write_report(rt, alloc, settings, &script, out)
+    write_report(rt, alloc, settings, &script, out, gate)
 }
 
 /// The program: reads the source as a script, of a presentation or of elements, and writes its report to
@@ -50,18 +64,23 @@ fn run<R: Threads + Sync, S: Source, O: Sink>(
 /// - 4: the source failed. 5: `out` failed. 6: memory is wanting.
 ///
 /// `err` gets one line at the statuses from 2 on; at 2 it tells the first faulty line and its cause. `words`
-/// begins with the program's name.
-pub fn semi<R: Threads + Sync, S: Source, O: Sink, E: Sink>(
+/// begins with the program's name. Where a problem is raced for by several workers, each turn is behind the gate.
+pub fn semi<R: Threads + Sync, S: Source, O: Sink, E: Sink, G: Gate + Sync>(
     rt: &R,
     alloc: Global,
     words: &Vec<String>,
     source: &mut S,
     out: &mut O,
     err: &mut E,
+    gate: &G,
 ) -> u8
     // the whole report, at 1 with an undecided answer
-    ensures decided { result ≡ 0 → Under (map string_bytes words.now.items) (λ settings. IfSome (S.left source.old) (λ input. GainsReport settings input false (O.taken out.old) (O.taken out.new))) }
-    ensures undecided { result ≡ 1 → Under (map string_bytes words.now.items) (λ settings. IfSome (S.left source.old) (λ input. GainsReport settings input true (O.taken out.old) (O.taken out.new))) }
+    ensures decided { result ≡ 0 → Under (map string_bytes words.now.items)
+        (λ settings. IfSome (S.left source.old)
+        (λ input. GainsReport settings input false (O.taken out.old) (O.taken out.new))) }
+    ensures undecided { result ≡ 1 → Under (map string_bytes words.now.items)
+        (λ settings. IfSome (S.left source.old)
+        (λ input. GainsReport settings input true (O.taken out.old) (O.taken out.new))) }
 
     // each other status has its cause
     ensures refused { result ≡ 2 → IfSome (S.left source.old) IsRefused }
@@ -71,27 +90,39 @@ pub fn semi<R: Threads + Sync, S: Source, O: Sink, E: Sink>(
     ensures range { result ≤ 6 }
 
     // no call failed at 0 to 3
-    ensures quiet { result ≤ 3 → (S.faults source.new ≡ S.faults source.old) × (O.faults out.new ≡ O.faults out.old) }
+    ensures quiet { result ≤ 3 → (S.faults source.new ≡ S.faults source.old)
+        × (O.faults out.new ≡ O.faults out.old) }
 
     // what the source and the sinks are left with
     ensures source_untouched { result ≡ 3 → source.new ≡ source.old }
     ensures out_untouched { 2 ≤ result → result ≤ 4 → out.new ≡ out.old }
-    ensures beginning { result ≡ 5 → Under (map string_bytes words.now.items) (λ settings. IfSome (S.left source.old) (λ input. GainsBeginning settings input (O.taken out.old) (O.taken out.new))) }
-    ensures memory { result ≡ 6 → (out.new ≡ out.old) ⊎ Under (map string_bytes words.now.items) (λ settings. IfSome (S.left source.old) (λ input. GainsBeginning settings input (O.taken out.old) (O.taken out.new))) }
-    ensures told { 2 ≤ result → (fault : Fault) × (result ≡ status_of fault) × (result ≡ 2 → IfSome (S.left source.old) (λ input. IsRefusal input fault))
-        × GainsLineOf fault (E.taken err.old) (E.taken err.new) (E.faults err.old) (E.faults err.new) (E.refusals err.old) (E.refusals err.new) }
+    ensures beginning { result ≡ 5 → Under (map string_bytes words.now.items)
+        (λ settings. IfSome (S.left source.old)
+        (λ input. GainsBeginning settings input (O.taken out.old) (O.taken out.new))) }
+    ensures memory { result ≡ 6
+        → (out.new ≡ out.old) ⊎ Under (map string_bytes words.now.items)
+        (λ settings. IfSome (S.left source.old)
+        (λ input. GainsBeginning settings input (O.taken out.old) (O.taken out.new))) }
+    ensures told { 2 ≤ result → (fault : Fault) × (result ≡ status_of fault)
+        × (result ≡ 2 → IfSome (S.left source.old) (λ input. IsRefusal input fault))
+        × GainsLineOf fault (E.taken err.old) (E.taken err.new) (E.faults err.old)
+        (E.faults err.new) (E.refusals err.old) (E.refusals err.new) }
     ensures err_untouched { result ≤ 1 → err.new ≡ err.old }
 
     // words that are refused give 3, or memory is wanting
     ensures rejects { AreRefused (map string_bytes words.now.items) → (result ≡ 3) ⊎ (result ≡ 6) }
 
     // where nothing fails, a refused input gives 2, and a script its whole report, or memory is wanting
-    ensures refuses { AreAccepted (map string_bytes words.now.items) → (Rose (S.faults source.old) (S.faults source.new) → ⊥)
+    ensures refuses { AreAccepted (map string_bytes words.now.items)
+        → (Rose (S.faults source.old) (S.faults source.new) → ⊥)
         → IfSome (S.left source.old) (λ input. IsRefused input → (result ≡ 2) ⊎ (result ≡ 6)) }
-    ensures answers { AreAccepted (map string_bytes words.now.items) → (Rose (S.faults source.old) (S.faults source.new) → ⊥) → (Rose (O.faults out.old) (O.faults out.new) → ⊥)
-        → IfSome (S.left source.old) (λ input. (script : ScriptOf) → IsScript input script → (result ≤ 1) ⊎ (result ≡ 6)) }
+    ensures answers { AreAccepted (map string_bytes words.now.items)
+        → (Rose (S.faults source.old) (S.faults source.new) → ⊥)
+        → (Rose (O.faults out.old) (O.faults out.new) → ⊥)
+        → IfSome (S.left source.old) (λ input. (script : ScriptOf) → IsScript input script
+        → (result ≤ 1) ⊎ (result ≡ 6)) }
 {
-    match run(rt, alloc, words, source, out) {
+    match run(rt, alloc, words, source, out, gate) {
         Ok(undecided) => u8::from(undecided),
         Err(fault) => fault.tell(err),
     }

@@ -4,11 +4,11 @@ ghost use Rattle.ports.specs.Bytes.{Rose, TakesPrefix};
 ghost use Rattle.query_lang.specs.Query.{IsQueryOf};
 ghost use Rattle.report.specs.Gains.{is_undecided};
 ghost use Rattle.settings.specs.declared.Settings.{Settings};
-ghost use Rattle.semi.specs.Report.{GainsBeginning, GainsLines, GainsPart, IsRefusal, IsReport, IsScript, IsStateOf};
+ghost use Rattle.semi.specs.Report.{GainsBeginning, GainsLines, GainsPart, IsRefusal, IsReport, IsScript, IsStateOf, budgets_of};
 ghost use Rattle.semi.specs.Status.{status_of};
 
 use crate::fault::Fault;
-use ports::{Sink, Source, read_all};
+use ports::{Gate, Sink, Source, read_all};
 use problem::Budgets;
 use query_lang::{Query, Script, read_script};
 use report::{Answered, State, write_answer};
@@ -19,19 +19,19 @@ use std::thread::Threads;
 /// The greatest length of a script, in bytes.
 const MOST_BYTES: usize = 1_048_576;
 
-// How many workers may be at a problem.
-const WORKERS: usize = 1;
-
 /// Reads the whole source as a script. Refused with `Read` where the source failed, with `TooLong`
 /// where more bytes came than a script may have, and with `Script` at the first faulty line.
 pub fn take_script<S: Source>(alloc: Global, source: &mut S) -> Result<Script, Fault>
-    ensures script { IfOk result (λ script. IfSome (S.left source.old) (λ input. IsScript input script)) }
-    ensures refused { IfErr result (λ fault. status_of fault ≡ 2 → IfSome (S.left source.old) (λ input. IsRefusal input fault)) }
+    ensures script { IfOk result (λ script. IfSome (S.left source.old)
+        (λ input. IsScript input script)) }
+    ensures refused { IfErr result (λ fault. status_of fault ≡ 2
+        → IfSome (S.left source.old) (λ input. IsRefusal input fault)) }
     ensures read { IsErrOf result Fault.Read → Rose (S.faults source.old) (S.faults source.new) }
     ensures only { (IsErrOf result Fault.Arguments → ⊥) × (IsErrOf result Fault.Write → ⊥) }
     ensures kept { S.faults source.old ≤ S.faults source.new }
     ensures quiet { OnOk result (S.faults source.new ≡ S.faults source.old) }
-    ensures quiet_refused { IfErr result (λ fault. status_of fault ≡ 2 → S.faults source.new ≡ S.faults source.old) }
+    ensures quiet_refused { IfErr result
+        (λ fault. status_of fault ≡ 2 → S.faults source.new ≡ S.faults source.old) }
 {
     let bytes = read_all(alloc, source, MOST_BYTES)?;
     let script = read_script(alloc, bytes.as_slice())?;
@@ -46,7 +46,7 @@ fn left_undecided(answered: Answered) -> bool
 }
 
 // Writes the answer of one query, and tells whether it is undecided.
-fn write_one<R: Threads + Sync, O: Sink>(
+fn write_one<R: Threads + Sync, O: Sink, G: Gate + Sync>(
     rt: &R,
     alloc: Global,
     settings: Settings,
@@ -54,32 +54,40 @@ fn write_one<R: Threads + Sync, O: Sink>(
     query: &Query,
     state: &mut State,
     out: &mut O,
+    gate: &G,
 ) -> Result<bool, Fault>
     requires query { IsQueryOf script.now.problem query.now }
     requires state { IsStateOf settings script.now.problem state.old }
+    requires workers { 1 ≤ settings.workers }
     ensures state { IsStateOf settings script.now.problem state.new }
-    ensures written { IfOk result (λ undecided. GainsLines settings script.now.problem (query.now ∷ []) undecided (O.taken out.old) (O.taken out.new)) }
-    ensures part { OnErr result (GainsPart settings script.now.problem (query.now ∷ []) (O.taken out.old) (O.taken out.new)) }
+    ensures written { IfOk result (λ undecided. GainsLines settings script.now.problem
+        (query.now ∷ []) undecided (O.taken out.old) (O.taken out.new)) }
+    ensures part { OnErr result (GainsPart settings script.now.problem (query.now ∷ [])
+        (O.taken out.old) (O.taken out.new)) }
     ensures write { IsErrOf result Fault.Write → Rose (O.faults out.old) (O.faults out.new) }
     ensures only { IfErr result (λ fault. 5 ≤ status_of fault) }
     ensures kept { O.faults out.old ≤ O.faults out.new }
     ensures quiet { OnOk result (O.faults out.new ≡ O.faults out.old) }
 {
-    let answered = write_answer(rt, alloc, script, query, state, out)?;
+    let answered = write_answer(rt, alloc, script, query, state, out, gate)?;
     Ok(left_undecided(answered))
 }
 
 /// Writes the report of a script, and tells whether an answer is undecided. Refused with `Write`
 /// where the sink failed, else with `NoMemory`; the sink has then gained a beginning of the report.
-pub fn write_report<R: Threads + Sync, O: Sink>(
+pub fn write_report<R: Threads + Sync, O: Sink, G: Gate + Sync>(
     rt: &R,
     alloc: Global,
     settings: Settings,
     script: &Script,
     out: &mut O,
+    gate: &G,
 ) -> Result<bool, Fault>
-    ensures written { IfOk result (λ undecided. GainsLines settings script.now.problem script.now.queries undecided (O.taken out.old) (O.taken out.new)) }
-    ensures part { OnErr result (GainsPart settings script.now.problem script.now.queries (O.taken out.old) (O.taken out.new)) }
+    requires { 1 ≤ settings.workers }
+    ensures written { IfOk result (λ undecided. GainsLines settings script.now.problem
+        script.now.queries undecided (O.taken out.old) (O.taken out.new)) }
+    ensures part { OnErr result (GainsPart settings script.now.problem script.now.queries
+        (O.taken out.old) (O.taken out.new)) }
     ensures write { IsErrOf result Fault.Write → Rose (O.faults out.old) (O.faults out.new) }
     ensures only { IfErr result (λ fault. 5 ≤ status_of fault) }
     ensures kept { O.faults out.old ≤ O.faults out.new }
@@ -91,22 +99,27 @@ pub fn write_report<R: Threads + Sync, O: Sink>(
         length: settings.length,
         elements: settings.elements,
     };
-    let mut state = State::new(budgets, settings.classes, WORKERS);
+    let mut state = State::new(budgets, settings.classes, settings.workers);
     let mut undecided = false;
     for query in script.queries() {
-        undecided |= write_one(rt, alloc, settings, script, query, &mut state, out)?;
+        undecided |= write_one(rt, alloc, settings, script, query, &mut state, out, gate)?;
     }
     Ok(undecided)
 }
 
-/// The report is a function of the settings and the input alone: they have one report, and one status.
+/// The report is a function of the budgets, the bound of the index and the input alone: they have one report, and
+/// one status, whatever the number of workers.
 pub fn report_is_one()
-    ensures { (settings : Settings) (input report other : List ℕ) (undecided others : Bool) → IsReport settings input report undecided → IsReport settings input other others
-        → (report ≡ other) × (undecided ≡ others) }
+    ensures { (settings others : Settings) (input report other : List ℕ) (undecided waits : Bool)
+        → budgets_of settings ≡ budgets_of others → settings.classes ≡ others.classes
+        → IsReport settings input report undecided → IsReport others input other waits
+        → (report ≡ other) × (undecided ≡ waits) }
 {}
 
 /// A beginning of the report that a sink gained is a prefix of the report.
 pub fn beginning_is_prefix()
-    ensures { (settings : Settings) (input report : List ℕ) (undecided : Bool) (old new : Option (List ℕ)) → IsReport settings input report undecided → GainsBeginning settings input old new
+    ensures { (settings : Settings) (input report : List ℕ) (undecided : Bool)
+        (old new : Option (List ℕ)) → IsReport settings input report undecided
+        → GainsBeginning settings input old new
         → TakesPrefix old new report }
 {}

@@ -33,46 +33,46 @@ use Rattle.settings.specs.Settings.{HasNumber, number_in}
 
 -- ---- tests on a rule
 
-abbrev has_bound : ℕ → ValueParser → Bool
-has_bound most (vp.Unsigned low high) = (low == 0) && (high == most)
-has_bound most _ = false
+abbrev has_bounds : ℕ → ℕ → ValueParser → Bool
+has_bounds least most (vp.Unsigned low high) = (low == least) && (high == most)
+has_bounds least most _ = false
 
 abbrev is_set : ArgAction → Bool
 is_set Set = true
 is_set _ = false
 
--- the rule sets one number or more, of at most `most`
-abbrev is_number : ℕ → Rule → Bool
-is_number most r = has_bound most (parser_of_value r.parser) && (is_set (action_of r) && nat_le 1 (unwrap_or_range r.range).start_inclusive)
+-- the rule sets one number or more, from `least` to `most`
+abbrev is_number : ℕ → ℕ → Rule → Bool
+is_number least most r = has_bounds least most (parser_of_value r.parser) && (is_set (action_of r) && nat_le 1 (unwrap_or_range r.range).start_inclusive)
 
 -- each rule with the id is such a one
-abbrev only_numbers : ℕ → Text → List Rule → Bool
-only_numbers most id = list_all (λ r. not (bytes_eq r.id id) || is_number most r)
+abbrev only_numbers : ℕ → ℕ → Text → List Rule → Bool
+only_numbers least most id = list_all (λ r. not (bytes_eq r.id id) || is_number least most r)
 
 -- a rule with the id has a default
 abbrev has_default : Text → List Rule → Bool
 has_default id = list_any (λ r. bytes_eq r.id id && not (is_empty r.defaults))
 
--- the rules have the option of a number of at most `most`, with a default
-abbrev pub has_number_option : ℕ → Text → List Rule → Bool
-has_number_option most id rules = only_numbers most id rules && has_default id rules
+-- the rules have the option of a number from `least` to `most`, with a default
+abbrev pub has_number_option : ℕ → ℕ → Text → List Rule → Bool
+has_number_option least most id rules = only_numbers least most id rules && has_default id rules
 
-bound_is : (most : ℕ) (p : ValueParser) → has_bound most p ≡ true → p ≡ vp.Unsigned 0 most
-bound_is most (vp.Unsigned low high) e =
+bounds_are : (least most : ℕ) (p : ValueParser) → has_bounds least most p ≡ true → p ≡ vp.Unsigned least most
+bounds_are least most (vp.Unsigned low high) e =
     let parts = both _ _ e in
-    let l : low ≡ 0 = eqb-true _ _ parts.0 in
+    let l : low ≡ least = eqb-true _ _ parts.0 in
     let h : high ≡ most = eqb-true _ _ parts.1 in
     rw (l, h) refl
-bound_is most vp.String e = cc
-bound_is most vp.NonEmptyString e = cc
-bound_is most vp.Bool e = cc
-bound_is most vp.Boolish e = cc
-bound_is most vp.Falsey e = cc
-bound_is most (vp.Signed low high) e = cc
-bound_is most vp.Float e = cc
-bound_is most vp.Char e = cc
-bound_is most (vp.Names names) e = cc
-bound_is most (vp.Values values) e = cc
+bounds_are least most vp.String e = cc
+bounds_are least most vp.NonEmptyString e = cc
+bounds_are least most vp.Bool e = cc
+bounds_are least most vp.Boolish e = cc
+bounds_are least most vp.Falsey e = cc
+bounds_are least most (vp.Signed low high) e = cc
+bounds_are least most vp.Float e = cc
+bounds_are least most vp.Char e = cc
+bounds_are least most (vp.Names names) e = cc
+bounds_are least most (vp.Values values) e = cc
 
 never_counts : (a : ArgAction) → is_set a ≡ true → a ≡ Count → ⊥
 never_counts a e h =
@@ -84,22 +84,22 @@ implied true b e h = e
 implied false b e h = cc
 
 -- what the tests say of an argument with the id
-record Number (most : ℕ) (a : Arg) : Type 0 where
-  parser : parser_of a ≡ vp.Unsigned 0 most
+record Number (least most : ℕ) (a : Arg) : Type 0 where
+  parser : parser_of a ≡ vp.Unsigned least most
   sets : unwrap_or a.action Set ≡ Count → ⊥
-  least : 1 ≤ least_values a
+  few : 1 ≤ least_values a
 
-number_from : (most : ℕ) (id : Text) (xs : List Arg) → only_numbers most id (map rule_of xs) ≡ true
-    → (k : ℕ) (x : Arg) → k < length xs → slice_index_or xs k x ≡ x → bytes_eq x.id.now id ≡ true → Number most x
-number_from most id xs e k x lt at same =
-    let here = subst (λ (y : Arg). (not (bytes_eq y.id.now id) || is_number most (rule_of y)) ≡ true) at
-    (each_rule (λ r. not (bytes_eq r.id id) || is_number most r) xs e k x lt) in
+number_from : (least most : ℕ) (id : Text) (xs : List Arg) → only_numbers least most id (map rule_of xs) ≡ true
+    → (k : ℕ) (x : Arg) → k < length xs → slice_index_or xs k x ≡ x → bytes_eq x.id.now id ≡ true → Number least most x
+number_from least most id xs e k x lt at same =
+    let here = subst (λ (y : Arg). (not (bytes_eq y.id.now id) || is_number least most (rule_of y)) ≡ true) at
+    (each_rule (λ r. not (bytes_eq r.id id) || is_number least most r) xs e k x lt) in
     let parts = both _ _ (implied _ _ here same) in
     let rest = both _ _ parts.1 in
     record {
-      parser = bound_is most (parser_of x) parts.0;
+      parser = bounds_are least most (parser_of x) parts.0;
       sets = never_counts _ rest.0;
-      least = leb-true _ _ rest.1;
+      few = leb-true _ _ rest.1;
     }
 
 -- ---- the entry of the id
@@ -137,17 +137,17 @@ entry_found (x ∷ xs) id i lt at = go (bytes_eq x.0.now id) refl i lt at (λ j.
         let more = rest j (omega arith) at in
         (more.0, rw b more.1)
 
-first_read : (most : ℕ) (how : Reading) (vs : List (Bor Text)) → 0 < length vs → how ≡ reading.AsWritten → All (λ v. IsUnsignedIn 0 most v.now) vs
-    → (t : Text) × (option_map (λ s. read_as how s.now) (slice_get vs 0) ≡ Some t) × IsUnsignedIn 0 most t
-first_read most how [] lt is all = absurd (omega arith)
-first_read most how (v ∷ vs) lt is all = (v.now, rw is refl, All-get_or (λ v. IsUnsignedIn 0 most v.now) (v ∷ vs) 0 v (omega arith) all)
+first_read : (least most : ℕ) (how : Reading) (vs : List (Bor Text)) → 0 < length vs → how ≡ reading.AsWritten → All (λ v. IsUnsignedIn least most v.now) vs
+    → (t : Text) × (option_map (λ s. read_as how s.now) (slice_get vs 0) ≡ Some t) × IsUnsignedIn least most t
+first_read least most how [] lt is all = absurd (omega arith)
+first_read least most how (v ∷ vs) lt is all = (v.now, rw is refl, All-get_or (λ v. IsUnsignedIn least most v.now) (v ∷ vs) 0 v (omega arith) all)
 
-entry_read : (most : ℕ) (c : Command) (id : Text) (e : Entry) → IsSimple c → (id ≡ [] → ⊥) → only_numbers most id (map rule_of (args_of c)) ≡ true
+entry_read : (least most : ℕ) (c : Command) (id : Text) (e : Entry) → IsSimple c → (id ≡ [] → ⊥) → only_numbers least most id (map rule_of (args_of c)) ≡ true
     → EntryPasses c e → e.0.now ≡ id
-    → (t : Text) × (option_map (λ s. read_as e.1.reading s.now) (slice_get e.1.vals.items 0) ≡ Some t) × IsUnsignedIn 0 most t
-entry_read most c id e simple named only pass is_id =
-    let number : (k : ℕ) (x : Arg) → k < length (args_of c) → slice_index_or (args_of c) k x ≡ x → bytes_eq x.id.now e.0.now ≡ true → Number most x
-    = λ k x lt at same. number_from most id (args_of c) only k x lt at (subst (λ (w : Text). bytes_eq x.id.now w ≡ true) is_id same) in
+    → (t : Text) × (option_map (λ s. read_as e.1.reading s.now) (slice_get e.1.vals.items 0) ≡ Some t) × IsUnsignedIn least most t
+entry_read least most c id e simple named only pass is_id =
+    let number : (k : ℕ) (x : Arg) → k < length (args_of c) → slice_index_or (args_of c) k x ≡ x → bytes_eq x.id.now e.0.now ≡ true → Number least most x
+    = λ k x lt at same. number_from least most id (args_of c) only k x lt at (subst (λ (w : Text). bytes_eq x.id.now w ≡ true) is_id same) in
     let no_group : e.1.is_group ≡ true → ⊥ = λ g. elim (pass.3 g) [
       | inl empty ↦ named (sym is_id ∙ empty)
       | inr lots ↦
@@ -164,7 +164,7 @@ entry_read most c id e simple named only pass is_id =
           let n = number any.0 any.1 any.2 any.3 any.4.0 in
           elim any.4.1 [
             | inl none ↦
-                let one = n.least in
+                let one = n.few in
                 absurd (omega arith)
             | inr has ↦
                 let plain = subst (λ (y : Arg). y.val_delim ≡ None) any.3 (simple.args any.0 any.1 any.2).delimiter in
@@ -176,29 +176,29 @@ entry_read most c id e simple named only pass is_id =
       | inl g ↦ absurd (no_group g)
       | inr any ↦ sym any.4.1 ∙ ap reading_of (number any.0 any.1 any.2 any.3 any.4.0).parser
     ] in
-    let all : All (λ v. IsUnsignedIn 0 most v.now) e.1.vals.items = elim pass.0 [
+    let all : All (λ v. IsUnsignedIn least most v.now) e.1.vals.items = elim pass.0 [
       | inl g ↦ absurd (no_group g)
       | inr each ↦ λ k d lt.
           let any = each k d lt in
           subst (λ (p : ValueParser). Accepts any.1.ignore_case p (slice_index_or e.1.vals.items k d).now) (number any.0 any.1 any.2 any.3 any.4.0).parser any.4.1
     ] in
-    first_read most e.1.reading e.1.vals.items some how all
+    first_read least most e.1.reading e.1.vals.items some how all
 
 first_of_list : (xs : List Arg) (k : ℕ) → k < length xs → Arg
 first_of_list [] k lt = absurd (omega arith)
 first_of_list (x ∷ xs) k lt = x
 
-parsed_number : (most : ℕ) (c : Command) (f : Found) (has : Bool) (id : Text) → IsSimple c → IsParsed c f has → (id ≡ [] → ⊥)
-    → only_numbers most id (map rule_of (args_of c)) ≡ true → has_default id (map rule_of (args_of c)) ≡ true
-    → (t : Text) × (one_text f id ≡ Some t) × IsUnsignedIn 0 most t
-parsed_number most c f has id simple parsed named only default =
+parsed_number : (least most : ℕ) (c : Command) (f : Found) (has : Bool) (id : Text) → IsSimple c → IsParsed c f has → (id ≡ [] → ⊥)
+    → only_numbers least most id (map rule_of (args_of c)) ≡ true → has_default id (map rule_of (args_of c)) ≡ true
+    → (t : Text) × (one_text f id ≡ Some t) × IsUnsignedIn least most t
+parsed_number least most c f has id simple parsed named only default =
     let rule = any_rule (λ r. bytes_eq r.id id && not (is_empty r.defaults)) (args_of c) default in
     find_in rule
   where
     read : (x : MatchedArg) → matched_of f id ≡ Some x → ((e : Entry) × (e.1 ≡ x) × (bytes_eq e.0.now id ≡ true) × EntryPasses c e)
-        → (t : Text) × (one_text f id ≡ Some t) × IsUnsignedIn 0 most t
+        → (t : Text) × (one_text f id ≡ Some t) × IsUnsignedIn least most t
     read x found got =
-        let r = entry_read most c id got.0 simple named only got.3 ((bytes_eq-Decides got.0.0.now id).0 got.2) in
+        let r = entry_read least most c id got.0 simple named only got.3 ((bytes_eq-Decides got.0.0.now id).0 got.2) in
         let text : option_map (λ s. read_as x.reading s.now) (slice_get x.vals.items 0) ≡ Some r.0 =
         subst (λ (y : MatchedArg). option_map (λ s. read_as y.reading s.now) (slice_get y.vals.items 0) ≡ Some r.0) got.1 r.1 in
         (r.0, rw found text, r.2)
@@ -207,7 +207,7 @@ parsed_number most c f has id simple parsed named only default =
     start k lt = first_of_list (args_of c) k lt
 
     find_in : ((k : ℕ) × (k < length (args_of c)) × ((d : Arg) → (bytes_eq (slice_index_or (args_of c) k d).id.now id && not (is_empty (texts (items_of (slice_index_or (args_of c) k d).default_vals)))) ≡ true))
-        → (t : Text) × (one_text f id ≡ Some t) × IsUnsignedIn 0 most t
+        → (t : Text) × (one_text f id ≡ Some t) × IsUnsignedIn least most t
     find_in rule =
         let a = slice_index_or (args_of c) rule.0 (start rule.0 rule.1) in
         let parts = both _ _ (rule.2 (start rule.0 rule.1)) in
@@ -219,14 +219,14 @@ parsed_number most c f has id simple parsed named only default =
         read entry.0 entry.1 (entry_by_id (EntryPasses c) f.entries.items id entry.0 parsed.values entry.1)
 
 -- of a command that is made ready, by what is read of it
-pub number_found : (most : ℕ) (a : App) (c : Command) (f : Found) (has : Bool) (id : Text) → app_of c ≡ a → is_ready a.top ≡ true → list_all is_ready_leaf a.subs ≡ true
-    → (id ≡ [] → ⊥) → has_number_option most id a.top.rules ≡ true
-    → ((out-Command c).has_globals ≡ false → IsParsed c f has) → HasNumber most id (rows_of f)
-number_found most a c f has id is ready leaves named option parsed =
-    let parts = both (only_numbers most id a.top.rules) (has_default id a.top.rules) option in
+pub number_found : (least most : ℕ) (a : App) (c : Command) (f : Found) (has : Bool) (id : Text) → app_of c ≡ a → is_ready a.top ≡ true → list_all is_ready_leaf a.subs ≡ true
+    → (id ≡ [] → ⊥) → has_number_option least most id a.top.rules ≡ true
+    → ((out-Command c).has_globals ≡ false → IsParsed c f has) → HasNumber least most id (rows_of f)
+number_found least most a c f has id is ready leaves named option parsed =
+    let parts = both (only_numbers least most id a.top.rules) (has_default id a.top.rules) option in
     let simple = ready_simple c (ap (λ (x : App). is_ready x.top) is ∙ ready) (ap (λ (x : App). list_all is_ready_leaf x.subs) is ∙ leaves) in
     let rules : map rule_of (args_of c) ≡ a.top.rules = ap (λ (x : App). x.top.rules) is in
-    let got = parsed_number most c f has id simple (parsed simple.globals) named (ap (only_numbers most id) rules ∙ parts.0) (ap (has_default id) rules ∙ parts.1) in
+    let got = parsed_number least most c f has id simple (parsed simple.globals) named (ap (only_numbers least most id) rules ∙ parts.0) (ap (has_default id) rules ∙ parts.1) in
     record { text = got.0; given = sym (one_text-rows f id) ∙ got.1; number = got.2 }
 
 -- what `get_one` reads of a number
@@ -235,7 +235,7 @@ read_number : (E : Type 0) (G : List ℕ → Result ℕ E → Type 0) (t : Text)
 read_number E G t (Some v) read only fits = ap (λ n. Some n) (only (Ok v) read).1
 read_number E G t None read only fits = absurd (only (Err read.0) read.1 (fits.0, fits.1))
 
-pub number_read : (E : Type 0) (G : List ℕ → Result ℕ E → Type 0) (f : Found) (id : Text) (r : Option ℕ) → HasNumber 18446744073709551615 id (rows_of f)
+pub number_read : (E : Type 0) (G : List ℕ → Result ℕ E → Type 0) (f : Found) (id : Text) (r : Option ℕ) → HasNumber 0 18446744073709551615 id (rows_of f)
     → ((t : Text) → one_text f id ≡ Some t → ReadsOne G t r) → ((t : Text) (x : Result ℕ E) → G t x → ParsesUnsigned 64 10 t x)
     → number_in id (rows_of f) ≡ r × IsSome r
 number_read E G f id r h read only =
@@ -243,11 +243,11 @@ number_read E G f id r h read only =
     (ap (option_map (λ text. digits_value 10 (without_leading_plus text))) h.given ∙ sym is, rw is refl)
 
 -- a number within one bound is within each greater
-pub number_weaker : (most more : ℕ) (id : Text) (rows : List Row) → most ≤ more → HasNumber most id rows → HasNumber more id rows
-number_weaker most more id rows le h = record { text = h.text; given = h.given; number = (h.number.0, h.number.1, h.number.2, let top = h.number.3 in omega arith) }
+pub number_weaker : (least most more : ℕ) (id : Text) (rows : List Row) → most ≤ more → HasNumber least most id rows → HasNumber 0 more id rows
+number_weaker least most more id rows le h = record { text = h.text; given = h.given; number = (h.number.0, h.number.1, omega arith, let top = h.number.3 in omega arith) }
 
-pub number_below : (most n : ℕ) (id : Text) (rows : List Row) → HasNumber most id rows → number_in id rows ≡ Some n → n ≤ most
-number_below most n id rows h is =
+pub number_within : (least most n : ℕ) (id : Text) (rows : List Row) → HasNumber least most id rows → number_in id rows ≡ Some n → (least ≤ n) × (n ≤ most)
+number_within least most n id rows h is =
     let value : Some (digits_value 10 (without_leading_plus h.text)) ≡ Some n = sym (ap (option_map (λ text. digits_value 10 (without_leading_plus text))) h.given) ∙ is in
     let same : digits_value 10 (without_leading_plus h.text) ≡ n = cc in
-    rw (← same) h.number.3
+    rw (← same) (h.number.2, h.number.3)

@@ -43,19 +43,20 @@ semi_defaults_pass = refl
 record HasOptions (a : App) : Type 0 where
   ready : is_ready a.top ≡ true
   leaves : list_all is_ready_leaf a.subs ≡ true
-  rows : has_number_option 1000000 (codes "rows") a.top.rules ≡ true
-  defs : has_number_option 1000000 (codes "defs") a.top.rules ≡ true
-  length : has_number_option 64 (codes "length") a.top.rules ≡ true
-  elements : has_number_option 10000000 (codes "elements") a.top.rules ≡ true
-  classes : has_number_option 1000000 (codes "classes") a.top.rules ≡ true
+  rows : has_number_option 0 1000000 (codes "rows") a.top.rules ≡ true
+  defs : has_number_option 0 1000000 (codes "defs") a.top.rules ≡ true
+  length : has_number_option 0 64 (codes "length") a.top.rules ≡ true
+  elements : has_number_option 0 10000000 (codes "elements") a.top.rules ≡ true
+  classes : has_number_option 0 1000000 (codes "classes") a.top.rules ≡ true
+  workers : has_number_option 1 64 (codes "workers") a.top.rules ≡ true
 
 semi_has_options : HasOptions semi_app
 unfolding semi_app
-semi_has_options = record { ready = refl; leaves = refl; rows = refl; defs = refl; length = refl; elements = refl; classes = refl }
+semi_has_options = record { ready = refl; leaves = refl; rows = refl; defs = refl; length = refl; elements = refl; classes = refl; workers = refl }
 
 built_has_options : HasOptions (built semi_app)
 unfolding semi_app
-built_has_options = record { ready = refl; leaves = refl; rows = refl; defs = refl; length = refl; elements = refl; classes = refl }
+built_has_options = record { ready = refl; leaves = refl; rows = refl; defs = refl; length = refl; elements = refl; classes = refl; workers = refl }
 
 -- ---- for `matches_in`
 
@@ -77,14 +78,15 @@ semi_refuses a words e (Err f) is memory gives of = go (takes semi_app words) re
 numbers_at : (a : App) (c : Command) (m : ArgMatches) → HasOptions a → app_of c ≡ a
     → ((out-Command c).has_globals ≡ false → IsParsed c (found_of m) (has_subcommand m)) → HasNumbers (rows_of (found_of m))
 numbers_at a c m options is parsed =
-    let read : (most : ℕ) (id : Text) → (id ≡ [] → ⊥) → has_number_option most id a.top.rules ≡ true → HasNumber most id (rows_of (found_of m))
-    = λ most id named has. number_found most a c (found_of m) (has_subcommand m) id is options.ready options.leaves named has parsed in
+    let read : (least most : ℕ) (id : Text) → (id ≡ [] → ⊥) → has_number_option least most id a.top.rules ≡ true → HasNumber least most id (rows_of (found_of m))
+    = λ least most id named has. number_found least most a c (found_of m) (has_subcommand m) id is options.ready options.leaves named has parsed in
     record {
-      rows = read 1000000 (codes "rows") (λ e. cc) options.rows;
-      defs = read 1000000 (codes "defs") (λ e. cc) options.defs;
-      length = read 64 (codes "length") (λ e. cc) options.length;
-      elements = read 10000000 (codes "elements") (λ e. cc) options.elements;
-      classes = read 1000000 (codes "classes") (λ e. cc) options.classes;
+      rows = read 0 1000000 (codes "rows") (λ e. cc) options.rows;
+      defs = read 0 1000000 (codes "defs") (λ e. cc) options.defs;
+      length = read 0 64 (codes "length") (λ e. cc) options.length;
+      elements = read 0 10000000 (codes "elements") (λ e. cc) options.elements;
+      classes = read 0 1000000 (codes "classes") (λ e. cc) options.classes;
+      workers = read 1 64 (codes "workers") (λ e. cc) options.workers;
     }
 
 pub semi_numbers : (old new : Command) (m : ArgMatches) → app_of old ≡ semi_app → BuildsOrBreaks old new → (is_broken new ≡ true → ⊥)
@@ -109,8 +111,9 @@ matches_of-or_name (word ∷ rest) = refl
 
 pub semi_reads : (words : List Text) (found : List Row) (settings : Settings) → takes semi_app words ≡ true → found ≡ matches_of semi_app words
     → number_in (codes "rows") found ≡ Some settings.rows → number_in (codes "defs") found ≡ Some settings.defs → number_in (codes "length") found ≡ Some settings.length
-    → number_in (codes "elements") found ≡ Some settings.elements → number_in (codes "classes") found ≡ Some settings.classes → Reads (or_name words) settings
-semi_reads words found settings taken are rows defs length elements classes =
+    → number_in (codes "elements") found ≡ Some settings.elements → number_in (codes "classes") found ≡ Some settings.classes
+    → number_in (codes "workers") found ≡ Some settings.workers → Reads (or_name words) settings
+semi_reads words found settings taken are rows defs length elements classes workers =
     let same : matches_of semi_app (or_name words) ≡ found = matches_of-or_name words ∙ sym are in
     record {
       taken = takes-or_name words ∙ taken;
@@ -119,6 +122,7 @@ semi_reads words found settings taken are rows defs length elements classes =
       length = ap (number_in (codes "length")) same ∙ length;
       elements = ap (number_in (codes "elements")) same ∙ elements;
       classes = ap (number_in (codes "classes")) same ∙ classes;
+      workers = ap (number_in (codes "workers")) same ∙ workers;
     }
 
 -- `?` passes a refusal up as it is

@@ -7,35 +7,38 @@ use Rattle.clap.specs.declared.builder.action.ArgAction.TheVariants.{Set}
 use Rattle.clap.specs.declared.builder.value_parser.ValueParser.TheVariants.{Unsigned}
 use Rattle.settings.specs.declared.Settings.{Settings}
 
--- the option `--name`, of one number up to `most`
-abbrev pub number_rule : Text → ℕ → Text → Rule
-number_rule name most preset = record (new_rule name) {
+-- the option `--name`, of one number from `least` to `most`
+abbrev pub number_rule : Text → ℕ → ℕ → Text → Rule
+number_rule name least most preset = record (new_rule name) {
   long = Some name;
   action = Some Set;
-  parser = Some (Unsigned 0 most);
+  parser = Some (Unsigned least most);
   defaults = preset ∷ [];
 }
 
 abbrev pub rows_rule : Rule
-rows_rule = number_rule (codes "rows") 1000000 (codes "1000")
+rows_rule = number_rule (codes "rows") 0 1000000 (codes "1000")
 
 abbrev pub defs_rule : Rule
-defs_rule = number_rule (codes "defs") 1000000 (codes "10000")
+defs_rule = number_rule (codes "defs") 0 1000000 (codes "10000")
 
 abbrev pub length_rule : Rule
-length_rule = number_rule (codes "length") 64 (codes "12")
+length_rule = number_rule (codes "length") 0 64 (codes "12")
 
 abbrev pub elements_rule : Rule
-elements_rule = number_rule (codes "elements") 10000000 (codes "100000")
+elements_rule = number_rule (codes "elements") 0 10000000 (codes "100000")
 
 abbrev pub classes_rule : Rule
-classes_rule = number_rule (codes "classes") 1000000 (codes "10000")
+classes_rule = number_rule (codes "classes") 0 1000000 (codes "10000")
+
+abbrev pub workers_rule : Rule
+workers_rule = number_rule (codes "workers") 1 64 (codes "3")
 
 -- the command
 unfoldable pub semi_app : App
 semi_app =
-    with_rule (with_rule (with_rule (with_rule (with_rule (new_app (codes "semi"))
-    rows_rule) defs_rule) length_rule) elements_rule) classes_rule
+    with_rule (with_rule (with_rule (with_rule (with_rule (with_rule (new_app (codes "semi"))
+    rows_rule) defs_rule) length_rule) elements_rule) classes_rule) workers_rule
 
 -- a list with no word stands for the program's name alone
 abbrev pub or_name : List Text → List Text
@@ -63,17 +66,19 @@ pub record Reads (words : List Text) (settings : Settings) : Type 0 where
   pub length : number_in (codes "length") (matches_of semi_app words) ≡ Some settings.length
   pub elements : number_in (codes "elements") (matches_of semi_app words) ≡ Some settings.elements
   pub classes : number_in (codes "classes") (matches_of semi_app words) ≡ Some settings.classes
+  pub workers : number_in (codes "workers") (matches_of semi_app words) ≡ Some settings.workers
 
--- the matches have a number of at most `most` for an option
-pub record HasNumber (most : ℕ) (id : Text) (rows : List Row) : Type 0 where
+-- the matches have a number from `least` to `most` for an option
+pub record HasNumber (least most : ℕ) (id : Text) (rows : List Row) : Type 0 where
   pub text : Text
   pub given : one_of id rows ≡ Some text
-  pub number : IsUnsignedIn 0 most text
+  pub number : IsUnsignedIn least most text
 
 -- and so for each option of the command
 pub record HasNumbers (found : List Row) : Type 0 where
-  pub rows : HasNumber 1000000 (codes "rows") found
-  pub defs : HasNumber 1000000 (codes "defs") found
-  pub length : HasNumber 64 (codes "length") found
-  pub elements : HasNumber 10000000 (codes "elements") found
-  pub classes : HasNumber 1000000 (codes "classes") found
+  pub rows : HasNumber 0 1000000 (codes "rows") found
+  pub defs : HasNumber 0 1000000 (codes "defs") found
+  pub length : HasNumber 0 64 (codes "length") found
+  pub elements : HasNumber 0 10000000 (codes "elements") found
+  pub classes : HasNumber 0 1000000 (codes "classes") found
+  pub workers : HasNumber 1 64 (codes "workers") found

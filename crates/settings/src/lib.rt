@@ -25,13 +25,15 @@ pub struct Settings {
     pub elements: usize,
     /// The greatest index that is written out.
     pub classes: usize,
+    /// How many workers a race has.
+    pub workers: usize,
 }
 
 /// Why there are no settings.
 #[derive(Clone, Copy, Debug, PartialEq, Eq, Error)]
 pub enum SettingsFault {
     /// The words are not those of the command.
-    #[error("usage: semi [--rows M] [--defs D] [--length L] [--elements N] [--classes C]")]
+    #[error("usage: semi [--rows M] [--defs D] [--length L] [--elements N] [--classes C] [--workers W]")]
     Refused,
     /// Memory ran out.
     #[error("out of memory")]
@@ -57,15 +59,21 @@ impl From<clap::Error> for SettingsFault {
     }
 }
 
-// The option `--name`, of one number up to `most`.
-fn number_option<'a>(alloc: Global, name: &'a str, most: u32, preset: &'a str) -> Arg<'a>
-    ensures rule { rule_of result ≡ number_rule name.entry.now most preset.entry.now }
+// The option `--name`, of one number from `least` to `most`.
+fn number_option<'a>(
+    alloc: Global,
+    name: &'a str,
+    least: u32,
+    most: u32,
+    preset: &'a str,
+) -> Arg<'a>
+    ensures rule { rule_of result ≡ number_rule name.entry.now least most preset.entry.now }
     ensures local { result.global ≡ false }
 {
     Arg::new(alloc, name)
         .long(name)
         .action(ArgAction::Set)
-        .value_parser(clap::value_parser!(usize).range(..=i64::from(most)))
+        .value_parser(clap::value_parser!(usize).range(i64::from(least)..=i64::from(most)))
         .default_value(preset)
 }
 
@@ -73,11 +81,12 @@ fn semi_command<'a>(alloc: Global) -> Result<Command<'a>, AllocError>
     ensures { IfOk result (λ command. app_of command ≡ semi_app) }
 {
     Command::new(alloc, "semi")
-        .arg(number_option(alloc, "rows", 1_000_000, "1000"))?
-        .arg(number_option(alloc, "defs", 1_000_000, "10000"))?
-        .arg(number_option(alloc, "length", 64, "12"))?
-        .arg(number_option(alloc, "elements", 10_000_000, "100000"))?
-        .arg(number_option(alloc, "classes", 1_000_000, "10000"))
+        .arg(number_option(alloc, "rows", 0, 1_000_000, "1000"))?
+        .arg(number_option(alloc, "defs", 0, 1_000_000, "10000"))?
+        .arg(number_option(alloc, "length", 0, 64, "12"))?
+        .arg(number_option(alloc, "elements", 0, 10_000_000, "100000"))?
+        .arg(number_option(alloc, "classes", 0, 1_000_000, "10000"))?
+        .arg(number_option(alloc, "workers", 1, 64, "3"))
 }
 
 fn matches_in<'a>(alloc: Global, words: &'a [String]) -> Result<ArgMatches<'a>, SettingsFault>
@@ -94,7 +103,7 @@ fn matches_in<'a>(alloc: Global, words: &'a [String]) -> Result<ArgMatches<'a>, 
 
 // The number of an option that has one.
 fn number_of(matches: &ArgMatches, id: &str) -> usize
-    requires { HasNumber usize.MAX id.now (rows_of (found_of matches.now)) }
+    requires { HasNumber 0 usize.MAX id.now (rows_of (found_of matches.now)) }
     ensures { number_in id.now (rows_of (found_of matches.now)) ≡ Some result }
 {
     matches.get_one::<usize>(id).unwrap()
@@ -104,10 +113,12 @@ fn number_of(matches: &ArgMatches, id: &str) -> usize
 /// where there is no word the name is taken to be there. Refused with `Refused` only where clap's
 /// rules do not take the words for this command, and with `NoMemory` where memory is wanting.
 pub fn settings_of(alloc: Global, words: &Vec<String>) -> Result<Settings, SettingsFault>
-    ensures ok { IfOk result (λ settings. Reads (or_name (map string_bytes words.now.items)) settings) }
-    ensures refused { IsErrOf result SettingsFault.Refused → AreRefused (map string_bytes words.now.items) }
+    ensures ok { IfOk result (Reads (or_name (map string_bytes words.now.items))) }
+    ensures refused { IsErrOf result SettingsFault.Refused
+        → AreRefused (map string_bytes words.now.items) }
     ensures bounded { IfOk result (λ settings. (settings.rows ≤ 1000000) × (settings.defs ≤ 1000000)
-        × (settings.length ≤ 64) × (settings.elements ≤ 10000000) × (settings.classes ≤ 1000000)) }
+        × (settings.length ≤ 64) × (settings.elements ≤ 10000000) × (settings.classes ≤ 1000000)
+        × (1 ≤ settings.workers) × (settings.workers ≤ 64)) }
 {
     let matches = matches_in(alloc, words.as_slice())?;
     Ok(Settings {
@@ -116,12 +127,14 @@ pub fn settings_of(alloc: Global, words: &Vec<String>) -> Result<Settings, Setti
         length: number_of(&matches, "length"),
         elements: number_of(&matches, "elements"),
         classes: number_of(&matches, "classes"),
+        workers: number_of(&matches, "workers"),
     })
 }
 
 /// Words set at most one settings: what clap's specification reads from them is a function of them.
 pub fn settings_are_one()
-    ensures { (words : List Text) (settings other : Settings) → Reads words settings → Reads words other → settings ≡ other }
+    ensures { (words : List Text) (settings other : Settings)
+        → Reads words settings → Reads words other → settings ≡ other }
 {}
 
 #[cfg(test)]

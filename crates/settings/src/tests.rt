@@ -5,79 +5,82 @@ use std::test::Fail;
 #[test]
 fn reads_words(rt: HostRuntime) -> Result<(), Fail> {
     let alloc = rt.alloc();
-    let cases: [(&[&str], Option<(usize, usize, usize, usize, usize)>); 40] = [
-        (&[], Some((1_000, 10_000, 12, 100_000, 10_000))),
-        (&["semi"], Some((1_000, 10_000, 12, 100_000, 10_000))),
+    let cases: [(&[&str], Option<(usize, usize, usize, usize, usize, usize)>); 43] = [
+        (&[], Some((1_000, 10_000, 12, 100_000, 10_000, 3))),
+        (&["semi"], Some((1_000, 10_000, 12, 100_000, 10_000, 3))),
         (
             &["semi", "--elements", "26"],
-            Some((1_000, 10_000, 12, 26, 10_000)),
+            Some((1_000, 10_000, 12, 26, 10_000, 3)),
         ),
         (
             &["semi", "--elements=26"],
-            Some((1_000, 10_000, 12, 26, 10_000)),
+            Some((1_000, 10_000, 12, 26, 10_000, 3)),
         ),
         (
             &["semi", "--elements=+26"],
-            Some((1_000, 10_000, 12, 26, 10_000)),
+            Some((1_000, 10_000, 12, 26, 10_000, 3)),
         ),
         (
             &["semi", "--classes", "0"],
-            Some((1_000, 10_000, 12, 100_000, 0)),
+            Some((1_000, 10_000, 12, 100_000, 0, 3)),
         ),
         (
             &["semi", "--classes=7", "--elements", "9"],
-            Some((1_000, 10_000, 12, 9, 7)),
+            Some((1_000, 10_000, 12, 9, 7, 3)),
         ),
         (
             &["semi", "--elements", "10000000"],
-            Some((1_000, 10_000, 12, 10_000_000, 10_000)),
+            Some((1_000, 10_000, 12, 10_000_000, 10_000, 3)),
         ),
         (&["semi", "--elements", "10000001"], None),
         (
             &["semi", "--classes", "1000000"],
-            Some((1_000, 10_000, 12, 100_000, 1_000_000)),
+            Some((1_000, 10_000, 12, 100_000, 1_000_000, 3)),
         ),
         (&["semi", "--classes", "1000001"], None),
         (
             &["semi", "--defs", "2"],
-            Some((1_000, 2, 12, 100_000, 10_000)),
+            Some((1_000, 2, 12, 100_000, 10_000, 3)),
         ),
         (
             &["semi", "--defs=0", "--classes=7"],
-            Some((1_000, 0, 12, 100_000, 7)),
+            Some((1_000, 0, 12, 100_000, 7, 3)),
         ),
         (
             &["semi", "--defs", "1000000"],
-            Some((1_000, 1_000_000, 12, 100_000, 10_000)),
+            Some((1_000, 1_000_000, 12, 100_000, 10_000, 3)),
         ),
         (&["semi", "--defs", "1000001"], None),
         (
             &["semi", "--rows", "0"],
-            Some((0, 10_000, 12, 100_000, 10_000)),
+            Some((0, 10_000, 12, 100_000, 10_000, 3)),
         ),
         (
             &["semi", "--rows=3", "--defs=2"],
-            Some((3, 2, 12, 100_000, 10_000)),
+            Some((3, 2, 12, 100_000, 10_000, 3)),
         ),
         (
             &["semi", "--rows", "1000000"],
-            Some((1_000_000, 10_000, 12, 100_000, 10_000)),
+            Some((1_000_000, 10_000, 12, 100_000, 10_000, 3)),
         ),
         (&["semi", "--rows", "1000001"], None),
         (
             &["semi", "--length", "0"],
-            Some((1_000, 10_000, 0, 100_000, 10_000)),
+            Some((1_000, 10_000, 0, 100_000, 10_000, 3)),
         ),
         (
             &["semi", "--length=64"],
-            Some((1_000, 10_000, 64, 100_000, 10_000)),
+            Some((1_000, 10_000, 64, 100_000, 10_000, 3)),
         ),
         (
             &["semi", "--length", "7", "--rows=3"],
-            Some((3, 10_000, 7, 100_000, 10_000)),
+            Some((3, 10_000, 7, 100_000, 10_000, 3)),
         ),
         (&["semi", "--length", "65"], None),
-        (&["semi", "--"], Some((1_000, 10_000, 12, 100_000, 10_000))),
+        (
+            &["semi", "--"],
+            Some((1_000, 10_000, 12, 100_000, 10_000, 3)),
+        ),
         (&["semi", "--", "x"], None),
         (&["semi", "--elements", "1", "--elements", "2"], None),
         (&["semi", "--elements", "-1"], None),
@@ -92,7 +95,16 @@ fn reads_words(rt: HostRuntime) -> Result<(), Fail> {
         (&["semi", "--version"], None),
         (&["semi", "-V"], None),
         (&["semi", "x"], None),
-        (&["semi", "--workers", "2"], None),
+        (
+            &["semi", "--workers", "1"],
+            Some((1_000, 10_000, 12, 100_000, 10_000, 1)),
+        ),
+        (
+            &["semi", "--workers=64"],
+            Some((1_000, 10_000, 12, 100_000, 10_000, 64)),
+        ),
+        (&["semi", "--workers", "0"], None),
+        (&["semi", "--workers", "65"], None),
         (&["semi", "--elem", "5"], None),
     ];
     for (i, (texts, want)) in cases.iter().enumerate() {
@@ -106,7 +118,7 @@ fn reads_words(rt: HostRuntime) -> Result<(), Fail> {
 fn outcome(
     alloc: Global,
     texts: &[&str],
-) -> Result<Option<(usize, usize, usize, usize, usize)>, SettingsFault> {
+) -> Result<Option<(usize, usize, usize, usize, usize, usize)>, SettingsFault> {
     let mut words = Vec::new(alloc);
     for text in texts {
         let word = String::from_str(alloc, text)?;
@@ -121,6 +133,7 @@ fn outcome(
             settings.length,
             settings.elements,
             settings.classes,
+            settings.workers,
         ))),
         Err(SettingsFault::Refused) => Ok(None),
         Err(SettingsFault::NoMemory) => Err(SettingsFault::NoMemory),
@@ -132,7 +145,7 @@ fn tells_the_usage(rt: HostRuntime) -> Result<(), Fail> {
     let text = format!(in rt.alloc(); "{}", SettingsFault::Refused)?;
     assert!(rt;
         text.as_str()
-            == "usage: semi [--rows M] [--defs D] [--length L] [--elements N] [--classes C]"
+            == "usage: semi [--rows M] [--defs D] [--length L] [--elements N] [--classes C] [--workers W]"
     );
     Ok(())
 }

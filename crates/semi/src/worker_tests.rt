@@ -1,0 +1,127 @@
+use super::tests::{NONE, run_at};
+use ports::{Gate, Open};
+use std::sync::atomic::{AtomicBool, Ordering};
+use std::test::Fail;
+use std::thread::Threads;
+
+// The symmetric group of degree 3.
+const GROUP: &str = "monoid ab\nrel aa 1\nrel bbb 1\nrel abab 1\nindex\nclasses 9\nrules\n";
+
+const GROUP_REPORT: &str = "index 6\n1\na\nb\nab\nba\nbb\nend\n\
+                            aa 1\naba bb\nabb ba\nbab a\nbba ab\nbbb 1\nend\n";
+
+// Whether each number of workers gives this report and status.
+fn gives<R: Threads + Sync + AllocGlobal>(
+    rt: &R,
+    options: &[&str],
+    script: &str,
+    status: u8,
+    report: &str,
+) -> Result<bool, Fail> {
+    for workers in ["1", "2", "3", "64"] {
+        let mut words = Vec::from_slice(rt.alloc(), &["semi", "--workers", workers])?;
+        words.extend_from_slice(options)?;
+        let ended = run_at(rt, words.as_slice(), script.as_bytes(), NONE, &Open)?;
+        if ended.status != status || ended.out.as_slice() != report.as_bytes() {
+            return Ok(false);
+        }
+    }
+    Ok(true)
+}
+
+#[test]
+fn workers_give_one_report(rt: HostRuntime) -> Result<(), Fail> {
+    // a group, and the bicyclic monoid, which completion alone decides
+    assert!(rt; gives(&rt, &[], GROUP, 0, GROUP_REPORT)?);
+    assert!(rt;
+        gives(
+            &rt,
+            &[],
+            "monoid bc\nrel bc 1\nindex\nclasses 6\n",
+            0,
+            "index infinite\n1\nb\nc\nbb\ncb\ncc\nmore\n"
+        )?
+    );
+    Ok(())
+}
+
+// The semilattice of two generators.
+const SEMILATTICE: &str = "semigroup ab\nrel aa a\nrel bb b\nrel ab ba\nclasses 9\n";
+
+// The cyclic group of order 3.
+const CYCLIC: &str = "monoid a\nrel aaa 1\nindex\n";
+
+#[test]
+fn workers_keep_to_the_budgets(rt: HostRuntime) -> Result<(), Fail> {
+    let cases: [(&str, &str, &str, &str, u8, &str); 7] = [
+        ("0", "0", "2", SEMILATTICE, 0, "a\nb\nab\nend\n"),
+        ("0", "0", "1", SEMILATTICE, 1, "undecided\n"),
+        ("0", "2", "0", CYCLIC, 0, "index 3\n"),
+        ("0", "1", "0", CYCLIC, 1, "undecided\n"),
+        ("3", "0", "0", CYCLIC, 0, "index 3\n"),
+        ("2", "0", "0", CYCLIC, 1, "undecided\n"),
+        (
+            "9",
+            "30",
+            "3",
+            "monoid ab\nrel aba bab\nindex\n",
+            1,
+            "undecided\n",
+        ),
+    ];
+    for (rows, defs, length, script, status, report) in cases {
+        let options = ["--rows", rows, "--defs", defs, "--length", length];
+        assert!(rt; gives(&rt, &options, script, status, report)?, "{script}");
+    }
+    Ok(())
+}
+
+// A gate at which lanes 0 and 1 look for each other at their first turns.
+#[derive(Drop)]
+struct Meeting<'a> {
+    front: &'a AtomicBool,
+    back: &'a AtomicBool,
+    front_saw: &'a AtomicBool,
+    back_saw: &'a AtomicBool,
+}
+
+// At the first pass, sets a mark and looks a while for another.
+fn first_pass(mine: &AtomicBool, other: &AtomicBool, saw: &AtomicBool) {
+    if mine.swap(true, Ordering::SeqCst) {
+        return;
+    }
+    for _ in 0..200_000_000u32 {
+        if other.load(Ordering::SeqCst) {
+            saw.store(true, Ordering::SeqCst);
+            return;
+        }
+    }
+}
+
+impl<'a> Gate for Meeting<'a> {
+    fn pass(&self, number: usize) {
+        match number {
+            0 => first_pass(self.front, self.back, self.front_saw),
+            1 => first_pass(self.back, self.front, self.back_saw),
+            _ => (),
+        }
+    }
+}
+
+#[test]
+fn two_workers_run_lanes_side_by_side(rt: HostRuntime) -> Result<(), Fail> {
+    let (front, back) = (AtomicBool::new(false), AtomicBool::new(false));
+    let (front_saw, back_saw) = (AtomicBool::new(false), AtomicBool::new(false));
+    let gate = Meeting {
+        front: &front,
+        back: &back,
+        front_saw: &front_saw,
+        back_saw: &back_saw,
+    };
+    let words = ["semi", "--workers", "2"];
+    let ended = run_at(&rt, &words, GROUP.as_bytes(), NONE, &gate)?;
+    assert_eq!(rt; ended.status, 0);
+    assert_eq!(rt; ended.out.as_slice(), GROUP_REPORT.as_bytes());
+    assert!(rt; front_saw.load(Ordering::SeqCst) && back_saw.load(Ordering::SeqCst));
+    Ok(())
+}
