@@ -12,8 +12,6 @@ use Rattle.coincidence.proofs.FoldLaws.{edged_with}
 use Rattle.coincidence.proofs.StepLaws.{due_inside, due_reached, edge_step}
 use Rattle.coincidence.proofs.JoinLaws.{option_gone, at_same}
 use Rattle.std.proofs.lemmas.List.{length-map, get_or_append_left, length_push}
-use Rattle.std.proofs.Math.Seq.{take-append_seam}
-use Rattle.std.proofs.Common.{take, ◌-◌}
 use Rattle.theory.specs.Word.{Word}
 use Rattle.theory.specs.Congruence.{Congruence, IsWellFormed}
 use Rattle.theory.specs.Graph.{Graph, target, path, IsGraph, IsClosedAt}
@@ -243,12 +241,6 @@ drawing_dropped c first from marks g live marked pending rest at closed d = reco
   closed = closed;
   own = d.own;
 }
-
--- the last is dropped
-pub last_dropped : (items rest front : List Pending) (e : Pending) (n : ℕ) → n ≡ length items → items ≡ front ++ e ∷ [] → rest ≡ take (n - 1) items → rest ≡ front
-last_dropped items rest front e n long is cut =
-    let count : n - 1 ≡ length front = omega (arith, long, ap length is, length_push {X = Pending} front e) in
-    cut ∙ ap (λ z. take z items) count ∙ ap (take (length front)) is ∙ take-append_seam front (e ∷ [])
 
 -- a merging renews
 pub joined_renewed : (g new : Graph) (live still marked moved : List Bool) (pending later : List Pending) (x y : ℕ) (at to : Option ℕ) → IsJoined g new live still marked moved pending later x y at to → IsRenewed g new live still pending later

@@ -4,13 +4,13 @@ use Rattle.theory.specs.Congruence.{Congruence, IsWellFormed}
 use Rattle.theory.specs.Graph.{Graph, target, IsGraph}
 use Rattle.coincidence.specs.Live.{IsOn, IsLiveGraph}
 use Rattle.coincidence.specs.Links.{Links, IsSources}
-use Rattle.coincidence.specs.Pending.{IsClosedBut}
+use Rattle.coincidence.specs.Pending.{new_nodes, IsClosedBut}
 use Rattle.std.proofs.Common.{inl, inr}
 use Rattle.std.proofs.lemmas.Bool.{cases_eq}
 use Rattle.std.proofs.lemmas.List.{get_or-set_same, get_or-set_other}
 use Rattle.theory.specs.Word.{Word}
 use Rattle.theory.specs.Graph.{path, SameEnd}
-use Rattle.word_graph.proofs.EdgeLaws.{target_in}
+use Rattle.word_graph.proofs.EdgeLaws.{graph_edged, target_in}
 use Rattle.word_graph.proofs.WalkLaws.{some_same}
 use Rattle.coincidence.specs.Marks.{KeepsMarks, KeepsNumbers}
 use Rattle.coincidence.proofs.FollowsLaws.{path_more}
@@ -21,10 +21,13 @@ use Rattle.coincidence.specs.declared.order.Order.{Order}
 use Rattle.coincidence.specs.Table.{CosetTable, IsTable, IsHeld, shown, bare}
 use Rattle.coincidence.specs.declared.pending.Pending.{Pending}
 use Rattle.coincidence.proofs.MarkLaws.{no_mark}
-use Rattle.coincidence.specs.declared.pending.Pending.TheVariants.{NewNode}
+use Rattle.coincidence.specs.declared.pending.Pending.TheVariants.{NewEdge}
 use Rattle.coincidence.proofs.LinkLaws.{root_sources}
 use Rattle.coincidence.proofs.MarkLaws.{marks_pushed}
-use Rattle.coincidence.proofs.PendingLaws.{closed_start}
+use Rattle.coincidence.specs.Closing.{IsEdged}
+use Rattle.coincidence.proofs.FoldLaws.{edged_with}
+use Rattle.coincidence.proofs.StepLaws.{edged_live}
+use Rattle.coincidence.proofs.PendingLaws.{closed_renewed, closed_start, renewed_edged}
 use Rattle.coincidence.proofs.TableLaws.{root_graph, root_live}
 use Rattle.std.proofs.lemmas.List.{length_push}
 use Rattle.std.proofs.Common.{length-set, get_or}
@@ -103,7 +106,7 @@ between P c false links live marked links' live' marked' t e view h = subst (λ 
 between P c true links live marked links' live' marked' t e view h = cc
 
 -- a new table
-pub new_whole : (c : Congruence) (o : Order) → IsWellFormed c → IsKept c.presentation.letters (bare c) (false ∷ []) o → IsWhole c (record { graph = bare c; firsts = bare c; nexts = bare c }) (true ∷ []) (false ∷ []) o (NewNode 0 ∷ [])
+pub new_whole : (c : Congruence) (o : Order) → IsWellFormed c → IsKept c.presentation.letters (bare c) (false ∷ []) o → IsWhole c (record { graph = bare c; firsts = bare c; nexts = bare c }) (true ∷ []) (false ∷ []) o (new_nodes 1)
 new_whole c o is kept = record {
   congruence = is;
   graph = root_graph c.presentation.letters;
@@ -111,13 +114,21 @@ new_whole c o is kept = record {
   shape = refl;
   marks = λ n on. absurd (no_mark n on);
   sources = root_sources c.presentation.letters;
-  closed = closed_start c.presentation.relations (bare c) (true ∷ []) only_root;
+  closed = closed_start c.presentation.relations (bare c) (true ∷ []) 1 only_root;
   order = kept;
 }
   where
-    only_root : (n : ℕ) → IsOn (true ∷ []) n → n ≡ 0
-    only_root zero on = refl
+    only_root : (n : ℕ) → IsOn (true ∷ []) n → n < 1
+    only_root zero on = omega arith
     only_root (suc n) on = cc
+
+-- with each node new, nothing else is pending
+pub restarted : (c : Congruence) (links : Links) (live marked : List Bool) (o : Order) (pending : List Pending) (failed : Bool) → IsHeld c failed links live marked o pending → IsHeld c failed links live marked o (new_nodes (length links.graph))
+restarted c links live marked o pending failed h = record {
+  table = h.table;
+  closed = λ e. let w = held_whole c links live marked o pending failed e h in closed_start c.presentation.relations links.graph live (length links.graph) (λ node on. on_inside links.graph live node w.lives on);
+  order = h.order;
+}
 
 -- a node more, which has no mark
 pub one_more : (c : Congruence) (k : ℕ) (links links' : Links) (live live' marked marked' : List Bool) (o o' : Order) (pending pending' : List Pending) (node letter made : ℕ) → IsWhole c links live marked o pending → k ≡ c.presentation.letters → IsGraph k links'.graph → IsLiveGraph links'.graph live'
@@ -243,3 +254,37 @@ marked_whole c links live marked o pending node w on = record {
   closed = w.closed;
   order = kept_marked c.presentation.letters links.graph marked o node (omega (arith, on_inside links.graph live node w.lives on, w.shape)) w.order;
 }
+
+-- an edge more, which is pending
+module _ (c : Congruence) (links links' : Links) (live marked : List Bool) (o : Order) (pending : List Pending) (node letter to : ℕ) (w : IsWhole c links live marked o pending)
+    (hn : IsOn live node) (ht : IsOn live to) (less : letter < c.presentation.letters) (none : target links.graph node letter ≡ None) where
+  drawn_node : node < length links.graph
+  drawn_node = on_inside links.graph live node w.lives hn
+
+  drawn_to : to < length links.graph
+  drawn_to = on_inside links.graph live to w.lives ht
+
+  drawn_edge : IsEdged links.graph (with_edge links.graph node letter to) node letter to
+  drawn_edge = edged_with links.graph node letter to drawn_node (omega (arith, w.graph.width node [] drawn_node, less)) none
+
+  pub drawn_whole : links'.graph ≡ with_edge links.graph node letter to → ((node letter : ℕ) → (list : List ℕ) × IsSources links' node letter list) → IsWhole c links' live marked o (pending ++ NewEdge node letter ∷ [])
+  drawn_whole is sources =
+      let same : length (with_edge links.graph node letter to) ≡ length links.graph = length-set links.graph node (set (get_or links.graph node []) letter (Some to)) in
+      let graph : IsGraph c.presentation.letters (with_edge links.graph node letter to) = graph_edged c.presentation.letters links.graph node letter to w.graph drawn_node less drawn_to in
+      let lives : IsLiveGraph (with_edge links.graph node letter to) live = edged_live links.graph (with_edge links.graph node letter to) live node letter to same drawn_edge (w.lives.reached node hn) (w.lives.reached to ht) w.lives in
+      record {
+        congruence = w.congruence;
+        graph = subst (IsGraph c.presentation.letters) (sym is) graph;
+        lives = subst (λ (g : Graph). IsLiveGraph g live) (sym is) lives;
+        shape = w.shape ∙ sym same ∙ ap length (sym is);
+        marks = w.marks;
+        sources = sources;
+        closed = subst (λ (g : Graph). IsClosedBut c.presentation.relations g live (pending ++ NewEdge node letter ∷ [])) (sym is)
+            (closed_renewed c.presentation.relations links.graph (with_edge links.graph node letter to) live live pending (pending ++ NewEdge node letter ∷ []) lives (renewed_edged links.graph (with_edge links.graph node letter to) live pending node letter to drawn_edge) w.closed);
+        order = subst (λ (g : Graph). IsKept c.presentation.letters g marked o) (sym is)
+            (kept_lives c.presentation.letters links.graph marked o.steps.items o.places.items o.row o.letter o.done w.order (with_edge links.graph node letter to) live marked same
+            (λ n b t e. (target_in c.presentation.letters (with_edge links.graph node letter to) graph n b t e).1)
+            (λ n j e. kept_live c.presentation.letters links.graph live marked o w.lives w.order n (j, e))
+            (λ n b t _ _ e. drawn_edge.kept n b t e)
+            (λ n _ on. on));
+      }

@@ -1,23 +1,57 @@
 -- Reading across an edge, back along lists of sources.
-use Rattle.std.proofs.Common.{◌≡◌, ◌≢◌, ℕ, ◌+◌, ◌-◌, ◌<◌, ◌≤◌, List, [], ◌∷◌, ◌++◌, refl, sym, ◌∙◌, ap, arith, ◌⊎◌, inl, inr, Option, Some, None, length, subst, get_or, slice_get, take}
+use Rattle.std.proofs.Common.{◌≡◌, ◌≢◌, ℕ, ◌+◌, ◌-◌, ◌<◌, ◌≤◌, List, [], ◌∷◌, ◌++◌, refl, sym, ◌∙◌, ap, arith, ◌⊎◌, inl, inr, Option, Some, None, zero, suc, length, subst, get_or, slice_get, take, drop, option_and_then}
 use Rattle.std.proofs.lemmas.Bool.{cases_lt}
-use Rattle.std.proofs.lemmas.List.{take_more, get_or_read}
+use Rattle.std.proofs.lemmas.List.{append_assoc, length-append, take-append-drop, take_more, get_or_read}
 use Rattle.std.proofs.lemmas.Option.{slice_get_within, get_or_from_slice_get}
 use Rattle.std.proofs.Math.Seq.{take-append_seam}
 use Rattle.theory.specs.Word.{Word}
 use Rattle.theory.specs.Congruence.{EitherWay}
 use Rattle.theory.specs.Graph.{Graph, target, path}
-use Rattle.theory.proofs.GraphLaws.{path_front, path_letter}
+use Rattle.theory.proofs.GraphLaws.{path_append, path_front, path_letter}
+use Rattle.theory.proofs.FactsLaws.{prefix_last}
 use Rattle.word_graph.proofs.WalkLaws.{some_same}
 use Rattle.coincidence.specs.Closing.{IsRead}
 use Rattle.coincidence.specs.DueSpec.{IsDueFrom, IsDueAt}
 use Rattle.coincidence.specs.Pending.{IsAmong, Crosses}
 use Rattle.coincidence.specs.Links.{Links, IsChain, IsLinked, chain_count}
-use Rattle.coincidence.specs.Reading.{IsQuietBoth, IsAsked, IsDueBoth, IsDueBehind, IsDueAlong, IsDueThrough}
+use Rattle.coincidence.specs.Reading.{IsCut, IsQuietBoth, IsAsked, IsDueBoth, IsDueBehind, IsDueAlong, IsDueThrough}
 use Rattle.coincidence.specs.declared.due.Due.{Due}
 use Rattle.coincidence.specs.declared.due.Due.TheVariants.{Nothing, Edge, Join}
+use Rattle.coincidence.proofs.DueLaws.{split_last}
 use Rattle.coincidence.proofs.FollowsLaws.{path_more}
 use Rattle.coincidence.proofs.LinkLaws.{chain_counted, sources_few}
+
+-- where a side leads
+pub side_leads : (g : Graph) (node at a n : ℕ) (side : Word) → length side ≡ n → (n ≡ 0 → ⊥) → slice_get side (n - 1) ≡ Some a → path g node (take (length side - 1) side) ≡ Some at → path g node side ≡ target g at a
+side_leads g node at a n side len some e here =
+    ap (path g node) (split_last side n a len some e) ∙ path_more g node at (take (n - 1) side) a (subst (λ z. path g node (take (z - 1) side) ≡ Some at) len here)
+
+pub empty_leads : (g : Graph) (node at : ℕ) (side : Word) → length side ≡ 0 → path g node (take (length side - 1) side) ≡ Some at → path g node side ≡ Some at
+empty_leads g node at [] e here = here
+empty_leads g node at (a ∷ side) e here = absurd (omega (arith, e))
+
+-- a word of which a prefix has no path has none
+no_path : (g : Graph) (n : ℕ) (front back : Word) → path g n front ≡ None → path g n (front ++ back) ≡ None
+no_path g n [] back none = cc
+no_path g n (a ∷ front) back none = go (target g n a) refl (λ t h. no_path g t front back h) none
+  where
+    go : (o : Option ℕ) → target g n a ≡ o → ((t : ℕ) → path g t front ≡ None → path g t (front ++ back) ≡ None) → option_and_then (λ next. path g next front) o ≡ None → option_and_then (λ next. path g next (front ++ back)) (target g n a) ≡ None
+    go None e further h = ap (λ z. option_and_then (λ next. path g next (front ++ back)) z) e
+    go (Some t) e further h = ap (λ z. option_and_then (λ next. path g next (front ++ back)) z) e ∙ further t h
+
+-- a side that stops before its last letter asks for nothing
+pub stopped_quiet : (g : Graph) (node : ℕ) (side other : Word) → path g node (take (length side - 1) side) ≡ None → IsDueFrom g node side other Nothing × IsDueFrom g node other side Nothing
+stopped_quiet g node side other none = (λ j a m k. absurd (whole m k.2), λ j a m k. absurd (front k.0 a j k.1 k.3))
+  where
+    whole : (m : ℕ) → path g node side ≡ Some m → ⊥
+    whole m e =
+        let no : None ≡ Some m = sym (no_path g node (take (length side - 1) side) (drop (length side - 1) side) none) ∙ ap (path g node) (take-append-drop (length side - 1) side) ∙ e in cc
+
+    front : (w : Word) (a j : ℕ) → side ≡ w ++ a ∷ [] → path g node w ≡ Some j → ⊥
+    front w a j e h =
+        let long : length side - 1 ≡ length w = omega (arith, ap length e, length-append w (a ∷ [])) in
+        let is : take (length side - 1) side ≡ w = ap (λ z. take z side) long ∙ ap (take (length w)) e ∙ take-append_seam w (a ∷ []) in
+        let no : None ≡ Some j = sym none ∙ ap (path g node) is ∙ h in cc
 
 -- a walk along the list of a node's sources: those that are still to come, and those for which P holds
 pub record IsListing (t : Links) (node letter : ℕ) (P : ℕ → Type 0) (at : Option ℕ) : Type 0 where
@@ -117,6 +151,50 @@ along_more g node letter side first second place here q n i h e f = go (cases_lt
         let same : i ≡ place = omega (arith, more, h) in
         here (subst (λ z. slice_get side z ≡ Some letter) same e) n (subst (λ z. path g n (take z side) ≡ Some node) same f)
 
+split_more : (x : ℕ) (side : Word) (place a b : ℕ) → (c : ℕ) × (after : Word) × (side ≡ take place side ++ a ∷ b ∷ c ∷ after)
+    → (c : ℕ) × (after : Word) × (x ∷ side ≡ x ∷ (take place side ++ a ∷ b ∷ c ∷ after))
+split_more x side place a b (c, after, e) = (c, after, ap (λ w. x ∷ w) e)
+
+-- a word at two neighbouring letters of it, with more to come
+split_at : (side : Word) (place a b : ℕ) → slice_get side place ≡ Some a → slice_get side (place + 1) ≡ Some b → place + 2 < length side
+    → (c : ℕ) × (after : Word) × (side ≡ take place side ++ a ∷ b ∷ c ∷ after)
+split_at [] place a b here behind more = cc
+split_at (x ∷ []) zero a b here behind more = cc
+split_at (x ∷ y ∷ []) zero a b here behind more = absurd (omega (arith, more))
+split_at (x ∷ y ∷ z ∷ side) zero a b here behind more =
+    (z, side, ap (λ w. w ∷ y ∷ z ∷ side) (some_same x a here) ∙ ap (λ w. a ∷ w ∷ z ∷ side) (some_same y b behind))
+split_at (x ∷ side) (suc place) a b here behind more =
+    let next : suc place + 1 ≡ suc (place + 1) = omega arith in
+    split_more x side place a b (split_at side place a b here (subst (λ z. slice_get (x ∷ side) z ≡ Some b) next behind) (omega (arith, more)))
+
+-- nothing is asked for where the read of a side is cut
+pub cut_quiet : (g : Graph) (node n : ℕ) (side other : Word) (place : ℕ) → IsCut g node side place → path g n (take place side) ≡ Some node → IsQuietBoth g n side other
+cut_quiet g node n side other place cut leads = (λ j a m r. absurd (whole m r.2), λ j a m r. absurd (but_last r.0 a j r.1 r.3))
+  where
+    parts : (c : ℕ) × (after : Word) × (side ≡ take place side ++ cut.letter ∷ cut.next ∷ c ∷ after)
+    parts = split_at side place cut.letter cut.next cut.here cut.behind cut.more
+
+    front : Word
+    front = take place side ++ cut.letter ∷ cut.next ∷ []
+
+    stuck : path g n front ≡ None
+    stuck = path_append g n node (take place side) (cut.letter ∷ cut.next ∷ []) leads ∙ cut.stops
+
+    side_is : side ≡ front ++ parts.0 ∷ parts.1
+    side_is = parts.2 ∙ sym (append_assoc (take place side) (cut.letter ∷ cut.next ∷ []) (parts.0 ∷ parts.1))
+
+    whole : (m : ℕ) → path g n side ≡ Some m → ⊥
+    whole m e = let no : None ≡ Some m = sym (no_path g n front (parts.0 ∷ parts.1) stuck) ∙ sym (ap (path g n) side_is) ∙ e in cc
+
+    longer : front ≡ front ++ parts.0 ∷ parts.1 → ⊥
+    longer e = omega (arith, ap length e, length-append front (parts.0 ∷ parts.1))
+
+    but_last : (w : Word) (a j : ℕ) → side ≡ w ++ a ∷ [] → path g n w ≡ Some j → ⊥
+    but_last w a j e h = elim (prefix_last front w a (record { after = parts.0 ∷ parts.1; is = sym e ∙ side_is })) [
+      | inl q ↦ let no : None ≡ Some j = sym (no_path g n front q.after stuck) ∙ sym (ap (path g n) q.is) ∙ h in cc
+      | inr same ↦ longer (same ∙ sym e ∙ side_is)
+    ]
+
 get_at : (front : Word) (letter : ℕ) (back : Word) → slice_get (front ++ letter ∷ back) (length front) ≡ Some letter
 get_at [] letter back = refl
 get_at (x ∷ front) letter back = get_at front letter back
@@ -135,14 +213,14 @@ along_found g node letter front side first second (Join j a t m) not h = (front,
 -- the first pairs ask for nothing across the edge
 abbrev pub IsQuietThrough : Graph → ℕ → ℕ → List (Word × Word) → ℕ → Type 0
 IsQuietThrough g node letter pairs i = (k : ℕ) (d : Word × Word) → k < i
-    → IsDueAlong g node letter (get_or pairs k d).0 (get_or pairs k d).0 (get_or pairs k d).1 Nothing × IsDueAlong g node letter (get_or pairs k d).1 (get_or pairs k d).0 (get_or pairs k d).1 Nothing
+    → IsDueAlong g node letter (get_or pairs k d).0 (get_or pairs k d).0 (get_or pairs k d).1 Nothing × IsDueAlong g node letter (get_or pairs k d).1 (get_or pairs k d).1 (get_or pairs k d).0 Nothing
 
 pub through_more : (g : Graph) (node letter : ℕ) (pairs : List (Word × Word)) (i : ℕ) (p : Word × Word) → i < length pairs → p ≡ get_or pairs i p
-    → IsDueAlong g node letter p.0 p.0 p.1 Nothing → IsDueAlong g node letter p.1 p.0 p.1 Nothing → IsQuietThrough g node letter pairs i → IsQuietThrough g node letter pairs (i + 1)
+    → IsDueAlong g node letter p.0 p.0 p.1 Nothing → IsDueAlong g node letter p.1 p.1 p.0 Nothing → IsQuietThrough g node letter pairs i → IsQuietThrough g node letter pairs (i + 1)
 through_more g node letter pairs i p less e one two q = λ k d h. go k d (cases_lt k i) h
   where
     Quiet : Word × Word → Type 0
-    Quiet z = IsDueAlong g node letter z.0 z.0 z.1 Nothing × IsDueAlong g node letter z.1 z.0 z.1 Nothing
+    Quiet z = IsDueAlong g node letter z.0 z.0 z.1 Nothing × IsDueAlong g node letter z.1 z.1 z.0 Nothing
 
     go : (k : ℕ) (d : Word × Word) → (k < i) ⊎ (i ≤ k) → k < i + 1 → Quiet (get_or pairs k d)
     go k d (inl l) h = q k d l
@@ -167,11 +245,11 @@ through_end g node letter pairs q n r s a m j sides first second crosses = go si
 
     go : EitherWay pairs r (s ++ a ∷ []) → target g j a ≡ Some m
     go (inl h) =
-        let both = subst (λ (z : Word × Word). IsDueAlong g node letter z.0 z.0 z.1 Nothing × IsDueAlong g node letter z.1 z.0 z.1 Nothing) h.2 (q h.0 (r, s ++ a ∷ []) h.1) in
-        elim crosses [ inl k ↦ closed (both.0 n k).0 | inr k ↦ closed (both.1 n (whole k)).0 ]
+        let both = subst (λ (z : Word × Word). IsDueAlong g node letter z.0 z.0 z.1 Nothing × IsDueAlong g node letter z.1 z.1 z.0 Nothing) h.2 (q h.0 (r, s ++ a ∷ []) h.1) in
+        elim crosses [ inl k ↦ closed (both.0 n k).0 | inr k ↦ closed (both.1 n (whole k)).1 ]
     go (inr h) =
-        let both = subst (λ (z : Word × Word). IsDueAlong g node letter z.0 z.0 z.1 Nothing × IsDueAlong g node letter z.1 z.0 z.1 Nothing) h.2 (q h.0 (s ++ a ∷ [], r) h.1) in
-        elim crosses [ inl k ↦ closed (both.1 n k).1 | inr k ↦ closed (both.0 n (whole k)).1 ]
+        let both = subst (λ (z : Word × Word). IsDueAlong g node letter z.0 z.0 z.1 Nothing × IsDueAlong g node letter z.1 z.1 z.0 Nothing) h.2 (q h.0 (s ++ a ∷ [], r) h.1) in
+        elim crosses [ inl k ↦ closed (both.1 n k).0 | inr k ↦ closed (both.0 n (whole k)).1 ]
 
 -- a pair of the list asks
 asked_read : (g : Graph) (n : ℕ) (pairs : List (Word × Word)) (p : Word × Word) (j a m : ℕ) → EitherWay pairs p.0 p.1 → EitherWay pairs p.1 p.0 → IsAsked g n p.0 p.1 (Edge j a m) → IsRead pairs g n j a m × (target g j a ≡ None)

@@ -1,5 +1,5 @@
 -- What is read across an edge.
-use Rattle.std.specs.Prelude.{◌≡◌, ◌≢◌, ℕ, List, [], ◌∷◌, ◌++◌, ◌⊎◌, Some, None}
+use Rattle.std.specs.Prelude.{◌≡◌, ◌≢◌, ℕ, ◌+◌, ◌<◌, List, [], ◌∷◌, ◌++◌, ◌⊎◌, Some, None, length, slice_get}
 use Rattle.theory.specs.Word.{Word}
 use Rattle.theory.specs.Congruence.{EitherWay}
 use Rattle.theory.specs.Graph.{Graph, target, path}
@@ -42,6 +42,15 @@ IsDueBehind g node front first second (Join j a t m) = IsAskedBehind g node fron
 -- it is asked for at a node from which some word leads to this one
 abbrev pub IsAskedBefore : Graph → ℕ → Word → Word → Due → Type 0
 IsAskedBefore g node first second due = (front : Word) × IsAskedBehind g node front first second due
+
+-- a read of the side that is at the node at the place stops behind one letter, with two more to come
+pub record IsCut (g : Graph) (node : ℕ) (side : Word) (place : ℕ) : Type 0 where
+  pub letter : ℕ
+  pub next : ℕ
+  pub here : slice_get side place ≡ Some letter
+  pub behind : slice_get side (place + 1) ≡ Some next
+  pub more : place + 2 < length side
+  pub stops : path g node (letter ∷ next ∷ []) ≡ None
 
 -- what a pair gives where a side crosses the edge
 abbrev pub IsDueAlong : Graph → ℕ → ℕ → Word → Word → Word → Due → Type 0

@@ -74,3 +74,11 @@ pub record IsDefined (old new : CosetTable) (node letter made : ℕ) : Type 0 wh
   pub live : new.live ≡ old.live ++ true ∷ []
   pub marked : new.marked ≡ old.marked ++ false ∷ []
   pub failed : new.failed ≡ false
+
+-- new is old with an edge of the letter from the one node to the other, and nothing else
+pub record IsDrawn (old new : CosetTable) (node letter to : ℕ) : Type 0 where
+  pub congruence : new.congruence ≡ old.congruence
+  pub graph : new.graph ≡ with_edge old.graph node letter to
+  pub live : new.live ≡ old.live
+  pub marked : new.marked ≡ old.marked
+  pub failed : new.failed ≡ false

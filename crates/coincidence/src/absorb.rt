@@ -5,14 +5,14 @@ ghost use Rattle.coincidence.specs.Links.{IsLinked};
 ghost use Rattle.coincidence.specs.Absorbing.{IsRedirected, IsMoved, IsAbsorbedAt, IsAbsorbed, Extends};
 
 use crate::edges::Edges;
-use crate::pending::Pending;
+use crate::pending::{Pending, Worklist};
 use ports::NoMemory;
 use words::Letter;
 
 // The edges of the letter into the one node lead to the other. Refused only where memory is wanting.
 fn redirect(
     edges: &mut Edges,
-    pending: &mut Vec<Pending>,
+    pending: &mut Worklist,
     lost: usize,
     kept: usize,
     letter: Letter,
@@ -21,7 +21,7 @@ fn redirect(
     requires kept { kept < length edges.old.graph }
     requires apart { lost ≢ kept }
     ensures ok { OnOk result (IsRedirected edges.old.graph edges.new.graph lost kept letter
-        pending.old.items pending.new.items) }
+        pending.old pending.new) }
 {
     while let Some(source) = edges.first_source(lost, letter) {
         let _letters = edges.letters();
@@ -37,7 +37,7 @@ fn redirect(
 // one. Refused only where memory is wanting.
 fn move_edge(
     edges: &mut Edges,
-    pending: &mut Vec<Pending>,
+    pending: &mut Worklist,
     queue: &mut Vec<(usize, usize)>,
     lost: usize,
     kept: usize,
@@ -47,7 +47,7 @@ fn move_edge(
     requires kept { kept < length edges.old.graph }
     requires apart { lost ≢ kept }
     ensures ok { OnOk result (IsMoved edges.old.graph edges.new.graph lost kept letter
-        queue.old.items queue.new.items pending.old.items pending.new.items) }
+        queue.old.items queue.new.items pending.old pending.new) }
 {
     let _letters = edges.letters();
     let Some(to) = edges.target(lost, letter) else {
@@ -68,7 +68,7 @@ fn move_edge(
 /// letter, the ends are to be one. Refused only where memory is wanting.
 pub fn absorb(
     edges: &mut Edges,
-    pending: &mut Vec<Pending>,
+    pending: &mut Worklist,
     queue: &mut Vec<(usize, usize)>,
     lost: usize,
     kept: usize,
@@ -77,7 +77,7 @@ pub fn absorb(
     requires kept { kept < length edges.old.graph }
     requires apart { lost ≢ kept }
     ensures ok { OnOk result (IsAbsorbed edges.old.graph edges.new.graph lost kept queue.old.items
-        queue.new.items pending.old.items pending.new.items) }
+        queue.new.items pending.old pending.new) }
 {
     let letters = edges.letters();
     for number in 0..letters {

@@ -11,30 +11,18 @@ ghost use Rattle.coincidence.specs.Kept.{IsMended, IsSome};
 ghost use Rattle.coincidence.specs.Live.{IsIdentified, IsLiveGraph, IsOn};
 ghost use Rattle.coincidence.specs.Marks.{KeepsMarks, KeepsNumbers};
 ghost use Rattle.coincidence.specs.Pending.{IsClosedBut};
-ghost use Rattle.coincidence.specs.Drawing.{IsDueOf, IsLast};
+ghost use Rattle.coincidence.specs.Drawing.{IsDueOf};
 
 use crate::due::Due;
 use crate::edges::Edges;
 use crate::joins::merge;
 use crate::order::Order;
-use crate::pending::Pending;
+use crate::pending::{Pending, Worklist};
 use crate::reads::{due_at, due_through};
 use ports::NoMemory;
 use presentation::{Congruence, Pairs};
 use std::alloc::Global;
 use words::Letter;
-
-// The last that is pending.
-fn last_pending(pending: &Vec<Pending>) -> Option<Pending>
-    ensures { IsLast pending.now.items result }
-{
-    let count = pending.len();
-    if count == 0 {
-        None
-    } else {
-        Some(pending[count - 1])
-    }
-}
 
 // What the relations ask for at a node, or across an edge, that is pending.
 fn due_of(edges: &Edges, live: &Vec<bool>, relations: &Pairs, entry: Pending) -> Due
@@ -61,24 +49,19 @@ fn due_of(edges: &Edges, live: &Vec<bool>, relations: &Pairs, entry: Pending) ->
 }
 
 // What relations or pairs ask for, with nothing read but what is pending, and the pairs at the root.
-fn due_next(
-    congruence: &Congruence,
-    edges: &Edges,
-    live: &Vec<bool>,
-    pending: &mut Vec<Pending>,
-) -> Due
+fn due_next(congruence: &Congruence, edges: &Edges, live: &Vec<bool>, pending: &mut Worklist) -> Due
     requires live { IsLiveGraph edges.now.graph live.now.items }
     requires closed { IsClosedBut congruence.now.congruence.presentation.relations edges.now.graph
-        live.now.items pending.old.items }
+        live.now.items pending.old }
     ensures due { IsDueIn congruence.now.congruence edges.now.graph live.now.items None result }
     ensures closed { IsClosedBut congruence.now.congruence.presentation.relations edges.now.graph
-        live.now.items pending.new.items }
+        live.now.items pending.new }
 {
     let relations = congruence.presentation().relations();
-    while let Some(entry) = last_pending(pending) {
+    while let Some(entry) = pending.last() {
         match due_of(edges, live, relations, entry) {
             Due::Nothing => {
-                pending.pop();
+                pending.drop_last();
             }
             due => return due,
         }
@@ -104,16 +87,16 @@ fn due_in(
     congruence: &Congruence,
     edges: &Edges,
     live: &Vec<bool>,
-    pending: &mut Vec<Pending>,
+    pending: &mut Worklist,
     at: Option<usize>,
 ) -> Due
     requires live { IsLiveGraph edges.now.graph live.now.items }
     requires at { ForSome at (IsOn live.now.items) }
     requires closed { IsClosedBut congruence.now.congruence.presentation.relations edges.now.graph
-        live.now.items pending.old.items }
+        live.now.items pending.old }
     ensures due { IsDueIn congruence.now.congruence edges.now.graph live.now.items at result }
     ensures closed { IsClosedBut congruence.now.congruence.presentation.relations edges.now.graph
-        live.now.items pending.new.items }
+        live.now.items pending.new }
 {
     match at {
         None => due_next(congruence, edges, live, pending),
@@ -130,7 +113,7 @@ pub fn close_in(
     live: &mut Vec<bool>,
     marked: &mut Vec<bool>,
     order: &mut Order,
-    pending: &mut Vec<Pending>,
+    pending: &mut Worklist,
     at: Option<usize>,
 ) -> Result<(), NoMemory>
     requires live { IsLiveGraph edges.old.graph live.old.items }
@@ -140,7 +123,7 @@ pub fn close_in(
     requires shape { length marked.old.items ≡ length edges.old.graph }
     requires marked { (n : ℕ) → IsOn marked.old.items n → IsOn live.old.items n }
     requires closed { IsClosedBut congruence.now.congruence.presentation.relations edges.old.graph
-        live.old.items pending.old.items }
+        live.old.items pending.old }
     requires order { IsSome order.old }
     ensures relates { OnOk result (PathsRelate edges.new.graph
         (ClosedThere congruence.now.congruence edges.old.graph at)) }
@@ -155,7 +138,7 @@ pub fn close_in(
     ensures shape { OnOk result (length marked.new.items ≡ length edges.new.graph) }
     ensures marked { OnOk result ((n : ℕ) → IsOn marked.new.items n → IsOn live.new.items n) }
     ensures closed { OnOk result (IsClosedBut congruence.now.congruence.presentation.relations
-        edges.new.graph live.new.items pending.new.items) }
+        edges.new.graph live.new.items pending.new) }
 {
     let mut place = at;
     loop {
@@ -180,7 +163,7 @@ pub fn identify_in(
     live: &mut Vec<bool>,
     marked: &mut Vec<bool>,
     order: &mut Order,
-    pending: &mut Vec<Pending>,
+    pending: &mut Worklist,
     x: usize,
     y: usize,
 ) -> Result<(), NoMemory>
@@ -200,8 +183,8 @@ pub fn identify_in(
     ensures shape { OnOk result (length marked.new.items ≡ length edges.new.graph) }
     ensures marked { OnOk result ((n : ℕ) → IsOn marked.new.items n → IsOn live.new.items n) }
     ensures closed { OnOk result ((pairs : List (Letters × Letters))
-        → IsClosedBut pairs edges.old.graph live.old.items pending.old.items
-        → IsClosedBut pairs edges.new.graph live.new.items pending.new.items) }
+        → IsClosedBut pairs edges.old.graph live.old.items pending.old
+        → IsClosedBut pairs edges.new.graph live.new.items pending.new) }
 {
     merge(alloc, edges, live, marked, order, pending, x, y, None)?;
     Ok(())
@@ -212,7 +195,7 @@ pub fn identify_in(
 pub fn define_in(
     edges: &mut Edges,
     live: &mut Vec<bool>,
-    pending: &mut Vec<Pending>,
+    pending: &mut Worklist,
     letters: usize,
     node: usize,
     letter: Letter,
@@ -229,8 +212,8 @@ pub fn define_in(
     ensures live_graph { OnOk result (IsLiveGraph edges.new.graph live.new.items) }
     ensures is_graph { OnOk result (IsGraph letters edges.new.graph) }
     ensures closed { OnOk result ((pairs : List (Letters × Letters))
-        → IsClosedBut pairs edges.old.graph live.old.items pending.old.items
-        → IsClosedBut pairs edges.new.graph live.new.items pending.new.items) }
+        → IsClosedBut pairs edges.old.graph live.old.items pending.old
+        → IsClosedBut pairs edges.new.graph live.new.items pending.new) }
     ensures err { OnErr result ((edges.new.graph ≡ edges.old.graph)
         × (live.new.items ≡ live.old.items)) }
 {

@@ -9,7 +9,7 @@ ghost use Rattle.coincidence.specs.Joining.{AreOne, IsJoined, IsMarkMoved, IsTak
 use crate::absorb::absorb;
 use crate::edges::Edges;
 use crate::order::Order;
-use crate::pending::Pending;
+use crate::pending::Worklist;
 use ports::NoMemory;
 use std::alloc::Global;
 
@@ -26,25 +26,20 @@ fn next_pair(queue: &mut Vec<(usize, usize)>) -> Option<(usize, usize)>
     None
 }
 
-// The queue, with the one node for the other. Refused only where memory is wanting.
-fn relabelled(
-    alloc: Global,
-    queue: &Vec<(usize, usize)>,
-    lost: usize,
-    kept: usize,
-) -> Result<Vec<(usize, usize)>, NoMemory>
-    ensures { IfOk result (λ v. v.items ≡ map (relabel_pair lost kept) queue.now.items) }
+// The node, or the one that is kept in its place.
+fn kept_for(node: usize, lost: usize, kept: usize) -> usize
+    ensures { result ≡ relabel lost kept node }
 {
-    let relabelled = queue
-        .iter()
-        .map(|pair| {
-            (
-                if pair.0 == lost { kept } else { pair.0 },
-                if pair.1 == lost { kept } else { pair.1 },
-            )
-        })
-        .collect(alloc)?;
-    Ok(relabelled)
+    if node == lost { kept } else { node }
+}
+
+// In each pair of the queue the one node stands in the place of the other.
+fn relabel_all(queue: &mut Vec<(usize, usize)>, lost: usize, kept: usize)
+    ensures { queue.new.items ≡ map (relabel_pair lost kept) queue.old.items }
+{
+    for pair in queue.iter_mut() {
+        *pair = (kept_for(pair.0, lost, kept), kept_for(pair.1, lost, kept));
+    }
 }
 
 // The mark of the one node goes to the other.
@@ -66,7 +61,7 @@ fn gone(at: Option<usize>, lost: usize, kept: usize) -> Option<usize>
 {
     match at {
         None => None,
-        Some(node) => Some(if node == lost { kept } else { node }),
+        Some(node) => Some(kept_for(node, lost, kept)),
     }
 }
 
@@ -78,7 +73,7 @@ pub fn merge(
     live: &mut Vec<bool>,
     marked: &mut Vec<bool>,
     order: &mut Order,
-    pending: &mut Vec<Pending>,
+    pending: &mut Worklist,
     x: usize,
     y: usize,
     at: Option<usize>,
@@ -91,7 +86,7 @@ pub fn merge(
     requires order { IsSome order.old }
     ensures order { OnOk result (IsMended order.old order.new live.old.items live.new.items) }
     ensures joined { IfOk result (λ to. IsJoined edges.old.graph edges.new.graph live.old.items
-        live.new.items marked.old.items marked.new.items pending.old.items pending.new.items x y at
+        live.new.items marked.old.items marked.new.items pending.old pending.new x y at
         to) }
 {
     let _letters = edges.letters();
@@ -101,7 +96,7 @@ pub fn merge(
     while let Some((s, t)) = next_pair(&mut queue) {
         let lost = s.max(t);
         let kept = s.min(t);
-        queue = relabelled(alloc, &queue, lost, kept)?;
+        relabel_all(&mut queue, lost, kept);
         absorb(edges, pending, &mut queue, lost, kept)?;
         live[lost] = false;
         order.cut(lost);

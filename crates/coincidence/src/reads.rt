@@ -1,9 +1,10 @@
 // What relations and pairs ask for, read along edges and back along lists of sources.
-ghost use Rattle.std.specs.Prelude.{◌≡◌, ℕ, ◌<◌, ◌≤◌, List, length, take};
+ghost use Rattle.std.specs.Prelude.{◌≡◌, ℕ, ◌-◌, ◌<◌, ◌≤◌, false, List, Some, length, slice_get, take};
+ghost use Rattle.theory.specs.Word.{Word as Letters};
 ghost use Rattle.theory.specs.Graph.{path as path_of, target as target_of};
 ghost use Rattle.coincidence.specs.DueSpec.{IsDueFrom, IsDueAt};
 ghost use Rattle.coincidence.specs.Live.{IsLiveGraph, IsOn};
-ghost use Rattle.coincidence.specs.Reading.{IsDueBoth, IsDueBehind, IsDueAlong, IsDueThrough};
+ghost use Rattle.coincidence.specs.Reading.{IsCut, IsDueBoth, IsDueBehind, IsDueAlong, IsDueThrough};
 
 use crate::due::Due;
 use crate::edges::Edges;
@@ -25,21 +26,40 @@ fn prefix_path(edges: &Edges, node: usize, word: &Word, count: usize) -> Option<
     Some(at)
 }
 
-// What the first side, read against the second, asks for at the node.
-fn due_from(edges: &Edges, node: usize, first: &Word, second: &Word) -> Due
-    ensures { IsDueFrom edges.now.graph node first.now second.now result }
+// Where all but the last letter of the side lead from the node.
+fn front_end(edges: &Edges, node: usize, side: &Word) -> Option<usize>
+    ensures { result ≡ path_of edges.now.graph node (take (length side.now - 1) side.now) }
 {
-    let count = second.len();
+    prefix_path(edges, node, side, side.len().saturating_sub(1))
+}
+
+// Where the side leads from a node from which all but its last letter lead here.
+fn side_end(edges: &Edges, at: usize, side: &Word) -> Option<usize>
+    ensures { (node : ℕ)
+        → path_of edges.now.graph node (take (length side.now - 1) side.now) ≡ Some at
+        → result ≡ path_of edges.now.graph node side.now }
+{
+    let count = side.len();
+    if count == 0 {
+        return Some(at);
+    }
+    edges.target(at, side.letter(count - 1))
+}
+
+// What a side asks for at a node from which all but its last letter lead here, and the other side to the end.
+fn due_to(edges: &Edges, end: Option<usize>, at: usize, side: &Word) -> Due
+    ensures { (node : ℕ) (other : Letters) → end ≡ path_of edges.now.graph node other
+        → path_of edges.now.graph node (take (length side.now - 1) side.now) ≡ Some at
+        → IsDueFrom edges.now.graph node other side.now result }
+{
+    let count = side.len();
     if count == 0 {
         return Due::Nothing;
     }
-    let last = second.letter(count - 1);
-    let Some(end) = prefix_path(edges, node, first, first.len()) else {
+    let Some(end) = end else {
         return Due::Nothing;
     };
-    let Some(at) = prefix_path(edges, node, second, count - 1) else {
-        return Due::Nothing;
-    };
+    let last = side.letter(count - 1);
     match edges.target(at, last) {
         None => Due::Edge(at, last, end),
         Some(t) => {
@@ -55,8 +75,14 @@ fn due_from(edges: &Edges, node: usize, first: &Word, second: &Word) -> Due
 fn due_both(edges: &Edges, node: usize, first: &Word, second: &Word) -> Due
     ensures { IsDueBoth edges.now.graph node first.now second.now result }
 {
-    match due_from(edges, node, first, second) {
-        Due::Nothing => due_from(edges, node, second, first),
+    let Some(one) = front_end(edges, node, first) else {
+        return Due::Nothing;
+    };
+    let Some(two) = front_end(edges, node, second) else {
+        return Due::Nothing;
+    };
+    match due_to(edges, side_end(edges, one, first), two, second) {
+        Due::Nothing => due_to(edges, side_end(edges, two, second), one, first),
         due => due,
     }
 }
@@ -75,26 +101,19 @@ pub fn due_at(edges: &Edges, node: usize, pairs: &Pairs) -> Due
     Due::Nothing
 }
 
-// What a pair asks for at the nodes from which the first letters of the side lead to this one.
-fn due_behind(
-    edges: &Edges,
-    node: usize,
-    side: &Word,
-    count: usize,
-    first: &Word,
-    second: &Word,
-) -> Due
+// What a pair asks for at the nodes from which the first letters of the one side lead to this one.
+fn due_behind(edges: &Edges, node: usize, side: &Word, count: usize, other: &Word) -> Due
     requires { count ≤ length side.now }
-    ensures { IsDueBehind edges.now.graph node (take count side.now) first.now second.now result }
+    ensures { IsDueBehind edges.now.graph node (take count side.now) side.now other.now result }
 {
     if count == 0 {
-        return due_both(edges, node, first, second);
+        return due_both(edges, node, side, other);
     }
     let _letters = edges.letters();
     let letter = side.letter(count - 1);
     let mut at = edges.first_source(node, letter);
     while let Some(source) = at {
-        match due_behind(edges, source, side, count - 1, first, second) {
+        match due_behind(edges, source, side, count - 1, other) {
             Due::Nothing => {}
             due => return due,
         }
@@ -103,20 +122,32 @@ fn due_behind(
     Due::Nothing
 }
 
-// What a pair asks for where a side is read across the edge of the letter from the node.
-fn due_along(
-    edges: &Edges,
-    node: usize,
-    letter: Letter,
-    side: &Word,
-    first: &Word,
-    second: &Word,
-) -> Due
-    ensures { IsDueAlong edges.now.graph node letter side.now first.now second.now result }
+// Whether the side may be read across the edge of the letter from the node with its letter at the place: the letters are
+// the same, and the letter behind it, if it is not the last of the side, has an edge there.
+fn may_cross(edges: &Edges, node: usize, letter: Letter, side: &Word, place: usize) -> bool
+    requires { place < length side.now }
+    ensures { result ≡ false → slice_get side.now place ≡ Some letter
+        → IsCut edges.now.graph node side.now place }
+{
+    if side.letter(place) != letter {
+        return false;
+    }
+    if side.len() - place < 3 {
+        return true;
+    }
+    match edges.target(node, letter) {
+        None => true,
+        Some(next) => edges.target(next, side.letter(place + 1)).is_some(),
+    }
+}
+
+// What a pair asks for where the one side is read across the edge of the letter from the node.
+fn due_along(edges: &Edges, node: usize, letter: Letter, side: &Word, other: &Word) -> Due
+    ensures { IsDueAlong edges.now.graph node letter side.now side.now other.now result }
 {
     for place in 0..side.len() {
-        if side.letter(place) == letter {
-            match due_behind(edges, node, side, place, first, second) {
+        if may_cross(edges, node, letter, side, place) {
+            match due_behind(edges, node, side, place, other) {
                 Due::Nothing => {}
                 due => return due,
             }
@@ -131,11 +162,11 @@ pub fn due_through(edges: &Edges, node: usize, letter: Letter, relations: &Pairs
 {
     for i in 0..relations.len() {
         let pair = relations.pair(i);
-        match due_along(edges, node, letter, &pair.0, &pair.0, &pair.1) {
+        match due_along(edges, node, letter, &pair.0, &pair.1) {
             Due::Nothing => {}
             due => return due,
         }
-        match due_along(edges, node, letter, &pair.1, &pair.0, &pair.1) {
+        match due_along(edges, node, letter, &pair.1, &pair.0) {
             Due::Nothing => {}
             due => return due,
         }

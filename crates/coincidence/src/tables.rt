@@ -11,13 +11,13 @@ ghost use Rattle.coincidence.specs.Closing.{ClosedThere};
 ghost use Rattle.coincidence.specs.Links.{IsSources};
 ghost use Rattle.coincidence.specs.Marks.{AllMarked, IsFirstUnmarked, KeepsMarks, KeepsNumbers};
 ghost use Rattle.coincidence.specs.Merged.{MergedNodes};
-ghost use Rattle.coincidence.specs.Table.{CosetTable, IsTable, IsLive, IsDefined, links_of};
+ghost use Rattle.coincidence.specs.Table.{CosetTable, IsTable, IsLive, IsDefined, IsDrawn, links_of};
 
 use crate::closing::{close_in, define_in, identify_in};
 use crate::copies::word_graph;
 use crate::edges::Edges;
 use crate::order::Order;
-use crate::pending::Pending;
+use crate::pending::{Pending, Worklist};
 use ports::NoMemory;
 use presentation::Congruence;
 use std::alloc::Global;
@@ -40,7 +40,7 @@ pub struct Table {
     live: Vec<bool>,
     marked: Vec<bool>,
     order: Order,
-    pending: Vec<Pending>,
+    pending: Worklist,
     failed: bool,
 }
 
@@ -53,7 +53,15 @@ impl Model for Table {
         t.marked.items };
 
     ghost invariant = { λ t. IsHeld t.congruence.congruence t.failed t.edges t.live.items
-        t.marked.items t.order t.pending.items };
+        t.marked.items t.order t.pending };
+}
+
+// Memory was wanting: the table answers so from now on.
+fn fail(failed: &mut bool) -> NoMemory
+    ensures { failed.new ≡ true }
+{
+    *failed = true;
+    NoMemory
 }
 
 impl Table {
@@ -76,8 +84,8 @@ impl Table {
         let mut marked = Vec::new(alloc);
         marked.push(false)?;
         let order = Order::new(alloc)?;
-        let mut pending = Vec::new(alloc);
-        pending.push(Pending::NewNode(0))?;
+        let mut pending = Worklist::new(alloc);
+        pending.restart(1);
         Ok(Table {
             alloc,
             congruence,
@@ -140,12 +148,10 @@ impl Table {
             return Err(NoMemory);
         }
         let Ok(()) = self.marked.push(false) else {
-            self.failed = true;
-            return Err(NoMemory);
+            return Err(fail(&mut self.failed));
         };
         let Ok(()) = self.order.add_node() else {
-            self.failed = true;
-            return Err(NoMemory);
+            return Err(fail(&mut self.failed));
         };
         let letters = self.congruence.presentation().letters();
         match define_in(
@@ -160,11 +166,31 @@ impl Table {
                 let _letters = self.edges.letters();
                 Ok(fresh)
             }
-            Err(fault) => {
-                self.failed = true;
-                Err(fault)
-            }
+            Err(NoMemory) => Err(fail(&mut self.failed)),
         }
+    }
+
+    /// Makes an edge of the letter from one live node to another. The node had no such edge.
+    pub fn draw(&mut self, node: usize, letter: Letter, to: usize) -> Result<(), NoMemory>
+        requires node { IsLive self.old node }
+        requires to { IsLive self.old to }
+        requires letter { letter < self.old.congruence.presentation.letters }
+        requires missing { target_of self.old.graph node letter ≡ None }
+        ensures ok { OnOk result (IsDrawn self.old self.new node letter to) }
+        ensures err { OnErr result (self.new.failed ≡ true) }
+        ensures failed { self.old.failed ≡ true → IsErr result }
+        ensures congruence { self.new.congruence ≡ self.old.congruence }
+        ensures table { IsTable self.new }
+    {
+        if self.failed {
+            return Err(NoMemory);
+        }
+        let Ok(()) = self.pending.push(Pending::NewEdge(node, letter)) else {
+            return Err(fail(&mut self.failed));
+        };
+        self.edges.set_edge(node, letter, to);
+        let _letters = self.edges.letters();
+        Ok(())
     }
 
     /// Makes two live nodes one, and with them all nodes to which this leads: the paths then relate what they related
@@ -203,10 +229,7 @@ impl Table {
                 let _letters = self.edges.letters();
                 Ok(())
             }
-            Err(fault) => {
-                self.failed = true;
-                Err(fault)
-            }
+            Err(NoMemory) => Err(fail(&mut self.failed)),
         }
     }
 
@@ -242,10 +265,7 @@ impl Table {
                 let _letters = self.edges.letters();
                 Ok(())
             }
-            Err(fault) => {
-                self.failed = true;
-                Err(fault)
-            }
+            Err(NoMemory) => Err(fail(&mut self.failed)),
         }
     }
 
@@ -267,6 +287,7 @@ impl Table {
         ensures congruence { self.new.congruence ≡ self.old.congruence }
         ensures table { IsTable self.new }
     {
+        self.pending.restart(self.edges.nodes());
         self.close(Some(node))
     }
 
@@ -327,10 +348,7 @@ impl Table {
             .first_unmarked(self.alloc, &self.edges, letters, &self.marked)
         {
             Ok(found) => Ok(found),
-            Err(fault) => {
-                self.failed = true;
-                Err(fault)
-            }
+            Err(NoMemory) => Err(fail(&mut self.failed)),
         }
     }
 
@@ -352,10 +370,7 @@ impl Table {
         let letters = self.congruence.presentation().letters();
         match self.order.first_missing(&self.edges, letters) {
             Ok(found) => Ok(found),
-            Err(fault) => {
-                self.failed = true;
-                Err(fault)
-            }
+            Err(NoMemory) => Err(fail(&mut self.failed)),
         }
     }
 
@@ -377,10 +392,7 @@ impl Table {
         }
         match self.live_graph() {
             Ok(graph) => Ok(graph),
-            Err(fault) => {
-                self.failed = true;
-                Err(fault)
-            }
+            Err(NoMemory) => Err(fail(&mut self.failed)),
         }
     }
 

@@ -8,7 +8,7 @@ returns-in_ok-push-in-None c = record {
   ok =
       let g = c.args.edges.now.graph in
       rw (c.set_edge.ensures, c.remove_edge.ensures, c.in_ok-push-in-None.ensures.items)
-      (moved_on c.letters-letters.result g c.args.lost c.args.kept c.args.letter c.in-Some.to c.letters-letters.ensures.graph c.requires.apart c.requires.kept (sym c.in-Some.ensures) c.args.queue.now.items c.args.pending.now.items
+      (moved_on c.letters-letters.result g c.args.lost c.args.kept c.args.letter c.in-Some.to c.letters-letters.ensures.graph c.requires.apart c.requires.kept (sym c.in-Some.ensures) c.args.queue.now.items c.args.pending.now
       (ap (λ (z : Graph). target z c.args.kept c.args.letter) (sym c.remove_edge.ensures) ∙ sym c.in-None.ensures));
 }
 
@@ -17,6 +17,6 @@ returns-in_ok-push-in-Some-target c = record {
   ok =
       let g = c.args.edges.now.graph in
       rw (c.remove_edge.ensures, c.in_ok-push-in-Some-target.ensures.items)
-      (moved_met c.letters-letters.result g c.args.lost c.args.kept c.args.letter c.in-Some.to c.letters-letters.ensures.graph c.requires.apart c.requires.kept (sym c.in-Some.ensures) c.in-Some-target.other c.args.queue.now.items c.args.pending.now.items
+      (moved_met c.letters-letters.result g c.args.lost c.args.kept c.args.letter c.in-Some.to c.letters-letters.ensures.graph c.requires.apart c.requires.kept (sym c.in-Some.ensures) c.in-Some-target.other c.args.queue.now.items c.args.pending.now
       (ap (λ (z : Graph). target z c.args.kept c.args.letter) (sym c.remove_edge.ensures) ∙ sym c.in-Some-target.ensures));
 }

@@ -42,11 +42,11 @@ loop-source-preserved c =
     let at = target_in k g c.letters-letters.ensures.graph c.in-Some.source c.args.letter c.args.lost e in
     let hm : c.args.kept < length g = omega (arith, c.requires.kept, c.loop-source.invariant.shape.nodes) in
     rw (c.set_edge.ensures, c.remove_edge.ensures, c.in_ok-push.ensures.items)
-    (redirect_step c.args.edges.now.graph g (with_entry (with_entry g c.in-Some.source c.args.letter None) c.in-Some.source c.args.letter (Some c.args.kept)) c.args.lost c.args.kept c.args.letter c.in-Some.source c.args.pending.now.items c.loop-source.pending.items
+    (redirect_step c.args.edges.now.graph g (with_entry (with_entry g c.in-Some.source c.args.letter None) c.in-Some.source c.args.letter (Some c.args.kept)) c.args.lost c.args.kept c.args.letter c.in-Some.source c.args.pending.now c.loop-source.pending
     c.loop-source.invariant e (remade_put k g c.in-Some.source c.args.letter c.args.kept c.letters-letters.ensures.graph at.0 at.1 hm) (remade_shape k g c.in-Some.source c.args.letter c.args.kept c.letters-letters.ensures.graph at.0 at.1 hm))
 
 pub returns : goal.returns
 returns c = record {
-  ok = redirect_end c.args.edges.now.graph c.loop-source.edges.graph c.args.lost c.args.kept c.args.letter c.args.pending.now.items c.loop-source.pending.items c.loop-source.invariant
+  ok = redirect_end c.args.edges.now.graph c.loop-source.edges.graph c.args.lost c.args.kept c.args.letter c.args.pending.now c.loop-source.pending c.loop-source.invariant
       (λ n e. none_leads c.letters-letters-2.result c.loop-source.edges c.args.lost c.args.letter n c.letters-letters-2.ensures (sym c.first_source.ensures ∙ c.in_default.is) e);
 }

@@ -9,16 +9,16 @@ use Rattle.coincidence.proofs.closing.close_in.Goals as goal
 
 pub loop-node-init : goal.loop-node-init
 loop-node-init c = record {
-  drawing = drawing_start c.args.congruence.now.congruence c.args.edges.now.graph c.args.live.now.items c.args.marked.now.items c.args.pending.now.items c.args.at c.requires.live c.requires.at c.requires.graph c.requires.shape c.requires.closed;
+  drawing = drawing_start c.args.congruence.now.congruence c.args.edges.now.graph c.args.live.now.items c.args.marked.now.items c.args.pending.now c.args.at c.requires.live c.requires.at c.requires.graph c.requires.shape c.requires.closed;
   order = mended_start c.args.order.now c.args.live.now.items;
 }
 
 pub due_in-requires-clause-at : goal.due_in-requires-clause-at
-due_in-requires-clause-at c = placed_on c.args.congruence.now.congruence c.args.edges.now.graph c.args.at c.args.live.now.items c.args.marked.now.items c.loop-node.edges.graph c.loop-node.live.items c.loop-node.marked.items c.loop-node.pending.items c.loop-node.place c.requires.graph c.requires.live c.requires.at c.requires.well_formed c.loop-node.invariant.drawing
+due_in-requires-clause-at c = placed_on c.args.congruence.now.congruence c.args.edges.now.graph c.args.at c.args.live.now.items c.args.marked.now.items c.loop-node.edges.graph c.loop-node.live.items c.loop-node.marked.items c.loop-node.pending c.loop-node.place c.requires.graph c.requires.live c.requires.at c.requires.well_formed c.loop-node.invariant.drawing
 
 pub returns-in-Nothing-clause-relates : goal.returns-in-Nothing-clause-relates
 returns-in-Nothing-clause-relates c =
-    within_end c.args.congruence.now.congruence c.args.edges.now.graph c.args.at c.loop-node.edges.graph c.loop-node.place (placed c.args.congruence.now.congruence c.args.edges.now.graph c.args.at c.args.live.now.items c.args.marked.now.items c.loop-node.edges.graph c.loop-node.live.items c.loop-node.marked.items c.loop-node.pending.items c.loop-node.place c.requires.graph c.requires.live c.requires.at c.requires.well_formed c.loop-node.invariant.drawing) c.loop-node.invariant.drawing.within
+    within_end c.args.congruence.now.congruence c.args.edges.now.graph c.args.at c.loop-node.edges.graph c.loop-node.place (placed c.args.congruence.now.congruence c.args.edges.now.graph c.args.at c.args.live.now.items c.args.marked.now.items c.loop-node.edges.graph c.loop-node.live.items c.loop-node.marked.items c.loop-node.pending c.loop-node.place c.requires.graph c.requires.live c.requires.at c.requires.well_formed c.loop-node.invariant.drawing) c.loop-node.invariant.drawing.within
     (λ w n here h. c.in-Nothing.ensures.due.0 n here (c.loop-node.invariant.drawing.live_graph.lives n (w, h))) c.in-Nothing.ensures.due.1
 
 pub returns-in-Nothing-clause-marks : goal.returns-in-Nothing-clause-marks
@@ -50,7 +50,7 @@ loop-node-smaller-in-Edge c =
 pub loop-node-preserved-in-Edge : goal.loop-node-preserved-in-Edge
 loop-node-preserved-in-Edge c = record {
   drawing = rw (c.set_edge.ensures, c.in_ok-push-in-Edge.ensures.items)
-      (drawing_edge c.args.congruence.now.congruence c.args.edges.now.graph c.args.at c.args.live.now.items c.args.marked.now.items c.loop-node.edges.graph c.loop-node.live.items c.loop-node.marked.items c.due_in.new.pending.items c.loop-node.place c.requires.graph c.requires.live c.requires.at c.requires.well_formed (drawing_dropped c.args.congruence.now.congruence c.args.edges.now.graph c.args.at c.args.marked.now.items c.loop-node.edges.graph c.loop-node.live.items c.loop-node.marked.items c.loop-node.pending.items c.due_in.new.pending.items c.loop-node.place c.due_in.ensures.closed c.loop-node.invariant.drawing) c.in-Edge.node c.in-Edge.letter c.in-Edge.to c.in-Edge.ensures.due.0 c.in-Edge.ensures.due.1);
+      (drawing_edge c.args.congruence.now.congruence c.args.edges.now.graph c.args.at c.args.live.now.items c.args.marked.now.items c.loop-node.edges.graph c.loop-node.live.items c.loop-node.marked.items c.due_in.new.pending c.loop-node.place c.requires.graph c.requires.live c.requires.at c.requires.well_formed (drawing_dropped c.args.congruence.now.congruence c.args.edges.now.graph c.args.at c.args.marked.now.items c.loop-node.edges.graph c.loop-node.live.items c.loop-node.marked.items c.loop-node.pending c.due_in.new.pending c.loop-node.place c.due_in.ensures.closed c.loop-node.invariant.drawing) c.in-Edge.node c.in-Edge.letter c.in-Edge.to c.in-Edge.ensures.due.0 c.in-Edge.ensures.due.1);
   order = c.loop-node.invariant.order;
 }
 
@@ -61,20 +61,20 @@ pub merge-requires-clause-y : goal.merge-requires-clause-y
 merge-requires-clause-y c = (join_live c.args.congruence.now.congruence c.loop-node.edges.graph c.loop-node.place c.loop-node.live.items c.in-Join.field-0 c.in-Join.field-1 c.in-Join.y c.in-Join.x c.loop-node.invariant.drawing.live_graph c.in-Join.ensures.due.0 c.in-Join.ensures.due.1).1
 
 pub merge-requires-clause-at : goal.merge-requires-clause-at
-merge-requires-clause-at c = placed_on c.args.congruence.now.congruence c.args.edges.now.graph c.args.at c.args.live.now.items c.args.marked.now.items c.loop-node.edges.graph c.loop-node.live.items c.loop-node.marked.items c.loop-node.pending.items c.loop-node.place c.requires.graph c.requires.live c.requires.at c.requires.well_formed c.loop-node.invariant.drawing
+merge-requires-clause-at c = placed_on c.args.congruence.now.congruence c.args.edges.now.graph c.args.at c.args.live.now.items c.args.marked.now.items c.loop-node.edges.graph c.loop-node.live.items c.loop-node.marked.items c.loop-node.pending c.loop-node.place c.requires.graph c.requires.live c.requires.at c.requires.well_formed c.loop-node.invariant.drawing
 
 pub merge-requires-clause-marked : goal.merge-requires-clause-marked
 merge-requires-clause-marked c = c.loop-node.invariant.drawing.marks_gone.shape ∙ c.requires.shape ∙ sym c.loop-node.invariant.drawing.nodes
 
 pub loop-node-smaller : goal.loop-node-smaller
 loop-node-smaller c =
-    let ok = (drawing_join c.args.congruence.now.congruence c.args.edges.now.graph c.args.at c.args.live.now.items c.args.marked.now.items c.loop-node.edges.graph c.loop-node.live.items c.loop-node.marked.items c.due_in.new.pending.items c.loop-node.place c.requires.graph c.requires.live c.requires.at c.requires.well_formed (drawing_dropped c.args.congruence.now.congruence c.args.edges.now.graph c.args.at c.args.marked.now.items c.loop-node.edges.graph c.loop-node.live.items c.loop-node.marked.items c.loop-node.pending.items c.due_in.new.pending.items c.loop-node.place c.due_in.ensures.closed c.loop-node.invariant.drawing) c.merge.new.edges.graph c.merge.new.live.items c.merge.new.marked.items c.merge.new.pending.items c.in-Join.field-0 c.in-Join.field-1 c.in-Join.y c.in-Join.x c.in_ok-place-in-Join.place c.in-Join.ensures.due.0 c.in-Join.ensures.due.1 (join_live c.args.congruence.now.congruence c.loop-node.edges.graph c.loop-node.place c.loop-node.live.items c.in-Join.field-0 c.in-Join.field-1 c.in-Join.y c.in-Join.x c.loop-node.invariant.drawing.live_graph c.in-Join.ensures.due.0 c.in-Join.ensures.due.1).0 (join_live c.args.congruence.now.congruence c.loop-node.edges.graph c.loop-node.place c.loop-node.live.items c.in-Join.field-0 c.in-Join.field-1 c.in-Join.y c.in-Join.x c.loop-node.invariant.drawing.live_graph c.in-Join.ensures.due.0 c.in-Join.ensures.due.1).1 c.in_ok-place-in-Join.ensures.joined).0 in
+    let ok = (drawing_join c.args.congruence.now.congruence c.args.edges.now.graph c.args.at c.args.live.now.items c.args.marked.now.items c.loop-node.edges.graph c.loop-node.live.items c.loop-node.marked.items c.due_in.new.pending c.loop-node.place c.requires.graph c.requires.live c.requires.at c.requires.well_formed (drawing_dropped c.args.congruence.now.congruence c.args.edges.now.graph c.args.at c.args.marked.now.items c.loop-node.edges.graph c.loop-node.live.items c.loop-node.marked.items c.loop-node.pending c.due_in.new.pending c.loop-node.place c.due_in.ensures.closed c.loop-node.invariant.drawing) c.merge.new.edges.graph c.merge.new.live.items c.merge.new.marked.items c.merge.new.pending c.in-Join.field-0 c.in-Join.field-1 c.in-Join.y c.in-Join.x c.in_ok-place-in-Join.place c.in-Join.ensures.due.0 c.in-Join.ensures.due.1 (join_live c.args.congruence.now.congruence c.loop-node.edges.graph c.loop-node.place c.loop-node.live.items c.in-Join.field-0 c.in-Join.field-1 c.in-Join.y c.in-Join.x c.loop-node.invariant.drawing.live_graph c.in-Join.ensures.due.0 c.in-Join.ensures.due.1).0 (join_live c.args.congruence.now.congruence c.loop-node.edges.graph c.loop-node.place c.loop-node.live.items c.in-Join.field-0 c.in-Join.field-1 c.in-Join.y c.in-Join.x c.loop-node.invariant.drawing.live_graph c.in-Join.ensures.due.0 c.in-Join.ensures.due.1).1 c.in_ok-place-in-Join.ensures.joined).0 in
     left_join c.args.congruence.now.congruence.presentation.letters c.loop-node.edges.graph c.merge.new.edges.graph c.loop-node.live.items c.merge.new.live.items ok.nodes
     (c.in_ok-place-in-Join.ensures.joined.merging.graph c.args.congruence.now.congruence.presentation.letters c.loop-node.invariant.drawing.graph).width (ok.fewer c.in-Join.ensures.due.2)
 
 pub loop-node-preserved : goal.loop-node-preserved
 loop-node-preserved c = record {
-  drawing = (drawing_join c.args.congruence.now.congruence c.args.edges.now.graph c.args.at c.args.live.now.items c.args.marked.now.items c.loop-node.edges.graph c.loop-node.live.items c.loop-node.marked.items c.due_in.new.pending.items c.loop-node.place c.requires.graph c.requires.live c.requires.at c.requires.well_formed (drawing_dropped c.args.congruence.now.congruence c.args.edges.now.graph c.args.at c.args.marked.now.items c.loop-node.edges.graph c.loop-node.live.items c.loop-node.marked.items c.loop-node.pending.items c.due_in.new.pending.items c.loop-node.place c.due_in.ensures.closed c.loop-node.invariant.drawing) c.merge.new.edges.graph c.merge.new.live.items c.merge.new.marked.items c.merge.new.pending.items c.in-Join.field-0 c.in-Join.field-1 c.in-Join.y c.in-Join.x c.in_ok-place-in-Join.place c.in-Join.ensures.due.0 c.in-Join.ensures.due.1 (join_live c.args.congruence.now.congruence c.loop-node.edges.graph c.loop-node.place c.loop-node.live.items c.in-Join.field-0 c.in-Join.field-1 c.in-Join.y c.in-Join.x c.loop-node.invariant.drawing.live_graph c.in-Join.ensures.due.0 c.in-Join.ensures.due.1).0 (join_live c.args.congruence.now.congruence c.loop-node.edges.graph c.loop-node.place c.loop-node.live.items c.in-Join.field-0 c.in-Join.field-1 c.in-Join.y c.in-Join.x c.loop-node.invariant.drawing.live_graph c.in-Join.ensures.due.0 c.in-Join.ensures.due.1).1 c.in_ok-place-in-Join.ensures.joined).1;
+  drawing = (drawing_join c.args.congruence.now.congruence c.args.edges.now.graph c.args.at c.args.live.now.items c.args.marked.now.items c.loop-node.edges.graph c.loop-node.live.items c.loop-node.marked.items c.due_in.new.pending c.loop-node.place c.requires.graph c.requires.live c.requires.at c.requires.well_formed (drawing_dropped c.args.congruence.now.congruence c.args.edges.now.graph c.args.at c.args.marked.now.items c.loop-node.edges.graph c.loop-node.live.items c.loop-node.marked.items c.loop-node.pending c.due_in.new.pending c.loop-node.place c.due_in.ensures.closed c.loop-node.invariant.drawing) c.merge.new.edges.graph c.merge.new.live.items c.merge.new.marked.items c.merge.new.pending c.in-Join.field-0 c.in-Join.field-1 c.in-Join.y c.in-Join.x c.in_ok-place-in-Join.place c.in-Join.ensures.due.0 c.in-Join.ensures.due.1 (join_live c.args.congruence.now.congruence c.loop-node.edges.graph c.loop-node.place c.loop-node.live.items c.in-Join.field-0 c.in-Join.field-1 c.in-Join.y c.in-Join.x c.loop-node.invariant.drawing.live_graph c.in-Join.ensures.due.0 c.in-Join.ensures.due.1).0 (join_live c.args.congruence.now.congruence c.loop-node.edges.graph c.loop-node.place c.loop-node.live.items c.in-Join.field-0 c.in-Join.field-1 c.in-Join.y c.in-Join.x c.loop-node.invariant.drawing.live_graph c.in-Join.ensures.due.0 c.in-Join.ensures.due.1).1 c.in_ok-place-in-Join.ensures.joined).1;
   order = mended_on c.args.order.now c.loop-node.order c.merge.new.order c.args.live.now.items c.loop-node.live.items c.merge.new.live.items c.loop-node.invariant.order c.in_ok-place-in-Join.ensures.order;
 }
 

@@ -5,7 +5,7 @@ use Rattle.coincidence.proofs.closing.close_in.Given as goal
 
 abbrev pub invariant-loop-node : goal.invariant-loop-node
 invariant-loop-node l = record {
-  drawing : IsDrawing l.congruence.congruence l.initial.edges.graph l.fn.at l.initial.marked.items l.edges.graph l.live.items l.marked.items l.pending.items l.place;
+  drawing : IsDrawing l.congruence.congruence l.initial.edges.graph l.fn.at l.initial.marked.items l.edges.graph l.live.items l.marked.items l.pending l.place;
   order : IsMended l.initial.order l.order l.initial.live.items l.live.items;
 }
 

@@ -64,7 +64,7 @@ returns-in-Ok-clause-closed c =
     let g = c.args.edges.now.graph in
     let graph = more c.letters-letters.result c.args.letters c.args.edges.now c.add_node.new.self.graph c.letters-letters.ensures c.requires.graph c.in-Ok.ensures.ok in
     let new : c.set_edge.new.self.graph ≡ with_edge (with_node c.args.letters g) c.args.node c.args.letter c.nodes-fresh.result = c.set_edge.ensures ∙ ap (λ (z : Graph). with_edge z c.args.node c.args.letter c.nodes-fresh.result) graph in
-    let later : c.push-2.new.self.items ≡ (c.args.pending.now.items ++ NewNode (length g) ∷ []) ++ NewEdge c.args.node c.args.letter ∷ [] =
-    c.in_ok-push-2.ensures.items ∙ ap (λ (z : List Pending). z ++ NewEdge c.args.node c.args.letter ∷ []) (c.in_ok-push.ensures.items ∙ ap (λ n. c.args.pending.now.items ++ NewNode n ∷ []) c.nodes-fresh.ensures) in
-    defined_closed c.args.letters g c.set_edge.new.self.graph c.args.live.now.items c.push-3.new.self.items c.args.pending.now.items c.push-2.new.self.items c.args.node c.args.letter c.nodes-fresh.result
+    let later : c.push-2.new.self ≡ (c.args.pending.now ++ NewNode (length g) ∷ []) ++ NewEdge c.args.node c.args.letter ∷ [] =
+    c.in_ok-push-2.ensures.items ∙ ap (λ (z : List Pending). z ++ NewEdge c.args.node c.args.letter ∷ []) (c.in_ok-push.ensures.items ∙ ap (λ n. c.args.pending.now ++ NewNode n ∷ []) c.nodes-fresh.ensures) in
+    defined_closed c.args.letters g c.set_edge.new.self.graph c.args.live.now.items c.push-3.new.self.items c.args.pending.now c.push-2.new.self c.args.node c.args.letter c.nodes-fresh.result
     c.requires.graph c.requires.live c.requires.node c.requires.letter c.requires.missing c.nodes-fresh.ensures new c.in_ok-push-3.ensures.items later

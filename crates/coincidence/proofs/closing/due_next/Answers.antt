@@ -1,20 +1,20 @@
-use Rattle.std.proofs.Common.{◌≡◌, [], List, Option, Some, ap, subst, sym, ◌∙◌, arith}
+use Rattle.std.proofs.Common.{◌≡◌, [], List, Option, Some, ap, subst, sym, ◌∙◌}
 use Rattle.theory.specs.Word.{Word}
 use Rattle.coincidence.specs.DueSpec.{IsDueAt}
 use Rattle.coincidence.specs.Pending.{IsClosedBut}
 use Rattle.coincidence.specs.Drawing.{IsDueOf, IsLast}
 use Rattle.coincidence.specs.declared.due.Due.TheVariants.{Nothing}
 use Rattle.coincidence.specs.declared.pending.Pending.{Pending}
-use Rattle.coincidence.proofs.DrawLaws.{due_entry, due_last, last_dropped}
+use Rattle.coincidence.proofs.DrawLaws.{due_entry, due_last}
 use Rattle.coincidence.proofs.closing.due_next.Goals as goal
 
 pub loop-entry-preserved : goal.loop-entry-preserved
 loop-entry-preserved c =
     let relations = c.relations-relations.ensures.relations ∙ ap (λ z. z.relations) c.presentation.ensures.presentation in
-    let last : IsLast c.loop-entry.pending.items (Some c.in-Some.entry) = c.in-Some.ensures in
+    let last : IsLast c.loop-entry.pending (Some c.in-Some.entry) = c.in-Some.ensures in
     let drop : IsDueOf c.args.congruence.now.congruence.presentation.relations c.args.edges.now.graph c.args.live.now.items c.in-Some.entry Nothing =
     subst (λ (z : List (Word × Word)). IsDueOf z c.args.edges.now.graph c.args.live.now.items c.in-Some.entry Nothing) relations c.in-Nothing.ensures in
-    let rest : c.pop.new.self.items ≡ last.0 = last_dropped c.loop-entry.pending.items c.pop.new.self.items last.0 c.in-Some.entry c.loop-entry.pending.len (omega (arith, c.loop-entry.pending.ok)) last.1 c.pop.ensures.rest in
+    let rest : c.drop_last.new.self ≡ last.0 = c.drop_last.ensures last.0 c.in-Some.entry last.1 in
     subst (λ (z : List Pending). IsClosedBut c.args.congruence.now.congruence.presentation.relations c.args.edges.now.graph c.args.live.now.items z) (sym rest)
     (drop last.0 (subst (λ (z : List Pending). IsClosedBut c.args.congruence.now.congruence.presentation.relations c.args.edges.now.graph c.args.live.now.items z) last.1 c.loop-entry.invariant))
 
@@ -29,7 +29,7 @@ returns-in_default-due_of c =
 
 pub returns-clause-due : goal.returns-clause-due
 returns-clause-due c =
-    let none : c.loop-entry.pending.items ≡ [] = subst (λ (o : Option Pending). IsLast c.loop-entry.pending.items o) c.in_default.is c.last_pending.ensures in
+    let none : c.loop-entry.pending ≡ [] = subst (λ (o : Option Pending). IsLast c.loop-entry.pending o) c.in_default.is c.last.ensures in
     due_last c.args.congruence.now.congruence c.args.edges.now.graph c.args.live.now.items c.due_at.result
     (subst (λ (z : List Pending). IsClosedBut c.args.congruence.now.congruence.presentation.relations c.args.edges.now.graph c.args.live.now.items z) none c.loop-entry.invariant)
     (subst (λ (z : List (Word × Word)). IsDueAt c.args.edges.now.graph 0 z c.due_at.result) c.pairs.ensures c.due_at.ensures)

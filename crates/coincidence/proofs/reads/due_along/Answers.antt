@@ -1,20 +1,17 @@
-use Rattle.std.proofs.Common.{◌≡◌, ℕ, false, eqb, length, subst, arith, sym, ◌∙◌}
-use Rattle.word_graph.proofs.WalkLaws.{some_same}
-use Rattle.coincidence.proofs.ReadLaws.{IsQuietAlong, along_more, along_end}
+use Rattle.std.proofs.Common.{◌≡◌, length, subst, arith}
+use Rattle.coincidence.proofs.ReadLaws.{IsQuietAlong, along_more, along_end, cut_quiet}
 use Rattle.coincidence.proofs.reads.due_along.Goals as goal
-use Rattle.coincidence.proofs.reads.due_along.Goals.{then-eq+in-Nothing, else-eq}
-
-apart : (n m : ℕ) → n ≡ m → false ≡ eqb n m → ⊥
-apart n m e h = grind (arith, e, h)
+use Rattle.coincidence.proofs.reads.due_along.Goals.{then-may_cross+in-Nothing, else-may_cross}
 
 pub loop-place-preserved : goal.loop-place-preserved
 loop-place-preserved c =
-    elim c.if-eq.branch [
-      | then-eq+in-Nothing w ↦ along_more c.args.edges.now.graph c.args.node c.args.letter c.args.side.now c.args.first.now c.args.second.now c.loop-place.place (λ _. w.in-Nothing.ensures) c.loop-place.invariant
-      | else-eq w ↦ along_more c.args.edges.now.graph c.args.node c.args.letter c.args.side.now c.args.first.now c.args.second.now c.loop-place.place (λ e. absurd (apart c.letter.result c.args.letter (some_same c.letter.result c.args.letter (sym c.letter.ensures ∙ e)) w.if-eq.ensures)) c.loop-place.invariant
+    elim c.if-may_cross.branch [
+      | then-may_cross+in-Nothing w ↦ along_more c.args.edges.now.graph c.args.node c.args.letter c.args.side.now c.args.side.now c.args.other.now c.loop-place.place (λ _. w.in-Nothing.ensures) c.loop-place.invariant
+      | else-may_cross w ↦ along_more c.args.edges.now.graph c.args.node c.args.letter c.args.side.now c.args.side.now c.args.other.now c.loop-place.place
+          (λ e n leads. cut_quiet c.args.edges.now.graph c.args.node n c.args.side.now c.args.other.now c.loop-place.place (c.may_cross.ensures w.if-may_cross.false e) leads) c.loop-place.invariant
     ]
 
 pub returns : goal.returns
 returns c =
     let end : c.loop-place.place ≡ length c.args.side.now = omega arith in
-    along_end c.args.edges.now.graph c.args.node c.args.letter c.args.side.now c.args.first.now c.args.second.now (subst (λ z. IsQuietAlong c.args.edges.now.graph c.args.node c.args.letter c.args.side.now c.args.first.now c.args.second.now z) end c.loop-place.invariant)
+    along_end c.args.edges.now.graph c.args.node c.args.letter c.args.side.now c.args.side.now c.args.other.now (subst (λ z. IsQuietAlong c.args.edges.now.graph c.args.node c.args.letter c.args.side.now c.args.side.now c.args.other.now z) end c.loop-place.invariant)

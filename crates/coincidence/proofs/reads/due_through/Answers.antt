@@ -22,5 +22,5 @@ returns-in_default c =
 pub returns-in_default-due_along : goal.returns-in_default-due_along
 returns-in_default-due_along c =
     let less : c.loop-i.i < length c.args.relations.now = omega arith in
-    through_found c.args.edges.now.graph c.args.node c.args.letter c.args.relations.now c.pair-pair.result.now.1 c.pair-pair.result.now c.due_along-in-loop-i.result (λ e. c.in_default-due_along.not-Nothing e)
-    (pair_contained c.args.relations.now c.loop-i.i c.pair-pair.result.now less c.pair-pair.ensures) c.due_along-in-loop-i.ensures
+    through_found c.args.edges.now.graph c.args.node c.args.letter c.args.relations.now c.pair-pair.result.now.1 (c.pair-pair.result.now.1, c.pair-pair.result.now.0) c.due_along-in-loop-i.result (λ e. c.in_default-due_along.not-Nothing e)
+    (let both = pair_contained c.args.relations.now c.loop-i.i c.pair-pair.result.now less c.pair-pair.ensures in (both.1, both.0)) c.due_along-in-loop-i.ensures

@@ -13,13 +13,13 @@ returns-clause-shows c =
 
 pub returns-clause-graph : goal.returns-clause-graph
 returns-clause-graph c =
-    let whole = held_whole c.self.inside.congruence.congruence c.self.inside.edges c.self.inside.live.items c.self.inside.marked.items c.self.inside.order c.self.inside.pending.items c.self.inside.failed c.if-self.false c.self.invariant in
+    let whole = held_whole c.self.inside.congruence.congruence c.self.inside.edges c.self.inside.live.items c.self.inside.marked.items c.self.inside.order c.self.inside.pending c.self.inside.failed c.if-self.false c.self.invariant in
     subst (λ (t : CosetTable). IsGraph t.congruence.presentation.letters c.in_ok-standard.standard) c.self.view_is
     (c.in_ok-standard.ensures.graph c.self.inside.congruence.congruence.presentation.letters (subst (λ (g : Graph). IsGraph c.self.inside.congruence.congruence.presentation.letters g) (sym c.in_ok-graph.ensures) whole.graph))
 
 pub returns-clause-standard : goal.returns-clause-standard
 returns-clause-standard c =
-    let whole = held_whole c.self.inside.congruence.congruence c.self.inside.edges c.self.inside.live.items c.self.inside.marked.items c.self.inside.order c.self.inside.pending.items c.self.inside.failed c.if-self.false c.self.invariant in
+    let whole = held_whole c.self.inside.congruence.congruence c.self.inside.edges c.self.inside.live.items c.self.inside.marked.items c.self.inside.order c.self.inside.pending c.self.inside.failed c.if-self.false c.self.invariant in
     subst (λ (t : CosetTable). AllDefined t.congruence.presentation.letters (SameEnd t.graph) → IsStandardGraph t.congruence.presentation.letters c.in_ok-standard.standard) (seen c.self.inside.congruence.congruence c.self.inside.edges c.self.inside.live.items c.self.inside.marked.items c.self.inside.failed c.args.self.now c.if-self.false c.self.view_is)
     (subst (λ (g : Graph). AllDefined c.self.inside.congruence.congruence.presentation.letters (SameEnd g) → IsStandardGraph c.self.inside.congruence.congruence.presentation.letters c.in_ok-standard.standard) c.in_ok-graph.ensures
     (c.in_ok-standard.ensures.standard c.self.inside.congruence.congruence.presentation.letters (subst (λ (g : Graph). IsGraph c.self.inside.congruence.congruence.presentation.letters g) (sym c.in_ok-graph.ensures) whole.graph)))

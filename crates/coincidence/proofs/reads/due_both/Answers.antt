@@ -1,0 +1,11 @@
+use Rattle.std.proofs.Common.{sym, ◌∙◌}
+use Rattle.coincidence.proofs.ReadLaws.{stopped_quiet}
+use Rattle.coincidence.proofs.reads.due_both.Goals as goal
+
+pub returns-in_default : goal.returns-in_default
+returns-in_default c = stopped_quiet c.args.edges.now.graph c.args.node c.args.first.now c.args.second.now (sym c.front_end.ensures ∙ c.in_default.is)
+
+pub returns-in_default-front_end : goal.returns-in_default-front_end
+returns-in_default-front_end c =
+    let quiet = stopped_quiet c.args.edges.now.graph c.args.node c.args.second.now c.args.first.now (sym c.front_end-2.ensures ∙ c.in_default-front_end.is) in
+    (quiet.1, quiet.0)
