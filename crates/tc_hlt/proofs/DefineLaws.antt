@@ -19,7 +19,7 @@ use Rattle.coincidence.proofs.CloseLaws.{edged_path}
 use Rattle.coincidence.proofs.ClassLaws.{path_in}
 use Rattle.coincidence.proofs.FollowsLaws.{path_more}
 use Rattle.coincidence.proofs.TableLaws.{target_node, define_edged, define_graph, path_same, on_inside}
-use Rattle.tc_hlt.specs.Tracing.{IsGrown, IsNext, IsWithin}
+use Rattle.tc_hlt.specs.Tracing.{IsGrown, IsNext, IsWithin, NoDrawing}
 
 -- one more node without a mark
 mark_more : (marked : List Bool) (n : ℕ) → IsOn (marked ++ false ∷ []) n ↔ IsOn marked n
@@ -128,7 +128,7 @@ module _ (old new : CosetTable) (node a made : ℕ) (is : IsTable old) (d : IsDe
       let edge : target new.graph node a ≡ Some (length old.graph) = subst (λ (h : Graph). target h node a ≡ Some (length old.graph)) (sym graph_is) (edged old.congruence.presentation.letters old.graph node a is.graph inside ha none).edge in
       edge ∙ ap (λ z. Some z) (sym d.fresh)
 
-  pub define_grown : IsGrown (IsNext a) old new node
+  pub define_grown : IsGrown (IsNext a) NoDrawing old new node
   define_grown = record {
     congruence = d.congruence;
     paths = λ p m u e. subst (λ (h : Graph). path h p u ≡ Some m) (sym graph_is) (kept_path old.congruence.presentation.letters old.graph node a is.graph inside ha none p m u e);
@@ -138,7 +138,7 @@ module _ (old new : CosetTable) (node a made : ℕ) (is : IsTable old) (d : IsDe
         let at : path new.graph 0 (x ++ a ∷ []) ≡ Some (length old.graph) = subst (λ (h : Graph). path h 0 (x ++ a ∷ []) ≡ Some (length old.graph)) (sym graph_is) (new_there old.congruence.presentation.letters old.graph node a is.graph inside ha none x hx) in
         let here : path new.graph 0 v ≡ Some (length old.graph) = ap (λ z. path new.graph 0 z) e ∙ at in
         (length old.graph, here, here);
-    within = λ U x hx facts within.
+    within = λ U x hx facts drawn within.
         subst (λ (h : Graph). IsWithin old.congruence U h) (sym graph_is)
         (new_within old.congruence.presentation.letters old.graph node a is.graph inside ha none old.congruence U x hx (facts (x ++ a ∷ []) refl) within);
   }

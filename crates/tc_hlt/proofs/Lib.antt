@@ -1,4 +1,5 @@
 pub mod DefineLaws
+pub mod DrawnLaws
 pub mod GrowLaws
 pub mod RowLaws
 pub mod StartLaws

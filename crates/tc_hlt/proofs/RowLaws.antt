@@ -1,15 +1,16 @@
 -- One row leads from one stage to the next.
-use Rattle.std.proofs.Common.{◌≡◌, ◌≢◌, ◌↔◌, ℕ, suc, ◌<◌, List, ◌∷◌, refl, sym, ◌∙◌, ap, arith, inl, inr, Some, length, subst, slice_set, get_or, Contains, Bool, true, false, Result, Ok, Err}
+use Rattle.std.proofs.Common.{◌≡◌, ◌≢◌, ◌↔◌, ℕ, suc, ◌<◌, List, [], ◌∷◌, ◌++◌, ◌⊎◌, refl, sym, ◌∙◌, ap, arith, inl, inr, Some, length, subst, subst₂, append_assoc, append-nil, slice_set, get_or, Contains, Bool, true, false, Result, Ok, Err}
 use Rattle.std.specs.Result.{OnOk}
 use Rattle.std.proofs.lemmas.Bool.{cases_eq}
 use Rattle.std.proofs.lemmas.List.{get_or-set_same, get_or-set_other}
-use Rattle.theory.specs.Word.{Word}
-use Rattle.theory.specs.Congruence.{Congruence}
+use Rattle.theory.specs.Word.{Word, IsPrefix}
+use Rattle.theory.specs.Congruence.{Congruence, EitherWay}
 use Rattle.theory.specs.Graph.{Graph, path, SameEnd, PathsRelate}
-use Rattle.theory.specs.Facts.{ClosedAt, given}
+use Rattle.theory.specs.Facts.{ClosedAt, given, relation, symmetric}
 use Rattle.theory.specs.Hlt.{HltFacts, HltStage, IsInRow, IsLeastUnmet, IsMet, RowGiven, start, row}
 use Rattle.theory.proofs.Related.{none_contained}
 use Rattle.theory.proofs.Counting.{in_from_contains, contains_from_in}
+use Rattle.theory.proofs.FactsLaws.{last_letter}
 use Rattle.theory.proofs.GraphLaws.{same_end_trans}
 use Rattle.theory.proofs.HltLaws.{hlt_grows}
 use Rattle.theory.proofs.TableSteps.{hlt_row_between}
@@ -17,9 +18,36 @@ use Rattle.coincidence.specs.Live.{IsOn}
 use Rattle.coincidence.specs.Marks.{KeepsMarks}
 use Rattle.coincidence.specs.Table.{CosetTable, IsTable}
 use Rattle.coincidence.proofs.TableLaws.{on_inside}
-use Rattle.tc_hlt.specs.Tracing.{IsGrown, IsWithin}
+use Rattle.tc_hlt.specs.Tracing.{AreSidesAny, IsGrown, IsWithin}
 use Rattle.tc_hlt.specs.Stage.{HasRows, IsReady}
 use Rattle.tc_hlt.proofs.GrowLaws.{grown_same, grown_live}
+
+-- a relation is a fact where a word has its row
+relation_fact : (c : Congruence) (U : List Word) (w r s : Word) → EitherWay c.presentation.relations r s → HltFacts c (w ∷ U) (w ++ r) (w ++ s)
+relation_fact c U w r s sides = go (last_letter s) (last_letter r)
+  where
+    back : EitherWay c.presentation.relations s r
+    back = elim sides [ inl m ↦ inr m | inr m ↦ inl m ]
+
+    -- a prefix of a side is defined behind the word
+    there : (x y p : Word) → EitherWay c.presentation.relations x y → IsPrefix p x → HltFacts c (w ∷ U) (w ++ p) (w ++ p)
+    there x y p e h = given (refl, inr (inr (w, (0, omega arith, refl), inr (record { side = x; of = (y, e); prefix = record { after = h.after; is = ap (λ z. w ++ z) h.is ∙ sym (append_assoc w p h.after) } }))))
+
+    whole : (x y : Word) → EitherWay c.presentation.relations x y → HltFacts c (w ∷ U) (w ++ x) (w ++ x)
+    whole x y e = there x y x e (record { after = []; is = sym (append-nil x) })
+
+    empty : HltFacts c (w ∷ U) w w
+    empty = subst₂ (HltFacts c (w ∷ U)) (append-nil w) (append-nil w) (there r s [] sides (record { after = r; is = refl }))
+
+    last : (x y z : Word) (a : ℕ) → EitherWay c.presentation.relations x y → EitherWay c.presentation.relations y x → y ≡ z ++ a ∷ [] → HltFacts c (w ∷ U) (w ++ x) (w ++ y)
+    last x y z a one two e =
+        subst (λ v. HltFacts c (w ∷ U) (w ++ x) (w ++ v)) (sym e)
+        (relation w w x z a empty (0, omega arith, refl) (subst (λ v. EitherWay c.presentation.relations x v) e one) (whole x y one) (there y x z two (record { after = a ∷ []; is = e })))
+
+    go : (s ≡ []) ⊎ ((v : Word) × (a : ℕ) × (s ≡ v ++ a ∷ [])) → (r ≡ []) ⊎ ((v : Word) × (a : ℕ) × (r ≡ v ++ a ∷ [])) → HltFacts c (w ∷ U) (w ++ r) (w ++ s)
+    go (inr h) k = last r s h.0 h.1 sides back h.2
+    go (inl e) (inr k) = symmetric (last s r k.0 k.1 back sides k.2)
+    go (inl e) (inl d) = subst (λ v. HltFacts c (w ∷ U) (w ++ r) (w ++ v)) (d ∙ sym e) (whole r s sides)
 
 -- the words that had their row are defined
 pub stage_words : (c : Congruence) → {i : ℕ} {U : List Word} → HltStage c i U → (w : Word) → Contains U w → HltFacts c U w w
@@ -57,12 +85,12 @@ pub marked_other : (marked : List Bool) (node n : ℕ) → n ≢ node → IsOn (
 marked_other marked node n other = let e : get_or (slice_set marked node true) n false ≡ get_or marked n false = get_or-set_other marked node n true false other in (λ on. sym e ∙ on, λ on. e ∙ on)
 
 -- a row: the table grows by what it defines, the node gets its mark, and all is drawn that follows there
-module _ (old mid new : CosetTable) (made node : ℕ) (was : IsTable old) (is : IsTable mid) (g : IsGrown (IsInRow old.congruence) old mid node) (ready : IsReady old made node)
+module _ (old mid new : CosetTable) (made node : ℕ) (was : IsTable old) (is : IsTable mid) (g : IsGrown (IsInRow old.congruence) (AreSidesAny old.congruence.presentation.relations) old mid node) (ready : IsReady old made node)
     (closed : PathsRelate new.graph (ClosedAt old.congruence (SameEnd mid.graph) ready.first.word))
     (marks : KeepsMarks mid.graph (slice_set mid.marked node true) new.graph new.marked) where
   -- what is given is there
   there : (u v : Word) → RowGiven old.congruence ready.rows.words ready.first.word u v → SameEnd mid.graph u v
-  there u v (inl f) = grown_same (IsInRow old.congruence) old mid node g u v ((ready.rows.shows u v).1 f)
+  there u v (inl f) = grown_same (IsInRow old.congruence) (AreSidesAny old.congruence.presentation.relations) old mid node g u v ((ready.rows.shows u v).1 f)
   there u v (inr d) = subst (λ x. SameEnd mid.graph u x) d.0 (elim d.1 [
     | inl e ↦ subst (λ x. SameEnd mid.graph x x) (sym e) (0, refl, refl)
     | inr (inl p) ↦ fact u (given (refl, inr (inl p)))
@@ -73,13 +101,14 @@ module _ (old mid new : CosetTable) (made node : ℕ) (was : IsTable old) (is : 
   ])
     where
       fact : (x : Word) → HltFacts old.congruence ready.rows.words x x → SameEnd mid.graph x x
-      fact x f = grown_same (IsInRow old.congruence) old mid node g x x ((ready.rows.shows x x).1 f)
+      fact x f = grown_same (IsInRow old.congruence) (AreSidesAny old.congruence.presentation.relations) old mid node g x x ((ready.rows.shows x x).1 f)
 
   -- and nothing but facts
   within : IsWithin old.congruence (ready.first.word ∷ ready.rows.words) mid.graph
   within =
       g.within (ready.first.word ∷ ready.rows.words) ready.first.word ready.first.leads
       (λ v r. given (refl, inr (inr (ready.first.word, (0, omega arith, refl), r))))
+      (λ u v d. subst₂ (HltFacts old.congruence (ready.first.word ∷ ready.rows.words)) (sym d.3) (sym d.4) (relation_fact old.congruence ready.rows.words ready.first.word d.0 d.1 d.2))
       (λ u v h. hlt_grows old.congruence ready.rows.words ready.first.word u v ((ready.rows.shows u v).0 h))
 
   row_shows : PathsRelate new.graph (HltFacts old.congruence (ready.first.word ∷ ready.rows.words))
@@ -93,7 +122,7 @@ module _ (old mid new : CosetTable) (made node : ℕ) (was : IsTable old) (is : 
 
   inside : node < length mid.marked
   inside =
-      let live = grown_live (IsInRow old.congruence) old mid node node was is g (was.live.lives node (ready.first.word, ready.first.leads)) in
+      let live = grown_live (IsInRow old.congruence) (AreSidesAny old.congruence.presentation.relations) old mid node node was is g (was.live.lives node (ready.first.word, ready.first.leads)) in
       let less : node < length mid.graph = on_inside mid.graph mid.live node is.live live in
       omega (arith, less, is.shape)
 
@@ -106,7 +135,7 @@ module _ (old mid new : CosetTable) (made node : ℕ) (was : IsTable old) (is : 
         let r = was.live.reached m (was.marked ready.rows.failed m before) in
         let met = (ready.rows.marks r.0 m r.1).0 before in
         let one : SameEnd new.graph v r.0 = kept v r.0 (m, hv, g.paths 0 m r.0 r.1) in
-        let two : SameEnd new.graph r.0 met.0 = kept r.0 met.0 (grown_same (IsInRow old.congruence) old mid node g r.0 met.0 met.2) in
+        let two : SameEnd new.graph r.0 met.0 = kept r.0 met.0 (grown_same (IsInRow old.congruence) (AreSidesAny old.congruence.presentation.relations) old mid node g r.0 met.0 met.2) in
         (met.0, contains_from_in met.0 (ready.first.word ∷ ready.rows.words) (inr (in_from_contains met.0 ready.rows.words met.1)), same_end_trans new.graph v r.0 met.0 one two)
   ]
 
@@ -148,7 +177,7 @@ module _ (old mid new : CosetTable) (made node : ℕ) (was : IsTable old) (is : 
   }
 
 -- where closing found memory
-pub row_closed : {X Y : Type 0} (r : Result X Y) (old mid marked new : CosetTable) (node : ℕ) → IsTable old → IsTable mid → IsGrown (IsInRow old.congruence) old mid node
+pub row_closed : {X Y : Type 0} (r : Result X Y) (old mid marked new : CosetTable) (node : ℕ) → IsTable old → IsTable mid → IsGrown (IsInRow old.congruence) (AreSidesAny old.congruence.presentation.relations) old mid node
     → marked ≡ record mid { marked = slice_set mid.marked node true } → new.congruence ≡ marked.congruence
     → OnOk r ((w : Word) → path marked.graph 0 w ≡ Some node → PathsRelate new.graph (ClosedAt marked.congruence (SameEnd marked.graph) w))
     → OnOk r (KeepsMarks marked.graph marked.marked new.graph new.marked) → OnOk r (new.failed ≡ false)

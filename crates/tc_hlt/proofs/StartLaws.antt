@@ -18,7 +18,7 @@ use Rattle.coincidence.specs.Merged.{WithPair, MergedNodes}
 use Rattle.coincidence.specs.Table.{CosetTable, IsTable, IsLive}
 use Rattle.coincidence.proofs.FollowsLaws.{follows_letters}
 use Rattle.coincidence.proofs.FoldLaws.{target_bare}
-use Rattle.tc_hlt.specs.Tracing.{IsGrown, IsAlong, IsWithin}
+use Rattle.tc_hlt.specs.Tracing.{IsGrown, IsAlong, IsWithin, NoDrawing}
 use Rattle.tc_hlt.specs.Stage.{IsReady, IsFresh}
 use Rattle.tc_hlt.proofs.GrowLaws.{grown_same, prefix_there}
 
@@ -89,8 +89,8 @@ started_none t c is same fresh = record {
 
 -- one pair more
 module _ (t first second new : CosetTable) (c : Congruence) (i x y : ℕ) (p : Word × Word) (less : i < length c.pairs) (e : p ≡ get_or c.pairs i p)
-    (was : IsStartedTo t c i) (is_first : IsTable first) (f : IsGrown (IsAlong p.0) t first 0) (hx : path first.graph 0 p.0 ≡ Some x)
-    (is_second : IsTable second) (g : IsGrown (IsAlong p.1) first second 0) (hy : path second.graph 0 p.1 ≡ Some y) where
+    (was : IsStartedTo t c i) (is_first : IsTable first) (f : IsGrown (IsAlong p.0) NoDrawing t first 0) (hx : path first.graph 0 p.0 ≡ Some x)
+    (is_second : IsTable second) (g : IsGrown (IsAlong p.1) NoDrawing first second 0) (hy : path second.graph 0 p.1 ≡ Some y) where
   either : EitherWay c.pairs p.0 p.1
   either = inl (i, less, sym e)
 
@@ -111,10 +111,10 @@ module _ (t first second new : CosetTable) (c : Congruence) (i x y : ℕ) (p : W
 
   traced_within : IsWithin c [] second.graph
   traced_within =
-      let one : IsWithin t.congruence [] first.graph = f.within [] [] refl (λ v h. subst (λ (k : Congruence). HltFacts k [] v v) (sym was.congruence) (side_fact c [] p.0 p.1 v either h)) (subst (λ (k : Congruence). IsWithin k [] t.graph) (sym was.congruence) was.within) in
+      let one : IsWithin t.congruence [] first.graph = f.within [] [] refl (λ v h. subst (λ (k : Congruence). HltFacts k [] v v) (sym was.congruence) (side_fact c [] p.0 p.1 v either h)) (λ u v h. absurd h) (subst (λ (k : Congruence). IsWithin k [] t.graph) (sym was.congruence) was.within) in
       let mid : first.congruence ≡ c = f.congruence ∙ was.congruence in
       let one' : IsWithin c [] first.graph = subst (λ (k : Congruence). IsWithin k [] first.graph) was.congruence one in
-      let two : IsWithin first.congruence [] second.graph = g.within [] [] refl (λ v h. subst (λ (k : Congruence). HltFacts k [] v v) (sym mid) (side_fact c [] p.1 p.0 v back h)) (subst (λ (k : Congruence). IsWithin k [] first.graph) (sym mid) one') in
+      let two : IsWithin first.congruence [] second.graph = g.within [] [] refl (λ v h. subst (λ (k : Congruence). HltFacts k [] v v) (sym mid) (side_fact c [] p.1 p.0 v back h)) (λ u v h. absurd h) (subst (λ (k : Congruence). IsWithin k [] first.graph) (sym mid) one') in
       subst (λ (k : Congruence). IsWithin k [] second.graph) mid two
 
   pub started_more : IsTable new → new.congruence ≡ second.congruence → new.failed ≡ false → PathsRelate new.graph (MergedNodes second.graph x y) → KeepsMarks second.graph second.marked new.graph new.marked
@@ -139,7 +139,7 @@ module _ (t first second new : CosetTable) (c : Congruence) (i x y : ℕ) (p : W
       pairs k q h d = go (cases_lt k i)
         where
           go : (k < i) ⊎ (i ≤ k) → SameEnd new.graph q.0 q.1
-          go (inl l) = kept q.0 q.1 (grown_same (IsAlong p.1) first second 0 g q.0 q.1 (grown_same (IsAlong p.0) t first 0 f q.0 q.1 (was.pairs k q l d)))
+          go (inl l) = kept q.0 q.1 (grown_same (IsAlong p.1) NoDrawing first second 0 g q.0 q.1 (grown_same (IsAlong p.0) NoDrawing t first 0 f q.0 q.1 (was.pairs k q l d)))
           go (inr l) =
               let at : k ≡ i = omega (arith, h, l) in
               let d' : get_or c.pairs i q ≡ q = subst (λ z. get_or c.pairs z q ≡ q) at d in

@@ -1,7 +1,7 @@
 -- Tables that grow by words that are traced in them.
-use Rattle.std.specs.Prelude.{◌≡◌, ◌↔◌, ℕ, false, List, [], ◌∷◌, ◌++◌, Some}
+use Rattle.std.specs.Prelude.{◌≡◌, ◌↔◌, ◌⊎◌, ℕ, false, List, [], ◌∷◌, ◌++◌, Some}
 use Rattle.theory.specs.Word.{Word, IsPrefix}
-use Rattle.theory.specs.Congruence.{Congruence}
+use Rattle.theory.specs.Congruence.{Congruence, EitherWay}
 use Rattle.theory.specs.Graph.{Graph, path, SameEnd}
 use Rattle.theory.specs.Hlt.{HltFacts, IsSide}
 use Rattle.coincidence.specs.Live.{IsOn}
@@ -11,8 +11,14 @@ use Rattle.coincidence.specs.Table.{CosetTable}
 abbrev pub IsWithin : Congruence → List Word → Graph → Type 0
 IsWithin c U g = (u v : Word) → SameEnd g u v → HltFacts c U u v
 
--- new is old with edges to new nodes, so that the words D x have paths for each word x that leads to the node: no fact is invented where these are defined
-pub record IsGrown (D : Word → Word → Type 0) (old new : CosetTable) (node : ℕ) : Type 0 where
+-- nothing is drawn
+abbrev pub NoDrawing : Word → Word → Word → Type 0
+NoDrawing x u v = ⊥
+
+-- new is old with edges to new nodes and edges between old ones. For each word x that leads to the node the words D x
+-- have paths, and no fact is invented where these are defined and the pairs of words E x are facts
+pub record IsGrown (D : Word → Word → Type 0) (E : Word → Word → Word → Type 0)
+    (old new : CosetTable) (node : ℕ) : Type 0 where
   pub congruence : new.congruence ≡ old.congruence
   pub paths : (n m : ℕ) (u : Word) → path old.graph n u ≡ Some m → path new.graph n u ≡ Some m
   pub marks : (n : ℕ) → IsOn new.marked n ↔ IsOn old.marked n
@@ -20,6 +26,7 @@ pub record IsGrown (D : Word → Word → Type 0) (old new : CosetTable) (node :
   pub there : (x v : Word) → path old.graph 0 x ≡ Some node → D x v → SameEnd new.graph v v
   pub within : (U : List Word) (x : Word) → path old.graph 0 x ≡ Some node
       → ((v : Word) → D x v → HltFacts old.congruence U v v)
+      → ((u v : Word) → E x u v → HltFacts old.congruence U u v)
       → IsWithin old.congruence U old.graph → IsWithin old.congruence U new.graph
 
 -- v is x and the letter
@@ -33,3 +40,15 @@ IsAlong side x v = IsPrefix v (x ++ side)
 -- v is a prefix of x and a side of a pair in the list
 abbrev pub IsAlongAny : List (Word × Word) → Word → Word → Type 0
 IsAlongAny pairs x v = (side : Word) × IsSide pairs side × IsPrefix v (x ++ side)
+
+-- v is a prefix of x and one of the two sides
+abbrev pub IsAlongBoth : Word → Word → Word → Word → Type 0
+IsAlongBoth r s x v = IsAlong r x v ⊎ IsAlong s x v
+
+-- u and v are x and the sides, one way or the other
+abbrev pub AreSides : Word → Word → Word → Word → Word → Type 0
+AreSides r s x u v = ((u ≡ x ++ r) × (v ≡ x ++ s)) ⊎ ((u ≡ x ++ s) × (v ≡ x ++ r))
+
+-- u and v are x and the sides of a pair in the list
+abbrev pub AreSidesAny : List (Word × Word) → Word → Word → Word → Type 0
+AreSidesAny pairs x u v = (r s : Word) × EitherWay pairs r s × (u ≡ x ++ r) × (v ≡ x ++ s)

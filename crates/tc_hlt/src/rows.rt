@@ -1,10 +1,10 @@
 // Tracing words in a table, and the row of a node.
-ghost use Rattle.std.specs.Prelude.{◌≡◌, ℕ, suc, ◌<◌, ◌≤◌, false, Some, IfOk, OnOk};
+ghost use Rattle.std.specs.Prelude.{◌≡◌, ℕ, suc, ◌-◌, ◌<◌, ◌≤◌, length, take, false, Some, IfOk, OnOk};
 ghost use Rattle.theory.specs.Word.{Word as Letters, IsOver};
 ghost use Rattle.theory.specs.Graph.{target as target_of, path as path_of};
 ghost use Rattle.theory.specs.Hlt.{IsSide, IsExtension, IsInRow};
 ghost use Rattle.coincidence.specs.Table.{IsTable, IsLive};
-ghost use Rattle.tc_hlt.specs.Tracing.{IsGrown, IsNext, IsAlong, IsAlongAny};
+ghost use Rattle.tc_hlt.specs.Tracing.{AreSides, AreSidesAny, IsGrown, IsNext, IsAlong, IsAlongAny, IsAlongBoth, NoDrawing};
 ghost use Rattle.tc_hlt.specs.Stage.{IsReady, HasRows};
 
 use coincidence::Table;
@@ -19,7 +19,7 @@ fn step(table: &mut Table, node: usize, letter: Letter) -> Result<usize, NoMemor
     requires node { IsLive table.old node }
     requires letter { letter < table.old.congruence.presentation.letters }
     ensures edge { IfOk result (λ next. target_of table.new.graph node letter ≡ Some next) }
-    ensures grown { OnOk result (IsGrown (IsNext letter) table.old table.new node) }
+    ensures grown { OnOk result (IsGrown (IsNext letter) NoDrawing table.old table.new node) }
     ensures congruence { table.new.congruence ≡ table.old.congruence }
     ensures table { IsTable table.new }
 {
@@ -29,6 +29,28 @@ fn step(table: &mut Table, node: usize, letter: Letter) -> Result<usize, NoMemor
     }
 }
 
+// Where so many letters of the word lead from the node. Edges that are missing on the way are made. Only want of memory
+// refuses it.
+fn trace_front(table: &mut Table, node: usize, word: &Word, count: usize) -> Result<usize, NoMemory>
+    requires table { IsTable table.old }
+    requires failed { table.old.failed ≡ false }
+    requires node { IsLive table.old node }
+    requires over { IsOver table.old.congruence.presentation.letters word.now }
+    requires count { count ≤ length word.now }
+    ensures end { IfOk result (λ end. path_of table.new.graph node (take count word.now)
+        ≡ Some end) }
+    ensures grown { OnOk result (IsGrown (IsAlong (take count word.now)) NoDrawing table.old
+        table.new node) }
+    ensures congruence { table.new.congruence ≡ table.old.congruence }
+    ensures table { IsTable table.new }
+{
+    let mut at = node;
+    for i in 0..count {
+        at = step(table, at, word.letter(i))?;
+    }
+    Ok(at)
+}
+
 /// Where the word leads from the node. Edges that are missing on the way are made. Only want of memory refuses it.
 pub fn trace(table: &mut Table, node: usize, word: &Word) -> Result<usize, NoMemory>
     requires table { IsTable table.old }
@@ -36,32 +58,119 @@ pub fn trace(table: &mut Table, node: usize, word: &Word) -> Result<usize, NoMem
     requires node { IsLive table.old node }
     requires over { IsOver table.old.congruence.presentation.letters word.now }
     ensures end { IfOk result (λ end. path_of table.new.graph node word.now ≡ Some end) }
-    ensures grown { OnOk result (IsGrown (IsAlong word.now) table.old table.new node) }
+    ensures grown { OnOk result (IsGrown (IsAlong word.now) NoDrawing table.old table.new node) }
     ensures congruence { table.new.congruence ≡ table.old.congruence }
     ensures table { IsTable table.new }
 {
-    let mut at = node;
-    for i in 0..word.len() {
-        at = step(table, at, word.letter(i))?;
-    }
-    Ok(at)
+    trace_front(table, node, word, word.len())
 }
 
-// Traces both sides of each pair from the node.
+// How many letters come before the last, if there is one.
+fn before_last(side: &Word) -> usize
+    ensures { result ≡ length side.now - 1 }
+{
+    side.len().saturating_sub(1)
+}
+
+// Where the side leads from a node from which all but its last letter lead here, if its last edge is there.
+fn end_of(table: &Table, at: usize, side: &Word) -> Option<usize>
+    requires { table.now.failed ≡ false }
+    ensures { (node : ℕ)
+        → path_of table.now.graph node (take (length side.now - 1) side.now) ≡ Some at
+        → result ≡ path_of table.now.graph node side.now }
+{
+    if side.len() == 0 {
+        return Some(at);
+    }
+    table.target(at, side.letter(before_last(side)))
+}
+
+// Where the side leads from a node from which all but its last letter lead here. Its last edge is made if it is missing.
+fn finish(table: &mut Table, at: usize, side: &Word) -> Result<usize, NoMemory>
+    requires table { IsTable table.old }
+    requires failed { table.old.failed ≡ false }
+    requires at { IsLive table.old at }
+    requires over { IsOver table.old.congruence.presentation.letters side.now }
+    ensures end { IfOk result (λ end. (node : ℕ)
+        → path_of table.old.graph node (take (length side.now - 1) side.now) ≡ Some at
+        → path_of table.new.graph node side.now ≡ Some end) }
+    ensures grown { OnOk result ((node : ℕ)
+        → path_of table.old.graph node (take (length side.now - 1) side.now) ≡ Some at
+        → IsGrown (IsAlong side.now) NoDrawing table.old table.new node) }
+    ensures congruence { table.new.congruence ≡ table.old.congruence }
+    ensures table { IsTable table.new }
+{
+    if side.len() == 0 {
+        return Ok(at);
+    }
+    let end = step(table, at, side.letter(before_last(side)))?;
+    Ok(end)
+}
+
+// Draws the last edge of a side, if it is missing, from the node to which all its other letters lead to the end of the
+// other side.
+fn meet(table: &mut Table, at: usize, side: &Word, end: usize) -> Result<(), NoMemory>
+    requires table { IsTable table.old }
+    requires failed { table.old.failed ≡ false }
+    requires at { IsLive table.old at }
+    requires end { IsLive table.old end }
+    requires over { IsOver table.old.congruence.presentation.letters side.now }
+    ensures grown { OnOk result ((node : ℕ) (other : Letters)
+        → path_of table.old.graph node (take (length side.now - 1) side.now) ≡ Some at
+        → path_of table.old.graph node other ≡ Some end
+        → IsGrown (IsAlong side.now) (AreSides other side.now) table.old table.new node) }
+    ensures congruence { table.new.congruence ≡ table.old.congruence }
+    ensures table { IsTable table.new }
+{
+    if side.len() == 0 {
+        return Ok(());
+    }
+    let last = side.letter(before_last(side));
+    match table.target(at, last) {
+        Some(_) => Ok(()),
+        None => table.draw(at, last, end),
+    }
+}
+
+// Traces both sides of a relation from the node. Where one of them is there but for its last edge, this edge is drawn to
+// the end of the other.
+fn trace_both(table: &mut Table, node: usize, first: &Word, second: &Word) -> Result<(), NoMemory>
+    requires table { IsTable table.old }
+    requires failed { table.old.failed ≡ false }
+    requires node { IsLive table.old node }
+    requires first { IsOver table.old.congruence.presentation.letters first.now }
+    requires second { IsOver table.old.congruence.presentation.letters second.now }
+    ensures grown { OnOk result (IsGrown (IsAlongBoth first.now second.now)
+        (AreSides first.now second.now) table.old table.new node) }
+    ensures congruence { table.new.congruence ≡ table.old.congruence }
+    ensures table { IsTable table.new }
+{
+    let at = trace_front(table, node, first, before_last(first))?;
+    let other = trace_front(table, node, second, before_last(second))?;
+    match end_of(table, other, second) {
+        Some(end) => meet(table, at, first, end),
+        None => {
+            let end = finish(table, at, first)?;
+            meet(table, other, second, end)
+        }
+    }
+}
+
+// Traces both sides of each relation from the node.
 fn trace_sides(table: &mut Table, node: usize, pairs: &Pairs) -> Result<(), NoMemory>
     requires table { IsTable table.old }
     requires failed { table.old.failed ≡ false }
     requires node { IsLive table.old node }
     requires over { (side : Letters) → IsSide pairs.now side
         → IsOver table.old.congruence.presentation.letters side }
-    ensures grown { OnOk result (IsGrown (IsAlongAny pairs.now) table.old table.new node) }
+    ensures grown { OnOk result (IsGrown (IsAlongAny pairs.now) (AreSidesAny pairs.now) table.old
+        table.new node) }
     ensures congruence { table.new.congruence ≡ table.old.congruence }
     ensures table { IsTable table.new }
 {
     for i in 0..pairs.len() {
         let pair = pairs.pair(i);
-        trace(table, node, &pair.0)?;
-        trace(table, node, &pair.1)?;
+        trace_both(table, node, &pair.0, &pair.1)?;
     }
     Ok(())
 }
@@ -73,7 +182,7 @@ fn define_letters(table: &mut Table, node: usize, letters: usize) -> Result<(), 
     requires node { IsLive table.old node }
     requires letters { letters ≡ table.old.congruence.presentation.letters }
     requires few { letters ≤ 256 }
-    ensures grown { OnOk result (IsGrown (IsExtension letters) table.old table.new node) }
+    ensures grown { OnOk result (IsGrown (IsExtension letters) NoDrawing table.old table.new node) }
     ensures congruence { table.new.congruence ≡ table.old.congruence }
     ensures table { IsTable table.new }
 {
@@ -89,13 +198,14 @@ fn trace_row(table: &mut Table, congruence: &Congruence, node: usize) -> Result<
     requires failed { table.old.failed ≡ false }
     requires node { IsLive table.old node }
     requires congruence { congruence.now.congruence ≡ table.old.congruence }
-    ensures grown { OnOk result (IsGrown (IsInRow table.old.congruence) table.old table.new node) }
+    ensures grown { OnOk result (IsGrown (IsInRow table.old.congruence)
+        (AreSidesAny table.old.congruence.presentation.relations) table.old table.new node) }
     ensures congruence { table.new.congruence ≡ table.old.congruence }
     ensures table { IsTable table.new }
 {
     let presentation = congruence.presentation();
-    define_letters(table, node, presentation.letters())?;
-    trace_sides(table, node, presentation.relations())
+    trace_sides(table, node, presentation.relations())?;
+    define_letters(table, node, presentation.letters())
 }
 
 /// Makes the row of the node, and draws what follows when relations are read there. Only want of memory refuses it.

@@ -1,29 +1,29 @@
-use Rattle.std.proofs.Common.{◌≡◌, ◌<◌, length, arith, subst, sym, ◌∙◌}
+use Rattle.std.proofs.Common.{◌≡◌, ◌<◌, length, arith, subst, sym}
 use Rattle.theory.specs.Word.{IsOver}
 use Rattle.theory.specs.Congruence.{Congruence}
 use Rattle.tc_hlt.proofs.GrowLaws.{sides_of, first_more, first_all}
 use Rattle.tc_hlt.proofs.rows.trace_sides.Goals as goal
 
-pub trace-requires-clause-over : goal.trace-requires-clause-over
-trace-requires-clause-over c =
+pub trace_both-requires-clause-first : goal.trace_both-requires-clause-first
+trace_both-requires-clause-first c =
     let less : c.loop-i.i < length c.args.pairs.now = omega arith in
     subst (λ (k : Congruence). IsOver k.presentation.letters c.pair-pair.result.now.0) (sym c.loop-i.invariant.grown.congruence)
     (c.requires.over c.pair-pair.result.now.0 (sides_of c.args.pairs.now c.loop-i.i c.pair-pair.result.now less c.pair-pair.ensures).0)
 
-pub trace-requires-in-loop-i-clause-over : goal.trace-requires-in-loop-i-clause-over
-trace-requires-in-loop-i-clause-over c =
+pub trace_both-requires-clause-second : goal.trace_both-requires-clause-second
+trace_both-requires-clause-second c =
     let less : c.loop-i.i < length c.args.pairs.now = omega arith in
-    subst (λ (k : Congruence). IsOver k.presentation.letters c.pair-pair.result.now.1) (sym (c.trace.ensures.congruence ∙ c.loop-i.invariant.grown.congruence))
+    subst (λ (k : Congruence). IsOver k.presentation.letters c.pair-pair.result.now.1) (sym c.loop-i.invariant.grown.congruence)
     (c.requires.over c.pair-pair.result.now.1 (sides_of c.args.pairs.now c.loop-i.i c.pair-pair.result.now less c.pair-pair.ensures).1)
 
 pub loop-i-preserved : goal.loop-i-preserved
 loop-i-preserved c =
     let less : c.loop-i.i < length c.args.pairs.now = omega arith in
     record {
-      table = c.trace-in-loop-i.ensures.table;
+      table = c.trace_both.ensures.table;
       grown =
-          first_more c.args.pairs.now c.loop-i.i c.pair-pair.result.now c.args.table.now c.loop-i.table c.trace.new.table c.trace-in-loop-i.new.table c.args.node
-          less c.pair-pair.ensures c.loop-i.invariant.grown c.in_ok-trace.ensures.grown c.in_ok-trace-2.ensures.grown;
+          first_more c.args.pairs.now c.loop-i.i c.pair-pair.result.now c.args.table.now c.loop-i.table c.trace_both.new.table c.args.node
+          less c.pair-pair.ensures c.loop-i.invariant.grown c.in_ok-trace_both.ensures.grown;
     }
 
 pub returns-clause-grown : goal.returns-clause-grown

@@ -1,7 +1,7 @@
 use Rattle.std.proofs.Common.{◌<◌, sym, subst, take}
 use Rattle.theory.specs.Congruence.{Congruence}
 use Rattle.tc_hlt.proofs.GrowLaws.{traced_start, traced_live, traced_more, letter_of}
-use Rattle.tc_hlt.proofs.rows.trace.Goals as goal
+use Rattle.tc_hlt.proofs.rows.trace_front.Goals as goal
 
 pub loop-i-init : goal.loop-i-init
 loop-i-init c = traced_start c.args.table.now c.args.node c.requires.table c.requires.failed
