@@ -1,2 +1,3 @@
 pub mod StageLaws
 pub mod TurnLaws
+pub mod NodeLaws

@@ -93,6 +93,7 @@ lt_false m n h = grind (arith, h)
 module _ (old new : CosetTable) (budget made made' : ℕ) (begun : Bool) (next next' : Option (ℕ × ℕ)) (run : IsRun old budget made begun next More)
     (start_is : next ≡ None → old.graph ≡ replicate old.congruence.presentation.letters None ∷ [] → IsAtStage new.congruence 0 new.graph)
     (stage_is : IsSome next → (i : ℕ) → IsAtStage old.congruence i old.graph → IsAtStage new.congruence (suc i) new.graph)
+    (nodes : length new.graph ≡ length old.graph + cond (is_some next) 1 0)
     (table : IsTable new) (count : made' ≡ made + cond begun 1 0) where
   more_not_none : More ≢ NoMemory
   more_not_none e = let bad : ⊥ = cc in bad
@@ -108,6 +109,20 @@ module _ (old new : CosetTable) (budget made made' : ℕ) (begun : Bool) (next n
         let fresh = run.fresh b in
         let e : made' ≡ 0 = count ∙ ap (λ z. made + cond z 1 0) b ∙ omega (arith, fresh.none_made) in
         subst (λ n. IsAtStage new.congruence n new.graph) (sym e) (start_is fresh.none_due fresh.graph)
+  ]
+
+  nodes_after : length new.graph ≤ suc made'
+  nodes_after = elim (cases_Bool begun) [
+    | inl b ↦
+        let due = run.due refl b in
+        let one : length new.graph ≡ length old.graph + 1 = nodes ∙ ap (λ z. length old.graph + cond (is_some z) 1 0) due.is in
+        let e : made' ≡ made + 1 = count ∙ ap (λ z. made + cond z 1 0) b in
+        omega (arith, one, e, run.nodes more_not_none)
+    | inr b ↦
+        let fresh = run.fresh b in
+        let none : length new.graph ≡ length old.graph + 0 = nodes ∙ ap (λ z. length old.graph + cond (is_some z) 1 0) fresh.none_due in
+        let root : length old.graph ≡ 1 = ap (λ (g : Graph). length g) fresh.graph in
+        omega (arith, none, root)
   ]
 
   within_after : made' ≤ budget
@@ -130,6 +145,7 @@ module _ (old new : CosetTable) (budget made made' : ℕ) (begun : Bool) (next n
         complete = λ e. all;
         spent = λ e. absurd (let bad : ⊥ = cc in bad);
         stage = λ n b. stage_after;
+        nodes = λ n. nodes_after;
         within = λ n. within_after;
         due = λ e b. absurd (let bad : ⊥ = cc in bad);
         fresh = λ e. absurd (let bad : ⊥ = cc in bad);
@@ -144,6 +160,7 @@ module _ (old new : CosetTable) (budget made made' : ℕ) (begun : Bool) (next n
         complete = λ e. absurd (let bad : ⊥ = cc in bad);
         spent = λ e. absurd (let bad : ⊥ = cc in bad);
         stage = λ n b. stage_after;
+        nodes = λ n. nodes_after;
         within = λ n. within_after;
         due = λ e b. record { within = less; node = p.0; letter = p.1; is = refl; first = first };
         fresh = λ e. absurd (let bad : ⊥ = cc in bad);
@@ -158,6 +175,7 @@ module _ (old new : CosetTable) (budget made made' : ℕ) (begun : Bool) (next n
         complete = λ e. absurd (let bad : ⊥ = cc in bad);
         spent = λ _. fails_at new.congruence budget made' p.0 p.1 new.graph stage_after e first;
         stage = λ n b. stage_after;
+        nodes = λ n. nodes_after;
         within = λ n. within_after;
         due = λ e b. absurd (let bad : ⊥ = cc in bad);
         fresh = λ e. absurd (let bad : ⊥ = cc in bad);

@@ -1,5 +1,5 @@
 -- Where Felsch's strategy stands.
-use Rattle.std.specs.Prelude.{◌≡◌, ◌≢◌, ℕ, ◌+◌, ◌-◌, ◌<◌, ◌≤◌, nat_lt, Bool, true, false, List, [], ◌∷◌, cond, replicate, Option, None, Some}
+use Rattle.std.specs.Prelude.{◌≡◌, ◌≢◌, ℕ, suc, ◌+◌, ◌-◌, ◌<◌, ◌≤◌, nat_lt, Bool, true, false, List, [], ◌∷◌, length, cond, replicate, Option, None, Some}
 use Rattle.theory.specs.Word.{Word}
 use Rattle.theory.specs.Congruence.{Congruence}
 use Rattle.theory.specs.Facts.{AllDefined}
@@ -15,7 +15,8 @@ pub record FelschTask : Type 0 where
   pub congruence : Congruence
   pub budget : ℕ
 
--- an enumeration: what it was made for, its budget, the definitions made, whether a turn was made, its graph, and what the last turn gave
+-- an enumeration: what it was made for, its budget, the definitions made, whether a turn was made, the graph of its
+-- coset table, and what the last turn gave
 pub record FelschRun : Type 0 where
   pub congruence : Congruence
   pub budget : ℕ
@@ -24,7 +25,8 @@ pub record FelschRun : Type 0 where
   pub graph : Graph
   pub said : Progress
 
--- the graph shows the facts once so many words are defined
+-- the paths of the graph relate what the facts do once so many words are defined; of nodes that no word leads to, as
+-- the table's graph may have them, nothing is said
 pub record IsAtStage (c : Congruence) (made : ℕ) (g : Graph) : Type 0 where
   pub words : List Word
   pub stage : FelschStage c made words
@@ -52,7 +54,7 @@ pub record IsFresh (t : CosetTable) (made : ℕ) (next : Option (ℕ × ℕ)) : 
   pub none_made : made ≡ 0
   pub none_due : next ≡ None
 
--- what the last turn left
+-- what the last turn left; by IsTable the live nodes of the graph are those that are reached, and only they have edges
 pub record IsRun (t : CosetTable) (budget made : ℕ) (begun : Bool) (next : Option (ℕ × ℕ))
     (said : Progress) : Type 0 where
   pub table : IsTable t
@@ -60,6 +62,7 @@ pub record IsRun (t : CosetTable) (budget made : ℕ) (begun : Bool) (next : Opt
   pub complete : said ≡ Decided → AllDefined t.congruence.presentation.letters (SameEnd t.graph)
   pub spent : said ≡ Spent → FelschEnds t.congruence budget → ⊥
   pub stage : said ≢ NoMemory → begun ≡ true → IsAtStage t.congruence made t.graph
+  pub nodes : said ≢ NoMemory → length t.graph ≤ suc made
   pub within : said ≢ NoMemory → made ≤ budget
   pub due : said ≡ More → begun ≡ true → IsDue t budget made next
   pub fresh : begun ≡ false → IsFresh t made next

@@ -1,5 +1,5 @@
 // Felsch's strategy, a definition at a time.
-ghost use Rattle.std.specs.Prelude.{◌≡◌, ◌≢◌, ℕ, suc, ◌+◌, ◌<◌, ◌≤◌, List, [], ◌∷◌, length, replicate, IfOk, OnOk, IfSome, IsSome, MatchOption, true, false, ◌↔◌, IsTrue, cond, Option, None, Some};
+ghost use Rattle.std.specs.Prelude.{◌≡◌, ◌≢◌, ℕ, suc, ◌+◌, ◌<◌, ◌≤◌, List, [], ◌∷◌, length, replicate, IfOk, OnOk, IfSome, IsSome, is_some, MatchOption, true, false, ◌↔◌, IsTrue, cond, Option, None, Some};
 ghost use Rattle.theory.specs.Congruence.{IsRightSided};
 ghost use Rattle.theory.specs.Facts.{AllDefined};
 ghost use Rattle.theory.specs.Graph.{SameEnd, Shows, IsGraph};
@@ -80,6 +80,8 @@ fn go_on(
     ensures stage { OnOk result (IsSome due → (i : ℕ)
         → IsAtStage table.old.congruence i table.old.graph
         → IsAtStage table.new.congruence (suc i) table.new.graph) }
+    ensures nodes { OnOk result (length table.new.graph
+        ≡ length table.old.graph + cond (is_some due) 1 0) }
     ensures next { IfOk result (λ next. MatchOption next
         (AllDefined table.new.congruence.presentation.letters (SameEnd table.new.graph))
         (λ p. IsFirstMissing table.new.congruence.presentation.letters table.new.graph p.0 p.1)) }
@@ -129,7 +131,9 @@ impl Racer for Felsch {
     ghost said = { λ f. f.said };
 
     /// One definition with all that follows from it; at the first turn, what follows without a definition. After it
-    /// the graph shows the facts of the stage with so many definitions, unless memory was wanting.
+    /// the paths of the table's graph relate what the facts of the stage with so many definitions do, and the graph has
+    /// at most one node more than definitions were made, nodes that no word leads to any more among them, unless
+    /// memory was wanting.
     fn advance(&mut self) -> Progress
         ensures task { (self.new.congruence ≡ self.old.congruence)
             × (self.new.budget ≡ self.old.budget) }
@@ -144,6 +148,7 @@ impl Racer for Felsch {
         ensures stays_out_of_memory { self.old.said ≡ Answer.NoMemory → result ≡ Answer.NoMemory }
         ensures stage { result ≢ Answer.NoMemory
             → IsAtStage self.new.congruence self.new.made self.new.graph }
+        ensures nodes { result ≢ Answer.NoMemory → length self.new.graph ≤ suc self.new.made }
         ensures within { result ≢ Answer.NoMemory → self.new.made ≤ self.new.budget }
         ensures made { self.old.said ≡ Answer.More → result ≢ Answer.NoMemory
             → self.new.made ≡ self.old.made + cond self.old.begun 1 0 }
@@ -198,14 +203,16 @@ impl Felsch {
         self.said == Progress::Decided
     }
 
-    /// The graph of an enumeration that is decided: the standard one with the equal paths of the table, which shows the
-    /// facts of the last stage, at which each word is defined. Refused only where memory is wanting.
+    /// The graph of an enumeration that is decided: the standard one with the equal paths of the table. Each of its
+    /// nodes is reached, its paths relate what the facts of the last stage do, at which each word is defined, and it
+    /// has at most one node more than definitions were made. Refused only where memory is wanting.
     pub fn graph(&self) -> Result<WordGraph, NoMemory>
         requires { self.now.said ≡ Progress.Decided }
         ensures standard { IfOk result (λ g. IsStandardGraph
             self.now.congruence.presentation.letters g) }
         ensures shows { IfOk result (λ g. Shows g (SameEnd self.now.graph)) }
         ensures stage { IfOk result (λ g. IsAtStage self.now.congruence self.now.made g) }
+        ensures nodes { IfOk result (λ g. length g ≤ suc self.now.made) }
         ensures graph { IfOk result (λ g. IsGraph self.now.congruence.presentation.letters g) }
         ensures complete { IfOk result (λ g. AllDefined self.now.congruence.presentation.letters
             (SameEnd g)) }

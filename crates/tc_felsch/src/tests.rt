@@ -6,6 +6,7 @@ use ports::NoMemory;
 use presentation::{Congruence, Kind, Pairs, Presentation};
 use race::{Progress, Racer};
 use std::alloc::Global;
+use std::process::Abort;
 use std::test::Fail;
 use words::{Alphabet, Word};
 
@@ -46,6 +47,21 @@ fn add(
 // The enumeration of a presentation without pairs.
 fn enumeration(alloc: Global, presentation: Presentation, defs: usize) -> Result<Felsch, NoMemory> {
     let congruence = Congruence::new(presentation, Kind::TwoSided, Pairs::new(alloc));
+    Felsch::new(alloc, &congruence, defs)
+}
+
+// The enumeration over the right pair of the letter `a` and the empty word.
+fn over_a(
+    rt: &impl Abort,
+    alloc: Global,
+    presentation: Presentation,
+    defs: usize,
+) -> Result<Felsch, NoMemory> {
+    assert!(rt; presentation.is_monoid());
+    let left = word(&presentation, alloc, b"a")?;
+    let mut pairs = Pairs::new(alloc);
+    pairs.push(left, Word::new(alloc))?;
+    let congruence = Congruence::new(presentation, Kind::Right, pairs);
     Felsch::new(alloc, &congruence, defs)
 }
 
@@ -100,15 +116,46 @@ fn one_definition_does_not(rt: HostRuntime) -> Result<(), Fail> {
     Ok(())
 }
 
-#[test]
-fn enumerates_the_symmetric_group(rt: HostRuntime) -> Result<(), Fail> {
-    let alloc = rt.alloc();
+// The symmetric group of degree three: `a` has order two, and `b` order three.
+fn symmetric(alloc: Global) -> Result<Presentation, NoMemory> {
     let mut presentation = free(alloc, b"ab", true)?;
     add(&mut presentation, alloc, b"aa", b"")?;
     add(&mut presentation, alloc, b"bbb", b"")?;
     add(&mut presentation, alloc, b"abab", b"")?;
-    let mut engine = enumeration(alloc, presentation, 50)?;
+    Ok(presentation)
+}
+
+#[test]
+fn enumerates_the_symmetric_group(rt: HostRuntime) -> Result<(), Fail> {
+    let alloc = rt.alloc();
+    let mut engine = enumeration(alloc, symmetric(alloc)?, 50)?;
     assert_eq!(rt; nodes(&mut engine)?, 6);
+    Ok(())
+}
+
+#[test]
+fn a_right_pair_shrinks_the_index(rt: HostRuntime) -> Result<(), Fail> {
+    let alloc = rt.alloc();
+    let mut engine = over_a(&rt, alloc, symmetric(alloc)?, 50)?;
+    assert_eq!(rt; nodes(&mut engine)?, 3);
+    Ok(())
+}
+
+// The monoid of one letter of which three and five are the empty word.
+fn trivial(alloc: Global) -> Result<Presentation, NoMemory> {
+    let mut presentation = cyclic(alloc)?;
+    add(&mut presentation, alloc, b"aaaaa", b"")?;
+    Ok(presentation)
+}
+
+#[test]
+fn collapses_to_one_class(rt: HostRuntime) -> Result<(), Fail> {
+    let alloc = rt.alloc();
+    let mut engine = enumeration(alloc, trivial(alloc)?, 2)?;
+    assert_eq!(rt; engine.advance(), Progress::More);
+    assert_eq!(rt; engine.advance(), Progress::More);
+    assert_eq!(rt; engine.advance(), Progress::Decided);
+    assert_eq!(rt; nodes(&mut engine)?, 1);
     Ok(())
 }
 

@@ -7,6 +7,7 @@ use Rattle.theory.specs.Graph.{Graph, SameEnd, PathsRelate}
 use Rattle.word_graph.specs.Walk.{IsFirstMissing}
 use Rattle.coincidence.specs.Table.{CosetTable, IsTable, IsDefined}
 use Rattle.tc_felsch.specs.Stage.{IsAtStage}
+use Rattle.tc_felsch.proofs.NodeLaws.{due_nodes}
 use Rattle.tc_felsch.proofs.TurnLaws.{first_stage, next_stage}
 use Rattle.tc_felsch.proofs.enumeration.go_on.Goals as goal
 
@@ -26,6 +27,13 @@ returns-clause-start c =
     let at : IsAtStage c.args.table.now.congruence 0 c.close_all.new.self.graph = first_stage c.args.table.now.congruence c.close_all.new.self.graph shows in
     let congruence : c.close_all.new.self.congruence ≡ c.args.table.now.congruence = c.close_all.ensures.congruence ∙ c.define_due.ensures.congruence in
     subst (λ (t : CosetTable). IsAtStage t.congruence 0 t.graph) (sym same) (subst (λ (k : Congruence). IsAtStage k 0 c.close_all.new.self.graph) (sym congruence) at))
+
+pub returns-clause-nodes : goal.returns-clause-nodes
+returns-clause-nodes c =
+    on_ok c.first_missing.result _ _ c.first_missing.ensures.same
+    (λ (same : c.first_missing.new.self ≡ c.close_all.new.self).
+    ap (λ (t : CosetTable). length t.graph) same ∙ c.in_ok-close_all.ensures.nodes
+    ∙ due_nodes c.args.table.now c.define_due.new.table c.args.due c.in_ok-define_due.ensures.none c.in_ok-define_due.ensures.some)
 
 pub returns-clause-stage : goal.returns-clause-stage
 returns-clause-stage c =

@@ -1,10 +1,11 @@
-use Rattle.std.proofs.Common.{◌≡◌, ◌≢◌, subst, sym, ◌∙◌, ap}
+use Rattle.std.proofs.Common.{◌≡◌, ◌≢◌, ◌≤◌, suc, length, arith, subst, sym, ◌∙◌, ap}
 use Rattle.race.specs.declared.engines.Progress.{Progress}
 use Rattle.race.specs.declared.engines.Progress.TheVariants.{Decided, More, NoMemory}
 use Rattle.theory.specs.Facts.{AllDefined}
 use Rattle.theory.specs.Graph.{SameEnd, Shows, IsGraph}
 use Rattle.word_graph.specs.Standard.{IsStandardGraph}
 use Rattle.tc_felsch.specs.Stage.{FelschRun, IsAtStage}
+use Rattle.tc_felsch.proofs.NodeLaws.{no_more_nodes}
 use Rattle.tc_felsch.proofs.TurnLaws.{same_stage, same_defined}
 use Rattle.tc_felsch.proofs.enumeration.Felsch.graph.Goals as goal
 
@@ -30,6 +31,13 @@ returns-clause-stage c =
     subst (λ (f : FelschRun). IsAtStage f.congruence f.made c.in_ok-graph.graph) c.self.view_is
     (same_stage c.self.inside.table.congruence c.self.inside.made c.self.inside.table.graph c.in_ok-graph.graph c.in_ok-graph.ensures.shows.paths
     (c.self.invariant.stage (different c.self.inside.said said) (c.self.invariant.ended (not_more c.self.inside.said said))))
+
+pub returns-clause-nodes : goal.returns-clause-nodes
+returns-clause-nodes c =
+    let said : c.self.inside.said ≡ Decided = ap (λ (f : FelschRun). f.said) c.self.view_is ∙ c.requires in
+    let few = no_more_nodes c.self.inside.table.congruence.presentation.letters c.in_ok-graph.graph c.self.inside.table.graph c.self.invariant.table.graph c.in_ok-graph.ensures.shows in
+    let most = c.self.invariant.nodes (different c.self.inside.said said) in
+    subst (λ (f : FelschRun). length c.in_ok-graph.graph ≤ suc f.made) c.self.view_is (omega (arith, few, most))
 
 pub returns-clause-graph : goal.returns-clause-graph
 returns-clause-graph c =

@@ -7,12 +7,12 @@ pub invariant_of-self-2 : goal.invariant_of-self-2
 invariant_of-self-2 c =
     let run : IsRun c.self.inside.table c.self.inside.budget c.self.inside.made c.self.inside.begun c.self.inside.next _ = rw c.in-More.is at c.self.invariant in
     run_after c.self.inside.table c.go_on.new.table c.self.inside.budget c.self.inside.made c.count-self-inside.result c.self.inside.begun c.self.inside.next c.in-Ok.next run
-    (rw (c.take-due.ensures.value) at c.in-Ok.ensures.start) (rw (c.take-due.ensures.value) at c.in-Ok.ensures.stage) c.go_on.ensures.table c.count-self-inside.ensures
+    (rw (c.take-due.ensures.value) at c.in-Ok.ensures.start) (rw (c.take-due.ensures.value) at c.in-Ok.ensures.stage) (rw (c.take-due.ensures.value) at c.in-Ok.ensures.nodes) c.go_on.ensures.table c.count-self-inside.ensures
     c.answer-self-inside.result c.in-Ok.ensures.next (c.answer-self-inside.ensures ∙ ap (λ (b : Bool). answer_of b c.count-self-inside.result c.self.inside.budget) c.is_some.ensures)
 
 pub returns-clause-spent : goal.returns-clause-spent
 returns-clause-spent c =
     let run : IsRun c.self.inside.table c.self.inside.budget c.self.inside.made c.self.inside.begun c.self.inside.next _ = rw c.in-More.is at c.self.invariant in
     (run_after c.self.inside.table c.go_on.new.table c.self.inside.budget c.self.inside.made c.count-self-inside.result c.self.inside.begun c.self.inside.next c.in-Ok.next run
-    (rw (c.take-due.ensures.value) at c.in-Ok.ensures.start) (rw (c.take-due.ensures.value) at c.in-Ok.ensures.stage) c.go_on.ensures.table c.count-self-inside.ensures
+    (rw (c.take-due.ensures.value) at c.in-Ok.ensures.start) (rw (c.take-due.ensures.value) at c.in-Ok.ensures.stage) (rw (c.take-due.ensures.value) at c.in-Ok.ensures.nodes) c.go_on.ensures.table c.count-self-inside.ensures
     c.answer-self-inside.result c.in-Ok.ensures.next (c.answer-self-inside.ensures ∙ ap (λ (b : Bool). answer_of b c.count-self-inside.result c.self.inside.budget) c.is_some.ensures)).spent
