@@ -12,3 +12,5 @@ pub mod LevelLaws
 pub mod LinkLaws
 pub mod TableLaws
 pub mod ReductionLaws
+pub mod LookupLaws
+pub mod PartLaws

@@ -1,7 +1,8 @@
 -- Rewriting ends: each step leads to a word of a lower place.
-use Rattle.std.proofs.Common.{◌≡◌, ℕ, ◌+◌, ◌<◌, ◌≤◌, List, [], ◌∷◌, ◌++◌, length, take, drop, get_or, sym, ◌∙◌, ap, ap₂, subst, arith, take-append-drop}
-use Rattle.std.proofs.lemmas.List.{get_or_default}
-use Rattle.std.proofs.lemmas.List.Elements.{All-nil, All-cons}
+use Rattle.std.proofs.Common.{◌≡◌, ℕ, ◌+◌, ◌<◌, ◌≤◌, List, [], ◌∷◌, ◌++◌, length, take, drop, get_or, slice_get, Some, sym, ◌∙◌, ap, ap₂, subst, arith, take-append-drop}
+use Rattle.std.proofs.lemmas.List.{get_or_default, take_more}
+use Rattle.std.proofs.lemmas.Option.{get_or_from_slice_get}
+use Rattle.std.proofs.lemmas.List.Elements.{All-nil, All-cons, All-push}
 use Rattle.theory.specs.Word.{Word, IsOver}
 use Rattle.theory.specs.Completion.{Listed, Reduces}
 use Rattle.theory.specs.Chain.{Step}
@@ -21,6 +22,22 @@ over_more k m (a ∷ u) h over = let less = over.0 in (omega (arith, less), over
 pub over_itself : (k : ℕ) (u : Word) → letters_in u ≤ k → IsOver k u
 over_itself k [] h = tt
 over_itself k (a ∷ u) h = (omega arith, over_itself k u (omega arith))
+
+-- one letter more
+pub letter_over : (k new : ℕ) (u : Word) (place a : ℕ) → IsOver k (take place u) → place < length u → slice_get u place ≡ Some a → k ≤ new → a + 1 ≤ new
+    → IsOver new (take (place + 1) u)
+letter_over k new u place a over within at more above =
+    subst (λ w. IsOver new w) (sym (take_more u place 0 within))
+    (over_append new (take place u) (get_or u place 0 ∷ []) (over_more k new (take place u) more over) (omega (arith, above, get_or_from_slice_get u place a 0 at), tt))
+
+-- one rule more
+pub rule_over : (k m new : ℕ) (rules : List (Word × Word)) (place : ℕ) (rule : Word × Word) → AreOver k (take place rules) → place < length rules → rule ≡ get_or rules place rule
+    → k ≤ m → IsOver m rule.0 → m ≤ new → IsOver new rule.1 → AreOver new (take (place + 1) rules)
+rule_over k m new rules place rule over within read first left second right =
+    subst (λ rs. AreOver new rs) (sym (take_more rules place rule within))
+    (All-push (λ (r : Word × Word). IsOver new r.0 × IsOver new r.1) (take place rules) (get_or rules place rule)
+    (λ i d h. let old = over i d h in (over_more k new _ (omega (arith, first, second)) old.0, over_more k new _ (omega (arith, first, second)) old.1))
+    (subst (λ (r : Word × Word). IsOver new r.0 × IsOver new r.1) read (over_more m new rule.0 second left, right)))
 
 rules_over : (k : ℕ) (rules : List (Word × Word)) → letters_in_rules rules ≤ k → AreOver k rules
 rules_over k [] h = All-nil (λ (r : Word × Word). IsOver k r.0 × IsOver k r.1)

@@ -17,7 +17,7 @@ use Rattle.reduced_automaton.specs.Reductions.{rank, letters_for, IsReducing, we
 use Rattle.reduced_automaton.proofs.Ranks.{rank_below}
 use Rattle.reduced_automaton.proofs.Reducing.{over_for, over_itself}
 use Rattle.reduced_automaton.proofs.Standing.{filled, listed_falls}
-use Rattle.reduced_automaton.proofs.StateLaws.{end_kept, longest_more, empty_longest, empty_reduced, reduced_front, reduced_more}
+use Rattle.reduced_automaton.proofs.StateLaws.{end_kept, longest_more, empty_reduced, reduced_front, reduced_more}
 
 -- a lesser place, and few letters left
 pub lighter : (r s b m n : ℕ) → r < s → m < b → r * b + m < s * b + n
@@ -152,7 +152,23 @@ module _ (rules : List (Word × Word)) (falling : AreFalling rules) (states : Li
           (step_falls (Listed rules) (listed_falls rules falling) (done ++ reverse (rest ++ a ∷ [])) (take (length done - (length (left_at rules number) - 1)) done ++ reverse (rest ++ reverse (get_or rules number ([], [])).1)) step))
           (omega (arith, short))
 
-module _ (rules : List (Word × Word)) (falling : AreFalling rules) (states : List Word) (are : AreStates rules states) (word done rest : Word) (path : List ℕ) where
+      -- both, as the code makes them
+      pub back_to : (rule : Word × Word) (new_done new_rest : Word) (new_path : List ℕ) → rule ≡ get_or rules number rule → new_done ≡ take (length done - (length rule.0 - 1)) done
+          → new_rest ≡ rest ++ reverse rule.1 → new_path ≡ take (length done - (length rule.0 - 1) + 1) path
+          → IsReducing rules states word new_done new_rest new_path × (weight rules word new_done new_rest < weight rules word done (rest ++ a ∷ []))
+      back_to rule new_done new_rest new_path read d r p =
+          let same : get_or rules number ([], []) ≡ rule = sym (read ∙ get_or_default rules number rule ([], []) ends.within) in
+          subst (λ (u : Word). To u new_rest new_path) (sym d)
+          (subst₂ (λ (v : Word) (q : List ℕ). To (take (length done - (length rule.0 - 1)) done) v q) (sym r) (sym p) (subst Back same (back_by, back_less_by)))
+        where
+          To : Word → Word → List ℕ → Type 0
+          To d r p = IsReducing rules states word d r p × (weight rules word d r < weight rules word done (rest ++ a ∷ []))
+
+          Back : Word × Word → Type 0
+          Back q = To (take (length done - (length q.0 - 1)) done) (rest ++ reverse q.1) (take (length done - (length q.0 - 1) + 1) path)
+
+-- nothing is read of the word
+module _ (rules : List (Word × Word)) (falling : AreFalling rules) (states : List Word) (root : IsLongest states [] 0) (word done rest : Word) (path : List ℕ) where
   pub reducing_start : done ≡ [] → rest ≡ reverse word → path ≡ 0 ∷ [] → IsReducing rules states word done rest path
   reducing_start d r p = record {
     over = subst (λ u. IsOver (letters_for rules word) u) (sym whole) (over_itself (letters_for rules word) word (omega arith));
@@ -164,16 +180,18 @@ module _ (rules : List (Word × Word)) (falling : AreFalling rules) (states : Li
         let z : i ≡ 0 = omega (arith, h, ap length d) in
         let at : get_or path i 0 ≡ 0 = ap₂ (λ (xs : List ℕ) (i : ℕ). get_or xs i 0) p z in
         let front : take i done ≡ [] = ap (λ (i : ℕ). take i done) z in
-        subst₂ (λ (u : Word) (t : ℕ). IsLongest states u t) (sym front) (sym at) (empty_longest rules falling states are);
+        subst₂ (λ (u : Word) (t : ℕ). IsLongest states u t) (sym front) (sym at) root;
   }
     where
       whole : done ++ reverse rest ≡ word
       whole = ap₂ (λ (u v : Word). u ++ reverse v) d r ∙ reverse-reverse word
 
-  -- with nothing left the word is what is done
-  pub reducing_end : IsReducing rules states word done rest path → rest ≡ [] → Reduces (Listed rules) word done
-  reducing_end is e = subst (λ u. Reduces (Listed rules) word u) (ap (λ v. done ++ reverse v) e ∙ append-nil done) is.reaches
+-- with nothing left the word is what is done
+pub reducing_end : (rules : List (Word × Word)) (states : List Word) (word done rest : Word) (path : List ℕ) → IsReducing rules states word done rest path → rest ≡ []
+    → Reduces (Listed rules) word done
+reducing_end rules states word done rest path is e = subst (λ u. Reduces (Listed rules) word u) (ap (λ v. done ++ reverse v) e ∙ append-nil done) is.reaches
 
+module _ (rules : List (Word × Word)) (falling : AreFalling rules) (states : List Word) (are : AreStates rules states) (word done rest : Word) (path : List ℕ) where
   module _ (a t : ℕ) (end : Option ℕ) (is : IsReducing rules states word done (rest ++ a ∷ []) path) (reads : Reads rules states (longer states (get_or path (length done) 0) a) t end) where
     last : IsLongest states done (get_or path (length done) 0)
     last = here rules falling states word done rest path a t is

@@ -1,10 +1,11 @@
 -- Where words stand in words, and where rules apply.
-use Rattle.std.proofs.Common.{◌≡◌, ℕ, ◌+◌, ◌-◌, ◌<◌, ◌≤◌, Bool, true, false, not, List, [], ◌∷◌, ◌++◌, length, take, drop, get_or, refl, sym, ◌∙◌, ap, ap₂, subst, arith, inl, inr, eqb, Contains, length-append, length-take, take-append-drop, Option, Some, None, IsTrue, ◌↔◌, MatchOption}
+use Rattle.std.proofs.Common.{◌≡◌, ℕ, ◌+◌, ◌-◌, ◌<◌, ◌≤◌, ◌||◌, Bool, true, false, not, List, [], ◌∷◌, ◌++◌, length, take, drop, get_or, refl, sym, ◌∙◌, ap, ap₂, subst, arith, inl, inr, eqb, Contains, length-append, length-take, take-append-drop, Option, Some, None, IsTrue, ◌↔◌, MatchOption}
 use Rattle.std.specs.Option.{is_some}
 use Rattle.std.specs.Cmp.Lexicographic.{pointwise}
-use Rattle.std.proofs.lemmas.Bool.{cases_lt}
+use Rattle.std.specs.List.{starts_with}
+use Rattle.std.proofs.lemmas.Bool.{cases_Bool, cases_lt, or_cases, or_left, or_right}
 use Rattle.std.proofs.lemmas.Bool.Decides.{Decides-eqb}
-use Rattle.std.proofs.lemmas.List.{append_cancel_left, take_at, drop_at, nil_from_length, get_or_default, drop-drop, take_rest}
+use Rattle.std.proofs.lemmas.List.{append_assoc, append_cancel_left, take_at, drop_at, nil_from_length, get_or_default, drop-drop, take_rest}
 use Rattle.std.proofs.lemmas.Slice.Eq.{starts_is}
 use Rattle.theory.specs.Word.{Word, IsFactor, IsOver}
 use Rattle.theory.specs.ShortLex.{◌≺◌}
@@ -12,7 +13,7 @@ use Rattle.theory.specs.Chain.{Step}
 use Rattle.theory.specs.Completion.{IsReduced, Listed}
 use Rattle.theory.specs.declared.Kind.TheVariants.{TwoSided}
 use Rattle.theory.proofs.Words.{before_no_longer, before_irrefl}
-use Rattle.reduced_automaton.specs.Rules.{AreFalling, AreOver, StandsAt, AppliesAt, replaced}
+use Rattle.reduced_automaton.specs.Rules.{AreFalling, AreOver, StandsAt, AppliesAt, replaced, stands_in}
 
 pub stands_from : (f u : Word) (place : ℕ) (y : Word) → drop place u ≡ f ++ y → StandsAt f u place
 stands_from f u place y e = record { after = y; is = sym (take-append-drop place u) ∙ ap (λ w. take place u ++ w) e }
@@ -73,6 +74,42 @@ factor_empty f u none h = elim (cases_lt (length h.before) (length u)) [
 
 pub empty_factor : (f u : Word) → f ≡ [] → IsFactor f u
 empty_factor f u e = record { before = []; after = u; is = ap (λ w. w ++ u) (sym e) }
+
+-- where the test is true the word stands there
+pub stands_at : (f u : Word) → stands_in f u ≡ true → (x : Word) × (y : Word) × (u ≡ x ++ (f ++ y))
+stands_at f [] h = ([], drop (length f) [], (starts_is Decides-eqb [] f (stands_in f []) refl).0 h)
+stands_at f (a ∷ u) h = elim (or_cases (starts_with eqb (a ∷ u) f) (stands_in f u) h) [
+  | inl e ↦ ([], drop (length f) (a ∷ u), (starts_is Decides-eqb (a ∷ u) f (starts_with eqb (a ∷ u) f) refl).0 e)
+  | inr e ↦ let r = stands_at f u e in (a ∷ r.0, r.1, ap (λ w. a ∷ w) r.2)
+]
+
+-- and where it stands the test is true
+pub stands_when : (f u x y : Word) → u ≡ x ++ (f ++ y) → stands_in f u ≡ true
+stands_when f [] [] y e = (starts_is Decides-eqb [] f (stands_in f []) refl).1 y e
+stands_when f [] (b ∷ x) y e = cc
+stands_when f (a ∷ u) [] y e =
+    or_left (starts_with eqb (a ∷ u) f) (stands_in f u) ((starts_is Decides-eqb (a ∷ u) f (starts_with eqb (a ∷ u) f) refl).1 y e)
+stands_when f (a ∷ u) (b ∷ x) y e =
+    let rest : u ≡ x ++ (f ++ y) = cc in
+    or_right (starts_with eqb (a ∷ u) f) (stands_in f u) (stands_when f u x y rest)
+
+-- an exact test of standing is the value of `stands_in`
+pub factor_tested : (f u : Word) (r : Bool) → IsTrue r ↔ IsFactor f u → r ≡ stands_in f u
+factor_tested f u true h = let at = h.0 refl in sym (stands_when f u at.before at.after at.is)
+factor_tested f u false h = elim (cases_Bool (stands_in f u)) [
+  | inl e ↦ let at = stands_at f u e in let bad : false ≡ true = h.1 (record { before = at.0; after = at.1; is = at.2 }) in cc
+  | inr e ↦ sym e
+]
+
+pub factor_trans : (f g x : Word) → IsFactor f g → IsFactor g x → IsFactor f x
+factor_trans f g x h k = record {
+  before = k.before ++ h.before;
+  after = h.after ++ k.after;
+  is = k.is ∙ regrouped k.before h.before f h.after k.after g h.is;
+}
+  where
+    regrouped : (x a f b y g : Word) → g ≡ a ++ (f ++ b) → x ++ (g ++ y) ≡ (x ++ a) ++ (f ++ (b ++ y))
+    regrouped x a f b y g e = rw e (simp append_assoc)
 
 -- a left side is not empty
 pub filled : (l r : Word) → r ≺ l → 0 < length l

@@ -5,3 +5,5 @@ pub mod Tries
 pub mod Links
 pub mod Tables
 pub mod Reductions
+pub mod Lookups
+pub mod Parts

@@ -54,12 +54,12 @@ IsReductionAt a word letter r =
     IsReducing a.rules a.states word r.done.items (r.rest.items ++ letter ∷ []) r.states.items
 
 -- the weight of a reduction
-abbrev pub weight_of : Reading → Word → Reduction → ℕ
-weight_of a word r = weight a.rules word r.done.items r.rest.items
+abbrev pub weight_of : List (Word × Word) → Word → Reduction → ℕ
+weight_of rules word r = weight rules word r.done.items r.rest.items
 
 -- the weight of a reduction, with the letter that is read next
-abbrev pub weight_at : Reading → Word → ℕ → Reduction → ℕ
-weight_at a word letter r = weight a.rules word r.done.items (r.rest.items ++ letter ∷ [])
+abbrev pub weight_at : List (Word × Word) → Word → ℕ → Reduction → ℕ
+weight_at rules word letter r = weight rules word r.done.items (r.rest.items ++ letter ∷ [])
 
 -- how many letters stay done where the left side ends at the next letter
 abbrev pub kept : Reduction → Word → ℕ

@@ -1,5 +1,6 @@
 -- Lists of rewriting rules (Knuth and Bendix 1970; Sims 1994, ch. 2).
-use Rattle.std.specs.Prelude.{◌≡◌, ℕ, ◌+◌, ◌<◌, List, [], ◌++◌, length, take, drop, slice_index_or, All}
+use Rattle.std.specs.Prelude.{◌≡◌, ℕ, ◌+◌, ◌<◌, Bool, ◌||◌, eqb, List, [], ◌∷◌, ◌++◌, length, take, drop, slice_index_or, All}
+use Rattle.std.specs.List.{starts_with}
 use Rattle.theory.specs.Word.{Word, IsOver}
 use Rattle.theory.specs.ShortLex.{◌≺◌}
 
@@ -20,6 +21,11 @@ pub record StandsAt (f u : Word) (place : ℕ) : Type 0 where
 pub record AppliesAt (rules : List (Word × Word)) (u : Word) (place number : ℕ) : Type 0 where
   pub within : number < length rules
   pub stands : StandsAt (slice_index_or rules number ([], [])).0 u place
+
+-- f stands somewhere in u
+abbrev pub stands_in : Word → Word → Bool
+stands_in f [] = starts_with eqb [] f
+stands_in f (a ∷ u) = starts_with eqb (a ∷ u) f || stands_in f u
 
 -- u with so many letters from the place on replaced by v
 abbrev pub replaced : Word → ℕ → ℕ → Word → Word

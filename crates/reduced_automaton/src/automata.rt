@@ -86,10 +86,7 @@ impl Automaton {
             (longer self.now.states state letter) result.0 result.1 }
     {
         let _count = self.rules.len();
-        if self.table.letters() <= letter.number() {
-            return (0, None);
-        }
-        self.table.entry(state, letter.number())
+        self.table.read(state, letter)
     }
 
     /// Where the state's word with the letter leads: `None` exactly where a left side stands at its end, and else the

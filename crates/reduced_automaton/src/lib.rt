@@ -7,8 +7,11 @@
 
 mod automata;
 mod depths;
+mod kept_rules;
 mod levels;
 mod links;
+mod lookups;
+mod parts;
 mod readers;
 mod reductions;
 mod rewriting;
@@ -17,6 +20,7 @@ mod table;
 mod tries;
 
 pub use automata::Automaton;
+pub use kept_rules::KeptRules;
 pub use rewriting::{has_factor, replaced};
 pub use rule_lists::Rules;
 

@@ -84,7 +84,8 @@ fn link_entry(
     requires tables { FitTree letters rules.now trie.now tables.old }
     requires linked { AreLinkedTo letters rules.now trie.now order.now index letter tables.old }
     ensures tables { FitTree letters rules.now trie.now tables.new }
-    ensures linked { AreLinkedTo letters rules.now trie.now order.now index (letter + 1) tables.new }
+    ensures linked { AreLinkedTo letters rules.now trie.now order.now index (letter + 1)
+        tables.new }
 {
     let _items = &rules.items;
     let node = order[index];

@@ -11,10 +11,10 @@ use words::{Letter, Word};
 
 // The letters that are read, the states of each front of them, and the letters that are left, the next one last.
 #[derive(Drop)]
-struct Reduction {
-    done: Vec<Letter>,
-    states: Vec<usize>,
-    rest: Vec<Letter>,
+pub struct Reduction {
+    pub done: Vec<Letter>,
+    pub states: Vec<usize>,
+    pub rest: Vec<Letter>,
 }
 
 // Puts the letters at the end, the last one first.
@@ -28,7 +28,7 @@ fn put_reversed(rest: &mut Vec<Letter>, letters: &[Letter]) -> Result<(), NoMemo
 }
 
 // Nothing is read of the word.
-fn unread(alloc: Global, word: &Word) -> Result<Reduction, NoMemory>
+pub fn unread(alloc: Global, word: &Word) -> Result<Reduction, NoMemory>
     ensures done { IfOk result (λ r. r.done.items ≡ []) }
     ensures states { IfOk result (λ r. r.states.items ≡ 0 ∷ []) }
     ensures rest { IfOk result (λ r. r.rest.items ≡ reverse word.now) }
@@ -45,7 +45,7 @@ fn unread(alloc: Global, word: &Word) -> Result<Reduction, NoMemory>
 }
 
 // The letter is read, and the state follows.
-fn push(reduction: &mut Reduction, letter: Letter, state: usize) -> Result<(), NoMemory>
+pub fn push(reduction: &mut Reduction, letter: Letter, state: usize) -> Result<(), NoMemory>
     ensures done { OnOk result
         (reduction.new.done.items ≡ reduction.old.done.items ++ letter ∷ []) }
     ensures states { OnOk result
@@ -58,7 +58,7 @@ fn push(reduction: &mut Reduction, letter: Letter, state: usize) -> Result<(), N
 }
 
 // A left side ends at the next letter: back to where it began, with the right side to be read.
-fn go_back(reduction: &mut Reduction, rule: &(Word, Word)) -> Result<(), NoMemory>
+pub fn go_back(reduction: &mut Reduction, rule: &(Word, Word)) -> Result<(), NoMemory>
     requires some { 0 < length rule.now.0 }
     requires within { length rule.now.0 ≤ length reduction.old.done.items + 1 }
     ensures done { OnOk result (reduction.new.done.items
@@ -85,8 +85,8 @@ impl Automaton {
     ) -> Result<(), NoMemory>
         requires { IsReductionAt self.now word.now letter reduction.old }
         ensures reducing { OnOk result (IsReductionOf self.now word.now reduction.new) }
-        ensures less { OnOk result (weight_of self.now word.now reduction.new
-            < weight_at self.now word.now letter reduction.old) }
+        ensures less { OnOk result (weight_of self.now.rules word.now reduction.new
+            < weight_at self.now.rules word.now letter reduction.old) }
     {
         let _states = self.states();
         let _count = self.rules().len();
@@ -105,11 +105,11 @@ impl Automaton {
         requires { IsReductionOf self.now word.now reduction.old }
         ensures reducing { OnOk result (IsReductionOf self.now word.now reduction.new) }
         ensures more { IfOk result (λ more. more ≡ true
-            → weight_of self.now word.now reduction.new
-            < weight_of self.now word.now reduction.old) }
+            → weight_of self.now.rules word.now reduction.new
+            < weight_of self.now.rules word.now reduction.old) }
         ensures end { IfOk result (λ more. more ≡ false → (reduction.new.rest.items ≡ [])
-            × (weight_of self.now word.now reduction.new
-            ≤ weight_of self.now word.now reduction.old)) }
+            × (weight_of self.now.rules word.now reduction.new
+            ≤ weight_of self.now.rules word.now reduction.old)) }
     {
         match reduction.rest.pop() {
             None => Ok(false),

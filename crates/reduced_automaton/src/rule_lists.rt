@@ -1,7 +1,8 @@
 // Lists of rewriting rules.
-ghost use Rattle.std.specs.Prelude.{◌≡◌, ◌<◌, [], ◌∷◌, ◌++◌, length, slice_index_or, slice_set, IfOk, OnOk, OnErr, IsTrue, ◌↔◌};
+ghost use Rattle.std.specs.Prelude.{◌≡◌, ◌<◌, ◌≤◌, [], ◌∷◌, ◌++◌, length, slice_index_or, slice_set, IfOk, OnOk, OnErr, IsTrue, ◌↔◌};
+ghost use Rattle.theory.specs.Word.{IsOver};
 ghost use Rattle.theory.specs.ShortLex.{◌≺◌};
-ghost use Rattle.reduced_automaton.specs.Rules.{AreFalling};
+ghost use Rattle.reduced_automaton.specs.Rules.{AreFalling, AreOver};
 
 use ports::NoMemory;
 use std::alloc::Global;
@@ -26,6 +27,20 @@ impl Model for Rules {
     ghost view = { λ r. r.items.items };
 
     ghost invariant = { λ r. AreFalling r.items.items };
+}
+
+// One more than the greatest letter, or the number that is given, if that is greater.
+fn letters_in(word: &Word, most: usize) -> usize
+    requires { most ≤ 256 }
+    ensures few { result ≤ 256 }
+    ensures least { most ≤ result }
+    ensures over { IsOver result word.now }
+{
+    let mut letters = most;
+    for place in 0..word.len() {
+        letters = letters.max(word.letter(place).number() + 1);
+    }
+    letters
 }
 
 impl Rules {
@@ -117,5 +132,18 @@ impl Rules {
             items.push((left, right))?;
         }
         Ok(Rules { alloc, items })
+    }
+
+    // One more than the greatest letter of the rules.
+    pub(crate) fn letters(&self) -> usize
+        ensures few { result ≤ 256 }
+        ensures over { AreOver result self.now }
+    {
+        let mut letters = 0;
+        for rule in &self.items {
+            letters = letters_in(&rule.0, letters);
+            letters = letters_in(&rule.1, letters);
+        }
+        letters
     }
 }

@@ -1,8 +1,10 @@
 // The table of the automaton: for each state and letter the state that follows, or the rule whose left side ends.
-ghost use Rattle.std.specs.Prelude.{◌≡◌, ℕ, ◌+◌, ◌*◌, ◌<◌, ◌≤◌, length, slice_index_or, take, Option, None, IfOk};
+ghost use Rattle.std.specs.Prelude.{◌≡◌, ℕ, ◌+◌, ◌*◌, ◌<◌, ◌≤◌, List, length, slice_index_or, take, Option, None, IfOk};
+ghost use Rattle.theory.specs.Word.{Word as Letters};
 ghost use Rattle.theory.specs.Graph.{target as target_of, path as path_of, IsGraph};
-ghost use Rattle.reduced_automaton.specs.Rules.{AreOver};
+ghost use Rattle.reduced_automaton.specs.Rules.{AreFalling, AreOver};
 ghost use Rattle.reduced_automaton.specs.Tables.{IsTableOf, Moves, edges, move_by};
+ghost use Rattle.reduced_automaton.specs.Tries.{Reads, longer, words_of};
 
 use crate::levels::order_of;
 use crate::links::tables_of;
@@ -101,6 +103,19 @@ impl Table {
     {
         let place = place(self.prefixes.len(), self.letters, node, letter);
         (self.targets[place], self.ends[place])
+    }
+
+    /// The longest state at the end of the state and the letter, and a rule whose left side stands there.
+    pub fn read(&self, state: usize, letter: Letter) -> (usize, Option<usize>)
+        requires { state < length self.now.prefixes }
+        ensures { (k : ℕ) (rules : List (Letters × Letters)) → AreFalling rules
+            → IsTableOf k rules self.now → Reads rules (words_of rules self.now.prefixes)
+            (longer (words_of rules self.now.prefixes) state letter) result.0 result.1 }
+    {
+        if self.letters <= letter.number() {
+            return (0, None);
+        }
+        self.entry(state, letter.number())
     }
 
     /// Where the edge of the letter leads from the node. `None` exactly where there is no such edge.

@@ -296,3 +296,110 @@ fn replaces_a_factor(rt: HostRuntime) -> Result<(), Fail> {
     assert_eq!(rt; text.as_slice(), b"aaa.".as_slice());
     Ok(())
 }
+
+// The rules with that of the two texts, if it falls, and those that it takes out.
+fn kept_with(
+    rules: KeptRules,
+    alloc: Global,
+    left: &[u8],
+    right: &[u8],
+) -> Result<(KeptRules, Vec<(Word, Word)>), NoMemory> {
+    let alphabet = alphabet(alloc, b"ab")?;
+    let left = word(&alphabet, alloc, left)?;
+    let right = word(&alphabet, alloc, right)?;
+    if shortlex(&right, &left).is_lt() {
+        rules.add(left, right)
+    } else {
+        Ok((rules, Vec::new(alloc)))
+    }
+}
+
+// The rules of the texts, added one after the other.
+fn kept_of(alloc: Global, texts: &[(&[u8], &[u8])]) -> Result<KeptRules, NoMemory> {
+    let mut rules = KeptRules::new(alloc);
+    for text in texts {
+        rules = kept_with(rules, alloc, text.0, text.1)?.0;
+    }
+    Ok(rules)
+}
+
+// The text to which the rules lead.
+fn kept_reduced(alloc: Global, rules: &KeptRules, text: &[u8]) -> Result<Vec<u8>, NoMemory> {
+    let alphabet = alphabet(alloc, b"ab")?;
+    let word = word(&alphabet, alloc, text)?;
+    let mut text = Vec::new(alloc);
+    write(&mut text, &alphabet, &rules.reduce(&word)?)?;
+    Ok(text)
+}
+
+#[test]
+fn takes_rules_out(rt: HostRuntime) -> Result<(), Fail> {
+    let alphabet = alphabet(rt.alloc(), b"ab")?;
+    let rules = kept_of(rt.alloc(), &[(b"bab", b"a"), (b"abb", b"b"), (b"bbb", b"")])?;
+    let (kept, gone) = kept_with(rules, rt.alloc(), b"bb", b"b")?;
+    assert_eq!(rt; kept.len(), 2);
+    let text = written(rt.alloc(), &alphabet, kept.copy(rt.alloc())?)?;
+    assert_eq!(rt; text.as_slice(), b"bab.a.bb.b.".as_slice());
+    assert_eq!(rt; gone.len(), 2);
+    let text = kept_reduced(rt.alloc(), &kept, b"abba")?;
+    assert_eq!(rt; text.as_slice(), b"aba.".as_slice());
+    Ok(())
+}
+
+// Rules that lead b, so many letters a, and b to these letters, for each number below the count.
+fn bracketed(alloc: Global, count: usize) -> Result<KeptRules, NoMemory> {
+    let mut rules = KeptRules::new(alloc);
+    for number in 0..count {
+        let inner = Vec::from_elem(alloc, b'a', number)?;
+        let mut outer = Vec::new(alloc);
+        outer.push(b'b')?;
+        outer.extend_from_slice(inner.as_slice())?;
+        outer.push(b'b')?;
+        rules = kept_with(rules, alloc, outer.as_slice(), inner.as_slice())?.0;
+    }
+    Ok(rules)
+}
+
+// Some of the rules are in the table, and some are newer.
+#[test]
+fn finds_rules_by_the_table(rt: HostRuntime) -> Result<(), Fail> {
+    let rules = bracketed(rt.alloc(), 20)?;
+    let text = kept_reduced(rt.alloc(), &rules, b"baaaabbb")?;
+    assert_eq!(rt; text.as_slice(), b"aaaa.".as_slice());
+    let text = kept_reduced(rt.alloc(), &rules, b"baaaaaaaaaaaaaaaaaab")?;
+    assert_eq!(rt; text.as_slice(), b"aaaaaaaaaaaaaaaaaa.".as_slice());
+    Ok(())
+}
+
+// What stands in the table is gone or changed.
+#[test]
+fn forgets_what_is_gone(rt: HostRuntime) -> Result<(), Fail> {
+    let rules = bracketed(rt.alloc(), 20)?;
+    let (mut kept, gone) = kept_with(rules, rt.alloc(), b"aaa", b"a")?;
+    assert_eq!(rt; gone.len(), 17);
+    let text = kept_reduced(rt.alloc(), &kept, b"baaab")?;
+    assert_eq!(rt; text.as_slice(), b"a.".as_slice());
+    kept.rebuild()?;
+    let text = kept_reduced(rt.alloc(), &kept, b"baaab")?;
+    assert_eq!(rt; text.as_slice(), b"a.".as_slice());
+    Ok(())
+}
+
+// Gives the first rule the letter a as its right side, if it falls then.
+fn set_kept(rules: &mut KeptRules, alloc: Global) -> Result<(), NoMemory> {
+    let mut right = Word::new(alloc);
+    right.push(Letter::new(0))?;
+    if rules.len() > 0 && shortlex(&right, &rules.rule(0).0).is_lt() {
+        rules.set_right(0, right);
+    }
+    Ok(())
+}
+
+#[test]
+fn follows_a_changed_right_side(rt: HostRuntime) -> Result<(), Fail> {
+    let mut rules = bracketed(rt.alloc(), 20)?;
+    set_kept(&mut rules, rt.alloc())?;
+    let text = kept_reduced(rt.alloc(), &rules, b"bb")?;
+    assert_eq!(rt; text.as_slice(), b"a.".as_slice());
+    Ok(())
+}

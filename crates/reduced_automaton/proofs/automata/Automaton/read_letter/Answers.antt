@@ -1,9 +1,8 @@
-use Rattle.std.proofs.Common.{◌≡◌, ◌<◌, ◌+◌, ◌-◌, ◌∷◌, ◌++◌, ℕ, List, [], length, take, reverse, get_or, sym, ◌∙◌, ap, subst, subst₂, arith}
-use Rattle.std.proofs.lemmas.List.{get_or_default}
+use Rattle.std.proofs.Common.{◌≡◌, ◌<◌, ◌∷◌, ◌++◌, List, [], length, get_or, ◌∙◌, ap, subst, arith}
 use Rattle.theory.specs.Word.{Word}
 use Rattle.reduced_automaton.specs.Rules.{AreFalling}
 use Rattle.reduced_automaton.specs.Reductions.{IsReducing, weight}
-use Rattle.reduced_automaton.proofs.ReductionLaws.{push_step, push_less, back_by, back_less_by, ends_there, reads_at}
+use Rattle.reduced_automaton.proofs.ReductionLaws.{push_step, push_less, back_to, ends_there, reads_at}
 use Rattle.reduced_automaton.proofs.automata.Automaton.read_letter.Goals as goal
 use Rattle.reduced_automaton.proofs.automata.Automaton.read_letter.Goals.{In_ok-go_back}
 
@@ -22,18 +21,9 @@ back c =
     let size : c.len.result ≡ length c.args.reduction.now.done.items = omega (arith, c.len.ensures) in
     let reads = reads_at rules c.args.self.now.states done path c.args.letter c.len.result c.index-state.result.now c.read-read.result.0 c.read-read.result.1 c.requires.count size c.index-state.ensures c.read-read.ensures in
     let ends = ends_there rules falling c.args.self.now.states are c.args.word.now done rest path c.args.letter c.read-read.result.0 c.read-read.result.1 c.requires reads c.in-Some.number c.in-Some.is in
-    let step = back_by rules falling c.args.self.now.states c.args.word.now done rest path c.args.letter c.read-read.result.0 c.requires c.in-Some.number ends in
-    let less = back_less_by rules falling c.args.self.now.states c.args.word.now done rest path c.args.letter c.read-read.result.0 c.requires c.in-Some.number ends in
-    let within = ends.within in
-    let rule : c.rule.result.now ≡ get_or c.args.self.now.rules c.in-Some.number ([], []) =
-    c.rule.ensures.rule ∙ ap (λ (rs : List (Word × Word)). get_or rs c.in-Some.number c.rule.result.now) c.rules-in-Some.ensures
-    ∙ get_or_default c.args.self.now.rules c.in-Some.number c.rule.result.now ([], []) within in
-    let F : Word → Word → List ℕ → Type 0 = λ d r p. IsReducing c.args.self.now.rules c.args.self.now.states c.args.word.now d r p
-    × (weight c.args.self.now.rules c.args.word.now d r < weight c.args.self.now.rules c.args.word.now c.args.reduction.now.done.items (c.args.reduction.now.rest.items ++ c.args.letter ∷ [])) in
-    let G : Word × Word → Type 0 = λ q. F (take (length done - (length q.0 - 1)) done) (rest ++ reverse q.1) (take (length done - (length q.0 - 1) + 1) path) in
-    let made : G c.rule.result.now = subst G (sym rule) (step, less) in
-    subst (λ (d : Word). F d c.go_back.new.reduction.rest.items c.go_back.new.reduction.states.items) (sym c.in_ok-go_back.ensures.done)
-    (subst₂ (λ (r : Word) (p : List ℕ). F (take (length done - (length c.rule.result.now.0 - 1)) done) r p) (sym c.in_ok-go_back.ensures.rest) (sym c.in_ok-go_back.ensures.states) made)
+    let rule = c.rule.ensures.rule ∙ ap (λ (rs : List (Word × Word)). get_or rs c.in-Some.number c.rule.result.now) c.rules-in-Some.ensures in
+    back_to rules falling c.args.self.now.states c.args.word.now done rest path c.args.letter c.read-read.result.0 c.requires c.in-Some.number ends c.rule.result.now
+    c.go_back.new.reduction.done.items c.go_back.new.reduction.rest.items c.go_back.new.reduction.states.items rule c.in_ok-go_back.ensures.done c.in_ok-go_back.ensures.rest c.in_ok-go_back.ensures.states
 
 pub returns-in-Some-clause-reducing : goal.returns-in-Some-clause-reducing
 returns-in-Some-clause-reducing c = (back c).0

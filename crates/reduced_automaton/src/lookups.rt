@@ -1,0 +1,150 @@
+// How rules are found at the end of a word: in a table of those that were there when it was made, and one by one where
+// they are newer.
+ghost use Rattle.std.specs.Prelude.{◌≡◌, ℕ, ◌<◌, ◌≤◌, [], ◌∷◌, ◌++◌, List, All, length, true, false, slice_index_or, IfOk, OnOk, IsTrue, ◌↔◌, MatchOption};
+ghost use Rattle.theory.specs.Word.{Word as Letters};
+ghost use Rattle.reduced_automaton.specs.Rules.{AreFalling};
+ghost use Rattle.reduced_automaton.specs.States.{EndsAt};
+ghost use Rattle.reduced_automaton.specs.Tables.{IsTableOf};
+ghost use Rattle.reduced_automaton.specs.Tries.{longer, words_of, Reads};
+ghost use Rattle.reduced_automaton.specs.Reductions.{weight_at, weight_of};
+ghost use Rattle.reduced_automaton.specs.Lookups.{IsAtLetter, IsLookup, IsNext, IsRewriting, IsRewritingAt, StandsLast, moves_of, reads_to};
+
+use crate::reductions::{Reduction, go_back, push};
+use crate::rule_lists::Rules;
+use crate::table::Table;
+use ports::NoMemory;
+use std::alloc::Global;
+use words::{Letter, Word};
+
+/// The table of the rules that were there when it was made, the place where each of these stands now, if it is still
+/// there, and the place of the first newer rule, behind which all are newer.
+#[derive(Drop)]
+pub struct Lookup {
+    pub table: Option<Table>,
+    pub places: Vec<Option<usize>>,
+    pub first: usize,
+}
+
+// Whether the word stands at the end of the letters and the letter.
+fn stands_last(letters: &[Letter], letter: Letter, word: &[Letter]) -> bool
+    requires { 0 < length word.now }
+    ensures { IsTrue result ↔ StandsLast (letters.now ++ letter ∷ []) word.now }
+{
+    let last = word.len() - 1;
+    word[last] == letter && letters.ends_with(&word[..last])
+}
+
+impl Lookup {
+    /// The lookup of no rule.
+    pub fn new(alloc: Global) -> Lookup
+        ensures { IsLookup [] result }
+    {
+        Lookup {
+            table: None,
+            places: Vec::new(alloc),
+            first: 0,
+        }
+    }
+
+    // A newer rule whose left side stands at the end of the letters and the letter.
+    fn newer_end(&self, rules: &Rules, letters: &[Letter], letter: Letter) -> Option<usize>
+        ensures { MatchOption result
+            ((place : ℕ) → self.now.first ≤ place
+            → EndsAt rules.now (letters.now ++ letter ∷ []) place → ⊥)
+            (EndsAt rules.now (letters.now ++ letter ∷ [])) }
+    {
+        for place in self.first..rules.len() {
+            if stands_last(letters, letter, rules.rule(place).0.letters()) {
+                return Some(place);
+            }
+        }
+        None
+    }
+
+    // What the table reads: the longest state at the end of the state and the letter, and the number of a left side that
+    // stands there.
+    fn read(&self, state: usize, letter: Letter) -> (usize, Option<usize>)
+        requires { state < length (moves_of self.now).prefixes }
+        ensures { (k : ℕ) (tabled : List (Letters × Letters)) → AreFalling tabled
+            → IsTableOf k tabled (moves_of self.now)
+            → Reads tabled (words_of tabled (moves_of self.now).prefixes)
+            (longer (words_of tabled (moves_of self.now).prefixes) state letter) result.0 result.1 }
+    {
+        match &self.table {
+            Some(table) => table.read(state, letter),
+            None => (0, None),
+        }
+    }
+
+    // What the letter leads to behind a reduced word, at whose end the state is the longest one: the place of a rule
+    // whose left side stands there, or else the longest state.
+    fn step(
+        &self,
+        rules: &Rules,
+        done: &[Letter],
+        state: usize,
+        letter: Letter,
+    ) -> (usize, Option<usize>)
+        requires { IsAtLetter rules.now self.now done.now state }
+        ensures { (at : IsAtLetter rules.now self.now done.now state)
+            → IsNext rules.now (reads_to at) (done.now ++ letter ∷ []) result.0 result.1 }
+    {
+        if let Some(place) = self.newer_end(rules, done, letter) {
+            return (0, Some(place));
+        }
+        let (next, end) = self.read(state, letter);
+        match end {
+            Some(number) => (next, self.places[number]),
+            None => (next, None),
+        }
+    }
+
+    // Reads one letter.
+    fn read_letter(
+        &self,
+        rules: &Rules,
+        word: &Word,
+        reduction: &mut Reduction,
+        letter: Letter,
+    ) -> Result<(), NoMemory>
+        requires { IsRewritingAt rules.now self.now word.now letter reduction.old }
+        ensures rewriting { OnOk result (IsRewriting rules.now self.now word.now reduction.new) }
+        ensures less { OnOk result (weight_of rules.now word.now reduction.new
+            < weight_at rules.now word.now letter reduction.old) }
+    {
+        let _count = rules.len();
+        let state = reduction.states[reduction.done.len()];
+        let (next, end) = self.step(rules, reduction.done.as_slice(), state, letter);
+        if let Some(place) = end {
+            go_back(reduction, rules.rule(place))?;
+            return Ok(());
+        }
+        push(reduction, letter, next)?;
+        Ok(())
+    }
+
+    /// Reads the next letter, if there is one. Refused only where memory is wanting.
+    pub fn read_next(
+        &self,
+        rules: &Rules,
+        word: &Word,
+        reduction: &mut Reduction,
+    ) -> Result<bool, NoMemory>
+        requires { IsRewriting rules.now self.now word.now reduction.old }
+        ensures rewriting { OnOk result (IsRewriting rules.now self.now word.now reduction.new) }
+        ensures more { IfOk result (λ more. more ≡ true
+            → weight_of rules.now word.now reduction.new
+            < weight_of rules.now word.now reduction.old) }
+        ensures end { IfOk result (λ more. more ≡ false → (reduction.new.rest.items ≡ [])
+            × (weight_of rules.now word.now reduction.new
+            ≤ weight_of rules.now word.now reduction.old)) }
+    {
+        match reduction.rest.pop() {
+            None => Ok(false),
+            Some(letter) => {
+                self.read_letter(rules, word, reduction, letter)?;
+                Ok(true)
+            }
+        }
+    }
+}
