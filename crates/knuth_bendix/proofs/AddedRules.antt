@@ -1,5 +1,5 @@
 -- What one turn of completion keeps: the rules and equations stay sound, and it comes nearer its end.
-use Rattle.std.proofs.Common.{◌≡◌, ◌≢◌, ℕ, suc, ◌+◌, ◌*◌, ◌<◌, ◌≤◌, true, not, List, [], ◌∷◌, ◌++◌, length, get_or, Contains, refl, sym, ◌∙◌, ap, subst, subst₂, arith, ◌⊎◌, inl, inr, append_assoc, append-nil, length-append, Some}
+use Rattle.std.proofs.Common.{◌≡◌, ◌≢◌, ℕ, suc, ◌+◌, ◌*◌, ◌<◌, ◌≤◌, true, not, List, [], ◌∷◌, ◌++◌, length, get_or, Contains, refl, sym, ◌∙◌, ap, subst, subst₂, arith, ◌⊎◌, inl, inr, append_assoc, append-nil, length-append}
 use Rattle.std.specs.List.{filter}
 use Rattle.std.proofs.Math.Seq.{get_or-append_seam}
 use Rattle.std.proofs.Math.Nat.{mul-le-mul_right, suc-mul}
@@ -18,16 +18,19 @@ use Rattle.theory.proofs.CompletionLaws.{within_left}
 use Rattle.reduced_automaton.proofs.Standing.{listed_falls, listed_at}
 use Rattle.knuth_bendix.specs.Links.{Linked, IsBelow, IsShort, NoLater, IsNoMore, IsCovered, IsLinkedUp}
 use Rattle.knuth_bendix.specs.Held.{Held, lefts, AreClear, AreAllClear, IsSound}
+use Rattle.knuth_bendix.specs.declared.lengths.Lengths.TheVariants.{UpTo}
 use Rattle.knuth_bendix.specs.Overlaps.{rule_at, AreShort, IsJoinedBy, Gains}
 use Rattle.knuth_bendix.specs.Changes.{SetsAside, Rewrites, AddsRule, Joins}
-use Rattle.knuth_bendix.specs.Remaining.{words_up_to, stands_in, still_reduced}
+use Rattle.knuth_bendix.specs.Remaining.{words_up_to, still_reduced}
 use Rattle.knuth_bendix.specs.Runs.{growth, left_of, AreShortRelations}
 use Rattle.knuth_bendix.proofs.LinkLaws.{linked_refl, linked_trans, linked_symm, linked_pair, linked_weaker, linked_more, linked_context, linked_covered, no_later_down, below_down, short_down, covered_more, covered_trans, reduces_linked, no_later_before, no_later_trans, reduces_no_later}
 use Rattle.knuth_bendix.proofs.BoundedConfluence.{rules_from_links}
-use Rattle.knuth_bendix.proofs.RemainingLaws.{stands_when, still_falls, still_start, stands_at}
+use Rattle.knuth_bendix.proofs.RemainingLaws.{still_falls, still_start}
+use Rattle.reduced_automaton.specs.Rules.{stands_in}
+use Rattle.reduced_automaton.proofs.Standing.{factor_trans, stands_at, stands_when}
 use Rattle.knuth_bendix.proofs.ClearLists.{stands_in_itself, same_rule, clear_apart, clear_push, clear_filter, filter_in, in_filter}
 use Rattle.knuth_bendix.proofs.JoinedOverlaps.{KnownBy, joined_linked, joined_parts, overlap_cases, split_within}
-use Rattle.knuth_bendix.proofs.ListedRules.{rule_of_left, lefts_length, lefts_at, factor_applies, factor_trans}
+use Rattle.knuth_bendix.proofs.ListedRules.{rule_of_left, lefts_length, lefts_at, factor_applies}
 use Rattle.knuth_bendix.proofs.FallingRules.{falling_reduces}
 use Rattle.knuth_bendix.proofs.RuleChanges.{rewrites_cover}
 
@@ -158,7 +161,7 @@ module _ (p : Presentation) (L : ℕ) (rules equations new_rules new_equations :
   new_short : AreShort L new_rules
   new_short = within_short p L new_rules new_within
 
-  gains : Gains (Some L) new_rules adds.between new_equations (length new_rules * (L + L))
+  gains : Gains (UpTo L) new_rules adds.between new_equations (length new_rules * (L + L))
   gains = adds.gains L new_short
 
   known_within : (f g : Word) → KnownBy new_rules new_equations f g → Within p L f g
@@ -341,9 +344,9 @@ module _ (p : Presentation) (L : ℕ) (rules equations new_rules new_equations :
   new_overlaps a b c x y full m n short = elim (overlap_cases new_rules new_clear a b c x y m n) [
     | inl e ↦ subst (λ t. Linked after (IsBelow (a ++ (b ++ c))) (x ++ c) t) e (linked_refl after (IsBelow (a ++ (b ++ c))) (x ++ c))
     | inr some ↦ elim (new_cases (a ++ b) x m) [
-      | inr e ↦ met (joined_parts (Some L) new_rules new_equations newest (rule_at new_rules n.0) (adds.joined n.0 n.1).0 a b c x y full some.0 some.1 short e (listed_at new_rules (b ++ c) y n))
+      | inr e ↦ met (joined_parts (UpTo L) new_rules new_equations newest (rule_at new_rules n.0) (adds.joined n.0 n.1).0 a b c x y full some.0 some.1 short e (listed_at new_rules (b ++ c) y n))
       | inl k ↦ elim (new_cases (b ++ c) y n) [
-        | inr e ↦ met (joined_parts (Some L) new_rules new_equations (rule_at new_rules m.0) newest (adds.joined m.0 m.1).1 a b c x y full some.0 some.1 short (listed_at new_rules (a ++ b) x m) e)
+        | inr e ↦ met (joined_parts (UpTo L) new_rules new_equations (rule_at new_rules m.0) newest (adds.joined m.0 m.1).1 a b c x y full some.0 some.1 short (listed_at new_rules (a ++ b) x m) e)
         | inl j ↦ kept_overlap a b c k.0 j.0 x y full short k.1 j.1 k.2 j.2
       ]
     ]

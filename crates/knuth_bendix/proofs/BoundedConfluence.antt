@@ -1,5 +1,5 @@
 -- Rules that are linked up lead the words within the bound that are related to one word.
-use Rattle.std.proofs.Common.{◌≡◌, ◌≢◌, ℕ, ◌<◌, ◌≤◌, List, [], ◌∷◌, ◌++◌, length, sym, ◌∙◌, ap, subst, subst₂, arith, inl, inr, append_assoc, length-append}
+use Rattle.std.proofs.Common.{◌≡◌, ◌≢◌, ℕ, ◌<◌, ◌≤◌, List, [], ◌∷◌, ◌++◌, length, sym, ◌∙◌, ap, subst, subst₂, arith, inl, inr, append_assoc, append-nil, length-append}
 use Rattle.std.proofs.lemmas.Bool.{cases_lt}
 use Rattle.theory.specs.Word.{Word}
 use Rattle.theory.specs.ShortLex.{◌≺◌}
@@ -150,6 +150,15 @@ module _ (p : Presentation) (L : ℕ) (rules : List (Word × Word)) (up : IsLink
               let q = below w₁ (step_falls (Listed rules) up.falls u w₁ d.0) s.word w
               (joined_trans (Step (Listed rules) TwoSided) w₁ t.word s.word t.right s.right) (ws, d.1) in
               record { word = q.word; left = joined_trans (Step (Listed rules) TwoSided) v s.word q.word s.left q.left; right = q.right }
+
+  -- the words to which a short overlap leads lead to one word
+  pub short_overlaps : (a b c v w : Word) → Listed rules (a ++ b) v → Listed rules (b ++ c) w → length (a ++ (b ++ c)) ≤ L → Joinable (Listed rules) (v ++ c) (a ++ w)
+  short_overlaps a b c v w m n short =
+      bounded_confluent (a ++ (b ++ c)) short (v ++ c) (a ++ w)
+      (joined_one (Step (Listed rules) TwoSided) (a ++ (b ++ c)) (v ++ c)
+      (subst (λ t. Step (Listed rules) TwoSided t (v ++ c)) (append_assoc a b c) (step_at (Listed rules) [] (a ++ b) v c m)))
+      (joined_one (Step (Listed rules) TwoSided) (a ++ (b ++ c)) (a ++ w)
+      (subst₂ (λ s t. Step (Listed rules) TwoSided (a ++ s) (a ++ t)) (append-nil (b ++ c)) (append-nil w) (step_at (Listed rules) a (b ++ c) w [] n)))
 
   -- words that are related within the bound lead to one word
   pub within_meet : {u v : Word} → Within p L u v → Joinable (Listed rules) u v

@@ -1,5 +1,6 @@
 -- Overlaps of left sides, by the letters that they share and by the parts of their words.
-use Rattle.std.proofs.Common.{◌≡◌, ◌≢◌, ℕ, ◌+◌, ◌-◌, ◌<◌, ◌≤◌, List, [], ◌∷◌, ◌++◌, length, take, drop, refl, sym, ◌∙◌, ap, ap₂, subst, subst₂, arith, ◌⊎◌, inl, inr, append_assoc, append-nil, length-append, length-take, take-append-drop, Option, None, Some}
+use Rattle.std.proofs.Common.{◌≡◌, ◌≢◌, ℕ, ◌+◌, ◌-◌, ◌<◌, ◌≤◌, List, [], ◌∷◌, ◌++◌, length, take, drop, refl, sym, ◌∙◌, ap, ap₂, subst, subst₂, arith, ◌⊎◌, inl, inr, append_assoc, append-nil, length-append, length-take, take-append-drop}
+use Rattle.std.proofs.lemmas.Bool.{cases_lt}
 use Rattle.std.proofs.lemmas.List.{take_at, drop_at, drop_all, nil_from_length}
 use Rattle.std.proofs.lemmas.List.Elements.{Contains-get_or}
 use Rattle.theory.specs.Word.{Word}
@@ -13,18 +14,19 @@ use Rattle.theory.proofs.Words.{over_append, over_left}
 use Rattle.theory.proofs.Chains.{step_at}
 use Rattle.theory.proofs.Completeness.{joinable_refl}
 use Rattle.theory.proofs.CompletionLaws.{within_left}
-use Rattle.reduced_automaton.specs.Automaton.{Allows}
 use Rattle.knuth_bendix.specs.Links.{Linked, IsBelow, NoLater}
 use Rattle.knuth_bendix.specs.Held.{Known, AreAllClear, lefts}
-use Rattle.knuth_bendix.specs.Overlaps.{rule_at, critical_pair, IsOverlap, IsJoinedBy, AreJoined, IsSplit}
+use Rattle.knuth_bendix.specs.declared.lengths.Lengths.{Lengths}
+use Rattle.knuth_bendix.specs.declared.lengths.Lengths.TheVariants.{UpTo, Beyond}
+use Rattle.knuth_bendix.specs.Overlaps.{HasLength, rule_at, critical_pair, IsOverlap, IsJoinedBy, AreJoined, IsSplit}
 use Rattle.knuth_bendix.proofs.LinkLaws.{linked_refl, linked_trans, linked_symm, linked_pair, linked_weaker, linked_more, reduces_linked, no_later_before, reduces_no_later}
 use Rattle.knuth_bendix.proofs.ClearLists.{same_rule}
 use Rattle.knuth_bendix.proofs.Endings.{spent_by_overlap}
 use Rattle.knuth_bendix.proofs.FallingRules.{falling_step, falling_reduces}
 use Rattle.reduced_automaton.proofs.Standing.{listed_at}
 
--- a word abc, within the limit, whose parts ab and bc are the left sides of two rules, which lead from it to x and y
-pub record HasParts (limit : Option ℕ) (p q : Word × Word) (x y : Word) : Type 0 where
+-- a word abc, within the lengths, whose parts ab and bc are the left sides of two rules, which lead from it to x and y
+pub record HasParts (lengths : Lengths) (p q : Word × Word) (x y : Word) : Type 0 where
   pub a : Word
   pub b : Word
   pub c : Word
@@ -33,12 +35,12 @@ pub record HasParts (limit : Option ℕ) (p q : Word × Word) (x y : Word) : Typ
   pub second : q.0 ≡ b ++ c
   pub left : x ≡ p.1 ++ c
   pub right : y ≡ a ++ q.1
-  pub within : Allows limit (length (a ++ (b ++ c)))
+  pub within : HasLength lengths (length (a ++ (b ++ c)))
 
 -- the parts where letters are shared
-pub parts_from_overlap : (limit : Option ℕ) (p q : Word × Word) (shared : ℕ) → IsOverlap limit p q shared
-    → HasParts limit p q (critical_pair p q shared).0 (critical_pair p q shared).1
-parts_from_overlap limit p q shared h = record {
+pub parts_from_overlap : (lengths : Lengths) (p q : Word × Word) (shared : ℕ) → IsOverlap lengths p q shared
+    → HasParts lengths p q (critical_pair p q shared).0 (critical_pair p q shared).1
+parts_from_overlap lengths p q shared h = record {
   a = take (length p.0 - shared) p.0;
   b = take shared q.0;
   c = drop shared q.0;
@@ -49,7 +51,7 @@ parts_from_overlap limit p q shared h = record {
   right =
       ap (λ w. take (length p.0 - shared) p.0 ++ w)
       (ap (λ w. q.1 ++ w) (drop_all (length p.0 - shared + shared) p.0 (omega (arith, h.first))) ∙ append-nil q.1);
-  within = subst (λ n. Allows limit n) (sym long) h.within;
+  within = subst (λ n. HasLength lengths n) (sym long) h.within;
 }
   where
     before : 0 + shared ≡ shared
@@ -60,14 +62,14 @@ parts_from_overlap limit p q shared h = record {
         omega (arith, h.first, h.second, length-append (take (length p.0 - shared) p.0) (take shared q.0 ++ drop shared q.0), ap length (take-append-drop shared q.0), length-take (length p.0 - shared) p.0)
 
 -- the letters that are shared where there are parts
-pub overlap_from_parts : (limit : Option ℕ) (a b c v w : Word) → b ≢ [] → 0 < length a → 0 < length c
-    → Allows limit (length (a ++ (b ++ c))) → IsOverlap limit (a ++ b, v) (b ++ c, w) (length b)
-overlap_from_parts limit a b c v w full before behind within = record {
+pub overlap_from_parts : (lengths : Lengths) (a b c v w : Word) → b ≢ [] → 0 < length a → 0 < length c
+    → HasLength lengths (length (a ++ (b ++ c))) → IsOverlap lengths (a ++ b, v) (b ++ c, w) (length b)
+overlap_from_parts lengths a b c v w full before behind within = record {
   some = some b full;
   first = omega (arith, before, length-append a b);
   second = omega (arith, behind, length-append b c);
   overlaps = drop_at a b (length (a ++ b) - length b) (omega (arith, length-append a b)) ∙ sym (take_at b c (length b) refl);
-  within = subst (λ n. Allows limit n) long within;
+  within = subst (λ n. HasLength lengths n) long within;
 }
   where
     some : (b : Word) → b ≢ [] → 0 < length b
@@ -90,13 +92,13 @@ right_from_parts a b c v w =
     start = omega (arith, length-append a b)
 
 -- rules that are joined are so at each word that has parts
-pub joined_parts : (limit : Option ℕ) (rules equations : List (Word × Word)) (p q : Word × Word) → AreJoined limit rules equations p q
-    → (a b c v w : Word) → b ≢ [] → 0 < length a → 0 < length c → Allows limit (length (a ++ (b ++ c))) → p ≡ (a ++ b, v) → q ≡ (b ++ c, w)
+pub joined_parts : (lengths : Lengths) (rules equations : List (Word × Word)) (p q : Word × Word) → AreJoined lengths rules equations p q
+    → (a b c v w : Word) → b ≢ [] → 0 < length a → 0 < length c → HasLength lengths (length (a ++ (b ++ c))) → p ≡ (a ++ b, v) → q ≡ (b ++ c, w)
     → IsJoinedBy rules equations (v ++ c) (a ++ w)
-joined_parts limit rules equations p q joined a b c v w full before behind within first second =
+joined_parts lengths rules equations p q joined a b c v w full before behind within first second =
     subst₂ (λ x y. IsJoinedBy rules equations x y) (left_from_parts a b c v w) (right_from_parts a b c v w)
-    (subst₂ (λ (p q : Word × Word). AreJoined limit rules equations p q) first second joined (length b)
-    (overlap_from_parts limit a b c v w full before behind within))
+    (subst₂ (λ (p q : Word × Word). AreJoined lengths rules equations p q) first second joined (length b)
+    (overlap_from_parts lengths a b c v w full before behind within))
 
 -- a left side that overlaps one that begins or ends it is that one
 pub overlap_cases : (rules : List (Word × Word)) → AreAllClear (lefts rules) → (a b c v w : Word) → Listed rules (a ++ b) v
@@ -127,14 +129,18 @@ overlap_cases rules clear a b c v w m n = go a c m n
         })) (inr refl))
     go (x ∷ a) (y ∷ c) m n = inr (omega arith, omega arith)
 
--- the overlaps lead to one word where each two of the rules are joined with no equation
-pub joined_overlaps : (rules : List (Word × Word)) → AreAllClear (lefts rules) → ((l r : Word) → Listed rules l r → r ≺ l)
-    → ((i j : ℕ) → i < length rules → j < length rules → AreJoined None rules [] (rule_at rules i) (rule_at rules j)) → OverlapsJoin (Listed rules)
-joined_overlaps rules clear falls joined a b c v w full m n = elim (overlap_cases rules clear a b c v w m n) [
+-- the overlaps lead to one word where the short ones do, and the longer ones of each two of the rules are joined with no equation
+pub joined_overlaps : (L : ℕ) (rules : List (Word × Word)) → AreAllClear (lefts rules)
+    → ((a b c v w : Word) → Listed rules (a ++ b) v → Listed rules (b ++ c) w → length (a ++ (b ++ c)) ≤ L → Joinable (Listed rules) (v ++ c) (a ++ w))
+    → ((i j : ℕ) → i < length rules → j < length rules → AreJoined (Beyond L) rules [] (rule_at rules i) (rule_at rules j)) → OverlapsJoin (Listed rules)
+joined_overlaps L rules clear short joined a b c v w full m n = elim (overlap_cases rules clear a b c v w m n) [
   | inl e ↦ subst (λ x. Joinable (Listed rules) (v ++ c) x) e (joinable_refl (Listed rules) (v ++ c))
-  | inr some ↦
-      met (joined_parts None rules [] (rule_at rules m.0) (rule_at rules n.0) (joined m.0 n.0 m.1 n.1) a b c v w full some.0 some.1 tt
-      (listed_at rules (a ++ b) v m) (listed_at rules (b ++ c) w n))
+  | inr some ↦ elim (cases_lt L (length (a ++ (b ++ c)))) [
+    | inl long ↦
+        met (joined_parts (Beyond L) rules [] (rule_at rules m.0) (rule_at rules n.0) (joined m.0 n.0 m.1 n.1) a b c v w full some.0 some.1 long
+        (listed_at rules (a ++ b) v m) (listed_at rules (b ++ c) w n))
+    | inr within ↦ short a b c v w m n within
+  ]
 ]
   where
     met : IsJoinedBy rules [] (v ++ c) (a ++ w) → Joinable (Listed rules) (v ++ c) (a ++ w)
@@ -144,11 +150,11 @@ joined_overlaps rules clear falls joined a b c v w full m n = elim (overlap_case
     ]
 
 -- an overlap that leads to two reduced words shows that completion does not end
-pub split_spent : (p : Presentation) (L : ℕ) (rules : List (Word × Word)) → AreRules p L rules → (a b : Word) → IsSplit None rules a b
+pub split_spent : (p : Presentation) (L : ℕ) (rules : List (Word × Word)) → AreRules p L rules → (a b : Word) → IsSplit (Beyond L) rules a b
     → CompletionEnds p L → ⊥
 split_spent p L rules are x y h =
     let s = h.apart in
-    let parts = parts_from_overlap None (rule_at rules h.first) (rule_at rules h.second) s.shared s.overlap in
+    let parts = parts_from_overlap (Beyond L) (rule_at rules h.first) (rule_at rules h.second) s.shared s.overlap in
     spent_by_overlap p L rules are parts.a parts.b parts.c (rule_at rules h.first).1 (rule_at rules h.second).1 x y parts.full
     (subst (λ w. Listed rules w (rule_at rules h.first).1) parts.first (Contains-get_or rules h.first ([], []) h.first_within))
     (subst (λ w. Listed rules w (rule_at rules h.second).1) parts.second (Contains-get_or rules h.second ([], []) h.second_within))
@@ -157,12 +163,12 @@ split_spent p L rules are x y h =
 
 -- rules that hold within the length relate the words to which an overlap leads
 module _ (p : Presentation) (L : ℕ) (rules : List (Word × Word)) (falls : (l r : Word) → Listed rules l r → r ≺ l) (within : (l r : Word) → Listed rules l r → Within p L l r) where
-  pub split_within : (x y : Word) → IsSplit (Some L) rules x y → Within p L x y
+  pub split_within : (x y : Word) → IsSplit (UpTo L) rules x y → Within p L x y
   split_within x y h =
       let s = h.apart in
       let first = rule_at rules h.first in
       let second = rule_at rules h.second in
-      let parts = parts_from_overlap (Some L) first second s.shared s.overlap in
+      let parts = parts_from_overlap (UpTo L) first second s.shared s.overlap in
       meet parts.a parts.b parts.c first.1 second.1
       (subst (λ w. Listed rules w first.1) parts.first (Contains-get_or rules h.first ([], []) h.first_within))
       (subst (λ w. Listed rules w second.1) parts.second (Contains-get_or rules h.second ([], []) h.second_within)) parts.within

@@ -1,5 +1,5 @@
 -- Listed rules, their places and their left sides.
-use Rattle.std.proofs.Common.{◌≡◌, ℕ, ◌<◌, List, [], ◌∷◌, ◌++◌, length, get_or, refl, sym, ◌∙◌, ap, subst, arith, inl, inr, append_assoc}
+use Rattle.std.proofs.Common.{◌≡◌, ℕ, ◌<◌, List, [], ◌∷◌, ◌++◌, length, get_or, refl, sym, ◌∙◌, ap, subst, arith, inl, inr}
 use Rattle.std.proofs.lemmas.List.{get_or-map, length-map}
 use Rattle.theory.specs.Word.{Word, IsFactor}
 use Rattle.theory.specs.Completion.{IsReduced, Listed}
@@ -42,16 +42,6 @@ factor_applies rules x f g m h reduced =
       source = h.is;
       target = refl;
     })
-
-pub factor_trans : (f g x : Word) → IsFactor f g → IsFactor g x → IsFactor f x
-factor_trans f g x h k = record {
-  before = k.before ++ h.before;
-  after = h.after ++ k.after;
-  is = k.is ∙ regrouped k.before h.before f h.after k.after g h.is;
-}
-  where
-    regrouped : (x a f b y g : Word) → g ≡ a ++ (f ++ b) → x ++ (g ++ y) ≡ (x ++ a) ++ (f ++ (b ++ y))
-    regrouped x a f b y g e = rw e (simp append_assoc)
 
 -- which words are reduced depends on the left sides alone
 pub reduced_by_lefts : (a b : List (Word × Word)) → lefts b ≡ lefts a → (u : Word) → IsReduced (Listed a) u → IsReduced (Listed b) u

@@ -1,5 +1,5 @@
 -- Joining overlaps, step by step.
-use Rattle.std.proofs.Common.{◌≡◌, ℕ, add-one, ◌+◌, ◌-◌, ◌*◌, ◌<◌, ◌≤◌, Bool, true, false, not, List, [], ◌∷◌, ◌++◌, length, take, drop, refl, sym, ◌∙◌, ap, ap₂, subst, subst₂, arith, inl, inr, eqb, length-append, Option, None, IsTrue, MatchBool, ◌↔◌}
+use Rattle.std.proofs.Common.{◌≡◌, ℕ, add-one, ◌+◌, ◌-◌, ◌*◌, ◌<◌, ◌≤◌, Bool, true, false, not, List, [], ◌∷◌, ◌++◌, length, take, drop, refl, sym, ◌∙◌, ap, ap₂, subst, subst₂, arith, inl, inr, eqb, length-append, IsTrue, MatchBool, ◌↔◌}
 use Rattle.std.specs.Cmp.Lexicographic.{pointwise}
 use Rattle.std.proofs.lemmas.Bool.Decides.{Decides-eqb}
 use Rattle.std.proofs.Math.Nat.{suc-mul}
@@ -11,6 +11,7 @@ use Rattle.theory.specs.Word.{Word}
 use Rattle.theory.specs.Completion.{Listed}
 use Rattle.theory.proofs.Counting.{contains_from_in, in_from_contains}
 use Rattle.theory.proofs.WithinDecides.{word_decides}
+use Rattle.knuth_bendix.specs.declared.lengths.Lengths.{Lengths}
 use Rattle.knuth_bendix.specs.Overlaps.{AreJoined, AreShort, Gains, IsJoinedBy, IsOverlap, IsSplit, ReducesTo, critical_pair, overlaps_by, rule_at}
 
 -- a test whether the last letters of a word are the first of another
@@ -23,33 +24,33 @@ overlap_tested f g f' g' shared n r ef eg en e =
     ∙ ap (λ w. pointwise eqb (drop (length f - shared) f) (take shared w)) eg)
 
 -- the old equations alone
-pub gains_none : (limit : Option ℕ) (rules equations : List (Word × Word)) (most : ℕ) → Gains limit rules equations equations most
-gains_none limit rules equations most = record { older = λ u v m. m; newer = λ u v m. inl m; few = omega arith }
+pub gains_none : (lengths : Lengths) (rules equations : List (Word × Word)) (most : ℕ) → Gains lengths rules equations equations most
+gains_none lengths rules equations most = record { older = λ u v m. m; newer = λ u v m. inl m; few = omega arith }
 
 -- one more
-pub gains_one : (limit : Option ℕ) (rules equations : List (Word × Word)) (l r : Word) → IsSplit limit rules l r
-    → Gains limit rules equations (equations ++ (l, r) ∷ []) 1
-gains_one limit rules equations l r split =
+pub gains_one : (lengths : Lengths) (rules equations : List (Word × Word)) (l r : Word) → IsSplit lengths rules l r
+    → Gains lengths rules equations (equations ++ (l, r) ∷ []) 1
+gains_one lengths rules equations l r split =
     record {
       older = λ u v m. Contains-append_left equations ((l, r) ∷ []) (u, v) m;
       newer = λ u v m. elim (Contains-push_cases equations (l, r) (u, v) m) [ inl n ↦ inl n | inr e ↦ inr (is u v e) ];
       few = omega (arith, length-append equations ((l, r) ∷ []));
     }
   where
-    is : (u v : Word) → ◌≡◌ {A = Word × Word} (l, r) (u, v) → IsSplit limit rules u v
-    is u v e = subst (λ (q : Word × Word). IsSplit limit rules q.0 q.1) e split
+    is : (u v : Word) → ◌≡◌ {A = Word × Word} (l, r) (u, v) → IsSplit lengths rules u v
+    is u v e = subst (λ (q : Word × Word). IsSplit lengths rules q.0 q.1) e split
 
-pub gains_trans : (limit : Option ℕ) (rules a b c : List (Word × Word)) (m n : ℕ) → Gains limit rules a b m → Gains limit rules b c n
-    → Gains limit rules a c (m + n)
-gains_trans limit rules a b c m n g h =
+pub gains_trans : (lengths : Lengths) (rules a b c : List (Word × Word)) (m n : ℕ) → Gains lengths rules a b m → Gains lengths rules b c n
+    → Gains lengths rules a c (m + n)
+gains_trans lengths rules a b c m n g h =
     record {
       older = λ u v k. h.older u v (g.older u v k);
       newer = λ u v k. elim (h.newer u v k) [ inl j ↦ g.newer u v j | inr s ↦ inr s ];
       few = omega (arith, g.few, h.few);
     }
 
-pub gains_more : (limit : Option ℕ) (rules a b : List (Word × Word)) (m n : ℕ) → m ≤ n → Gains limit rules a b m → Gains limit rules a b n
-gains_more limit rules a b m n h g = record { older = g.older; newer = g.newer; few = omega (arith, g.few, h) }
+pub gains_more : (lengths : Lengths) (rules a b : List (Word × Word)) (m n : ℕ) → m ≤ n → Gains lengths rules a b m → Gains lengths rules a b n
+gains_more lengths rules a b m n h g = record { older = g.older; newer = g.newer; few = omega (arith, g.few, h) }
 
 -- what is joined stays so
 pub joined_more : (rules a b : List (Word × Word)) (u v : Word) → ((l r : Word) → Listed a l r → Listed b l r) → IsJoinedBy rules a u v
@@ -63,16 +64,16 @@ joined_more rules a b u v older j =
       met = elim j.met [ inl e ↦ inl e | inr m ↦ inr (older j.left j.right m) ];
     }
 
-pub all_joined_more : (limit : Option ℕ) (rules a b : List (Word × Word)) (p q : Word × Word) → ((l r : Word) → Listed a l r → Listed b l r)
-    → AreJoined limit rules a p q → AreJoined limit rules b p q
-all_joined_more limit rules a b p q older j shared o =
+pub all_joined_more : (lengths : Lengths) (rules a b : List (Word × Word)) (p q : Word × Word) → ((l r : Word) → Listed a l r → Listed b l r)
+    → AreJoined lengths rules a p q → AreJoined lengths rules b p q
+all_joined_more lengths rules a b p q older j shared o =
     joined_more rules a b (critical_pair p q shared).0 (critical_pair p q shared).1 older (j shared o)
 
 -- they come of the overlap where they differ
-pub split_at : (limit : Option ℕ) (rules : List (Word × Word)) (first second shared : ℕ) (left right : Word)
-    → first < length rules → second < length rules → IsOverlap limit (rule_at rules first) (rule_at rules second) shared
-    → ReducesTo rules first second shared left right → (left ≡ right → ⊥) → IsSplit limit rules left right
-split_at limit rules first second shared left right f s o to differ =
+pub split_at : (lengths : Lengths) (rules : List (Word × Word)) (first second shared : ℕ) (left right : Word)
+    → first < length rules → second < length rules → IsOverlap lengths (rule_at rules first) (rule_at rules second) shared
+    → ReducesTo rules first second shared left right → (left ≡ right → ⊥) → IsSplit lengths rules left right
+split_at lengths rules first second shared left right f s o to differ =
     record {
       first = first;
       second = second;
@@ -132,12 +133,12 @@ pub record Pushes (old new : List (Word × Word)) (left right : Word) : Type 0 w
 
 pub overlap_gains : (rules old new : List (Word × Word)) (first second shared : ℕ) (left right : Word)
     → first < length rules → second < length rules → ReducesTo rules first second shared left right → Pushes old new left right
-    → (limit : Option ℕ) → IsOverlap limit (rule_at rules first) (rule_at rules second) shared → Gains limit rules old new 1
-overlap_gains rules old new first second shared left right f s to h limit o = elim (word_decides left right) [
-  | inl e ↦ subst (λ (es : List (Word × Word)). Gains limit rules old es 1) (sym (h.same e)) (gains_none limit rules old 1)
+    → (lengths : Lengths) → IsOverlap lengths (rule_at rules first) (rule_at rules second) shared → Gains lengths rules old new 1
+overlap_gains rules old new first second shared left right f s to h lengths o = elim (word_decides left right) [
+  | inl e ↦ subst (λ (es : List (Word × Word)). Gains lengths rules old es 1) (sym (h.same e)) (gains_none lengths rules old 1)
   | inr n ↦
-      subst (λ (es : List (Word × Word)). Gains limit rules old es 1) (sym (h.different n))
-      (gains_one limit rules old left right (split_at limit rules first second shared left right f s o to n))
+      subst (λ (es : List (Word × Word)). Gains lengths rules old es 1) (sym (h.different n))
+      (gains_one lengths rules old left right (split_at lengths rules first second shared left right f s o to n))
 ]
 
 pub overlap_joined : (rules old new : List (Word × Word)) (first second shared : ℕ) (left right : Word)
@@ -151,21 +152,21 @@ overlap_joined rules old new first second shared left right to h = elim (word_de
 ]
 
 -- the overlaps of two rules that share fewer letters are joined
-pub record IsJoinedTo (limit : Option ℕ) (rules old new : List (Word × Word)) (first second bound : ℕ) : Type 0 where
-  pub gains : Gains limit rules old new (bound - 1)
-  pub joined : (shared : ℕ) → shared < bound → IsOverlap limit (rule_at rules first) (rule_at rules second) shared
+pub record IsJoinedTo (lengths : Lengths) (rules old new : List (Word × Word)) (first second bound : ℕ) : Type 0 where
+  pub gains : Gains lengths rules old new (bound - 1)
+  pub joined : (shared : ℕ) → shared < bound → IsOverlap lengths (rule_at rules first) (rule_at rules second) shared
       → IsJoinedBy rules new (critical_pair (rule_at rules first) (rule_at rules second) shared).0 (critical_pair (rule_at rules first) (rule_at rules second) shared).1
 
-pub joined_step : (limit : Option ℕ) (rules old new newer : List (Word × Word)) (first second shared : ℕ) → 0 < shared
-    → IsJoinedTo limit rules old new first second shared
-    → Gains limit rules new newer 1
-    → (IsOverlap limit (rule_at rules first) (rule_at rules second) shared → IsJoinedBy rules newer (critical_pair (rule_at rules first) (rule_at rules second) shared).0 (critical_pair (rule_at rules first) (rule_at rules second) shared).1)
-    → IsJoinedTo limit rules old newer first second (shared + 1)
-joined_step limit rules old new newer first second shared some to gains joins =
+pub joined_step : (lengths : Lengths) (rules old new newer : List (Word × Word)) (first second shared : ℕ) → 0 < shared
+    → IsJoinedTo lengths rules old new first second shared
+    → Gains lengths rules new newer 1
+    → (IsOverlap lengths (rule_at rules first) (rule_at rules second) shared → IsJoinedBy rules newer (critical_pair (rule_at rules first) (rule_at rules second) shared).0 (critical_pair (rule_at rules first) (rule_at rules second) shared).1)
+    → IsJoinedTo lengths rules old newer first second (shared + 1)
+joined_step lengths rules old new newer first second shared some to gains joins =
     record {
       gains =
-          gains_more limit rules old newer (shared - 1 + 1) (shared + 1 - 1) (omega arith)
-          (gains_trans limit rules old new newer (shared - 1) 1 to.gains gains);
+          gains_more lengths rules old newer (shared - 1 + 1) (shared + 1 - 1) (omega arith)
+          (gains_trans lengths rules old new newer (shared - 1) 1 to.gains gains);
       joined = λ k less o. elim (cases_lt k shared) [
         | inl before ↦
             joined_more rules new newer (critical_pair (rule_at rules first) (rule_at rules second) k).0 (critical_pair (rule_at rules first) (rule_at rules second) k).1
@@ -173,49 +174,49 @@ joined_step limit rules old new newer first second shared some to gains joins =
         | inr here ↦
             let same : shared ≡ k = omega arith in
             subst (λ (n : ℕ). IsJoinedBy rules newer (critical_pair (rule_at rules first) (rule_at rules second) n).0 (critical_pair (rule_at rules first) (rule_at rules second) n).1)
-            same (joins (subst (λ (n : ℕ). IsOverlap limit (rule_at rules first) (rule_at rules second) n) (sym same) o))
+            same (joins (subst (λ (n : ℕ). IsOverlap lengths (rule_at rules first) (rule_at rules second) n) (sym same) o))
       ];
     }
 
 -- a loop's step at so many shared letters, whether they are an overlap or not
-pub joined_there : (limit : Option ℕ) (rules old new newer : List (Word × Word)) (first second shared : ℕ) (p q : Word × Word) (tested : Bool)
-    → p ≡ rule_at rules first → q ≡ rule_at rules second → IsTrue tested ↔ IsOverlap limit p q shared → tested ≡ true
-    → ((limit : Option ℕ) → IsOverlap limit (rule_at rules first) (rule_at rules second) shared → Gains limit rules new newer 1)
+pub joined_there : (lengths : Lengths) (rules old new newer : List (Word × Word)) (first second shared : ℕ) (p q : Word × Word) (tested : Bool)
+    → p ≡ rule_at rules first → q ≡ rule_at rules second → IsTrue tested ↔ IsOverlap lengths p q shared → tested ≡ true
+    → ((lengths : Lengths) → IsOverlap lengths (rule_at rules first) (rule_at rules second) shared → Gains lengths rules new newer 1)
     → IsJoinedBy rules newer (critical_pair (rule_at rules first) (rule_at rules second) shared).0 (critical_pair (rule_at rules first) (rule_at rules second) shared).1
-    → 0 < shared → IsJoinedTo limit rules old new first second shared → IsJoinedTo limit rules old newer first second (shared + 1)
-joined_there limit rules old new newer first second shared p q tested ep eq is met gains joined some to =
-    let o : IsOverlap limit (rule_at rules first) (rule_at rules second) shared =
-    subst₂ (λ (p q : Word × Word). IsOverlap limit p q shared) ep eq (is.0 met) in
-    joined_step limit rules old new newer first second shared some to (gains limit o) (λ _. joined)
+    → 0 < shared → IsJoinedTo lengths rules old new first second shared → IsJoinedTo lengths rules old newer first second (shared + 1)
+joined_there lengths rules old new newer first second shared p q tested ep eq is met gains joined some to =
+    let o : IsOverlap lengths (rule_at rules first) (rule_at rules second) shared =
+    subst₂ (λ (p q : Word × Word). IsOverlap lengths p q shared) ep eq (is.0 met) in
+    joined_step lengths rules old new newer first second shared some to (gains lengths o) (λ _. joined)
 
-pub joined_elsewhere : (limit : Option ℕ) (rules old new : List (Word × Word)) (first second shared : ℕ) (p q : Word × Word) (tested : Bool)
-    → p ≡ rule_at rules first → q ≡ rule_at rules second → IsTrue tested ↔ IsOverlap limit p q shared → tested ≡ false
-    → 0 < shared → IsJoinedTo limit rules old new first second shared → IsJoinedTo limit rules old new first second (shared + 1)
-joined_elsewhere limit rules old new first second shared p q tested ep eq is unmet some to =
-    joined_step limit rules old new new first second shared some to (gains_none limit rules new 1)
-    (λ o. let met : tested ≡ true = is.1 (subst₂ (λ (p q : Word × Word). IsOverlap limit p q shared) (sym ep) (sym eq) o) in let bad : ⊥ = cc in absurd bad)
+pub joined_elsewhere : (lengths : Lengths) (rules old new : List (Word × Word)) (first second shared : ℕ) (p q : Word × Word) (tested : Bool)
+    → p ≡ rule_at rules first → q ≡ rule_at rules second → IsTrue tested ↔ IsOverlap lengths p q shared → tested ≡ false
+    → 0 < shared → IsJoinedTo lengths rules old new first second shared → IsJoinedTo lengths rules old new first second (shared + 1)
+joined_elsewhere lengths rules old new first second shared p q tested ep eq is unmet some to =
+    joined_step lengths rules old new new first second shared some to (gains_none lengths rules new 1)
+    (λ o. let met : tested ≡ true = is.1 (subst₂ (λ (p q : Word × Word). IsOverlap lengths p q shared) (sym ep) (sym eq) o) in let bad : ⊥ = cc in absurd bad)
 
 -- the overlaps of a rule with the first ones, on both sides, are joined
-pub record IsJoinedWith (limit : Option ℕ) (rules old new : List (Word × Word)) (newest count : ℕ) : Type 0 where
-  pub gains : (most : ℕ) → AreShort most rules → Gains limit rules old new (count * (most + most))
+pub record IsJoinedWith (lengths : Lengths) (rules old new : List (Word × Word)) (newest count : ℕ) : Type 0 where
+  pub gains : (most : ℕ) → AreShort most rules → Gains lengths rules old new (count * (most + most))
   pub joined : (other : ℕ) → other < count
-      → AreJoined limit rules new (rule_at rules newest) (rule_at rules other) × AreJoined limit rules new (rule_at rules other) (rule_at rules newest)
+      → AreJoined lengths rules new (rule_at rules newest) (rule_at rules other) × AreJoined lengths rules new (rule_at rules other) (rule_at rules newest)
 
-pub with_step : (limit : Option ℕ) (rules old new middle newer : List (Word × Word)) (newest count : ℕ) → newest < length rules → count < length rules
-    → IsJoinedWith limit rules old new newest count
-    → Gains limit rules new middle (length (rule_at rules newest).0) → AreJoined limit rules middle (rule_at rules newest) (rule_at rules count)
-    → Gains limit rules middle newer (length (rule_at rules count).0) → AreJoined limit rules newer (rule_at rules count) (rule_at rules newest)
-    → IsJoinedWith limit rules old newer newest (count + 1)
-with_step limit rules old new middle newer newest count newest_in count_in to first first_joined second second_joined =
+pub with_step : (lengths : Lengths) (rules old new middle newer : List (Word × Word)) (newest count : ℕ) → newest < length rules → count < length rules
+    → IsJoinedWith lengths rules old new newest count
+    → Gains lengths rules new middle (length (rule_at rules newest).0) → AreJoined lengths rules middle (rule_at rules newest) (rule_at rules count)
+    → Gains lengths rules middle newer (length (rule_at rules count).0) → AreJoined lengths rules newer (rule_at rules count) (rule_at rules newest)
+    → IsJoinedWith lengths rules old newer newest (count + 1)
+with_step lengths rules old new middle newer newest count newest_in count_in to first first_joined second second_joined =
     record {
       gains = λ most short.
           let near : length (rule_at rules newest).0 ≤ most = (All-get_or (λ r. (length r.0 ≤ most) × (length r.1 ≤ most)) rules newest ([], []) newest_in short).0 in
           let there : length (rule_at rules count).0 ≤ most = (All-get_or (λ r. (length r.0 ≤ most) × (length r.1 ≤ most)) rules count ([], []) count_in short).0 in
           let grown : (count + 1) * (most + most) ≡ count * (most + most) + (most + most) = rw add-one (suc-mul count (most + most)) in
-          gains_more limit rules old newer (count * (most + most) + length (rule_at rules newest).0 + length (rule_at rules count).0) ((count + 1) * (most + most))
+          gains_more lengths rules old newer (count * (most + most) + length (rule_at rules newest).0 + length (rule_at rules count).0) ((count + 1) * (most + most))
           (omega (arith, near, there, grown))
-          (gains_trans limit rules old middle newer (count * (most + most) + length (rule_at rules newest).0) (length (rule_at rules count).0)
-          (gains_trans limit rules old new middle (count * (most + most)) (length (rule_at rules newest).0) (to.gains most short) first) second);
+          (gains_trans lengths rules old middle newer (count * (most + most) + length (rule_at rules newest).0) (length (rule_at rules count).0)
+          (gains_trans lengths rules old new middle (count * (most + most)) (length (rule_at rules newest).0) (to.gains most short) first) second);
       joined = λ other less. elim (cases_lt other count) [
         | inl before ↦
             let both = to.joined other before in (
@@ -224,25 +225,25 @@ with_step limit rules old new middle newer newest count newest_in count_in to fi
             )
         | inr here ↦
             let same : count ≡ other = omega arith in
-            subst (λ (k : ℕ). AreJoined limit rules newer (rule_at rules newest) (rule_at rules k) × AreJoined limit rules newer (rule_at rules k) (rule_at rules newest)) same
-            (all_joined_more limit rules middle newer (rule_at rules newest) (rule_at rules count) second.older first_joined, second_joined)
+            subst (λ (k : ℕ). AreJoined lengths rules newer (rule_at rules newest) (rule_at rules k) × AreJoined lengths rules newer (rule_at rules k) (rule_at rules newest)) same
+            (all_joined_more lengths rules middle newer (rule_at rules newest) (rule_at rules count) second.older first_joined, second_joined)
       ];
     }
   where
-    later : (p q : Word × Word) → AreJoined limit rules new p q → AreJoined limit rules newer p q
-    later p q j = all_joined_more limit rules middle newer p q second.older (all_joined_more limit rules new middle p q first.older j)
+    later : (p q : Word × Word) → AreJoined lengths rules new p q → AreJoined lengths rules newer p q
+    later p q j = all_joined_more lengths rules middle newer p q second.older (all_joined_more lengths rules new middle p q first.older j)
 
-pub with_end : (limit : Option ℕ) (rules old new : List (Word × Word)) (newest count : ℕ) → count ≡ length rules
-    → IsJoinedWith limit rules old new newest count → IsJoinedWith limit rules old new newest (length rules)
-with_end limit rules old new newest count e to = subst (λ (n : ℕ). IsJoinedWith limit rules old new newest n) e to
+pub with_end : (lengths : Lengths) (rules old new : List (Word × Word)) (newest count : ℕ) → count ≡ length rules
+    → IsJoinedWith lengths rules old new newest count → IsJoinedWith lengths rules old new newest (length rules)
+with_end lengths rules old new newest count e to = subst (λ (n : ℕ). IsJoinedWith lengths rules old new newest n) e to
 
 -- the last test of two rules: no equation is left, or one that the rules do not join
-pub tested_pair : (rules new : List (Word × Word)) (p q : Word × Word) (most : ℕ) (none : Bool)
-    → IsTrue none ↔ (new ≡ []) → Gains None rules [] new most → AreJoined None rules new p q
-    → MatchBool none (AreJoined None rules [] p q) ((u : Word) × (v : Word) × IsSplit None rules u v)
-tested_pair rules new p q most true is gains joined = subst (λ (es : List (Word × Word)). AreJoined None rules es p q) (is.0 refl) joined
-tested_pair rules [] p q most false is gains joined = let bad : false ≡ true = is.1 refl in absurd cc
-tested_pair rules (e ∷ new) p q most false is gains joined =
+pub tested_pair : (lengths : Lengths) (rules new : List (Word × Word)) (p q : Word × Word) (most : ℕ) (none : Bool)
+    → IsTrue none ↔ (new ≡ []) → Gains lengths rules [] new most → AreJoined lengths rules new p q
+    → MatchBool none (AreJoined lengths rules [] p q) ((u : Word) × (v : Word) × IsSplit lengths rules u v)
+tested_pair lengths rules new p q most true is gains joined = subst (λ (es : List (Word × Word)). AreJoined lengths rules es p q) (is.0 refl) joined
+tested_pair lengths rules [] p q most false is gains joined = let bad : false ≡ true = is.1 refl in absurd cc
+tested_pair lengths rules (e ∷ new) p q most false is gains joined =
     elim (gains.newer e.0 e.1 (contains_from_in e (e ∷ new) (inl refl))) [
       | inl none ↦ absurd (in_from_contains (e.0, e.1) [] none)
       | inr split ↦ (e.0, e.1, split)

@@ -1,34 +1,16 @@
 -- The laws of the words that are still reduced.
-use Rattle.std.proofs.Common.{◌∙◌, ◌≡◌, ℕ, ◌+◌, ◌<◌, ◌≤◌, Bool, true, false, not, cond, eqb, List, [], ◌∷◌, ◌++◌, length, drop, refl, ap, subst, arith, inl, inr, ◌↔◌}
-use Rattle.std.specs.List.{list_any, count_by, starts_with}
-use Rattle.std.proofs.lemmas.Bool.{not-true, or_cases, or_left, or_right}
+use Rattle.std.proofs.Common.{◌∙◌, ◌≡◌, ℕ, ◌+◌, ◌<◌, ◌≤◌, Bool, true, false, not, cond, List, [], ◌∷◌, ◌++◌, length, refl, ap, subst, arith, inl, inr, ◌↔◌}
+use Rattle.std.specs.List.{list_any, count_by}
+use Rattle.std.proofs.lemmas.Bool.{not-true}
 use Rattle.std.proofs.lemmas.List.Folds.{Any-from_list_any, list_any_at}
-use Rattle.std.proofs.lemmas.Bool.Decides.{Decides-eqb}
-use Rattle.std.proofs.lemmas.Slice.Eq.{starts_is}
 use Rattle.std.proofs.lemmas.List.Sums.{sum_by-cons}
 use Rattle.theory.specs.Word.{Word, IsOver}
 use Rattle.theory.specs.Completion.{IsReduced, Listed}
 use Rattle.theory.proofs.Counting.{IsIn}
 use Rattle.theory.proofs.WithinDecides.{in_all_words}
-use Rattle.knuth_bendix.specs.Remaining.{words_up_to, stands_in, is_free, still_reduced}
-
--- where the test is true the word stands there
-pub stands_at : (f u : Word) → stands_in f u ≡ true → (x : Word) × (y : Word) × (u ≡ x ++ (f ++ y))
-stands_at f [] h = ([], drop (length f) [], (starts_is Decides-eqb [] f (stands_in f []) refl).0 h)
-stands_at f (a ∷ u) h = elim (or_cases (starts_with eqb (a ∷ u) f) (stands_in f u) h) [
-  | inl e ↦ ([], drop (length f) (a ∷ u), (starts_is Decides-eqb (a ∷ u) f (starts_with eqb (a ∷ u) f) refl).0 e)
-  | inr e ↦ let r = stands_at f u e in (a ∷ r.0, r.1, ap (λ w. a ∷ w) r.2)
-]
-
--- and where it stands the test is true
-pub stands_when : (f u x y : Word) → u ≡ x ++ (f ++ y) → stands_in f u ≡ true
-stands_when f [] [] y e = (starts_is Decides-eqb [] f (stands_in f []) refl).1 y e
-stands_when f [] (b ∷ x) y e = cc
-stands_when f (a ∷ u) [] y e =
-    or_left (starts_with eqb (a ∷ u) f) (stands_in f u) ((starts_is Decides-eqb (a ∷ u) f (starts_with eqb (a ∷ u) f) refl).1 y e)
-stands_when f (a ∷ u) (b ∷ x) y e =
-    let rest : u ≡ x ++ (f ++ y) = cc in
-    or_right (starts_with eqb (a ∷ u) f) (stands_in f u) (stands_when f u x y rest)
+use Rattle.reduced_automaton.specs.Rules.{stands_in}
+use Rattle.reduced_automaton.proofs.Standing.{stands_at, stands_when}
+use Rattle.knuth_bendix.specs.Remaining.{words_up_to, is_free, still_reduced}
 
 -- a word is free exactly where no rule applies
 pub free_reduced : (rules : List (Word × Word)) (u : Word) → is_free rules u ≡ true ↔ IsReduced (Listed rules) u

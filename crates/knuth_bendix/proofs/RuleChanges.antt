@@ -1,7 +1,6 @@
 -- What adding a rule does to the rules that are there.
-use Rattle.std.proofs.Common.{◌≡◌, ℕ, ◌+◌, ◌*◌, ◌<◌, ◌≤◌, Bool, true, false, not, List, [], ◌∷◌, ◌++◌, length, get_or, set, refl, sym, ◌∙◌, ap, subst, subst₂, arith, ◌⊎◌, inl, inr, append-nil, IsTrue, ◌↔◌, Some, Equal, Greater}
-use Rattle.std.specs.List.{filter}
-use Rattle.std.proofs.lemmas.Bool.{cases_Bool, cases_eq, cases_lt}
+use Rattle.std.proofs.Common.{◌≡◌, ℕ, ◌+◌, ◌*◌, ◌<◌, ◌≤◌, List, [], ◌∷◌, ◌++◌, length, get_or, set, refl, sym, ◌∙◌, ap, subst, subst₂, arith, ◌⊎◌, inl, inr, Equal, Greater}
+use Rattle.std.proofs.lemmas.Bool.{cases_eq, cases_lt}
 use Rattle.std.proofs.lemmas.List.{get_or-set_same, get_or-set_other, get_or_default}
 use Rattle.std.proofs.lemmas.List.Elements.{All-set, Contains-get_or}
 use Rattle.std.proofs.lemmas.Cmp.{tied_itself}
@@ -18,31 +17,11 @@ use Rattle.reduced_automaton.proofs.Standing.{listed_falls, listed_at}
 use Rattle.knuth_bendix.specs.Changes.{AddsRule, IsDone, Joins, Rewrites, SetsAside}
 use Rattle.knuth_bendix.specs.Held.{lefts}
 use Rattle.knuth_bendix.specs.Links.{LinkStep, Linked, NoLater, IsNoMore, IsCovered}
+use Rattle.knuth_bendix.specs.declared.lengths.Lengths.TheVariants.{UpTo}
 use Rattle.knuth_bendix.specs.Overlaps.{AreJoined, AreShort, Gains, rule_at}
-use Rattle.knuth_bendix.specs.Remaining.{stands_in}
 use Rattle.knuth_bendix.proofs.LinkLaws.{linked_covered, linked_pair, linked_refl, linked_symm, linked_trans, linked_weaker, no_later_down, reduces_linked, no_later_before, no_later_trans, reduces_no_later}
-use Rattle.knuth_bendix.proofs.RemainingLaws.{stands_at, stands_when}
 use Rattle.knuth_bendix.proofs.ListedRules.{lefts_length, lefts_at, reduced_by_lefts}
 use Rattle.knuth_bendix.proofs.FallingRules.{reduces_below, falling_reduces}
-
--- an exact test of standing is the value of `stands_in`
-pub factor_tested : (f u : Word) (r : Bool) → IsTrue r ↔ IsFactor f u → r ≡ stands_in f u
-factor_tested f u true h = let at = h.0 refl in sym (stands_when f u at.before at.after at.is)
-factor_tested f u false h = elim (cases_Bool (stands_in f u)) [
-  | inl e ↦ let at = stands_at f u e in let bad : false ≡ true = h.1 (record { before = at.0; after = at.1; is = at.2 }) in cc
-  | inr e ↦ sym e
-]
-
--- where one rule goes
-pub goes_aside : (left : Word) (rule : Word × Word) (r : Bool) → IsTrue r ↔ IsFactor left rule.0 → r ≡ true → (kept old : List (Word × Word))
-    → (kept ≡ kept ++ filter (λ q. not (stands_in left q.0)) (rule ∷ [])) × (old ++ rule ∷ [] ≡ old ++ filter (λ q. stands_in left q.0) (rule ∷ []))
-goes_aside left rule r h t kept old =
-    let e : stands_in left rule.0 ≡ true = sym (factor_tested left rule.0 r h) ∙ t in rw e (sym (append-nil kept), refl)
-
-pub is_kept : (left : Word) (rule : Word × Word) (r : Bool) → IsTrue r ↔ IsFactor left rule.0 → r ≡ false → (kept old : List (Word × Word))
-    → (kept ++ rule ∷ [] ≡ kept ++ filter (λ q. not (stands_in left q.0)) (rule ∷ [])) × (old ≡ old ++ filter (λ q. stands_in left q.0) (rule ∷ []))
-is_kept left rule r h t kept old =
-    let e : stands_in left rule.0 ≡ false = sym (factor_tested left rule.0 r h) ∙ t in rw e (refl, sym (append-nil old))
 
 -- the rule at a number falls
 pub item_falls : (rules : List (Word × Word)) (number : ℕ) (rule : Word × Word) → AreFalling rules → number < length rules
@@ -264,9 +243,9 @@ rewritten_end f old now place some all h = (
 pub adds_rule : (L : ℕ) (left right : Word) (rules kept pushed new_rules equations between new_equations : List (Word × Word)) (newest : ℕ)
     → SetsAside left rules kept equations between → newest ≡ length kept → pushed ≡ kept ++ (left, right) ∷ [] → Rewrites pushed new_rules
     → ((i : ℕ) → i < length new_rules → IsDone (rule_at pushed newest).0 pushed new_rules i)
-    → ((most : ℕ) → AreShort most new_rules → Gains (Some L) new_rules between new_equations (length new_rules * (most + most)))
-    → ((other : ℕ) → other < length new_rules → AreJoined (Some L) new_rules new_equations (rule_at new_rules newest) (rule_at new_rules other)
-    × AreJoined (Some L) new_rules new_equations (rule_at new_rules other) (rule_at new_rules newest))
+    → ((most : ℕ) → AreShort most new_rules → Gains (UpTo L) new_rules between new_equations (length new_rules * (most + most)))
+    → ((other : ℕ) → other < length new_rules → AreJoined (UpTo L) new_rules new_equations (rule_at new_rules newest) (rule_at new_rules other)
+    × AreJoined (UpTo L) new_rules new_equations (rule_at new_rules other) (rule_at new_rules newest))
     → AddsRule L left right rules equations new_rules new_equations
 adds_rule L left right rules kept pushed new_rules equations between new_equations newest aside place is rewrites done gains joined =
     record {
@@ -277,8 +256,8 @@ adds_rule L left right rules kept pushed new_rules equations between new_equatio
       done = λ i less. subst₂ (λ (f : Word) (rs : List (Word × Word)). IsDone f rs new_rules i) at is (done i less);
       gains = gains;
       joined = λ other less.
-          subst (λ n. AreJoined (Some L) new_rules new_equations (rule_at new_rules n) (rule_at new_rules other)
-          × AreJoined (Some L) new_rules new_equations (rule_at new_rules other) (rule_at new_rules n)) place (joined other less);
+          subst (λ n. AreJoined (UpTo L) new_rules new_equations (rule_at new_rules n) (rule_at new_rules other)
+          × AreJoined (UpTo L) new_rules new_equations (rule_at new_rules other) (rule_at new_rules n)) place (joined other less);
     }
   where
     at : (rule_at pushed newest).0 ≡ left

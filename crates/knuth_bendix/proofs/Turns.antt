@@ -1,5 +1,5 @@
 -- Turns of a completion.
-use Rattle.std.proofs.Common.{◌≡◌, ℕ, ◌<◌, ◌≤◌, Bool, true, false, List, [], ◌∷◌, length, cond, refl, sym, subst, arith, inl, inr, IfOk, MatchBool, MatchResult, None, Result, Ok, Err}
+use Rattle.std.proofs.Common.{◌≡◌, ℕ, ◌<◌, ◌≤◌, Bool, true, false, List, [], ◌∷◌, length, cond, refl, sym, subst, arith, inl, inr, IfOk, MatchBool, MatchResult, Result, Ok, Err}
 use Rattle.std.specs.List.{All}
 use Rattle.theory.specs.Word.{Word}
 use Rattle.theory.specs.Congruence.{Presentation, AreElements}
@@ -7,21 +7,23 @@ use Rattle.theory.specs.Completion.{CompletionEnds}
 use Rattle.race.specs.declared.engines.Progress.{Progress}
 use Rattle.race.specs.declared.engines.Progress.TheVariants.{More, Decided, Spent, NoMemory}
 use Rattle.knuth_bendix.specs.Held.{IsSound}
+use Rattle.knuth_bendix.specs.declared.lengths.Lengths.TheVariants.{Beyond}
 use Rattle.knuth_bendix.specs.Overlaps.{AreJoined, AreShort, IsSplit, rule_at}
 use Rattle.knuth_bendix.specs.Changes.{Joins}
 use Rattle.knuth_bendix.specs.Runs.{AreShortRelations, IsCompletion, IsRun, IsTurn, left_of}
+use Rattle.knuth_bendix.proofs.BoundedConfluence.{short_overlaps}
 use Rattle.knuth_bendix.proofs.Endings.{decided_by_overlaps}
 use Rattle.knuth_bendix.proofs.JoinedOverlaps.{joined_overlaps, split_spent}
-use Rattle.knuth_bendix.proofs.AddedRules.{joins_nearer, joins_sound, sound_rules, sound_short, start_sound}
+use Rattle.knuth_bendix.proofs.AddedRules.{joins_nearer, joins_sound, sound_linked_up, sound_rules, sound_short, start_sound}
 
 module _ (p : Presentation) (L : ℕ) (rules : List (Word × Word)) (sound : IsSound p L (record { rules = rules; equations = [] })) where
   -- the last test
   pub ends_tested : All (λ r. (length r.0 ≤ L) × (length r.1 ≤ L)) p.relations → (joined : Bool)
       → MatchBool joined
-      ((first second : ℕ) → first < length rules → second < length rules → AreJoined None rules [] (rule_at rules first) (rule_at rules second))
-      ((u : Word) × (v : Word) × IsSplit None rules u v)
+      ((first second : ℕ) → first < length rules → second < length rules → AreJoined (Beyond L) rules [] (rule_at rules first) (rule_at rules second))
+      ((u : Word) × (v : Word) × IsSplit (Beyond L) rules u v)
       → MatchBool joined (CompletionEnds p L) (CompletionEnds p L → ⊥)
-  ends_tested fits true h = decided_by_overlaps p L rules (sound_rules p L rules sound) fits (joined_overlaps rules sound.clear sound.falls h)
+  ends_tested fits true h = decided_by_overlaps p L rules (sound_rules p L rules sound) fits (joined_overlaps L rules sound.clear (short_overlaps p L rules (sound_linked_up p L rules sound)) h)
   ends_tested fits false h = split_spent p L rules (sound_rules p L rules sound) h.0 h.1 h.2
 
   -- the last turn

@@ -1,5 +1,5 @@
 -- How rules and equations change when a rule is added.
-use Rattle.std.specs.Prelude.{◌≡◌, ℕ, ◌+◌, ◌<◌, ◌⊎◌, ◌*◌, List, [], ◌∷◌, ◌++◌, length, not, Some}
+use Rattle.std.specs.Prelude.{◌≡◌, ℕ, ◌+◌, ◌<◌, ◌⊎◌, ◌*◌, List, [], ◌∷◌, ◌++◌, length, not}
 use Rattle.std.specs.List.{filter}
 use Rattle.theory.specs.Word.{Word, IsFactor}
 use Rattle.theory.specs.Congruence.{Presentation}
@@ -7,8 +7,8 @@ use Rattle.theory.specs.Completion.{IsReduced, Listed, Reduces, Within}
 use Rattle.theory.specs.ShortLex.{◌≺◌}
 use Rattle.knuth_bendix.specs.Links.{Linked, NoLater}
 use Rattle.knuth_bendix.specs.Held.{lefts}
-use Rattle.knuth_bendix.specs.Remaining.{stands_in}
-use Rattle.reduced_automaton.specs.Rules.{AreFalling}
+use Rattle.reduced_automaton.specs.Rules.{AreFalling, stands_in}
+use Rattle.knuth_bendix.specs.declared.lengths.Lengths.TheVariants.{UpTo}
 use Rattle.knuth_bendix.specs.Overlaps.{AreJoined, AreShort, Gains, rule_at}
 
 -- the rules in whose left sides the word stands have become equations, and the others are kept
@@ -40,11 +40,11 @@ pub record AddsRule (L : ℕ) (left right : Word)
   pub rewrites : Rewrites (kept ++ (left, right) ∷ []) new_rules
   pub done : (i : ℕ) → i < length new_rules → IsDone left (kept ++ (left, right) ∷ []) new_rules i
   pub gains : (most : ℕ) → AreShort most new_rules
-      → Gains (Some L) new_rules between new_equations (length new_rules * (most + most))
+      → Gains (UpTo L) new_rules between new_equations (length new_rules * (most + most))
   pub joined : (other : ℕ) → other < length new_rules
-      → AreJoined (Some L) new_rules new_equations (rule_at new_rules (length kept))
+      → AreJoined (UpTo L) new_rules new_equations (rule_at new_rules (length kept))
       (rule_at new_rules other)
-      × AreJoined (Some L) new_rules new_equations (rule_at new_rules other)
+      × AreJoined (UpTo L) new_rules new_equations (rule_at new_rules other)
       (rule_at new_rules (length kept))
 
 -- the two words were rewritten, and if they became different, these are the sides of a rule that has been added

@@ -1,9 +1,10 @@
 -- Overlaps of left sides, and the pairs of words to which they lead (Knuth and Bendix 1970; Sims 1994, 2.5).
-use Rattle.std.specs.Prelude.{◌≡◌, ◌≢◌, ℕ, ◌+◌, ◌-◌, ◌<◌, ◌≤◌, ◌⊎◌, List, [], length, take, drop, slice_index_or, All, Option}
+use Rattle.std.specs.Prelude.{◌≡◌, ◌≢◌, ℕ, ◌+◌, ◌-◌, ◌<◌, ◌≤◌, ◌⊎◌, List, [], length, take, drop, slice_index_or, All}
 use Rattle.theory.specs.Word.{Word}
 use Rattle.theory.specs.Completion.{IsReduced, Listed, Reduces}
 use Rattle.reduced_automaton.specs.Rules.{replaced}
-use Rattle.reduced_automaton.specs.Automaton.{Allows}
+use Rattle.knuth_bendix.specs.declared.lengths.Lengths.{Lengths}
+use Rattle.knuth_bendix.specs.declared.lengths.Lengths.TheVariants.{UpTo, Beyond}
 
 -- the rule at a place
 abbrev pub rule_at : List (Word × Word) → ℕ → Word × Word
@@ -25,13 +26,18 @@ critical_pair p q shared = (
       (length p.0 - shared) shared q.1,
 )
 
--- the left sides of the rules share so many letters, some and not all, in a word within the limit
-pub record IsOverlap (limit : Option ℕ) (p q : Word × Word) (shared : ℕ) : Type 0 where
+-- a word of n letters is one of these
+abbrev pub HasLength : Lengths → ℕ → Type 0
+HasLength (UpTo most) n = n ≤ most
+HasLength (Beyond most) n = most < n
+
+-- the left sides of the rules share so many letters, some and not all, in a word of such a length
+pub record IsOverlap (lengths : Lengths) (p q : Word × Word) (shared : ℕ) : Type 0 where
   pub some : 0 < shared
   pub first : shared < length p.0
   pub second : shared < length q.0
   pub overlaps : overlaps_by p.0 q.0 shared
-  pub within : Allows limit (length p.0 + (length q.0 - shared))
+  pub within : HasLength lengths (length p.0 + (length q.0 - shared))
 
 -- the rules lead from both words to one, or to the two words of a listed equation
 pub record IsJoinedBy (rules equations : List (Word × Word)) (u v : Word) : Type 0 where
@@ -42,16 +48,16 @@ pub record IsJoinedBy (rules equations : List (Word × Word)) (u v : Word) : Typ
   pub met : (left ≡ right) ⊎ Listed equations left right
 
 -- each overlap of the two rules is joined
-abbrev pub AreJoined : Option ℕ → List (Word × Word) → List (Word × Word) → Word × Word
+abbrev pub AreJoined : Lengths → List (Word × Word) → List (Word × Word) → Word × Word
     → Word × Word → Type 0
-AreJoined limit rules equations p q = (shared : ℕ) → IsOverlap limit p q shared
+AreJoined lengths rules equations p q = (shared : ℕ) → IsOverlap lengths p q shared
     → IsJoinedBy rules equations (critical_pair p q shared).0 (critical_pair p q shared).1
 
 -- u and v are the different reduced words to which an overlap of the two rules leads
-pub record IsApart (limit : Option ℕ) (rules : List (Word × Word)) (p q : Word × Word)
+pub record IsApart (lengths : Lengths) (rules : List (Word × Word)) (p q : Word × Word)
     (u v : Word) : Type 0 where
   pub shared : ℕ
-  pub overlap : IsOverlap limit p q shared
+  pub overlap : IsOverlap lengths p q shared
   pub down_left : Reduces (Listed rules) (critical_pair p q shared).0 u
   pub down_right : Reduces (Listed rules) (critical_pair p q shared).1 v
   pub end_left : IsReduced (Listed rules) u
@@ -69,15 +75,15 @@ pub record ReducesTo (rules : List (Word × Word)) (first second shared : ℕ)
   pub end_right : IsReduced (Listed rules) right
 
 -- u and v come of an overlap of two of the rules
-pub record IsSplit (limit : Option ℕ) (rules : List (Word × Word)) (u v : Word) : Type 0 where
+pub record IsSplit (lengths : Lengths) (rules : List (Word × Word)) (u v : Word) : Type 0 where
   pub first : ℕ
   pub second : ℕ
   pub first_within : first < length rules
   pub second_within : second < length rules
-  pub apart : IsApart limit rules (rule_at rules first) (rule_at rules second) u v
+  pub apart : IsApart lengths rules (rule_at rules first) (rule_at rules second) u v
 
 -- the new equations are the old ones and some that come of overlaps, at most so many
-pub record Gains (limit : Option ℕ) (rules old new : List (Word × Word)) (most : ℕ) : Type 0 where
+pub record Gains (lengths : Lengths) (rules old new : List (Word × Word)) (most : ℕ) : Type 0 where
   pub older : (u v : Word) → Listed old u v → Listed new u v
-  pub newer : (u v : Word) → Listed new u v → Listed old u v ⊎ IsSplit limit rules u v
+  pub newer : (u v : Word) → Listed new u v → Listed old u v ⊎ IsSplit lengths rules u v
   pub few : length new ≤ length old + most

@@ -1,7 +1,8 @@
 -- How many words within the bound no rule applies to.
-use Rattle.std.specs.Prelude.{ℕ, zero, suc, Bool, ◌||◌, not, eqb, List, [], ◌∷◌, ◌++◌, map, count_by}
-use Rattle.std.specs.List.{list_any, starts_with}
+use Rattle.std.specs.Prelude.{ℕ, zero, suc, Bool, not, List, [], ◌∷◌, ◌++◌, map, count_by}
+use Rattle.std.specs.List.{list_any}
 use Rattle.theory.specs.Word.{Word}
+use Rattle.reduced_automaton.specs.Rules.{stands_in}
 
 -- each of the first k letters in front of each word
 abbrev pub with_first_letter : ℕ → List Word → List Word
@@ -12,11 +13,6 @@ with_first_letter (suc a) ws = map (λ w. a ∷ w) ws ++ with_first_letter a ws
 abbrev pub words_up_to : ℕ → ℕ → List Word
 words_up_to k zero = [] ∷ []
 words_up_to k (suc n) = [] ∷ with_first_letter k (words_up_to k n)
-
--- f stands somewhere in u
-abbrev pub stands_in : Word → Word → Bool
-stands_in f [] = starts_with eqb [] f
-stands_in f (a ∷ u) = starts_with eqb (a ∷ u) f || stands_in f u
 
 -- no left side of the rules stands in u
 abbrev pub is_free : List (Word × Word) → Word → Bool

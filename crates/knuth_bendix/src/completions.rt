@@ -10,11 +10,12 @@ ghost use Rattle.knuth_bendix.specs.Runs.{AreShortRelations, CompletionRun, IsTu
 
 use crate::confluence::are_joined;
 use crate::equations::Equations;
+use crate::lengths::Lengths;
 use crate::rule_changes::join;
 use ports::NoMemory;
 use presentation::{Pairs, Presentation};
 use race::{Progress, Racer};
-use reduced_automaton::Rules;
+use reduced_automaton::{KeptRules, Rules};
 use std::alloc::Global;
 use std::marker::Model;
 use std::mem;
@@ -27,7 +28,7 @@ pub struct Completion {
     alloc: Global,
     presentation: Presentation,
     length: usize,
-    rules: Rules,
+    rules: KeptRules,
     equations: Equations,
     said: Progress,
 }
@@ -82,13 +83,13 @@ fn are_short(relations: &Pairs, bound: usize) -> bool
     true
 }
 
-// Whether completion ends, once no equation is left: each relation is within the length, and each overlap leads to one
-// word.
+// Whether completion ends, once no equation is left: each relation is within the length, and each longer overlap leads
+// to one word.
 fn ends(
     alloc: Global,
     presentation: &Presentation,
     length: usize,
-    rules: &Rules,
+    rules: &KeptRules,
 ) -> Result<bool, NoMemory>
     requires { IsSound presentation.now.presentation length
         (record { rules = rules.now; equations = [] }) }
@@ -99,7 +100,7 @@ fn ends(
     if !are_short(presentation.relations(), length) {
         return Ok(false);
     }
-    let joined = are_joined(alloc, rules)?;
+    let joined = are_joined(alloc, rules, Lengths::Beyond(length))?;
     Ok(joined)
 }
 
@@ -119,9 +120,9 @@ fn go_on(
     alloc: Global,
     presentation: &Presentation,
     length: usize,
-    rules: Rules,
+    rules: KeptRules,
     equations: &mut Equations,
-) -> Result<(Rules, Progress), NoMemory>
+) -> Result<(KeptRules, Progress), NoMemory>
     requires { IsSound presentation.now.presentation length
         (record { rules = rules; equations = equations.old }) }
     ensures { IfOk result (λ turn. IsTurn presentation.now.presentation length rules equations.old
@@ -133,6 +134,8 @@ fn go_on(
             Ok((rules, Progress::More))
         }
         None => {
+            let mut rules = rules;
+            rules.rebuild()?;
             let ends = ends(alloc, presentation, length, &rules)?;
             Ok((rules, last_answer(ends)))
         }
@@ -140,13 +143,13 @@ fn go_on(
 }
 
 // What a turn leaves: after want of memory no rules are held.
-fn left_by(alloc: Global, turn: Result<(Rules, Progress), NoMemory>) -> (Rules, Progress)
+fn left_by(alloc: Global, turn: Result<(KeptRules, Progress), NoMemory>) -> (KeptRules, Progress)
     ensures { MatchResult turn (λ t. result ≡ t)
         (λ _. (result.0 ≡ []) × (result.1 ≡ Progress.NoMemory)) }
 {
     match turn {
         Ok(turn) => turn,
-        Err(NoMemory) => (Rules::new(alloc), Progress::NoMemory),
+        Err(NoMemory) => (KeptRules::new(alloc), Progress::NoMemory),
     }
 }
 
@@ -168,7 +171,7 @@ impl Racer for Completion {
     ghost said = { λ c. c.said };
 
     /// Joins one pair of words that are related: a relation, or the words to which an overlap leads. Where none is left
-    /// that fits, the last turn tests the overlaps of any length. After it two words within the length have one normal
+    /// that fits, the last turn tests the longer overlaps. After it two words within the length have one normal
     /// form exactly where the relation of that length relates them. No rule that is held has a longer side.
     fn advance(&mut self) -> Progress
         ensures task { (self.new.presentation ≡ self.old.presentation)
@@ -191,7 +194,7 @@ impl Racer for Completion {
         let Progress::More = self.said else {
             return self.said;
         };
-        let rules = mem::replace(&mut self.rules, Rules::new(self.alloc));
+        let rules = mem::replace(&mut self.rules, KeptRules::new(self.alloc));
         let turn = go_on(
             self.alloc,
             &self.presentation,
@@ -224,7 +227,7 @@ impl Completion {
             alloc,
             presentation: presentation.copy(alloc)?,
             length,
-            rules: Rules::new(alloc),
+            rules: KeptRules::new(alloc),
             equations,
             said: Progress::More,
         })

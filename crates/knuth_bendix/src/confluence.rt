@@ -1,57 +1,65 @@
-// The last test: whether each overlap leads to one word.
+// The last test: whether overlaps lead to one word.
 ghost use Rattle.std.specs.Prelude.{ℕ, ◌<◌, [], length, IfOk, MatchBool};
 ghost use Rattle.theory.specs.Word.{Word as Letters};
 ghost use Rattle.knuth_bendix.specs.Overlaps.{AreJoined, IsSplit, rule_at};
 
 use crate::equations::Equations;
+use crate::lengths::Lengths;
 use crate::overlaps::join_overlaps;
 use ports::NoMemory;
-use reduced_automaton::Rules;
+use reduced_automaton::KeptRules;
 use std::alloc::Global;
 
-// Whether each overlap of two rules, however long, leads to one word.
+// Whether each overlap of two rules in a word of such a length leads to one word.
 fn pair_is_joined(
     alloc: Global,
-    rules: &Rules,
+    rules: &KeptRules,
     first: usize,
     second: usize,
+    lengths: Lengths,
 ) -> Result<bool, NoMemory>
     requires first { first < length rules.now }
     requires second { second < length rules.now }
     ensures { IfOk result (λ joined. MatchBool joined
-        (AreJoined None rules.now [] (rule_at rules.now first) (rule_at rules.now second))
-        ((u : Letters) × (v : Letters) × IsSplit None rules.now u v)) }
+        (AreJoined lengths rules.now [] (rule_at rules.now first) (rule_at rules.now second))
+        ((u : Letters) × (v : Letters) × IsSplit lengths rules.now u v)) }
 {
     let mut equations = Equations::new(alloc);
-    join_overlaps(alloc, rules, first, second, None, &mut equations)?;
+    join_overlaps(alloc, rules, first, second, lengths, &mut equations)?;
     Ok(equations.is_empty())
 }
 
-// Whether each overlap of a rule with a later one, however long, leads to one word.
-fn row_is_joined(alloc: Global, rules: &Rules, first: usize) -> Result<bool, NoMemory>
+// Whether each overlap of a rule with any, in a word of such a length, leads to one word.
+fn row_is_joined(
+    alloc: Global,
+    rules: &KeptRules,
+    first: usize,
+    lengths: Lengths,
+) -> Result<bool, NoMemory>
     requires { first < length rules.now }
     ensures { IfOk result (λ joined. MatchBool joined
         ((second : ℕ) → second < length rules.now
-        → AreJoined None rules.now [] (rule_at rules.now first) (rule_at rules.now second))
-        ((u : Letters) × (v : Letters) × IsSplit None rules.now u v)) }
+        → AreJoined lengths rules.now [] (rule_at rules.now first) (rule_at rules.now second))
+        ((u : Letters) × (v : Letters) × IsSplit lengths rules.now u v)) }
 {
     for second in 0..rules.len() {
-        if !pair_is_joined(alloc, rules, first, second)? {
+        if !pair_is_joined(alloc, rules, first, second, lengths)? {
             return Ok(false);
         }
     }
     Ok(true)
 }
 
-/// Whether each overlap of the rules, however long, leads to one word (Sims 1994, 2.3). Refused only where memory is wanting.
-pub fn are_joined(alloc: Global, rules: &Rules) -> Result<bool, NoMemory>
+/// Whether each overlap of the rules in a word of such a length leads to one word (Sims 1994, 2.3). Refused only where
+/// memory is wanting.
+pub fn are_joined(alloc: Global, rules: &KeptRules, lengths: Lengths) -> Result<bool, NoMemory>
     ensures { IfOk result (λ joined. MatchBool joined
         ((first second : ℕ) → first < length rules.now → second < length rules.now
-        → AreJoined None rules.now [] (rule_at rules.now first) (rule_at rules.now second))
-        ((u : Letters) × (v : Letters) × IsSplit None rules.now u v)) }
+        → AreJoined lengths rules.now [] (rule_at rules.now first) (rule_at rules.now second))
+        ((u : Letters) × (v : Letters) × IsSplit lengths rules.now u v)) }
 {
     for first in 0..rules.len() {
-        if !row_is_joined(alloc, rules, first)? {
+        if !row_is_joined(alloc, rules, first, lengths)? {
             return Ok(false);
         }
     }

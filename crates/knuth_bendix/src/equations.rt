@@ -47,6 +47,16 @@ impl Equations {
         Ok(())
     }
 
+    /// Puts the pairs at the end, in order. Refused only where memory is wanting.
+    pub fn extend(&mut self, pairs: Vec<(Word, Word)>) -> Result<(), NoMemory>
+        ensures { OnOk result (self.new ≡ self.old ++ pairs.items) }
+    {
+        for pair in pairs {
+            self.push(pair.0, pair.1)?;
+        }
+        Ok(())
+    }
+
     /// Takes the first pair; `None` exactly where there is none.
     pub fn pop(&mut self) -> Option<(Word, Word)>
         ensures { MatchOption result ((self.old ≡ []) × (self.new ≡ []))

@@ -9,6 +9,7 @@ mod completions;
 mod confluence;
 mod equations;
 pub mod facts;
+mod lengths;
 mod overlaps;
 mod rule_changes;
 

@@ -1,11 +1,11 @@
 // Overlaps of left sides, and the pairs of words to which they lead.
-ghost use Rattle.std.specs.Prelude.{◌≡◌, ℕ, ◌+◌, ◌-◌, ◌*◌, ◌<◌, ◌≤◌, [], ◌∷◌, ◌++◌, length, IfOk, OnOk, IsTrue, ◌↔◌, Option};
-ghost use Rattle.reduced_automaton.specs.Automaton.{Allows};
-ghost use Rattle.knuth_bendix.specs.Overlaps.{AreJoined, AreShort, Gains, IsJoinedBy, IsOverlap, ReducesTo, critical_pair, overlaps_by, rule_at};
+ghost use Rattle.std.specs.Prelude.{◌≡◌, ℕ, ◌+◌, ◌-◌, ◌*◌, ◌<◌, ◌≤◌, [], ◌∷◌, ◌++◌, length, IfOk, OnOk, IsTrue, ◌↔◌};
+ghost use Rattle.knuth_bendix.specs.Overlaps.{AreJoined, AreShort, Gains, HasLength, IsJoinedBy, IsOverlap, ReducesTo, critical_pair, overlaps_by, rule_at};
 
 use crate::equations::Equations;
+use crate::lengths::Lengths;
 use ports::NoMemory;
-use reduced_automaton::{Rules, replaced};
+use reduced_automaton::{KeptRules, replaced};
 use std::alloc::Global;
 use words::Word;
 
@@ -19,29 +19,25 @@ fn overlap(first: &Word, second: &Word, shared: usize) -> bool
     first.letters()[start..] == second.letters()[..shared]
 }
 
-// Whether a word of so many letters is within the limit, if there is one.
-fn is_within(limit: Option<usize>, first: usize, rest: usize) -> bool
-    ensures { IsTrue result ↔ Allows limit (first + rest) }
+// Whether a word of so many letters and the others is one of these.
+fn has_length(lengths: Lengths, first: usize, rest: usize) -> bool
+    ensures { IsTrue result ↔ HasLength lengths (first + rest) }
 {
-    match limit {
-        None => true,
-        Some(most) => first <= most && rest <= most - first,
+    match lengths {
+        Lengths::UpTo(most) => first <= most && rest <= most - first,
+        Lengths::Beyond(most) => most < first || most - first < rest,
     }
 }
 
-// Whether the left sides share so many letters, in a word within the limit.
-fn is_overlap(
-    limit: Option<usize>,
-    first: &(Word, Word),
-    second: &(Word, Word),
-    shared: usize,
-) -> bool
+// Whether the left sides share so many letters, in a word of such a length.
+fn is_overlap(lengths: Lengths, first: &(Word, Word), second: &(Word, Word), shared: usize) -> bool
     requires some { 0 < shared }
     requires first { shared < length first.now.0 }
     requires second { shared < length second.now.0 }
-    ensures { IsTrue result ↔ IsOverlap limit first.now second.now shared }
+    ensures { IsTrue result ↔ IsOverlap lengths first.now second.now shared }
 {
-    is_within(limit, first.0.len(), second.0.len() - shared) && overlap(&first.0, &second.0, shared)
+    has_length(lengths, first.0.len(), second.0.len() - shared)
+        && overlap(&first.0, &second.0, shared)
 }
 
 // The words to which two rules lead from the word in which their left sides share so many letters.
@@ -64,7 +60,7 @@ fn critical_pair(
 // The reduced words to which an overlap of two rules leads.
 fn reduced_pair(
     alloc: Global,
-    rules: &Rules,
+    rules: &KeptRules,
     first: usize,
     second: usize,
     shared: usize,
@@ -97,7 +93,7 @@ fn push_different(left: Word, right: Word, equations: &mut Equations) -> Result<
 // equation.
 fn join_overlap(
     alloc: Global,
-    rules: &Rules,
+    rules: &KeptRules,
     first: usize,
     second: usize,
     shared: usize,
@@ -107,9 +103,9 @@ fn join_overlap(
     requires second { second < length rules.now }
     requires shared_first { shared ≤ length (rule_at rules.now first).0 }
     requires shared_second { shared ≤ length (rule_at rules.now second).0 }
-    ensures gains { OnOk result ((limit : Option ℕ)
-        → IsOverlap limit (rule_at rules.now first) (rule_at rules.now second) shared
-        → Gains limit rules.now equations.old equations.new 1) }
+    ensures gains { OnOk result ((lengths : Lengths)
+        → IsOverlap lengths (rule_at rules.now first) (rule_at rules.now second) shared
+        → Gains lengths rules.now equations.old equations.new 1) }
     ensures joined { OnOk result (IsJoinedBy rules.now equations.new
         (critical_pair (rule_at rules.now first) (rule_at rules.now second) shared).0
         (critical_pair (rule_at rules.now first) (rule_at rules.now second) shared).1) }
@@ -119,52 +115,53 @@ fn join_overlap(
     Ok(())
 }
 
-/// Joins the overlaps of two rules, by their places, whose words have no more letters than the limit, or all of them:
-/// where the two ways to rewrite one lead to different words, these become an equation. Refused only where memory is wanting.
+/// Joins the overlaps of two rules, by their places, in words of such lengths: where the two ways to rewrite one lead to
+/// different words, these become an equation. Refused only where memory is wanting.
 pub fn join_overlaps(
     alloc: Global,
-    rules: &Rules,
+    rules: &KeptRules,
     first: usize,
     second: usize,
-    limit: Option<usize>,
+    lengths: Lengths,
     equations: &mut Equations,
 ) -> Result<(), NoMemory>
     requires first { first < length rules.now }
     requires second { second < length rules.now }
-    ensures gains { OnOk result (Gains limit rules.now equations.old equations.new
+    ensures gains { OnOk result (Gains lengths rules.now equations.old equations.new
         (length (rule_at rules.now first).0)) }
-    ensures joined { OnOk result (AreJoined limit rules.now equations.new (rule_at rules.now first)
+    ensures joined { OnOk result (AreJoined lengths rules.now equations.new (rule_at rules.now first)
         (rule_at rules.now second)) }
 {
     let shortest = rules.rule(first).0.len().min(rules.rule(second).0.len());
     for shared in 1..shortest {
-        if is_overlap(limit, rules.rule(first), rules.rule(second), shared) {
+        if is_overlap(lengths, rules.rule(first), rules.rule(second), shared) {
             join_overlap(alloc, rules, first, second, shared, equations)?;
         }
     }
     Ok(())
 }
 
-/// Joins the overlaps of a rule, by its place, with each rule, itself among them, on both sides. Refused only where memory is wanting.
+/// Joins the overlaps of a rule, by its place, with each rule, itself among them, on both sides, in words of such
+/// lengths. Refused only where memory is wanting.
 pub fn join_all(
     alloc: Global,
-    rules: &Rules,
+    rules: &KeptRules,
     newest: usize,
-    limit: Option<usize>,
+    lengths: Lengths,
     equations: &mut Equations,
 ) -> Result<(), NoMemory>
     requires { newest < length rules.now }
     ensures gains { OnOk result ((most : ℕ) → AreShort most rules.now
-        → Gains limit rules.now equations.old equations.new (length rules.now * (most + most))) }
+        → Gains lengths rules.now equations.old equations.new (length rules.now * (most + most))) }
     ensures joined { OnOk result ((other : ℕ) → other < length rules.now
-        → AreJoined limit rules.now equations.new (rule_at rules.now newest)
+        → AreJoined lengths rules.now equations.new (rule_at rules.now newest)
         (rule_at rules.now other)
-        × AreJoined limit rules.now equations.new (rule_at rules.now other)
+        × AreJoined lengths rules.now equations.new (rule_at rules.now other)
         (rule_at rules.now newest)) }
 {
     for other in 0..rules.len() {
-        join_overlaps(alloc, rules, newest, other, limit, equations)?;
-        join_overlaps(alloc, rules, other, newest, limit, equations)?;
+        join_overlaps(alloc, rules, newest, other, lengths, equations)?;
+        join_overlaps(alloc, rules, other, newest, lengths, equations)?;
     }
     Ok(())
 }

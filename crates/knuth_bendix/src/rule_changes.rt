@@ -1,59 +1,22 @@
 // Adding a rule, and what it changes in the rules that are there.
 ghost use Rattle.std.specs.Prelude.{◌≡◌, ℕ, ◌<◌, [], ◌∷◌, ◌++◌, length, not, IfOk, OnOk};
-ghost use Rattle.std.specs.List.{filter};
 ghost use Rattle.theory.specs.Word.{IsFactor, Word as Letters};
 ghost use Rattle.theory.specs.ShortLex.{◌≺◌};
 ghost use Rattle.theory.specs.Completion.{IsReduced, Listed};
-ghost use Rattle.knuth_bendix.specs.Changes.{AddsRule, IsDone, Joins, Rewrites, SetsAside};
+ghost use Rattle.knuth_bendix.specs.Changes.{AddsRule, IsDone, Joins, Rewrites};
 ghost use Rattle.knuth_bendix.specs.Overlaps.{rule_at};
-ghost use Rattle.knuth_bendix.specs.Remaining.{stands_in};
 
 use crate::equations::Equations;
+use crate::lengths::Lengths;
 use crate::overlaps::join_all;
 use ports::NoMemory;
-use reduced_automaton::{Rules, has_factor};
+use reduced_automaton::{KeptRules, has_factor};
 use std::alloc::Global;
 use std::cmp::Ordering;
 use words::{Word, shortlex};
 
-// Puts a rule at the end of the equations where the word stands in its left side, and else at the end of the rules.
-fn set_one_aside(
-    rule: (Word, Word),
-    left: &Word,
-    kept: &mut Rules,
-    equations: &mut Equations,
-) -> Result<(), NoMemory>
-    requires { rule.1 ≺ rule.0 }
-    ensures kept { OnOk result (kept.new
-        ≡ kept.old ++ filter (λ r. not (stands_in left.now r.0)) (rule ∷ [])) }
-    ensures equations { OnOk result
-        (equations.new ≡ equations.old ++ filter (λ r. stands_in left.now r.0) (rule ∷ [])) }
-{
-    if has_factor(&rule.0, left) {
-        equations.push(rule.0, rule.1)
-    } else {
-        kept.push(rule.0, rule.1)
-    }
-}
-
-// The rules in whose left sides the word does not stand. The others become equations.
-fn set_aside(
-    alloc: Global,
-    rules: Rules,
-    left: &Word,
-    equations: &mut Equations,
-) -> Result<Rules, NoMemory>
-    ensures { IfOk result (λ kept. SetsAside left.now rules kept equations.old equations.new) }
-{
-    let mut kept = Rules::new(alloc);
-    for rule in rules.into_vec() {
-        set_one_aside(rule, left, &mut kept, equations)?;
-    }
-    Ok(kept)
-}
-
 // Rewrites the right side of the rule at a place, if the left side of the newest rule stands in it.
-fn rewrite_right(rules: &mut Rules, place: usize, newest: usize) -> Result<(), NoMemory>
+fn rewrite_right(rules: &mut KeptRules, place: usize, newest: usize) -> Result<(), NoMemory>
     requires place { place < length rules.old }
     requires newest { newest < length rules.old }
     ensures rewrites { OnOk result (Rewrites rules.old rules.new) }
@@ -69,7 +32,7 @@ fn rewrite_right(rules: &mut Rules, place: usize, newest: usize) -> Result<(), N
 }
 
 // Rewrites the right sides in which the left side of the newest rule stands.
-fn rewrite_rights(rules: &mut Rules, newest: usize) -> Result<(), NoMemory>
+fn rewrite_rights(rules: &mut KeptRules, newest: usize) -> Result<(), NoMemory>
     requires { newest < length rules.old }
     ensures rewrites { OnOk result (Rewrites rules.old rules.new) }
     ensures done { OnOk result ((i : ℕ) → i < length rules.new
@@ -85,21 +48,21 @@ fn rewrite_rights(rules: &mut Rules, newest: usize) -> Result<(), NoMemory>
 // equations, and so do the words to which its overlaps within the length lead where no rules join them.
 fn add_rule(
     alloc: Global,
-    rules: Rules,
+    rules: KeptRules,
     left: Word,
     right: Word,
     length: usize,
     equations: &mut Equations,
-) -> Result<Rules, NoMemory>
+) -> Result<KeptRules, NoMemory>
     requires { right ≺ left }
     ensures { IfOk result (λ new. AddsRule length left right rules equations.old new
         equations.new) }
 {
-    let mut rules = set_aside(alloc, rules, &left, equations)?;
-    let newest = rules.len();
-    rules.push(left, right)?;
+    let (mut rules, gone) = rules.add(left, right)?;
+    equations.extend(gone)?;
+    let newest = rules.len() - 1;
     rewrite_rights(&mut rules, newest)?;
-    join_all(alloc, &rules, newest, Some(length), equations)?;
+    join_all(alloc, &rules, newest, Lengths::UpTo(length), equations)?;
     Ok(rules)
 }
 
@@ -107,11 +70,11 @@ fn add_rule(
 /// have at most `length` letters are joined too, or become equations. Refused only where memory is wanting.
 pub fn join(
     alloc: Global,
-    rules: Rules,
+    rules: KeptRules,
     pair: &(Word, Word),
     length: usize,
     equations: &mut Equations,
-) -> Result<Rules, NoMemory>
+) -> Result<KeptRules, NoMemory>
     ensures { IfOk result (λ new. Joins length pair.now.0 pair.now.1 rules equations.old new
         equations.new) }
 {

@@ -1,3 +1,6 @@
+use Rattle.std.proofs.Common.{List, sym, subst}
+use Rattle.theory.specs.Word.{Word}
+use Rattle.knuth_bendix.specs.Runs.{IsTurn}
 use Rattle.knuth_bendix.proofs.Turns.{end_turn, join_turn}
 use Rattle.knuth_bendix.proofs.completions.go_on.Goals as goal
 
@@ -8,5 +11,7 @@ returns-in_ok-rules-in-Some c =
 
 pub returns-in_ok-ends-in-None : goal.returns-in_ok-ends-in-None
 returns-in_ok-ends-in-None c =
-    end_turn c.args.presentation.now.presentation c.args.length c.args.rules c.args.equations.now c.pop.new.self c.in_ok-ends-in-None.ends c.last_answer.result
-    c.requires c.in-None.ensures c.in_ok-ends-in-None.ensures c.last_answer.ensures
+    let Turn : List (Word × Word) → Type 0 = λ rs. IsTurn c.args.presentation.now.presentation c.args.length c.args.rules c.args.equations.now rs c.pop.new.self c.last_answer.result in
+    subst Turn (sym c.rebuild.ensures)
+    (end_turn c.args.presentation.now.presentation c.args.length c.args.rules c.args.equations.now c.pop.new.self c.in_ok-ends-in-None.ends c.last_answer.result
+    c.requires c.in-None.ensures c.in_ok-ends-in-None.ensures c.last_answer.ensures)

@@ -1,4 +1,4 @@
-use Rattle.std.proofs.Common.{List, length, subst, None}
+use Rattle.std.proofs.Common.{List, length, subst}
 use Rattle.theory.specs.Word.{Word}
 use Rattle.knuth_bendix.specs.Overlaps.{Gains, rule_at}
 use Rattle.knuth_bendix.proofs.OverlapSteps.{tested_pair}
@@ -7,7 +7,7 @@ use Rattle.knuth_bendix.proofs.confluence.pair_is_joined.Goals as goal
 pub returns : goal.returns
 returns c =
     let most = length (rule_at c.args.rules.now c.args.first).0 in
-    tested_pair c.args.rules.now c.join_overlaps.new.equations (rule_at c.args.rules.now c.args.first) (rule_at c.args.rules.now c.args.second) most c.is_empty.result
+    tested_pair c.args.lengths c.args.rules.now c.join_overlaps.new.equations (rule_at c.args.rules.now c.args.first) (rule_at c.args.rules.now c.args.second) most c.is_empty.result
     c.is_empty.ensures
-    (subst (λ (es : List (Word × Word)). Gains None c.args.rules.now es c.join_overlaps.new.equations most) c.new-equations.ensures c.in_ok-join_overlaps.ensures.gains)
+    (subst (λ (es : List (Word × Word)). Gains c.args.lengths c.args.rules.now es c.join_overlaps.new.equations most) c.new-equations.ensures c.in_ok-join_overlaps.ensures.gains)
     c.in_ok-join_overlaps.ensures.joined

@@ -7,18 +7,18 @@ use Rattle.knuth_bendix.proofs.overlaps.join_overlaps.Goals.{then-is_overlap+in_
 
 pub loop-shared-preserved : goal.loop-shared-preserved
 loop-shared-preserved c =
-    let Joined : List (Word × Word) → Type 0 = λ es. IsJoinedTo c.args.limit c.args.rules.now c.args.equations.now es c.args.first c.args.second (c.loop-shared.shared + 1) in
+    let Joined : List (Word × Word) → Type 0 = λ es. IsJoinedTo c.args.lengths c.args.rules.now c.args.equations.now es c.args.first c.args.second (c.loop-shared.shared + 1) in
     let first = rule_read c.args.rules.now c.args.rules.now c.args.first c.rule-in-loop-shared.result.now refl c.requires.first c.rule-in-loop-shared.ensures.rule in
     let second = rule_read c.args.rules.now c.args.rules.now c.args.second c.rule-in-loop-shared-2.result.now refl c.requires.second c.rule-in-loop-shared-2.ensures.rule in
     elim c.if-is_overlap.branch [
       | then-is_overlap+in_ok-join_overlap w ↦
           subst Joined (sym w.equations-is)
-          (joined_there c.args.limit c.args.rules.now c.args.equations.now c.loop-shared.equations w.join_overlap.new.equations c.args.first c.args.second c.loop-shared.shared
+          (joined_there c.args.lengths c.args.rules.now c.args.equations.now c.loop-shared.equations w.join_overlap.new.equations c.args.first c.args.second c.loop-shared.shared
           c.rule-in-loop-shared.result.now c.rule-in-loop-shared-2.result.now c.is_overlap.result first second c.is_overlap.ensures w.if-is_overlap.true
           w.in_ok-join_overlap.ensures.gains w.in_ok-join_overlap.ensures.joined (omega arith) c.loop-shared.invariant)
       | else-is_overlap w ↦
           subst Joined (sym w.equations-is)
-          (joined_elsewhere c.args.limit c.args.rules.now c.args.equations.now c.loop-shared.equations c.args.first c.args.second c.loop-shared.shared
+          (joined_elsewhere c.args.lengths c.args.rules.now c.args.equations.now c.loop-shared.equations c.args.first c.args.second c.loop-shared.shared
           c.rule-in-loop-shared.result.now c.rule-in-loop-shared-2.result.now c.is_overlap.result first second c.is_overlap.ensures w.if-is_overlap.false
           (omega arith) c.loop-shared.invariant)
     ]

@@ -1,10 +1,17 @@
-use Rattle.std.proofs.Common.{arith}
+use Rattle.std.proofs.Common.{◌≡◌, ◌-◌, ◌++◌, ◌∷◌, [], List, length, length-append, not, refl, ap, arith, ◌∙◌}
+use Rattle.std.specs.List.{filter}
+use Rattle.theory.specs.Word.{Word}
+use Rattle.reduced_automaton.specs.Rules.{stands_in}
 use Rattle.knuth_bendix.proofs.RuleChanges.{adds_rule}
 use Rattle.knuth_bendix.proofs.rule_changes.add_rule.Goals as goal
 
 pub returns : goal.returns
 returns c =
-    adds_rule c.args.length c.args.left c.args.right c.args.rules c.in_ok-rules.rules c.push.new.self c.rewrite_rights.new.rules
-    c.args.equations.now c.set_aside.new.equations c.join_all.new.equations c.len-newest.result c.in_ok-rules.ensures (omega arith)
-    c.in_ok-push.ensures.ok c.in_ok-rewrite_rights.ensures.rewrites c.in_ok-rewrite_rights.ensures.done c.in_ok-join_all.ensures.gains
+    let kept : List (Word × Word) = filter (λ r. not (stands_in c.args.left r.0)) c.args.rules in
+    let newest : c.len-newest.result - 1 ≡ length kept =
+    omega (arith, c.len-newest.ensures.len, ap length c.in_ok-rules.ensures.kept, length-append kept ((c.args.left, c.args.right) ∷ [])) in
+    adds_rule c.args.length c.args.left c.args.right c.args.rules kept c.in_ok-rules.rules c.rewrite_rights.new.rules
+    c.args.equations.now c.extend.new.self c.join_all.new.equations (c.len-newest.result - 1)
+    (record { kept_is = refl; new_is = c.in_ok-extend.ensures ∙ ap (λ (es : List (Word × Word)). c.args.equations.now ++ es) c.in_ok-rules.ensures.gone }) newest
+    c.in_ok-rules.ensures.kept c.in_ok-rewrite_rights.ensures.rewrites c.in_ok-rewrite_rights.ensures.done c.in_ok-join_all.ensures.gains
     c.in_ok-join_all.ensures.joined

@@ -18,3 +18,9 @@ returns-clause-more c = (after_turn c).nearer
 
 pub returns-clause-short : goal.returns-clause-short
 returns-clause-short c = (after_turn c).run.short
+
+pub returns-clause-decided : goal.returns-clause-decided
+returns-clause-decided c = (after_turn c).run.decided
+
+pub returns-clause-rules : goal.returns-clause-rules
+returns-clause-rules c = (after_turn c).run.kept
