@@ -8,11 +8,12 @@ use crate::solving::decide;
 use ports::Open;
 use presentation::{Congruence, Kind, Pairs, Presentation};
 use problem::{Budgets, Problem};
-use race::LaneState;
+use race::{LaneState, Progress, Racer};
 use std::alloc::Global;
 use std::process::Abort;
 use std::test::Fail;
 use std::thread::Threads;
+use tc_felsch::Felsch;
 use words::{Alphabet, Word};
 
 // The symmetric group of degree three.
@@ -415,5 +416,22 @@ fn completion_is_no_lane_for_right_pairs(rt: HostRuntime) -> Result<(), Fail> {
         Some(solved) => assert_eq!(rt; solved.lanes().lanes().len(), 2),
         None => panic!(rt; "undecided"),
     }
+    Ok(())
+}
+
+// The value, as another thread may have it.
+fn sent<T: Send>(value: T) -> T
+    ensures { result ≡ value }
+{
+    value
+}
+
+#[test]
+fn engines_go_to_another_thread(rt: HostRuntime) -> Result<(), Fail> {
+    let alloc = rt.alloc();
+    let congruence = collapsed(&rt, alloc, Kind::Right)?;
+    let felsch = Felsch::new(alloc, &congruence, 1)?;
+    let mut engine = sent(Engine::Felsch(felsch));
+    assert_eq!(rt; engine.advance(), Progress::More);
     Ok(())
 }
