@@ -1,12 +1,18 @@
 -- Tables that stand in one list.
-use Rattle.std.proofs.Common.{◌≡◌, ◌≢◌, ℕ, zero, suc, ◌+◌, ◌*◌, ◌<◌, ◌≤◌, List, [], ◌∷◌, ◌++◌, refl, sym, ◌∙◌, ap, arith, ◌⊎◌, inl, inr, Option, None, length, subst, get_or, set, take, drop, replicate}
+use Rattle.std.proofs.Common.{◌≡◌, ◌≢◌, ℕ, zero, suc, ◌+◌, ◌*◌, ◌<◌, ◌≤◌, List, [], ◌∷◌, ◌++◌, refl, sym, ◌∙◌, ap, arith, ◌⊎◌, inl, inr, Option, None, Some, length, subst, get_or, set, take, drop, replicate}
 use Rattle.std.proofs.lemmas.Bool.{cases_eq, cases_lt}
 use Rattle.std.proofs.Math.Nat.{suc-mul, mul-le-mul_right}
 use Rattle.std.proofs.Math.Seq.{take-set-lt, take-length}
 use Rattle.std.proofs.lemmas.List.{length-replicate, get_or-set_same, get_or-set_other, take-append-le, drop-append-le, take-set-le, drop-set-lt, drop-set-add, get_or-take, get_or-drop, length-take-le, length-drop, get_or_past}
+use Rattle.std.specs.Option.{ForSome}
+use Rattle.std.below.core.specs.declared.int.u32.TheConstants.{MAX}
 use Rattle.theory.specs.Graph.{Graph, target}
 use Rattle.word_graph.proofs.EdgeLaws.{target_is}
 use Rattle.coincidence.specs.Cells.{rows_of, with_entry}
+
+-- a node of the table has a code
+pub within_code : (entry : Option ℕ) (count nodes : ℕ) → count ≡ nodes → nodes ≤ MAX → ForSome entry (λ n. n < count) → ForSome entry (λ n. n < MAX)
+within_code entry count nodes same few h n is = omega (arith, same, few, h n is)
 
 -- the entry lies within the list
 pub place_within : (n k node a : ℕ) → node < n → a < k → node * k + a < n * k

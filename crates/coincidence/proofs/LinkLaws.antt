@@ -365,6 +365,33 @@ linked_root k few = record {
   lists = root_sources k;
 }
 
+-- a list of nodes goes on with one of them
+chain_goes_on : (next : ℕ → Option ℕ) (start : Option ℕ) (list : List ℕ) (n m : ℕ) → IsChain next start list → IsAmong n list → next n ≡ Some m → IsAmong m list
+chain_goes_on next start [] n m c h later = absurd h
+chain_goes_on next start (p ∷ []) n m c (inl e) later = let none : None ≡ Some m = sym (subst (λ z. next z ≡ None) (sym e) c.1) ∙ later in cc
+chain_goes_on next start (p ∷ q ∷ rest) n m c (inl e) later =
+    let same : q ≡ m = some_same q m (sym (subst (λ z. next z ≡ Some q) (sym e) c.1.0) ∙ later) in
+    inr (inl (sym same))
+chain_goes_on next start (p ∷ rest) n m c (inr h) later = inr (chain_goes_on next (next p) rest n m c.1 h later)
+
+-- the first source is a node
+pub first_within : (k : ℕ) (t : Links) (m a n : ℕ) → IsLinked k t → target t.firsts m a ≡ Some n → n < length t.graph
+first_within k t m a n is first = (target_in k t.graph is.graph n a m (own.1.only n (go own.0 own.1.chain))).0
+  where
+    own : (list : List ℕ) × IsSources t m a list
+    own = is.lists m a
+
+    go : (list : List ℕ) → IsChain (λ q. target t.nexts q a) (target t.firsts m a) list → IsAmong n list
+    go [] c = let none : None ≡ Some n = sym c ∙ first in cc
+    go (p ∷ rest) c = inl (sym (some_same p n (sym c.0 ∙ first)))
+
+-- the source after another is a node
+pub next_within : (k : ℕ) (t : Links) (n a m p : ℕ) → IsLinked k t → target t.graph n a ≡ Some m → target t.nexts n a ≡ Some p → p < length t.graph
+next_within k t n a m p is edge later =
+    let own = is.lists m a in
+    let among = chain_goes_on (λ q. target t.nexts q a) (target t.firsts m a) own.0 n p own.1.chain (own.1.all n edge) later in
+    (target_in k t.graph is.graph p a m (own.1.only p among)).0
+
 -- an edge more
 pub linked_set : (k : ℕ) (t : Links) (n a m : ℕ) → IsLinked k t → n < length t.graph → a < k → m < length t.graph → target t.graph n a ≡ None
     → IsLinked k (record { graph = with_entry t.graph n a (Some m); firsts = with_entry t.firsts m a (Some n); nexts = with_entry t.nexts n a (target t.firsts m a) })

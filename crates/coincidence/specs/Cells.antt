@@ -1,6 +1,11 @@
 -- Tables that stand in one list, row after row.
-use Rattle.std.specs.Prelude.{ℕ, zero, suc, List, [], ◌∷◌, take, drop, Option, slice_set, slice_index_or}
+use Rattle.std.specs.Prelude.{ℕ, zero, suc, List, [], ◌∷◌, take, drop, Option, None, Some, slice_set, slice_index_or}
 use Rattle.theory.specs.Graph.{Graph}
+
+-- none is 0, and a node stands with one added
+abbrev pub coded : ℕ → Option ℕ
+coded zero = None
+coded (suc n) = Some n
 
 -- the first rows of k entries each
 abbrev pub rows_of : ℕ → ℕ → List (Option ℕ) → Graph

@@ -1,24 +1,30 @@
 // Tables of nodes times letters that stand in one vector.
 ghost use Rattle.std.specs.Prelude.{◌≡◌, ℕ, ◌+◌, ◌*◌, ◌<◌, ◌≤◌, All, List, [], ◌∷◌, ◌++◌, length, replicate, slice_index_or, None, IfOk, OnOk, OnErr};
+ghost use Rattle.std.specs.Option.{ForSome};
 ghost use Rattle.theory.specs.Graph.{target};
 ghost use Rattle.word_graph.specs.Edges.{with_node};
 ghost use Rattle.coincidence.specs.Cells.{with_entry};
 
+use crate::entries::Entry;
 use ports::NoMemory;
 use std::alloc::Global;
 use std::marker::Model;
 use words::Letter;
+
+// More nodes do not fit in the table: their entries would not fit in four bytes.
+const NODES_AT_MOST: usize = 4_294_967_295;
 
 // A node or none for each node and letter, row after row in one vector.
 #[derive(Drop)]
 pub struct Cells {
     nodes: usize,
     letters: usize,
-    entries: Vec<Option<usize>>,
+    entries: Vec<Entry>,
 }
 
 impl Model for Cells {
-    ghost use Rattle.std.specs.Prelude.{◌≡◌, ◌*◌, ◌<◌, length};
+    ghost use Rattle.std.below.core.specs.declared.int.u32.TheConstants.{MAX};
+    ghost use Rattle.std.specs.Prelude.{◌≡◌, ◌*◌, ◌<◌, ◌≤◌, length};
     ghost use Rattle.theory.specs.Graph.{Graph};
     ghost use Rattle.coincidence.specs.Cells.{rows_of};
 
@@ -26,8 +32,11 @@ impl Model for Cells {
 
     ghost view = { λ c. rows_of c.letters c.nodes c.entries.items };
 
-    ghost invariant = { λ c. record
-        { some : 0 < c.nodes; entries : length c.entries.items ≡ c.nodes * c.letters } };
+    ghost invariant = { λ c. record {
+      some : 0 < c.nodes;
+      few : c.nodes ≤ MAX;
+      entries : length c.entries.items ≡ c.nodes * c.letters;
+    } };
 }
 
 // Where the entry of the node and letter stands.
@@ -42,13 +51,13 @@ fn place(nodes: usize, letters: usize, node: usize, letter: usize) -> usize
 }
 
 // One entry more for each letter, and nothing in it. Only want of memory refuses it, and then nothing has changed.
-fn push_row(entries: &mut Vec<Option<usize>>, letters: usize) -> Result<(), NoMemory>
+fn push_row(entries: &mut Vec<Entry>, letters: usize) -> Result<(), NoMemory>
     ensures ok { OnOk result (entries.new.items ≡ entries.old.items ++ replicate letters None) }
     ensures err { OnErr result (entries.new.items ≡ entries.old.items) }
 {
     let len = entries.len();
     for _ in 0..letters {
-        let Ok(()) = entries.push(None) else {
+        let Ok(()) = entries.push(Entry::new(None)) else {
             entries.truncate(len);
             return Err(NoMemory);
         };
@@ -57,11 +66,11 @@ fn push_row(entries: &mut Vec<Option<usize>>, letters: usize) -> Result<(), NoMe
 }
 
 // Nothing is left in any entry.
-fn empty(entries: &mut Vec<Option<usize>>)
+fn empty(entries: &mut Vec<Entry>)
     ensures { entries.new.items ≡ replicate (length entries.old.items) None }
 {
     for place in 0..entries.len() {
-        entries[place] = None;
+        entries[place] = Entry::new(None);
     }
 }
 
@@ -105,30 +114,32 @@ impl Cells {
             return None;
         }
         let place = place(self.nodes, self.letters, node, letter.number());
-        self.entries[place]
+        self.entries[place].node()
     }
 
-    /// Puts an entry in the place of the one that was there.
+    /// Puts an entry in the place of the one that was there: a node or none.
     pub fn put(&mut self, node: usize, letter: Letter, entry: Option<usize>)
         requires node { node < length self.old }
         requires letter { letter < length (slice_index_or self.old node []) }
+        requires entry { ForSome entry (λ n. n < length self.old) }
         ensures { self.new ≡ with_entry self.old node letter entry }
     {
         let place = place(self.nodes, self.letters, node, letter.number());
-        self.entries[place] = entry;
+        self.entries[place] = Entry::new(entry);
     }
 
-    /// One node more, without entries. Only want of memory refuses it, and then nothing has changed.
+    /// One node more, without entries. Only want of memory refuses it, and then nothing has changed: more nodes than
+    /// entries of four bytes can tell apart do not fit.
     pub fn add_row(&mut self) -> Result<(), NoMemory>
         ensures ok { OnOk result ((k : ℕ) → All (λ row. length row ≡ k) self.old
             → self.new ≡ with_node k self.old) }
         ensures err { OnErr result (self.new ≡ self.old) }
     {
-        let Some(nodes) = self.nodes.checked_add(1) else {
+        if NODES_AT_MOST <= self.nodes {
             return Err(NoMemory);
-        };
+        }
         push_row(&mut self.entries, self.letters)?;
-        self.nodes = nodes;
+        self.nodes += 1;
         Ok(())
     }
 

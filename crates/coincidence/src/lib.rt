@@ -11,6 +11,7 @@ mod closing;
 mod copies;
 mod due;
 mod edges;
+mod entries;
 mod joins;
 mod marks;
 mod order;

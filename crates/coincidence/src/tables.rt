@@ -31,7 +31,7 @@ use words::Letter;
 /// leads to the node stand in a list.
 ///
 /// Each call that gives a `Result` may find memory wanting. It then answers `NoMemory`, as does each later call, and
-/// the table shows the root alone.
+/// the table shows the root alone. Nodes stand in four bytes, so that there is no memory for more than 2³² − 1 of them.
 #[derive(Drop)]
 pub struct Table {
     alloc: Global,

@@ -5,7 +5,7 @@ use Rattle.coincidence.proofs.cells.empty.Goals as goal
 pub loop-place-preserved : goal.loop-place-preserved
 loop-place-preserved c =
     let inside : c.loop-place.place < length c.loop-place.entries.items = omega (arith, c.loop-place.invariant.0) in
-    (length-set c.loop-place.entries.items c.loop-place.place None ∙ c.loop-place.invariant.0, none_more c.loop-place.entries.items c.loop-place.place inside c.loop-place.invariant.1)
+    rw c.new.ensures (length-set c.loop-place.entries.items c.loop-place.place None ∙ c.loop-place.invariant.0, none_more c.loop-place.entries.items c.loop-place.place inside c.loop-place.invariant.1)
 
 pub returns : goal.returns
 returns c =

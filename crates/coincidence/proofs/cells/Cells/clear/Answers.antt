@@ -9,7 +9,7 @@ pub invariant_of-self : goal.invariant_of-self
 invariant_of-self c =
     let long = cleared c.self.inside.letters c.self.inside.nodes c.self.inside.entries.items c.self.invariant.some c.self.invariant.entries in
     let size : length c.empty.new.entries.items ≡ c.self.inside.letters = ap length c.empty.ensures ∙ length-replicate (length c.truncate.new.self.items) None ∙ ap length c.truncate.ensures.items ∙ long in
-    record { some = omega arith; entries = omega (arith, size) }
+    record { some = omega arith; few = omega arith; entries = omega (arith, size) }
 
 pub returns : goal.returns
 returns c = λ k widths.

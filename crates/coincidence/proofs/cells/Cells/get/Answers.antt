@@ -21,4 +21,4 @@ returns c =
     let letter : c.args.letter < k = omega (arith, c.if-self-number.false, c.number.ensures) in
     let at : c.place-place.result ≡ c.args.node * k + c.args.letter = c.place-place.ensures.place ∙ ap (λ z. c.args.node * k + z) c.number-2.ensures in
     let read : c.index.result.now ≡ get_or xs c.place-place.result None = get_or_read xs c.place-place.result c.index.result.now (omega (arith, at, place_within n k c.args.node c.args.letter node letter, c.self.invariant.entries)) c.index.ensures None in
-    read ∙ ap (λ p. get_or xs p None) at ∙ sym (read_target k n xs c.args.node c.args.letter node letter) ∙ ap (λ g. target g c.args.node c.args.letter) c.self.view_is
+    c.node.ensures ∙ read ∙ ap (λ p. get_or xs p None) at ∙ sym (read_target k n xs c.args.node c.args.letter node letter) ∙ ap (λ g. target g c.args.node c.args.letter) c.self.view_is

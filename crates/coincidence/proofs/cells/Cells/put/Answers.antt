@@ -1,6 +1,6 @@
-use Rattle.std.proofs.Common.{◌≡◌, ◌+◌, ◌*◌, ℕ, ap, sym, ◌∙◌, subst, ◌<◌, set}
+use Rattle.std.proofs.Common.{◌≡◌, ◌+◌, ◌*◌, ℕ, ap, sym, ◌∙◌, subst, ◌<◌, set, length}
 use Rattle.coincidence.specs.Cells.{rows_of, with_entry}
-use Rattle.coincidence.proofs.CellLaws.{within_rows, write_rows}
+use Rattle.coincidence.proofs.CellLaws.{length_rows, within_code, within_rows, write_rows}
 use Rattle.coincidence.proofs.cells.Cells.put.Goals as goal
 
 pub place-place-requires-clause-node : goal.place-place-requires-clause-node
@@ -9,6 +9,9 @@ place-place-requires-clause-node c = (within_rows c.self.inside.letters c.self.i
 pub place-place-requires-clause-letter : goal.place-place-requires-clause-letter
 place-place-requires-clause-letter c = subst (λ z. z < c.self.inside.letters) (sym c.number.ensures) (within_rows c.self.inside.letters c.self.inside.nodes c.args.node c.args.letter c.args.self.now c.self.inside.entries.items c.self.invariant.entries c.self.view_is c.requires.node c.requires.letter).1
 
+pub new-requires : goal.new-requires
+new-requires c = within_code c.args.entry _ _ (ap length (sym c.self.view_is) ∙ length_rows c.self.inside.letters c.self.inside.nodes c.self.inside.entries.items) c.self.invariant.few c.requires.entry
+
 pub returns : goal.returns
 returns c =
     let k = c.self.inside.letters in
@@ -16,5 +19,5 @@ returns c =
     let xs = c.self.inside.entries.items in
     let here = within_rows k n c.args.node c.args.letter c.args.self.now xs c.self.invariant.entries c.self.view_is c.requires.node c.requires.letter in
     let at : c.place-place.result ≡ c.args.node * k + c.args.letter = c.place-place.ensures.place ∙ ap (λ z. c.args.node * k + z) c.number.ensures in
-    subst (λ (p : ℕ). rows_of k n (set xs p c.args.entry) ≡ with_entry c.args.self.now c.args.node c.args.letter c.args.entry) (sym at)
+    rw (c.new.ensures, at)
     (write_rows k n xs c.args.node c.args.letter c.args.entry here.0 here.1 ∙ ap (λ z. with_entry z c.args.node c.args.letter c.args.entry) c.self.view_is)

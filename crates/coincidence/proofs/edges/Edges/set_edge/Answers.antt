@@ -1,7 +1,7 @@
-use Rattle.std.proofs.Common.{◌≡◌, ◌<◌, ℕ, [], None, length, arith, subst, sym}
+use Rattle.std.proofs.Common.{◌≡◌, ◌<◌, ℕ, [], None, length, arith, subst, sym, ◌∙◌}
 use Rattle.theory.specs.Graph.{target}
 use Rattle.coincidence.specs.Links.{Links, IsLinked}
-use Rattle.coincidence.proofs.LinkLaws.{linked_set}
+use Rattle.coincidence.proofs.LinkLaws.{first_within, linked_set}
 use Rattle.coincidence.proofs.edges.Edges.set_edge.Goals as goal
 
 -- the number of letters bounds the letter
@@ -25,6 +25,10 @@ pub put-requires-3-clause-letter : goal.put-requires-3-clause-letter
 put-requires-3-clause-letter c =
     let n = node_of c.args.node _ c.args.self.now c.self.view_is c.requires.node in
     omega (arith, bound c.self.inside.letters c.args.letter _ c.args.self.now c.self.view_is c.self.invariant c.requires.letter, c.self.invariant.graph.width c.args.node [] n)
+
+pub put-requires-clause-entry : goal.put-requires-clause-entry
+put-requires-clause-entry c = λ n is.
+    omega (arith, first_within c.self.inside.letters _ c.args.to c.args.letter n c.self.invariant (sym c.get-first.ensures ∙ is), c.self.invariant.next_rows)
 
 pub invariant_of-self : goal.invariant_of-self
 invariant_of-self c =
