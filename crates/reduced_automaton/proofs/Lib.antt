@@ -1,6 +1,6 @@
 pub mod Ranks
 pub mod Standing
-pub mod Reducing
+pub mod LetterLaws
 pub mod StateLaws
 pub mod StateLists
 pub mod Searches

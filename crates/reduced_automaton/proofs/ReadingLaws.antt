@@ -16,7 +16,7 @@ use Rattle.word_graph.proofs.EdgeLaws.{target_in}
 use Rattle.reduced_automaton.specs.Automaton.{Allows, AreDepths, GoesOn, HasPath, IsLastOfLength, IsLeastPath, IsReader, IsReducedWord, Reading}
 use Rattle.reduced_automaton.proofs.DepthLaws.{goes_as, option_cases}
 use Rattle.reduced_automaton.proofs.NextPaths.{IsLeastEdge, IsWithoutEdge, IsNextOfLength, goes_path, last_here, last_nil, last_of_all, least_behind, least_is, least_nil, next_as_long, next_behind, next_first, next_here, next_longer, without_ends}
-use Rattle.reduced_automaton.proofs.Reducing.{over_more}
+use Rattle.reduced_automaton.proofs.LetterLaws.{over_more}
 use Rattle.reduced_automaton.proofs.Ranks.{rank, rank_below}
 
 -- What holds alike has the same next.

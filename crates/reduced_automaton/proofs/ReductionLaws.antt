@@ -15,7 +15,7 @@ use Rattle.reduced_automaton.specs.States.{AreStates, EndsAt, HasEnd, IsLongest}
 use Rattle.reduced_automaton.specs.Tries.{left_at, longer, Reads}
 use Rattle.reduced_automaton.specs.Reductions.{rank, letters_for, IsReducing, weight}
 use Rattle.reduced_automaton.proofs.Ranks.{rank_below}
-use Rattle.reduced_automaton.proofs.Reducing.{over_for, over_itself}
+use Rattle.reduced_automaton.proofs.LetterLaws.{over_for, over_itself}
 use Rattle.reduced_automaton.proofs.Standing.{filled, listed_falls}
 use Rattle.reduced_automaton.proofs.StateLaws.{end_kept, longest_more, empty_reduced, reduced_front, reduced_more}
 

@@ -1,4 +1,4 @@
--- Where words stand in words, and where rules apply.
+-- Where words stand in words.
 use Rattle.std.proofs.Common.{◌≡◌, ℕ, ◌+◌, ◌-◌, ◌<◌, ◌≤◌, ◌||◌, Bool, true, false, not, List, [], ◌∷◌, ◌++◌, length, take, drop, get_or, refl, sym, ◌∙◌, ap, ap₂, subst, arith, inl, inr, eqb, Contains, length-append, length-take, take-append-drop, Option, Some, None, IsTrue, ◌↔◌, MatchOption}
 use Rattle.std.specs.Option.{is_some}
 use Rattle.std.specs.Cmp.Lexicographic.{pointwise}
@@ -13,7 +13,7 @@ use Rattle.theory.specs.Chain.{Step}
 use Rattle.theory.specs.Completion.{IsReduced, Listed}
 use Rattle.theory.specs.declared.Kind.TheVariants.{TwoSided}
 use Rattle.theory.proofs.Words.{before_no_longer, before_irrefl}
-use Rattle.reduced_automaton.specs.Rules.{AreFalling, AreOver, StandsAt, AppliesAt, replaced, stands_in}
+use Rattle.reduced_automaton.specs.Rules.{AreFalling, AreOver, StandsAt, stands_in}
 
 pub stands_from : (f u : Word) (place : ℕ) (y : Word) → drop place u ≡ f ++ y → StandsAt f u place
 stands_from f u place y e = record { after = y; is = sym (take-append-drop place u) ∙ ap (λ w. take place u ++ w) e }
@@ -42,18 +42,6 @@ pub rule_read : (rules items : List (Word × Word)) (number : ℕ) (rule : Word 
     → rule ≡ get_or items number rule → rule ≡ get_or rules number ([], [])
 rule_read rules items number rule same within read =
     read ∙ get_or_default items number rule ([], []) within ∙ ap (λ (rs : List (Word × Word)). get_or rs number ([], [])) same
-
--- a test of the left side of a rule
-pub rule_tested : (rules items : List (Word × Word)) (u f : Word) (place number : ℕ) (rule : Word × Word) (r : Bool)
-    → items ≡ rules → number < length items → rule ≡ get_or items number rule → f ≡ rule.0
-    → r ≡ pointwise eqb f (take (length f) (take (length u - place) (drop place u)))
-    → (r ≡ true → AppliesAt rules u place number) × (r ≡ false → AppliesAt rules u place number → ⊥)
-rule_tested rules items u f place number rule r same within read left e =
-    let at = rule_read rules items number rule same within read in
-    let tested = tested_at (get_or rules number ([], [])).0 u f u place r (left ∙ ap (λ (p : Word × Word). p.0) at) refl e in (
-      λ t. record { within = subst (λ (rs : List (Word × Word)). number < length rs) same within; stands = tested.0 t },
-      λ t h. tested.1 t h.stands,
-    )
 
 -- behind the letters before it
 pub stands_behind : (f u x y : Word) → u ≡ x ++ (f ++ y) → StandsAt f u (length x)
@@ -123,69 +111,3 @@ listed_at rules l r listed = get_or_default rules listed.0 ([], []) (l, r) liste
 
 pub listed_falls : (rules : List (Word × Word)) → AreFalling rules → (l r : Word) → Listed rules l r → r ≺ l
 listed_falls rules falling l r listed = subst (λ (p : Word × Word). p.1 ≺ p.0) (listed_at rules l r listed) (falling listed.0 ([], []) listed.1)
-
--- a word in which no rule applies at a place is reduced
-pub none_applies : (rules : List (Word × Word)) (u : Word) → AreFalling rules → ((k n : ℕ) → k < length u → AppliesAt rules u k n → ⊥)
-    → IsReduced (Listed rules) u
-none_applies rules u falling none v s =
-    none (length s.before) s.base.0 inside (record {
-      within = s.base.1;
-      stands = subst (λ (p : Word × Word). StandsAt p.0 u (length s.before)) (sym (listed_at rules s.from s.to s.base)) (stands_behind s.from u s.before s.after s.source);
-    })
-  where
-    inside : length s.before < length u
-    inside =
-        let some = filled s.from s.to (listed_falls rules falling s.from s.to s.base) in
-        omega (arith, some, ap length s.source, length-append s.before (s.from ++ s.after), length-append s.from s.after)
-
-module _ (rules : List (Word × Word)) (u : Word) (place number : ℕ) (h : AppliesAt rules u place number) (rule : Word × Word) (is : get_or rules number ([], []) ≡ rule) where
-  rule_listed : Listed rules rule.0 rule.1
-  rule_listed = (number, h.within, get_or_default rules number rule ([], []) h.within ∙ is)
-
-  rule_stands : StandsAt rule.0 u place
-  rule_stands = subst (λ (p : Word × Word). StandsAt p.0 u place) is h.stands
-
-  -- a rule that applies makes a step
-  pub applied : Step (Listed rules) TwoSided u (replaced u place (length rule.0) rule.1)
-  applied = record {
-    before = take place u;
-    from = rule.0;
-    to = rule.1;
-    after = drop (place + length rule.0) u;
-    base = rule_listed;
-    place = tt;
-    source = go (stands_to rule.0 u place rule_stands);
-    target = refl;
-  }
-    where
-      go : (y : Word) × (drop place u ≡ rule.0 ++ y) → u ≡ take place u ++ (rule.0 ++ drop (place + length rule.0) u)
-      go rest =
-          let behind : drop (place + length rule.0) u ≡ rest.0 =
-          sym (drop-drop (length rule.0) place u) ∙ ap (drop (length rule.0)) rest.1 ∙ drop_at rule.0 rest.0 (length rule.0) refl in
-          sym (take-append-drop place u) ∙ ap (λ w. take place u ++ w) (rest.1 ∙ ap (λ w. rule.0 ++ w) (sym behind))
-
-  -- and stands within the word
-  pub applied_within : AreFalling rules → place + length rule.0 ≤ length u
-  applied_within falling =
-      let some = filled rule.0 rule.1 (listed_falls rules falling rule.0 rule.1 rule_listed) in
-      omega (arith, some, ap length rule_stands.is, length-append (take place u) (rule.0 ++ rule_stands.after), length-append rule.0 rule_stands.after, length-take place u)
-
-  -- both sides of the rule are over the letters
-  pub applied_over : (k : ℕ) → AreOver k rules → IsOver k rule.1
-  applied_over k over = subst (λ (p : Word × Word). IsOver k p.1) is (over number ([], []) h.within).1
-
--- no rule applies to a reduced word
-pub applies_reduces : (rules : List (Word × Word)) (u : Word) (place number : ℕ) → AppliesAt rules u place number → IsReduced (Listed rules) u → ⊥
-applies_reduces rules u place number h reduced = reduced _ (applied rules u place number h (get_or rules number ([], [])) refl)
-
--- a word is reduced exactly where no rule is found
-pub reduced_tested : (rules : List (Word × Word)) (u letters : Word) (r : Option (ℕ × ℕ)) (b : Bool) → letters ≡ u
-    → MatchOption r (IsReduced (Listed rules) letters) (λ found. AppliesAt rules letters found.0 found.1) → is_some r ≡ not b
-    → IsTrue b ↔ IsReduced (Listed rules) u
-reduced_tested rules u letters None true same h e = (λ _. subst (λ w. IsReduced (Listed rules) w) same h, λ _. refl)
-reduced_tested rules u letters None false same h e = let bad : ⊥ = cc in absurd bad
-reduced_tested rules u letters (Some found) true same h e = let bad : ⊥ = cc in absurd bad
-reduced_tested rules u letters (Some found) false same h e = (
-  λ t. let bad : ⊥ = cc in absurd bad,
-  λ reduced. absurd (applies_reduces rules u found.0 found.1 (subst (λ w. AppliesAt rules w found.0 found.1) same h) reduced),
-)

@@ -1,4 +1,4 @@
--- Rules that change, and how they are found: by the table of those that were there when it was made, and by a scan of the newer ones.
+-- How rules that change are found: by a table of those that were there when it was made, and by a scan of the newer.
 use Rattle.std.specs.Prelude.{◌≡◌, ℕ, ◌<◌, ◌≤◌, List, [], ◌∷◌, ◌++◌, length, slice_index_or, Option, None, Some}
 use Rattle.theory.specs.Word.{Word, IsFactor}
 use Rattle.theory.specs.Completion.{IsReduced, Listed}
@@ -24,6 +24,7 @@ no_moves = record {
   ends = [];
 }
 
+-- the table, if there is one
 abbrev pub moves_or_none : Option Moves → Moves
 moves_or_none None = no_moves
 moves_or_none (Some moves) = moves
@@ -64,11 +65,12 @@ pub record IsAtLetter (rules : List (Word × Word)) (lookup : Lookup) (done : Wo
   pub reduced : IsReduced (Listed rules) done
   pub longest : IsLongest (states_by is) done state
 
+-- and its states
 abbrev pub reads_to : {rules : List (Word × Word)} {lookup : Lookup} {done : Word} {state : ℕ}
     → IsAtLetter rules lookup done state → List Word
 reads_to at = states_by at.is
 
--- what a letter behind a reduced word leads to: a rule whose left side stands at the end, or else the longest state there
+-- what a letter behind a reduced word leads to: a rule whose left side ends there, or else the longest state there
 abbrev pub IsNext : List (Word × Word) → List Word → Word → ℕ → Option ℕ → Type 0
 IsNext rules states u next (Some place) = EndsAt rules u place
 IsNext rules states u next None = (HasEnd rules u → ⊥) × IsLongest states u next

@@ -17,11 +17,6 @@ pub record StandsAt (f u : Word) (place : ℕ) : Type 0 where
   pub after : Word
   pub is : u ≡ take place u ++ (f ++ after)
 
--- the left side of the rule of this number stands in u, from the place on
-pub record AppliesAt (rules : List (Word × Word)) (u : Word) (place number : ℕ) : Type 0 where
-  pub within : number < length rules
-  pub stands : StandsAt (slice_index_or rules number ([], [])).0 u place
-
 -- f stands somewhere in u
 abbrev pub stands_in : Word → Word → Bool
 stands_in f [] = starts_with eqb [] f

@@ -1,5 +1,5 @@
 // Rules that change, and that are found by a table.
-ghost use Rattle.std.specs.Prelude.{◌≡◌, ◌<◌, [], ◌∷◌, ◌++◌, List, length, map, not, slice_index_or, slice_set, IfOk};
+ghost use Rattle.std.specs.Prelude.{◌≡◌, ◌<◌, [], ◌∷◌, ◌++◌, length, map, not, slice_index_or, slice_set, IfOk};
 ghost use Rattle.std.specs.List.{filter, range_with_len};
 ghost use Rattle.theory.specs.ShortLex.{◌≺◌};
 ghost use Rattle.theory.specs.Completion.{IsReduced, Listed, Reduces};
@@ -20,8 +20,12 @@ use words::Word;
 // tables.
 const NEWER_AT_MOST: usize = 8;
 
-/// A list of rewriting rules that changes often. Words are reduced by the states of an [`Automaton`](crate::Automaton) of
-/// the rules that were there some time ago, and the few newer rules are looked through one by one.
+// A table with many states is dear: so many of them are worth one newer rule more.
+const STATES_FOR_ONE_MORE: usize = 4096;
+
+/// A list of rewriting rules that changes often. Words are reduced by the states of an
+/// [`Automaton`](crate::Automaton) of the rules that were there some time ago, and the few newer rules are looked
+/// through one by one.
 #[derive(Drop)]
 pub struct KeptRules {
     rules: Rules,
@@ -52,7 +56,7 @@ fn all_places(alloc: Global, count: usize) -> Result<Vec<Option<usize>>, NoMemor
 }
 
 impl KeptRules {
-    /// The list without rules.
+    /// The list without rules. It takes no memory.
     pub fn new(alloc: Global) -> KeptRules
         ensures { result ≡ [] }
     {
@@ -113,8 +117,9 @@ impl KeptRules {
         Ok(())
     }
 
-    /// Takes out the rules in whose left sides that of a new rule stands, and puts the new rule at the end. Its left side
-    /// is greater than its right side. The others are given back, in order. Refused only where memory is wanting.
+    /// Takes out the rules in whose left sides that of a new rule stands, and puts the new rule at the end. Its left
+    /// side is greater than its right side. What was taken out is given back, in order. Refused only where memory is
+    /// wanting.
     pub fn add(self, left: Word, right: Word) -> Result<(KeptRules, Vec<(Word, Word)>), NoMemory>
         requires { right ≺ left }
         ensures kept { IfOk result (λ r.
@@ -136,12 +141,17 @@ impl KeptRules {
         Ok((kept, parts.gone))
     }
 
+    // How many newer rules are looked through before the table is made anew.
+    fn newer_at_most(&self) -> usize {
+        NEWER_AT_MOST + self.lookup.states() / STATES_FOR_ONE_MORE
+    }
+
     // The same rules, with a new table if many are newer.
     fn renewed(self) -> Result<KeptRules, NoMemory>
         ensures { IfOk result (λ r. r ≡ self) }
     {
         let mut kept = self;
-        if NEWER_AT_MOST < kept.rules.len() - kept.lookup.first {
+        if kept.newer_at_most() < kept.rules.len() - kept.lookup.first {
             kept.rebuild()?;
         }
         Ok(kept)

@@ -1,6 +1,6 @@
 // How rules are found at the end of a word: in a table of those that were there when it was made, and one by one where
 // they are newer.
-ghost use Rattle.std.specs.Prelude.{◌≡◌, ℕ, ◌<◌, ◌≤◌, [], ◌∷◌, ◌++◌, List, All, length, true, false, slice_index_or, IfOk, OnOk, IsTrue, ◌↔◌, MatchOption};
+ghost use Rattle.std.specs.Prelude.{◌≡◌, ℕ, ◌<◌, ◌≤◌, [], ◌∷◌, ◌++◌, List, length, true, false, IfOk, OnOk, IsTrue, ◌↔◌, MatchOption};
 ghost use Rattle.theory.specs.Word.{Word as Letters};
 ghost use Rattle.reduced_automaton.specs.Rules.{AreFalling};
 ghost use Rattle.reduced_automaton.specs.States.{EndsAt};
@@ -46,6 +46,16 @@ impl Lookup {
         }
     }
 
+    /// How many states the table has.
+    pub fn states(&self) -> usize
+        ensures { result ≡ length (moves_of self.now).prefixes }
+    {
+        match &self.table {
+            Some(table) => table.nodes(),
+            None => 1,
+        }
+    }
+
     // A newer rule whose left side stands at the end of the letters and the letter.
     fn newer_end(&self, rules: &Rules, letters: &[Letter], letter: Letter) -> Option<usize>
         ensures { MatchOption result
@@ -61,8 +71,8 @@ impl Lookup {
         None
     }
 
-    // What the table reads: the longest state at the end of the state and the letter, and the number of a left side that
-    // stands there.
+    // What the table reads: the longest state at the end of the state and the letter, and the number of a left side
+    // that stands there.
     fn read(&self, state: usize, letter: Letter) -> (usize, Option<usize>)
         requires { state < length (moves_of self.now).prefixes }
         ensures { (k : ℕ) (tabled : List (Letters × Letters)) → AreFalling tabled

@@ -1,5 +1,5 @@
 // Rules out of which some are taken, and where the others go.
-ghost use Rattle.std.specs.Prelude.{◌≡◌, ◌+◌, ◌<◌, ◌≤◌, [], ◌∷◌, ◌++◌, cond, length, map, not, Bool, None, Some, IfOk, OnOk};
+ghost use Rattle.std.specs.Prelude.{◌≡◌, ◌<◌, ◌≤◌, [], ◌∷◌, ◌++◌, cond, length, map, not, None, Some, IfOk, OnOk};
 ghost use Rattle.std.specs.List.{filter};
 ghost use Rattle.reduced_automaton.specs.Rules.{stands_in};
 ghost use Rattle.reduced_automaton.specs.Parts.{AreParts, through};

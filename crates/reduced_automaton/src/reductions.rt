@@ -9,7 +9,7 @@ use ports::NoMemory;
 use std::alloc::Global;
 use words::{Letter, Word};
 
-// The letters that are read, the states of each front of them, and the letters that are left, the next one last.
+/// The letters that are read, the states of each front of them, and the letters that are left, the next one last.
 #[derive(Drop)]
 pub struct Reduction {
     pub done: Vec<Letter>,
@@ -27,7 +27,7 @@ fn put_reversed(rest: &mut Vec<Letter>, letters: &[Letter]) -> Result<(), NoMemo
     Ok(())
 }
 
-// Nothing is read of the word.
+/// Nothing is read of the word. Refused only where memory is wanting.
 pub fn unread(alloc: Global, word: &Word) -> Result<Reduction, NoMemory>
     ensures done { IfOk result (λ r. r.done.items ≡ []) }
     ensures states { IfOk result (λ r. r.states.items ≡ 0 ∷ []) }
@@ -44,7 +44,7 @@ pub fn unread(alloc: Global, word: &Word) -> Result<Reduction, NoMemory>
     })
 }
 
-// The letter is read, and the state follows.
+/// The letter is read, and the state follows. Refused only where memory is wanting.
 pub fn push(reduction: &mut Reduction, letter: Letter, state: usize) -> Result<(), NoMemory>
     ensures done { OnOk result
         (reduction.new.done.items ≡ reduction.old.done.items ++ letter ∷ []) }
@@ -57,7 +57,8 @@ pub fn push(reduction: &mut Reduction, letter: Letter, state: usize) -> Result<(
     Ok(())
 }
 
-// A left side ends at the next letter: back to where it began, with the right side to be read.
+/// A left side ends at the next letter: back to where it began, with the right side to be read. Refused only where
+/// memory is wanting.
 pub fn go_back(reduction: &mut Reduction, rule: &(Word, Word)) -> Result<(), NoMemory>
     requires some { 0 < length rule.now.0 }
     requires within { length rule.now.0 ≤ length reduction.old.done.items + 1 }

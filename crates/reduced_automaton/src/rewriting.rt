@@ -1,10 +1,8 @@
-// Rewriting by a list of rules.
-ghost use Rattle.std.specs.Prelude.{◌≡◌, ℕ, ◌+◌, ◌<◌, ◌≤◌, [], ◌∷◌, ◌++◌, length, take, drop, slice_index_or, IfOk, OnOk, IsTrue, ◌↔◌, MatchOption};
+// Words out of parts of words.
+ghost use Rattle.std.specs.Prelude.{◌≡◌, ◌+◌, ◌≤◌, ◌++◌, length, take, drop, IfOk, OnOk, IsTrue, ◌↔◌};
 ghost use Rattle.theory.specs.Word.{IsFactor};
-ghost use Rattle.theory.specs.Completion.{IsReduced, Listed, Reduces};
-ghost use Rattle.reduced_automaton.specs.Rules.{AppliesAt, StandsAt, replaced};
+ghost use Rattle.reduced_automaton.specs.Rules.{StandsAt, replaced};
 
-use crate::rule_lists::Rules;
 use ports::NoMemory;
 use std::alloc::Global;
 use words::{Letter, Word};
@@ -56,61 +54,4 @@ pub fn has_factor(word: &Word, factor: &Word) -> bool
         }
     }
     factor.is_empty()
-}
-
-impl Rules {
-    // The number of the first rule whose left side stands in the word at the place.
-    fn rule_at(&self, word: &[Letter], place: usize) -> Option<usize>
-        requires { place ≤ length word.now }
-        ensures { MatchOption result ((number : ℕ) → AppliesAt self.now word.now place number → ⊥)
-            (AppliesAt self.now word.now place) }
-    {
-        for number in 0..self.items.len() {
-            if word[place..].starts_with(self.items[number].0.letters()) {
-                return Some(number);
-            }
-        }
-        None
-    }
-
-    // The first place at which a rule applies, with the number of the rule.
-    fn first_rule(&self, word: &[Letter]) -> Option<(usize, usize)>
-        ensures { MatchOption result (IsReduced (Listed self.now) word.now)
-            (λ found. AppliesAt self.now word.now found.0 found.1) }
-    {
-        let _items = &self.items;
-        for place in 0..word.len() {
-            if let Some(number) = self.rule_at(word, place) {
-                return Some((place, number));
-            }
-        }
-        None
-    }
-
-    /// Whether no rule applies to the word: no left side stands in it. It takes no memory.
-    pub fn is_reduced(&self, word: &Word) -> bool
-        ensures { IsTrue result ↔ IsReduced (Listed self.now) word.now }
-    {
-        let _items = &self.items;
-        self.first_rule(word.letters()).is_none()
-    }
-
-    /// A word to which the rules lead from the word, and to which none applies. Refused only where memory is wanting.
-    pub fn reduce(&self, word: &Word) -> Result<Word, NoMemory>
-        ensures reached { IfOk result (λ w. Reduces (Listed self.now) word.now w) }
-        ensures reduced { IfOk result (λ w. IsReduced (Listed self.now) w) }
-    {
-        let mut reduced = word.copy(self.alloc)?;
-        while let Some((place, number)) = self.first_rule(reduced.letters()) {
-            let rule = &self.items[number];
-            reduced = replaced(
-                self.alloc,
-                reduced.letters(),
-                place,
-                rule.0.len(),
-                rule.1.letters(),
-            )?;
-        }
-        Ok(reduced)
-    }
 }

@@ -181,7 +181,7 @@ fn a_cursor_need_not_be_reduced(rt: HostRuntime) -> Result<(), Fail> {
     Ok(())
 }
 
-// The text to which the rules lead, and which the automaton finds too.
+// The text to which the rules lead, and whether none of them applies to the word.
 fn reduced(
     alloc: Global,
     letters: &[u8],
@@ -193,9 +193,8 @@ fn reduced(
     let automaton = Automaton::build(alloc, alphabet.len(), &rules)?;
     let word = word(&alphabet, alloc, text)?;
     let mut text = Vec::new(alloc);
-    write(&mut text, &alphabet, &rules.reduce(&word)?)?;
     write(&mut text, &alphabet, &automaton.reduce(&word)?)?;
-    if rules.is_reduced(&word) && automaton.is_reduced(&word) {
+    if automaton.is_reduced(&word) {
         text.push(b'!')?;
     }
     Ok(text)
@@ -204,11 +203,11 @@ fn reduced(
 #[test]
 fn reduces_words(rt: HostRuntime) -> Result<(), Fail> {
     let text = reduced(rt.alloc(), b"ab", &SYMMETRIC, b"abba")?;
-    assert_eq!(rt; text.as_slice(), b"b.b.".as_slice());
+    assert_eq!(rt; text.as_slice(), b"b.".as_slice());
     let text = reduced(rt.alloc(), b"bc", &BICYCLIC, b"cbbcc")?;
-    assert_eq!(rt; text.as_slice(), b"c.c.".as_slice());
+    assert_eq!(rt; text.as_slice(), b"c.".as_slice());
     let text = reduced(rt.alloc(), b"bc", &BICYCLIC, b"ccb")?;
-    assert_eq!(rt; text.as_slice(), b"ccb.ccb.!".as_slice());
+    assert_eq!(rt; text.as_slice(), b"ccb.!".as_slice());
     Ok(())
 }
 

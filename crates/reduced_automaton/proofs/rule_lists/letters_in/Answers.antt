@@ -1,5 +1,5 @@
 use Rattle.std.proofs.Common.{◌+◌, ◌≤◌, arith}
-use Rattle.reduced_automaton.proofs.Reducing.{letter_over}
+use Rattle.reduced_automaton.proofs.LetterLaws.{letter_over}
 use Rattle.reduced_automaton.proofs.rule_lists.letters_in.Goals as goal
 
 pub loop-place-preserved : goal.loop-place-preserved

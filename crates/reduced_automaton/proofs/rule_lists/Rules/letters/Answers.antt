@@ -2,7 +2,7 @@ use Rattle.std.proofs.Common.{◌≡◌, ◌<◌, List, length, get_or, ap, subs
 use Rattle.std.proofs.lemmas.List.{take_all}
 use Rattle.theory.specs.Word.{Word}
 use Rattle.reduced_automaton.specs.Rules.{AreOver}
-use Rattle.reduced_automaton.proofs.Reducing.{rule_over}
+use Rattle.reduced_automaton.proofs.LetterLaws.{rule_over}
 use Rattle.reduced_automaton.proofs.rule_lists.Rules.letters.Goals as goal
 
 pub loop-rule-preserved : goal.loop-rule-preserved
