@@ -1,5 +1,6 @@
 // Streams of the outside as sources and sinks. They tell no content.
-ghost use Rattle.std.specs.Prelude.{◌≡◌, None};
+ghost use Rattle.std.specs.Prelude.{◌≡◌, None, IfErr, OnErr, OnOk};
+ghost use Rattle.ports.specs.Bytes.{Rose};
 
 use ports::{Failed, Sink, Source, WriteFault};
 use std::io::{Read, Write};
@@ -50,6 +51,23 @@ impl<W: Write> OutputSink<W> {
         ensures { result.faults ≡ 0 }
     {
         OutputSink { writer, faults: 0 }
+    }
+}
+
+impl<W: Write> OutputSink<W> {
+    /// Passes on what the writer keeps back. A failure counts as that of a write.
+    pub fn flush(&mut self) -> Result<(), WriteFault>
+        ensures kept { OnOk result (self.new.faults ≡ self.old.faults) }
+        ensures failed { OnErr result (Rose self.old.faults self.new.faults) }
+        ensures fault { IfErr result (λ fault. fault ≡ WriteFault.Failed) }
+    {
+        match self.writer.flush() {
+            Ok(()) => Ok(()),
+            Err(_) => {
+                self.faults = self.faults.saturating_add(1);
+                Err(WriteFault::Failed)
+            }
+        }
     }
 }
 

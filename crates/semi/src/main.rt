@@ -3,6 +3,8 @@
 //! queries.
 #![tactic(auto)]
 
+ghost use Rattle.std.specs.Prelude.{◌≡◌, ◌≤◌};
+
 mod adapters;
 mod fault;
 #[cfg(test)]
@@ -14,11 +16,13 @@ mod worker_tests;
 
 use adapters::{InputSource, OutputSink};
 use fault::Fault;
-use ports::Open;
+use ports::{Open, Sink, Source};
+use std::alloc::Global;
 use std::env;
-use std::io::ErrorKind;
+use std::io::{BufWriter, ErrorKind, Write};
 use std::process::ExitCode;
 use std::rt::Env;
+use std::thread::Threads;
 use top::semi;
 
 // The words of the command line. They are refused where one of them is no text.
@@ -30,21 +34,41 @@ fn arguments(rt: &(impl Env + AllocGlobal)) -> Result<Vec<String>, Fault> {
     }
 }
 
+// A sink that keeps back what it takes and writes it in blocks, so that many lines cost few writes.
+fn buffered<W: Write + Drop>(alloc: Global, writer: W) -> Result<OutputSink<BufWriter<W>>, Fault> {
+    match BufWriter::new(alloc, writer) {
+        Ok(writer) => Ok(OutputSink::new(writer)),
+        Err(_) => Err(Fault::NoMemory),
+    }
+}
+
+// The status of the program, once what the sink kept back has left it.
+fn run<R: Threads + Sync, S: Source, W: Write + Drop, E: Sink>(
+    rt: &R,
+    alloc: Global,
+    words: &Vec<String>,
+    source: &mut S,
+    out: &mut OutputSink<W>,
+    err: &mut E,
+) -> u8
+    ensures { result ≤ 1 → out.new.faults ≡ out.old.faults }
+{
+    let status = semi(rt, alloc, words, source, out, err, &Open);
+    match out.flush() {
+        // A greater status has been told already.
+        Err(fault) if status <= 1 => Fault::from(fault).tell(err),
+        _ => status,
+    }
+}
+
 fn main(rt: HostRuntime) -> ExitCode {
     let mut source = InputSource::new(rt.stdin());
-    let mut out = OutputSink::new(rt.stdout());
     let mut err = OutputSink::new(rt.stderr());
-    let status = match arguments(&rt) {
-        Ok(words) => semi(
-            &rt,
-            rt.alloc(),
-            &words,
-            &mut source,
-            &mut out,
-            &mut err,
-            &Open,
-        ),
-        Err(fault) => fault.tell(&mut err),
+    let status = match (arguments(&rt), buffered(rt.alloc(), rt.stdout())) {
+        (Ok(words), Ok(mut out)) => {
+            run(&rt, rt.alloc(), &words, &mut source, &mut out, &mut err)
+        }
+        (Err(fault), _) | (_, Err(fault)) => fault.tell(&mut err),
     };
     ExitCode::from(status)
 }

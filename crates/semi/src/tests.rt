@@ -2,10 +2,10 @@ ghost use Rattle.std.specs.Prelude.{◌≡◌, IfOk};
 
 use super::adapters::{InputSource, OutputSink};
 use super::top::semi;
-use ports::{Failed, Gate, MemSink, MemSource, Open, Sink, Source, WriteFault};
+use ports::{Failed, Gate, MemSink, MemSource, NoMemory, Open, Sink, Source, WriteFault};
 use std::alloc::Global;
 use std::io;
-use std::io::{ErrorKind, Read, Write};
+use std::io::{BufWriter, ErrorKind, Read, Write};
 use std::test::Fail;
 use std::thread::Threads;
 
@@ -659,6 +659,7 @@ impl Write for Broken {
     }
 
     fn flush(&mut self) -> io::Result<()> {
+        self.answer()?;
         Ok(())
     }
 }
@@ -684,5 +685,30 @@ fn adapters_pass_bytes_on(rt: HostRuntime) -> Result<(), Fail> {
     assert_eq!(rt; full.write(b"index"), Err(WriteFault::Failed));
     let mut closed = OutputSink::new(Broken { fails: true });
     assert_eq!(rt; closed.write(b"index"), Err(WriteFault::Failed));
+    Ok(())
+}
+
+// A sink over a stream, whose writer keeps back what it takes.
+fn buffered<W: Write + Drop>(
+    alloc: Global,
+    stream: W,
+) -> Result<OutputSink<BufWriter<W>>, NoMemory> {
+    match BufWriter::new(alloc, stream) {
+        Ok(writer) => Ok(OutputSink::new(writer)),
+        Err(_) => Err(NoMemory),
+    }
+}
+
+#[test]
+fn what_is_kept_back_is_passed_on(rt: HostRuntime) -> Result<(), Fail> {
+    let mut room = [0u8; 5];
+    let mut sink = buffered(rt.alloc(), room.as_mut_slice())?;
+    assert_eq!(rt; sink.write(b"index"), Ok(5));
+    assert_eq!(rt; sink.flush(), Ok(()));
+    drop(sink);
+    assert_eq!(rt; room, *b"index");
+    let mut closed = buffered(rt.alloc(), Broken { fails: true })?;
+    assert_eq!(rt; closed.write(b"index"), Ok(5));
+    assert_eq!(rt; closed.flush(), Err(WriteFault::Failed));
     Ok(())
 }
