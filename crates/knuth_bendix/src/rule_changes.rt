@@ -1,8 +1,6 @@
 // Adding a rule, and what it changes in the rules that are there.
-ghost use Rattle.std.specs.Prelude.{◌≡◌, ℕ, ◌<◌, [], ◌∷◌, ◌++◌, length, not, IfOk, OnOk};
-ghost use Rattle.theory.specs.Word.{IsFactor, Word as Letters};
+ghost use Rattle.std.specs.Prelude.{◌≡◌, ℕ, ◌<◌, length, IfOk, OnOk};
 ghost use Rattle.theory.specs.ShortLex.{◌≺◌};
-ghost use Rattle.theory.specs.Completion.{IsReduced, Listed};
 ghost use Rattle.knuth_bendix.specs.Changes.{AddsRule, IsDone, Joins, Rewrites};
 ghost use Rattle.knuth_bendix.specs.Overlaps.{rule_at};
 
