@@ -1,12 +1,14 @@
 -- What one turn of completion keeps: the rules and equations stay sound, and it comes nearer its end.
 use Rattle.std.proofs.Common.{◌≡◌, ◌≢◌, ℕ, suc, ◌+◌, ◌*◌, ◌<◌, ◌≤◌, true, not, List, [], ◌∷◌, ◌++◌, length, get_or, Contains, refl, sym, ◌∙◌, ap, subst, subst₂, arith, ◌⊎◌, inl, inr, append_assoc, append-nil, length-append}
 use Rattle.std.specs.List.{filter}
+use Rattle.std.specs.List.Sorted.{IsPermutation}
 use Rattle.std.proofs.Math.Seq.{get_or-append_seam}
 use Rattle.std.proofs.Math.Nat.{mul-le-mul_right, suc-mul}
 use Rattle.std.proofs.lemmas.Bool.{cases_Bool}
 use Rattle.std.proofs.lemmas.List.{map-append}
 use Rattle.std.proofs.lemmas.List.Elements.{All-contains, Contains-get_or, Contains-append_left, Contains-append_right, Contains-append_cases, Contains-push, Contains-push_cases}
 use Rattle.std.proofs.lemmas.List.Filters.{length-filter_both}
+use Rattle.std.proofs.lemmas.List.Sorted.{Contains-permutation, IsPermutation-sym, length_permutation}
 use Rattle.theory.specs.Word.{Word, IsFactor, IsElement}
 use Rattle.theory.specs.ShortLex.{◌≺◌}
 use Rattle.theory.specs.Congruence.{Presentation, EitherWay, AreElements}
@@ -59,8 +61,12 @@ module _ (old new : List (Word × Word)) (h : Rewrites old new) where
         subst (λ w. Linked (Listed new) (λ x. NoLater x w) w (rule_at new m.0).1) (ap (λ (r : Word × Word). r.1) at) (h.linked m.0 m.1),
       )
 
--- rules in whose left sides a word stands have become equations
+-- rules in whose left sides a word stands have come to the equations
 module _ (left : Word) (rules kept old new : List (Word × Word)) (h : SetsAside left rules kept old new) where
+  -- the rules that are equations now
+  abbrev aside : List (Word × Word)
+  aside = filter (λ r. stands_in left r.0) rules
+
   kept_rule : (f g : Word) → Listed kept f g → Listed rules f g × (IsFactor left f → ⊥)
   kept_rule f g m =
       let among = filter_in (λ (r : Word × Word). not (stands_in left r.0)) rules (f, g)
@@ -76,9 +82,8 @@ module _ (left : Word) (rules kept old new : List (Word × Word)) (h : SetsAside
       elim (cases_Bool (stands_in left f)) [
         | inl e ↦
             let at = stands_at left f e in
-            let moved = filter (λ (r : Word × Word). stands_in left r.0) rules in
-            let there = contains_from_in (f, g) moved (in_filter (λ r. stands_in left r.0) rules (f, g) among e) in inr (
-              subst (λ xs. Contains xs (f, g)) (sym h.new_is) (Contains-append_right old moved (f, g) there),
+            let there = contains_from_in (f, g) aside (in_filter (λ r. stands_in left r.0) rules (f, g) among e) in inr (
+              Contains-permutation (old ++ aside) new (f, g) h.moved (Contains-append_right old aside (f, g) there),
               record { before = at.0; after = at.1; is = at.2 },
             )
         | inr e ↦
@@ -88,19 +93,19 @@ module _ (left : Word) (rules kept old new : List (Word × Word)) (h : SetsAside
       ]
 
   older : (f g : Word) → Listed old f g → Listed new f g
-  older f g m = subst (λ xs. Contains xs (f, g)) (sym h.new_is) (Contains-append_left old (filter (λ r. stands_in left r.0) rules) (f, g) m)
+  older f g m = Contains-permutation (old ++ aside) new (f, g) h.moved (Contains-append_left old aside (f, g) m)
 
   newer : (f g : Word) → Listed new f g → Listed old f g ⊎ Listed rules f g
-  newer f g m = elim (Contains-append_cases old (filter (λ r. stands_in left r.0) rules) (f, g) (subst (λ xs. Contains xs (f, g)) h.new_is m)) [
+  newer f g m = elim (Contains-append_cases old aside (f, g) (Contains-permutation new (old ++ aside) (f, g) (IsPermutation-sym (old ++ aside) new h.moved) m)) [
     | inl n ↦ inl n
-    | inr n ↦ inr (contains_from_in (f, g) rules (filter_in (λ (r : Word × Word). stands_in left r.0) rules (f, g) (in_from_contains (f, g) (filter (λ r. stands_in left r.0) rules) n)).0)
+    | inr n ↦ inr (contains_from_in (f, g) rules (filter_in (λ (r : Word × Word). stands_in left r.0) rules (f, g) (in_from_contains (f, g) aside n)).0)
   ]
 
   -- and none is both
   counted : length kept + length new ≡ length old + length rules
   counted =
       let both = length-filter_both (λ (r : Word × Word). stands_in left r.0) (λ r. not (stands_in left r.0)) (λ r. refl) rules in
-      omega (arith, both, ap length h.kept_is, ap length h.new_is, length-append old (filter (λ r. stands_in left r.0) rules))
+      omega (arith, both, ap length h.kept_is, length_permutation (old ++ aside) new h.moved, length-append old aside)
 
 -- both sides of rules that hold within a length fit
 within_short : (p : Presentation) (L : ℕ) (rules : List (Word × Word)) → ((f g : Word) → Listed rules f g → Within p L f g) → AreShort L rules
@@ -243,7 +248,9 @@ module _ (p : Presentation) (L : ℕ) (rules equations new_rules new_equations :
       omega (arith, fewer, sound.count, lefts_length pushed new_rules adds.rewrites.lefts, length-append adds.kept ((l, r) ∷ []), counted l rules adds.kept equations adds.between adds.aside, more)
     where
       more : length equations ≤ length adds.between
-      more = omega (arith, ap length adds.aside.new_is, length-append equations (filter (λ q. stands_in l q.0) rules))
+      more =
+          let gone = filter (λ (q : Word × Word). stands_in l q.0) rules in
+          omega (arith, length_permutation (equations ++ gone) adds.between adds.aside.moved, length-append equations gone)
 
   abbrev before : Word → Word → Type 0
   before = KnownBy rules ((u, v) ∷ equations)
@@ -401,6 +408,18 @@ sound_equations p L rules old new sound within covered = record {
       (sound.relations r s e left right);
   count = sound.count;
 }
+
+-- sound equations stay so in another order
+pub moved_sound : (p : Presentation) (L : ℕ) (rules old new : List (Word × Word)) → IsPermutation old new
+    → IsSound p L (record { rules = rules; equations = old }) → IsSound p L (record { rules = rules; equations = new })
+moved_sound p L rules old new moved sound =
+    sound_equations p L rules old new sound
+    (λ f g m. sound.within f g (inr (Contains-permutation new old (f, g) (IsPermutation-sym old new moved) m)))
+    (λ f g m. linked_pair (KnownBy rules new) (IsNoMore f g) f g (inl (inr refl)) (inr (inr refl)) (there f g m))
+  where
+    there : (f g : Word) → KnownBy rules old f g → KnownBy rules new f g
+    there f g (inl m) = inl m
+    there f g (inr m) = inr (Contains-permutation old new (f, g) moved m)
 
 module _ (p : Presentation) (L : ℕ) (rules equations : List (Word × Word)) (u v : Word) (sound : IsSound p L (record { rules = rules; equations = (u, v) ∷ equations })) where
   rest_within : (f g : Word) → Listed equations f g → Within p L f g

@@ -12,3 +12,4 @@ pub mod ShortRelations
 pub mod Turns
 pub mod SortedRules
 pub mod RuleChanges
+pub mod WaitingLaws

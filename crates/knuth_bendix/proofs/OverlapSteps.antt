@@ -1,11 +1,13 @@
 -- Joining overlaps, step by step.
 use Rattle.std.proofs.Common.{◌≡◌, ℕ, add-one, ◌+◌, ◌-◌, ◌*◌, ◌<◌, ◌≤◌, Bool, true, false, not, List, [], ◌∷◌, ◌++◌, length, take, drop, refl, sym, ◌∙◌, ap, ap₂, subst, subst₂, arith, inl, inr, eqb, length-append, IsTrue, MatchBool, ◌↔◌}
 use Rattle.std.specs.Cmp.Lexicographic.{pointwise}
+use Rattle.std.specs.List.Sorted.{IsPermutation}
 use Rattle.std.proofs.lemmas.Bool.Decides.{Decides-eqb}
 use Rattle.std.proofs.Math.Nat.{suc-mul}
 use Rattle.std.proofs.lemmas.Bool.{cases_lt}
 use Rattle.std.proofs.lemmas.List.{take_rest}
 use Rattle.std.proofs.lemmas.List.Elements.{All-get_or, Contains-append_left, Contains-push, Contains-push_cases}
+use Rattle.std.proofs.lemmas.List.Sorted.{Contains-permutation, IsPermutation-sym, length_permutation}
 use Rattle.std.proofs.lemmas.Slice.Eq.{slice_eq-Decides}
 use Rattle.theory.specs.Word.{Word}
 use Rattle.theory.specs.Completion.{Listed}
@@ -28,13 +30,16 @@ pub gains_none : (lengths : Lengths) (rules equations : List (Word × Word)) (mo
 gains_none lengths rules equations most = record { older = λ u v m. m; newer = λ u v m. inl m; few = omega arith }
 
 -- one more
-pub gains_one : (lengths : Lengths) (rules equations : List (Word × Word)) (l r : Word) → IsSplit lengths rules l r
-    → Gains lengths rules equations (equations ++ (l, r) ∷ []) 1
-gains_one lengths rules equations l r split =
+pub gains_one : (lengths : Lengths) (rules equations new : List (Word × Word)) (l r : Word) → IsSplit lengths rules l r
+    → IsPermutation (equations ++ (l, r) ∷ []) new → Gains lengths rules equations new 1
+gains_one lengths rules equations new l r split moved =
     record {
-      older = λ u v m. Contains-append_left equations ((l, r) ∷ []) (u, v) m;
-      newer = λ u v m. elim (Contains-push_cases equations (l, r) (u, v) m) [ inl n ↦ inl n | inr e ↦ inr (is u v e) ];
-      few = omega (arith, length-append equations ((l, r) ∷ []));
+      older = λ u v m.
+          Contains-permutation (equations ++ (l, r) ∷ []) new (u, v) moved (Contains-append_left equations ((l, r) ∷ []) (u, v) m);
+      newer = λ u v m.
+          let before = Contains-permutation new (equations ++ (l, r) ∷ []) (u, v) (IsPermutation-sym (equations ++ (l, r) ∷ []) new moved) m in
+          elim (Contains-push_cases equations (l, r) (u, v) before) [ inl n ↦ inl n | inr e ↦ inr (is u v e) ];
+      few = omega (arith, length_permutation (equations ++ (l, r) ∷ []) new moved, length-append equations ((l, r) ∷ []));
     }
   where
     is : (u v : Word) → ◌≡◌ {A = Word × Word} (l, r) (u, v) → IsSplit lengths rules u v
@@ -90,16 +95,16 @@ split_at lengths rules first second shared left right f s o to differ =
       };
     }
 
-pub joined_by_one : (rules equations : List (Word × Word)) (first second shared : ℕ) (left right : Word)
-    → ReducesTo rules first second shared left right
-    → IsJoinedBy rules (equations ++ (left, right) ∷ []) (critical_pair (rule_at rules first) (rule_at rules second) shared).0 (critical_pair (rule_at rules first) (rule_at rules second) shared).1
-joined_by_one rules equations first second shared left right to =
+pub joined_by_one : (rules equations new : List (Word × Word)) (first second shared : ℕ) (left right : Word)
+    → ReducesTo rules first second shared left right → IsPermutation (equations ++ (left, right) ∷ []) new
+    → IsJoinedBy rules new (critical_pair (rule_at rules first) (rule_at rules second) shared).0 (critical_pair (rule_at rules first) (rule_at rules second) shared).1
+joined_by_one rules equations new first second shared left right to moved =
     record {
       left = left;
       right = right;
       down_left = to.down_left;
       down_right = to.down_right;
-      met = inr (Contains-push equations (left, right));
+      met = inr (Contains-permutation (equations ++ (left, right) ∷ []) new (left, right) moved (Contains-push equations (left, right)));
     }
 
 pub joined_at_once : (rules equations : List (Word × Word)) (first second shared : ℕ) (left right : Word)
@@ -129,7 +134,7 @@ different_tested u v u' v' r eu ev e =
 -- what pushing the words of an overlap does to the equations
 pub record Pushes (old new : List (Word × Word)) (left right : Word) : Type 0 where
   pub same : left ≡ right → new ≡ old
-  pub different : (left ≡ right → ⊥) → new ≡ old ++ (left, right) ∷ []
+  pub different : (left ≡ right → ⊥) → IsPermutation (old ++ (left, right) ∷ []) new
 
 pub overlap_gains : (rules old new : List (Word × Word)) (first second shared : ℕ) (left right : Word)
     → first < length rules → second < length rules → ReducesTo rules first second shared left right → Pushes old new left right
@@ -137,8 +142,7 @@ pub overlap_gains : (rules old new : List (Word × Word)) (first second shared :
 overlap_gains rules old new first second shared left right f s to h lengths o = elim (word_decides left right) [
   | inl e ↦ subst (λ (es : List (Word × Word)). Gains lengths rules old es 1) (sym (h.same e)) (gains_none lengths rules old 1)
   | inr n ↦
-      subst (λ (es : List (Word × Word)). Gains lengths rules old es 1) (sym (h.different n))
-      (gains_one lengths rules old left right (split_at lengths rules first second shared left right f s o to n))
+      gains_one lengths rules old new left right (split_at lengths rules first second shared left right f s o to n) (h.different n)
 ]
 
 pub overlap_joined : (rules old new : List (Word × Word)) (first second shared : ℕ) (left right : Word)
@@ -146,9 +150,7 @@ pub overlap_joined : (rules old new : List (Word × Word)) (first second shared 
     → IsJoinedBy rules new (critical_pair (rule_at rules first) (rule_at rules second) shared).0 (critical_pair (rule_at rules first) (rule_at rules second) shared).1
 overlap_joined rules old new first second shared left right to h = elim (word_decides left right) [
   | inl e ↦ joined_at_once rules new first second shared left right to e
-  | inr n ↦
-      subst (λ (es : List (Word × Word)). IsJoinedBy rules es (critical_pair (rule_at rules first) (rule_at rules second) shared).0 (critical_pair (rule_at rules first) (rule_at rules second) shared).1)
-      (sym (h.different n)) (joined_by_one rules old first second shared left right to)
+  | inr n ↦ joined_by_one rules old new first second shared left right to (h.different n)
 ]
 
 -- the overlaps of two rules that share fewer letters are joined

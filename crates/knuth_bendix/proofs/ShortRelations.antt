@@ -1,7 +1,9 @@
 -- Relations whose sides are within a bound.
 use Rattle.std.proofs.Common.{◌≡◌, ℕ, add-one, ◌+◌, ◌<◌, ◌≤◌, Bool, true, false, List, [], ◌∷◌, ◌++◌, length, take, get_or, sym, ◌∙◌, ap, subst, subst₂, ◌⊎◌, inl, inr, IsTrue, ◌↔◌}
+use Rattle.std.specs.List.Sorted.{IsPermutation}
 use Rattle.std.proofs.Math.Seq.{take-suc}
 use Rattle.std.proofs.lemmas.List.Elements.{Contains-append_left, Contains-push, Contains-push_cases}
+use Rattle.std.proofs.lemmas.List.Sorted.{Contains-permutation, IsPermutation-sym}
 use Rattle.theory.specs.Word.{Word}
 use Rattle.theory.specs.Completion.{Listed}
 use Rattle.knuth_bendix.specs.Runs.{AreShortRelations}
@@ -33,17 +35,27 @@ long_more L relations equations q long h =
       are = λ r s m. let are = h.are r s m in (Contains-append_left relations (q ∷ []) (r, s) are.0, are.1, are.2);
     }
 
+-- the order of the equations does not count
+short_moved : (L : ℕ) (relations old new : List (Word × Word)) → IsPermutation old new → AreShortRelations L relations old
+    → AreShortRelations L relations new
+short_moved L relations old new moved h =
+    record {
+      all = λ r s m left right. Contains-permutation old new (r, s) moved (h.all r s m left right);
+      are = λ r s m. h.are r s (Contains-permutation new old (r, s) (IsPermutation-sym old new moved) m);
+    }
+
 -- the relation at a place, by whether it is short
 pub short_step : (L : ℕ) (relations equations newer : List (Word × Word)) (place : ℕ) (q : Word × Word) (short : Bool)
     → place < length relations → q ≡ get_or relations place q → IsTrue short ↔ ((length q.0 ≤ L) × (length q.1 ≤ L))
-    → ((short ≡ true) × (newer ≡ equations ++ q ∷ [])) ⊎ ((short ≡ false) × (newer ≡ equations))
+    → ((short ≡ true) × IsPermutation (equations ++ q ∷ []) newer) ⊎ ((short ≡ false) × (newer ≡ equations))
     → AreShortRelations L (take place relations) equations → AreShortRelations L (take (place + 1) relations) newer
 short_step L relations equations newer place q short within read is then h =
     let more : take (place + 1) relations ≡ take place relations ++ q ∷ [] =
     rw add-one (take-suc relations place q within ∙ ap (λ (p : Word × Word). take place relations ++ p ∷ []) (sym read)) in
     elim then [
-      | inl t ↦ subst₂ (λ (rs es : List (Word × Word)). AreShortRelations L rs es) (sym more) (sym t.1)
-          (short_more L (take place relations) equations q (is.0 t.0) h)
+      | inl t ↦ subst (λ (rs : List (Word × Word)). AreShortRelations L rs newer) (sym more)
+          (short_moved L (take place relations ++ q ∷ []) (equations ++ q ∷ []) newer t.1
+          (short_more L (take place relations) equations q (is.0 t.0) h))
       | inr f ↦ subst₂ (λ (rs es : List (Word × Word)). AreShortRelations L rs es) (sym more) (sym f.1)
           (long_more L (take place relations) equations q (λ b. differ (is.1 b) f.0) h)
     ]

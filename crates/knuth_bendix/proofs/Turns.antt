@@ -1,6 +1,8 @@
 -- Turns of a completion.
-use Rattle.std.proofs.Common.{◌≡◌, ℕ, ◌<◌, ◌≤◌, Bool, true, false, List, [], ◌∷◌, length, cond, refl, sym, subst, arith, inl, inr, IfOk, MatchBool, MatchResult, Result, Ok, Err}
+use Rattle.std.proofs.Common.{◌≡◌, ℕ, ◌+◌, ◌*◌, ◌<◌, ◌≤◌, Bool, true, false, List, [], ◌∷◌, length, cond, refl, sym, subst, arith, inl, inr, IfOk, MatchBool, MatchResult, Result, Ok, Err}
 use Rattle.std.specs.List.{All}
+use Rattle.std.specs.List.Sorted.{IsPermutation}
+use Rattle.std.proofs.lemmas.List.Sorted.{length_permutation}
 use Rattle.theory.specs.Word.{Word}
 use Rattle.theory.specs.Congruence.{Presentation, AreElements}
 use Rattle.theory.specs.Completion.{CompletionEnds}
@@ -10,11 +12,12 @@ use Rattle.knuth_bendix.specs.Held.{IsSound}
 use Rattle.knuth_bendix.specs.declared.lengths.Lengths.TheVariants.{Beyond}
 use Rattle.knuth_bendix.specs.Overlaps.{AreJoined, AreShort, IsSplit, rule_at}
 use Rattle.knuth_bendix.specs.Changes.{Joins}
-use Rattle.knuth_bendix.specs.Runs.{AreShortRelations, IsCompletion, IsRun, IsTurn, left_of}
+use Rattle.knuth_bendix.specs.Remaining.{still_reduced}
+use Rattle.knuth_bendix.specs.Runs.{AreShortRelations, IsCompletion, IsRun, IsTurn, growth, left_of}
 use Rattle.knuth_bendix.proofs.BoundedConfluence.{short_overlaps}
 use Rattle.knuth_bendix.proofs.Endings.{decided_by_overlaps}
 use Rattle.knuth_bendix.proofs.JoinedOverlaps.{joined_overlaps, split_spent}
-use Rattle.knuth_bendix.proofs.AddedRules.{joins_nearer, joins_sound, sound_linked_up, sound_rules, sound_short, start_sound}
+use Rattle.knuth_bendix.proofs.AddedRules.{joins_nearer, joins_sound, moved_sound, sound_linked_up, sound_rules, sound_short, start_sound}
 
 module _ (p : Presentation) (L : ℕ) (rules : List (Word × Word)) (sound : IsSound p L (record { rules = rules; equations = [] })) where
   -- the last test
@@ -63,14 +66,15 @@ going_on p L rules equations sound =
 
 -- a turn that joins an equation
 pub join_turn : (p : Presentation) (L : ℕ) (rules old new_rules new_equations equations : List (Word × Word)) (q : Word × Word)
-    → IsSound p L (record { rules = rules; equations = old }) → old ≡ q ∷ equations → Joins L q.0 q.1 rules equations new_rules new_equations
+    → IsSound p L (record { rules = rules; equations = old }) → IsPermutation old (q ∷ equations) → Joins L q.0 q.1 rules equations new_rules new_equations
     → IsTurn p L rules old new_rules new_equations More
-join_turn p L rules old new_rules new_equations equations q sound is joins =
+join_turn p L rules old new_rules new_equations equations q sound moved joins =
     let held : IsSound p L (record { rules = rules; equations = (q.0, q.1) ∷ equations }) =
-    subst (λ (es : List (Word × Word)). IsSound p L (record { rules = rules; equations = es })) is sound in
+    moved_sound p L rules old (q ∷ equations) moved sound in
     record {
       more = λ _.
-          subst (λ (es : List (Word × Word)). left_of p L new_rules new_equations < left_of p L rules es) (sym is)
+          subst (λ (n : ℕ). left_of p L new_rules new_equations < still_reduced p.letters L rules * growth p.letters L + n)
+          (length_permutation old (q ∷ equations) moved)
           (joins_nearer p L rules equations new_rules new_equations q.0 q.1 held joins);
       run = going_on p L new_rules new_equations (joins_sound p L rules equations new_rules new_equations q.0 q.1 held joins);
     }

@@ -1,6 +1,7 @@
 -- How rules and equations change when a rule is added.
 use Rattle.std.specs.Prelude.{◌≡◌, ℕ, ◌+◌, ◌<◌, ◌⊎◌, ◌*◌, List, [], ◌∷◌, ◌++◌, length, not}
 use Rattle.std.specs.List.{filter}
+use Rattle.std.specs.List.Sorted.{IsPermutation}
 use Rattle.theory.specs.Word.{Word, IsFactor}
 use Rattle.theory.specs.Congruence.{Presentation}
 use Rattle.theory.specs.Completion.{IsReduced, Listed, Reduces, Within}
@@ -11,10 +12,10 @@ use Rattle.reduced_automaton.specs.Rules.{AreFalling, stands_in}
 use Rattle.knuth_bendix.specs.declared.lengths.Lengths.TheVariants.{UpTo}
 use Rattle.knuth_bendix.specs.Overlaps.{AreJoined, AreShort, Gains, rule_at}
 
--- the rules in whose left sides the word stands have become equations, and the others are kept
+-- the rules in whose left sides the word stands have come to the equations, and the others are kept
 pub record SetsAside (left : Word) (rules kept old new : List (Word × Word)) : Type 0 where
   pub kept_is : kept ≡ filter (λ r. not (stands_in left r.0)) rules
-  pub new_is : new ≡ old ++ filter (λ r. stands_in left r.0) rules
+  pub moved : IsPermutation (old ++ filter (λ r. stands_in left r.0) rules) new
 
 -- right sides have been rewritten: each new one is linked to the old one by the new rules, through words no later than that
 pub record Rewrites (old new : List (Word × Word)) : Type 0 where

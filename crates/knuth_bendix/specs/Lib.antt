@@ -4,3 +4,4 @@ pub mod Held
 pub mod Overlaps
 pub mod Changes
 pub mod Runs
+pub mod Waiting

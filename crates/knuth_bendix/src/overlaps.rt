@@ -1,5 +1,6 @@
 // Overlaps of left sides, and the pairs of words to which they lead.
 ghost use Rattle.std.specs.Prelude.{◌≡◌, ℕ, ◌+◌, ◌-◌, ◌*◌, ◌<◌, ◌≤◌, [], ◌∷◌, ◌++◌, length, IfOk, OnOk, IsTrue, ◌↔◌};
+ghost use Rattle.std.specs.List.Sorted.{IsPermutation};
 ghost use Rattle.knuth_bendix.specs.Overlaps.{AreJoined, AreShort, Gains, HasLength, IsJoinedBy, IsOverlap, ReducesTo, critical_pair, overlaps_by, rule_at};
 
 use crate::equations::Equations;
@@ -77,11 +78,12 @@ fn reduced_pair(
     Ok((left, right))
 }
 
-// Puts the words to which an overlap leads at the end of the equations, where they differ.
+// Puts the words to which an overlap leads among the equations, where they differ.
 fn push_different(left: Word, right: Word, equations: &mut Equations) -> Result<(), NoMemory>
     ensures same { OnOk result (left ≡ right → equations.new ≡ equations.old) }
     ensures different { OnOk result
-        ((left ≡ right → ⊥) → equations.new ≡ equations.old ++ (left, right) ∷ []) }
+        ((left ≡ right → ⊥)
+        → IsPermutation (equations.old ++ (left, right) ∷ []) equations.new) }
 {
     if left.letters() != right.letters() {
         equations.push(left, right)?;

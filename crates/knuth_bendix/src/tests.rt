@@ -148,6 +148,18 @@ fn ends_once(rt: HostRuntime) -> Result<(), Fail> {
     Ok(())
 }
 
+// If the first relation were joined first, its rule would become an equation again when the other is joined.
+#[test]
+fn the_shortest_relation_is_joined_first(rt: HostRuntime) -> Result<(), Fail> {
+    let alloc = rt.alloc();
+    let trivial = presented(alloc, "a", true, &[("aaaa", ""), ("a", "")])?;
+    let mut completion = Completion::new(alloc, &trivial, 4)?;
+    assert_eq!(rt; completion.advance(), Progress::More);
+    assert_eq!(rt; completion.advance(), Progress::More);
+    assert_eq!(rt; completion.advance(), Progress::Decided);
+    Ok(())
+}
+
 #[test]
 fn a_long_relation_is_not_dropped(rt: HostRuntime) -> Result<(), Fail> {
     let alloc = rt.alloc();

@@ -1,4 +1,5 @@
-use Rattle.std.proofs.Common.{◌<◌, [], ◌∷◌, ◌++◌, length, ◌∙◌, ap₂, arith, inl, inr}
+use Rattle.std.proofs.Common.{◌<◌, List, [], ◌∷◌, ◌++◌, length, sym, ap₂, subst₂, arith, inl, inr}
+use Rattle.std.specs.List.Sorted.{IsPermutation}
 use Rattle.theory.specs.Word.{Word}
 use Rattle.knuth_bendix.proofs.ShortRelations.{short_step}
 use Rattle.knuth_bendix.proofs.completions.short_relations.Goals as goal
@@ -12,7 +13,7 @@ loop-place-preserved c =
     c.is_short.ensures
     (elim c.if-is_short.branch [
       | then-is_short+in_ok-copy+in_ok-copy-2+in_ok-push w ↦
-          inl (w.if-is_short.true, w.equations-is ∙ w.in_ok-push.ensures ∙ ap₂ (λ (a b : Word). c.loop-place.equations ++ (a, b) ∷ []) w.in_ok-copy.ensures w.in_ok-copy-2.ensures)
+          inl (w.if-is_short.true, subst₂ (λ (p : Word × Word) (es : List (Word × Word)). IsPermutation (c.loop-place.equations ++ p ∷ []) es) (ap₂ (λ (a b : Word). (a, b)) w.in_ok-copy.ensures w.in_ok-copy-2.ensures) (sym w.equations-is) w.in_ok-push.ensures)
       | else-is_short w ↦ inr (w.if-is_short.false, w.equations-is)
     ])
     c.loop-place.invariant

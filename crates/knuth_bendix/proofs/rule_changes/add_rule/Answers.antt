@@ -1,5 +1,6 @@
-use Rattle.std.proofs.Common.{◌≡◌, ◌-◌, ◌++◌, ◌∷◌, [], List, length, length-append, not, refl, ap, arith, ◌∙◌}
+use Rattle.std.proofs.Common.{◌≡◌, ◌-◌, ◌++◌, ◌∷◌, [], List, length, length-append, not, refl, ap, subst, arith}
 use Rattle.std.specs.List.{filter}
+use Rattle.std.specs.List.Sorted.{IsPermutation}
 use Rattle.theory.specs.Word.{Word}
 use Rattle.reduced_automaton.specs.Rules.{stands_in}
 use Rattle.knuth_bendix.proofs.RuleChanges.{adds_rule}
@@ -12,6 +13,6 @@ returns c =
     omega (arith, c.len-newest.ensures.len, ap length c.in_ok-rules.ensures.kept, length-append kept ((c.args.left, c.args.right) ∷ [])) in
     adds_rule c.args.length c.args.left c.args.right c.args.rules kept c.in_ok-rules.rules c.rewrite_rights.new.rules
     c.args.equations.now c.extend.new.self c.join_all.new.equations (c.len-newest.result - 1)
-    (record { kept_is = refl; new_is = c.in_ok-extend.ensures ∙ ap (λ (es : List (Word × Word)). c.args.equations.now ++ es) c.in_ok-rules.ensures.gone }) newest
+    (record { kept_is = refl; moved = subst (λ (es : List (Word × Word)). IsPermutation (c.args.equations.now ++ es) c.extend.new.self) c.in_ok-rules.ensures.gone c.in_ok-extend.ensures }) newest
     c.in_ok-rules.ensures.kept c.in_ok-rewrite_rights.ensures.rewrites c.in_ok-rewrite_rights.ensures.done c.in_ok-join_all.ensures.gains
     c.in_ok-join_all.ensures.joined
