@@ -28,7 +28,7 @@ struct Rise {
 fn nodes_along(alloc: Global, graph: &Table, word: &Word) -> Result<Vec<usize>, NoMemory>
     ensures { IfOk result (λ nodes. AreNodesAlong (edges graph.now) word.now nodes.items) }
 {
-    let mut nodes = Vec::new(alloc);
+    let mut nodes = Vec::with_capacity(alloc, word.len())?;
     let mut node = 0;
     for place in 0..word.len() {
         nodes.push(node)?;

@@ -34,6 +34,15 @@ impl Line {
         Ok(Line { bytes })
     }
 
+    /// A line that begins with a word. Only want of memory refuses it.
+    pub fn of_word(alloc: Global, alphabet: &Alphabet, word: &Word) -> Result<Line, NoMemory>
+        requires { IsOver (length alphabet.now) word.now }
+        ensures { IfOk result (λ line. line ≡ text_of alphabet.now word.now) }
+    {
+        let bytes = alphabet.print_word(alloc, word)?;
+        Ok(Line { bytes })
+    }
+
     /// Puts a text at the end. Only want of memory refuses it.
     pub fn text(&mut self, text: &[u8]) -> Result<(), NoMemory>
         ensures { OnOk result (self.new ≡ self.old ++ text.now) }

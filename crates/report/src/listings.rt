@@ -99,8 +99,7 @@ pub fn write_word<O: Sink>(
     ensures kept { O.faults sink.old ≤ O.faults sink.new }
     ensures quiet { OnOk result (O.faults sink.new ≡ O.faults sink.old) }
 {
-    let mut line = Line::starting(alloc, b"")?;
-    line.word(alloc, alphabet, word)?;
+    let line = Line::of_word(alloc, alphabet, word)?;
     line.write(sink)
 }
 
@@ -175,8 +174,7 @@ fn write_rule<O: Sink>(
     ensures kept { O.faults sink.old ≤ O.faults sink.new }
     ensures quiet { OnOk result (O.faults sink.new ≡ O.faults sink.old) }
 {
-    let mut line = Line::starting(alloc, b"")?;
-    line.word(alloc, alphabet, &rule.0)?;
+    let mut line = Line::of_word(alloc, alphabet, &rule.0)?;
     line.text(b" ")?;
     line.word(alloc, alphabet, &rule.1)?;
     line.write(sink)
