@@ -60,7 +60,7 @@ told id n w es s seen is all =
           let le = entries_le (is_won_by i) (has_number i) (λ x. by_number i x.number x.phase) s.views in
           let known : i < n = elim (lt_or i (total next_of s.views)) [ inl h ↦ omega arith | inr h ↦ let b = r.below i h in absurd (omega arith) ] in
           let mine = all i known in
-          let lane_view = r.apart i in
+          let lone = r.apart i in
           let a = apart (has_number i) in
           let b = apart (is_won_by i) in
           let c = entries_le (is_won_by i) (has_number i) (λ x. by_number i x.number x.phase) (set s.views id spent) in
@@ -105,7 +105,7 @@ module _ {A : Type 0} (kind : Ghosts A) where
     | inl s ↦ (omega arith, h)
     | inr n ↦
         let a = entry_at (else_won j) ls i _ at in
-        let lane_view : else_won j (entry k phase.Won) ≡ 1 = rw (ne_eqb k j n) refl in
+        let lone : else_won j (entry k phase.Won) ≡ 1 = rw (ne_eqb k j n) refl in
         let b = told.most j (omega arith) in
         let d = told.alone j (omega arith) in
         let s = split_won j (map entry_of ls) in absurd (omega arith)
@@ -164,7 +164,7 @@ module _ {A : Type 0} (kind : Ghosts A) where
       let count = pairwise_length HasEnded first ls each in
       let all : (i : ℕ) → i < n → 1 ≤ total (has_number i) (map entry_of ls) =
       λ i h. let l = there ls i (omega arith) in
-      let lane_view : has_number i (entry_of l.0) ≡ 1 = rw (eq-eqb l.0.number i (known i l.0 l.1).0) refl in
+      let lone : has_number i (entry_of l.0) ≡ 1 = rw (eq-eqb l.0.number i (known i l.0 l.1).0) refl in
       let a = entry_at (has_number i) ls i l.0 l.1 in omega arith in
       let t = told id n w (map entry_of ls) s seen is all in (
         t.small,

@@ -128,7 +128,7 @@ module _ {A : Type 0} (kind : Ghosts A) where
   not_running : (c : LaneState) (b : Bool) → b ≡ is_running c → b ≡ false → c ≢ Running
   not_running c b e f h = let k : is_running c ≡ true = rw h refl in absurd (cc)
 
-  -- the round after lane_view lane, where it ran and where it did not
+  -- the round after one lane, where it ran and where it did not
   pub pass_then : (z : TableId) (old now new : List (SeatedLane A)) (i : ℕ) (t u x : SeatedLane A) (ran b : Bool) → Pairwise (Runs z) old now × Passed ran i old now → i < length now → x ≡ slice_index_or now i x → t ≡ slice_index_or now i x
       → Runs z t u → one_left u < one_left t → new ≡ slice_set now i u → b ≡ true → Pairwise (Runs z) old new × Passed b (i + 1) old new
   pass_then z old now new i t u x ran b p within is same run less e f =

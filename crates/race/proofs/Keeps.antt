@@ -94,7 +94,7 @@ module _ {A : Type 0} (kind : Ghosts A) where
   word_moves n i t Spent = inl refl
   word_moves n i t Starved = inl refl
 
-  -- lane_view lane changes, to lane_view that fits the new word, which the others fit too
+  -- one lane changes, to one that fits the new word, which the others fit too
   one_changes : (s : RaceState A) (i m : ℕ) (f : Lane A → Lane A) → Good s
       → ((l : Lane A) → slice_get s.lanes i ≡ Some l → Fits m i (f l))
       → ((j : ℕ) (l : Lane A) → j ≢ i → slice_get s.lanes j ≡ Some l → Fits m j l)

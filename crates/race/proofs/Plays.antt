@@ -119,7 +119,7 @@ module _ {A : Type 0} (kind : Ghosts A) where
   turn_holds i said.Spent r s good may = held_event s (Advances i said.Spent r) good may
   turn_holds i said.NoMemory r s good may = held_event s (Advances i said.NoMemory r) good may
 
-  -- lane_view turn, from what the function `turn` says of the lane and of the word
+  -- one turn, from what the function `turn` says of the lane and of the word
   abbrev after_turn : ℕ → RaceState A → Lane A → ℕ → RaceState A
   after_turn i s m w = state_at w (slice_set s.lanes i m)
 
@@ -259,7 +259,7 @@ module _ {A : Type 0} (kind : Ghosts A) where
   abbrev pub Rounded : Bool → ℕ → List (Lane A) → List (Lane A) → Type 0
   Rounded ran i old now = MatchBool ran (weigh now < weigh old) ((now ≡ old) × ((j : ℕ) → j < i → EndedAt j old))
 
-  -- lane_view more turn of a round
+  -- one more turn of a round
   pub round_next : (ran moved : Bool) (i : ℕ) (old now new : List (Lane A)) → Rounded ran i old now → Nearer i now new moved → Rounded (if moved then true else ran) (i + 1) old new
   round_next true true i old now new a b = omega arith
   round_next false true i old now new a b = let e = ap weigh a.0 in omega arith

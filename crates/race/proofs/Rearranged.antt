@@ -1,4 +1,4 @@
--- Events of which each lane's own are whole turns leave the state that those turns leave lane_view after another.
+-- Events of which each lane's own are whole turns leave the state that those turns leave one after another.
 use Rattle.std.proofs.Common.{◌≡◌, ◌≢◌, ℕ, zero, suc, ◌==◌, ◌⊎◌, inl, inr, true, false, List, [], ◌∷◌, ◌++◌, refl, sym, ap, ◌∙◌, subst, eq-eqb, ne_eqb}
 use Rattle.std.specs.Prelude.{if◌then◌else◌}
 use mathlib.Core.Logic.{dite}
@@ -27,7 +27,7 @@ module _ {A : Type 0} where
   abbrev advance : Turn A → Event A
   advance q = Advances q.lane q.answer q.racer
 
-  -- an advance of lane_view lane and an event of another
+  -- an advance of one lane and an event of another
   swap : (s : RaceState A) (e : Event A) (q : Turn A) → lane_of e ≢ q.lane → happens (happens s (advance q)) e ≡ happens (happens s e) (advance q)
   swap s (Advances i p r) q n = ap (λ (ls : List (Lane A)). state_at s.word ls) (changed_swap s.lanes q.lane i (λ l. advanced l q.answer q.racer) (λ l. advanced l p r) (λ e. n (sym e)))
   swap s (Looks i) q n = ap (λ (ls : List (Lane A)). state_at s.word ls) (changed_swap s.lanes q.lane i (λ l. advanced l q.answer q.racer) (λ l. looks l s.word) (λ e. n (sym e)))
@@ -36,7 +36,7 @@ module _ {A : Type 0} where
       let c = changed_swap s.lanes q.lane i (λ l. advanced l q.answer q.racer) (λ l. publishes l s.word) (λ e. n (sym e)) in
       λ k. state_at (word_at (w k) i s.word) (c k)
 
-  -- the state with the advances of turns that are begun, the last lane_view first
+  -- the state with the advances of turns that are begun, the last one first
   abbrev mid : List (Turn A) → RaceState A → RaceState A
   mid [] t = t
   mid (q ∷ qs) t = happens (mid qs t) (advance q)

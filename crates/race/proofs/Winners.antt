@@ -30,7 +30,7 @@ module _ {X : Type 0} where
   total_le f g h [] = omega arith
   total_le f g h (x ∷ xs) = let a = h x in let b = total_le f g h xs in omega arith
 
-  -- what lane_view of them counts is counted
+  -- what one of them counts is counted
   pub at_least : (f : X → ℕ) (xs : List X) (k : ℕ) (x : X) → get_elem? xs k ≡ some x → f x ≤ total f xs
   at_least f [] k x e = absurd (some-ne-none x (sym e))
   at_least f (z ∷ xs) zero x e = let h = ap f (some-injective z x e) in omega arith

@@ -1,4 +1,4 @@
--- What lane_view turn of a racer may do.
+-- What one turn of a racer may do.
 use Rattle.race.specs.declared.engines.Racer.{Ghosts}
 use Rattle.std.specs.Prelude.{◌≡◌, ◌<◌}
 use Rattle.race.specs.declared.engines.Progress.{Progress}

@@ -1,4 +1,4 @@
--- Lanes that are dealt to groups, lane i to group i mod the number of groups, the last lane_view first.
+-- Lanes that are dealt to groups, lane i to group i mod the number of groups, the last one first.
 use Rattle.race.specs.declared.engines.Racer.{Ghosts}
 use Rattle.std.specs.Prelude.{◌≡◌, ◌≢◌, ℕ, ◌+◌, ◌%◌, ◌≤◌, List, [], ◌∷◌, ◌++◌, Some, slice_get, replicate, Vec, vec_len, vec_capacity, length}
 use Rattle.std.specs.declared.alloc.Global.{Global}

@@ -1,4 +1,4 @@
--- The race as a machine: lane_view word, lanes, and what happens to them.
+-- The race as a machine: one word, lanes, and what happens to them.
 use Rattle.race.specs.declared.engines.Racer.{Ghosts}
 use Rattle.std.specs.Prelude.{◌≡◌, ℕ, ◌+◌, ◌-◌, ◌==◌, Bool, true, false, if◌then◌else◌, Option, Some, None}
 use Rattle.race.specs.Answer.{MayAnswer}
@@ -89,7 +89,7 @@ module _ {A : Type 0} (kind : Ghosts A) where
   abbrev pub Begins : Lane A → Step → Lane A → Type 0
   Begins l step m = BeginsFrom l.state l step m
 
-  -- what lane_view turn makes of a lane and of the word. A running lane advances, and looks or publishes where it goes on or has decided
+  -- what one turn makes of a lane and of the word. A running lane advances, and looks or publishes where it goes on or has decided
   abbrev pub TurnsFrom : LaneState → ℕ → Lane A → ℕ → Lane A → ℕ → Type 0
   TurnsFrom Running i l n m w =
       (p : Progress) × (r : A) × MayAnswer kind l.racer p r × (m ≡ settled (advanced l p r) n)

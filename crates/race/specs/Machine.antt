@@ -51,7 +51,7 @@ module _ {A : Type 0} where
   run [] s = s
   run (e ∷ es) s = run es (happens s e)
 
-  -- the events of lane_view whole turn
+  -- the events of one whole turn
   abbrev pub turn_of : ℕ → Progress → A → List (Event A)
   turn_of i said.More r = Advances i said.More r ∷ Looks i ∷ []
   turn_of i said.Decided r = Advances i said.Decided r ∷ Publishes i ∷ []
@@ -86,7 +86,7 @@ numbers zero = []
 numbers (suc n) = numbers n ++ n ∷ []
 
 module _ {A : Type 0} (kind : Ghosts A) where
-  -- a racer that has decided, and so its condition holds; lane_view that is spent, and so it fails
+  -- a racer that has decided, and so its condition holds; one that is spent, and so it fails
   pub record IsDecided (r : A) : Type 0 where
     pub answered : kind.said r ≡ said.Decided
     pub holds : kind.condition (kind.task r)
@@ -115,7 +115,7 @@ module _ {A : Type 0} (kind : Ghosts A) where
     pub winner : (s.word ≡ 0) ⊎ ((i : ℕ) × (l : Lane A) × (s.word ≡ i + 1)
         × (slice_get s.lanes i ≡ Some l) × (l.state ≡ Won))
 
-  -- an advance is lane_view that the racer may make
+  -- an advance is one that the racer may make
   abbrev pub IsAllowed : RaceState A → Event A → Type 0
   IsAllowed s (Advances i p r) =
       (l : Lane A) → slice_get s.lanes i ≡ Some l → l.state ≡ Running → MayAnswer kind l.racer p r
@@ -135,7 +135,7 @@ module _ {A : Type 0} (kind : Ghosts A) where
   abbrev pub Turned : ℕ → RaceState A → RaceState A → Type 0
   Turned i s t = TurnAt (slice_get s.lanes i) i s t
 
-  -- turns of these lanes, lane_view after another
+  -- turns of these lanes, one after another
   abbrev pub Plays : List ℕ → RaceState A → RaceState A → Type 0
   Plays [] s t = t ≡ s
   Plays (i ∷ is) s t = (u : RaceState A) × Turned i s u × Plays is u t
@@ -159,7 +159,7 @@ module _ {A : Type 0} (kind : Ghosts A) where
   weight [] = 0
   weight (l ∷ ls) = weight_of l.state l.racer + weight ls
 
-  -- lanes that run, numbered by place; a step that lane_view was given is of its racer
+  -- lanes that run, numbered by place; a step that one was given is of its racer
   abbrev pub Starts : List (Lane A) → Type 0
   Starts ls = (i : ℕ) (l : Lane A) → slice_get ls i ≡ Some l → LaneFits 0 i l × (l.state ≡ Running)
 

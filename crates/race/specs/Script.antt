@@ -9,7 +9,7 @@ final_of [] = More
 final_of (p ∷ []) = p
 final_of (p ∷ q ∷ rest) = final_of (q ∷ rest)
 
--- More any number of times, or never, then lane_view other answer
+-- More any number of times, or never, then one other answer
 abbrev pub IsScript : List Progress → Type 0
 IsScript [] = ⊥
 IsScript (p ∷ []) = p ≢ More
@@ -25,7 +25,7 @@ pub record Scripting : Type 0 where
 abbrev pub scripting : List Progress → ℕ → Progress → Scripting
 scripting script count last = record { script = script; left = drop count script; last = last }
 
--- while it goes on it has a script left that ends as the whole lane_view does
+-- while it goes on it has a script left that ends as the whole one does
 abbrev pub IsScripting : Scripting → Type 0
 IsScripting s =
     (s.last ≡ More → IsScript s.left × (final_of s.left ≡ final_of s.script))

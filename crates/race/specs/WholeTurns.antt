@@ -1,4 +1,4 @@
--- Events of which each lane's own are whole turns, and those turns lane_view after another.
+-- Events of which each lane's own are whole turns, and those turns one after another.
 use Rattle.std.specs.Prelude.{ℕ, ◌==◌, if◌then◌else◌, List, [], ◌∷◌, ◌++◌}
 use Rattle.race.specs.Lanes.{step_of}
 use Rattle.race.specs.Machine.{Event, Advances, Looks, Publishes, turn_of}
@@ -23,7 +23,7 @@ module _ {A : Type 0} where
   own i [] = []
   own i (e ∷ es) = if lane_of e == i then e ∷ own i es else own i es
 
-  -- the events of lane_view lane, of whose turn this step is due, are the rest of that turn and then whole turns
+  -- the events of one lane, of whose turn this step is due, are the rest of that turn and then whole turns
   abbrev pub Finishes : Step → List (Event A) → Type 0
   Finishes Ended [] = Unit {0}
   Finishes Ended (Advances i p r ∷ es) = Finishes (step_of p) es
