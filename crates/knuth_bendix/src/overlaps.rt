@@ -131,8 +131,8 @@ pub fn join_overlaps(
     requires second { second < length rules.now }
     ensures gains { OnOk result (Gains lengths rules.now equations.old equations.new
         (length (rule_at rules.now first).0)) }
-    ensures joined { OnOk result (AreJoined lengths rules.now equations.new (rule_at rules.now first)
-        (rule_at rules.now second)) }
+    ensures joined { OnOk result (AreJoined lengths rules.now equations.new
+        (rule_at rules.now first) (rule_at rules.now second)) }
 {
     let shortest = rules.rule(first).0.len().min(rules.rule(second).0.len());
     for shared in 1..shortest {
