@@ -147,6 +147,7 @@ fn make_product<E: Element, L: Ledger>(
         → HasMoreValues (length generators.now.items) E.eq
         (value_by E.product generators.now.items unused) bound }
     ensures counted { steps.old ≤ steps.new }
+    ensures most { steps.new ≤ steps.old + 1 }
 {
     let made = multiply(alloc, &growth.elements[number], &generators[letter], steps)?;
     let tail = growth.tail_of_product(generators.len(), number, letter);
@@ -183,6 +184,7 @@ fn take_product<E: Element, L: Ledger>(
         → HasMoreValues (length generators.now.items) E.eq
         (value_by E.product generators.now.items unused) bound }
     ensures counted { steps.old ≤ steps.new }
+    ensures most { steps.new ≤ steps.old + 1 }
 {
     if let Some(product) = read_product(generators, growth, left, number, letter) {
         growth.right.push(product)?;
@@ -222,6 +224,7 @@ fn take_products<E: Element, L: Ledger>(
         → HasMoreValues (length generators.now.items) E.eq
         (value_by E.product generators.now.items unused) bound }
     ensures counted { steps.old ≤ steps.new }
+    ensures most { steps.new ≤ steps.old + length generators.now.items }
 {
     for letter in 0..generators.len() {
         if take_product(
@@ -273,6 +276,8 @@ fn take_level<E: Element, L: Ledger>(
         → HasMoreValues (length generators.now.items) E.eq
         (value_by E.product generators.now.items unused) bound }
     ensures counted { steps.old ≤ steps.new }
+    ensures most { steps.new + first * length generators.now.items
+        ≤ steps.old + last * length generators.now.items }
 {
     for number in first..last {
         if take_products(alloc, generators, bound, growth, left, number, steps)? {
@@ -286,7 +291,8 @@ impl FroidurePin {
     /// The table of the semigroup that the generators generate, or `Over` exactly where it has more
     /// elements than the bound. The generators are the letters, in their order. Each product that is
     /// multiplied out is one step: there are no more of them than elements and reduced rules
-    /// together. Only want of memory refuses a run.
+    /// together, and, however the run ends, no more than the bound times the generators. Only want
+    /// of memory refuses a run.
     pub fn run<E: Element, L: Ledger>(
         alloc: Global,
         generators: &Vec<E>,
@@ -314,6 +320,7 @@ impl FroidurePin {
             (value_by E.product generators.now.items unused)) rules
             → steps.new ≤ steps.old + (length table.elements + length rules) }
         ensures counted { steps.old ≤ steps.new }
+        ensures most { steps.new ≤ steps.old + bound * length generators.now.items }
     {
         let mut growth = Growth::new(alloc);
         if take_generators(alloc, generators, bound, &mut growth)? {

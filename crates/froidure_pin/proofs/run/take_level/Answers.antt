@@ -22,6 +22,7 @@ loop-number-preserved g c =
     record {
       few = c.in_ok-take_products.ensures.whole ok;
       counted = omega (arith, c.in_ok-take_products.ensures.counted, c.loop-number.invariant.counted);
+      most = omega (arith, c.in_ok-take_products.ensures.most, c.loop-number.invariant.most);
       low = omega (arith, c.loop-number.invariant.low);
       grown = λ unused. grown_row setting unused c.take_products.new.growth.elements.keys c.take_products.new.growth.factors.items c.take_products.new.growth.tails.items c.take_products.new.growth.right.items (c.loop-number.number + 1) (at unused).grown;
       lefts = λ unused. (at unused).left_numbers;
