@@ -6,7 +6,7 @@ use Rattle.theory.specs.Word.{Word, IsProperFactor}
 use Rattle.theory.specs.ShortLex.{◌≺◌}
 use Rattle.theory.specs.Class.{IsLeast, IsReducedRule}
 use Rattle.theory.proofs.Words.{before_irrefl}
-use Rattle.froidure_pin.specs.Found.{parent, entry, words_of, insert_factor}
+use Rattle.froidure_pin.specs.Found.{parent, entry, words_of, insert_beside, factor_of, no_factor, factor_at, tail_of, no_tail, tail_at}
 use Rattle.froidure_pin.specs.Growing.{AreCounted, AreLeftNumbers, ArePlaced, AreTails, GrowsTo, IsAt, IsGrown, IsLevel, ReachesShorter}
 use Rattle.froidure_pin.specs.Rules.{is_product}
 use Rattle.froidure_pin.proofs.Order.{equal_or_below}
@@ -18,52 +18,54 @@ use Rattle.froidure_pin.proofs.Reduced.{part_least, product_is, proper_cases}
 use Rattle.froidure_pin.proofs.Placing.{least_at, place_before, words_before}
 use Rattle.froidure_pin.proofs.Levels.{level_push, level_shorter, shorter_push}
 use Rattle.froidure_pin.proofs.Telling.{suffix, first, rest, inside, here, whole, product_word, rest_number, rest_within}
+use Rattle.froidure_pin.specs.declared.parts.Factor.{Factor}
+use Rattle.froidure_pin.specs.declared.parts.Tail.{Tail}
 
 -- one growth after another
-pub grows_on : {V : Type 0} {product : V → V → V} {equal : V → V → Bool} {generators : List V} {unused : V} {one two three : List (ℕ × ℕ)} {n m l number before between after : ℕ}
+pub grows_on : {V : Type 0} {product : V → V → V} {equal : V → V → Bool} {generators : List V} {unused : V} {one two three : List Factor} {n m l number before between after : ℕ}
     → GrowsTo product equal generators unused one two n m number before between → GrowsTo product equal generators unused two three m l number between after → GrowsTo product equal generators unused one three n l number before after
 grows_on p q = record {
   level = λ first last low high h. q.level first last low high (p.level first last low high h);
   counted = λ start h. q.counted start (p.counted start h);
 }
 
--- one pair more is placed
-pub placed_push : (k : ℕ) (factors : List (ℕ × ℕ)) (i a n : ℕ) → ArePlaced k factors n → n ≡ i * k + a → ArePlaced k (factors ++ (i, a) ∷ []) (n + 1)
+-- one factor more is placed
+pub placed_push : (k : ℕ) (factors : List Factor) (i a n : ℕ) → ArePlaced k factors n → n ≡ i * k + a → ArePlaced k (factors ++ factor_of i a ∷ []) (n + 1)
 placed_push k factors i a n placed is = record {
-  before = λ j h. elim (equal_or_below j (length factors) (omega (arith, length-append factors ((i, a) ∷ [])))) [
+  before = λ j h. elim (equal_or_below j (length factors) (omega (arith, length-append factors (factor_of i a ∷ [])))) [
     | inl e ↦
-        let last : get_or (factors ++ (i, a) ∷ []) j (0, 0) ≡ (i, a) = ap (λ m. get_or (factors ++ (i, a) ∷ []) m (0, 0)) e ∙ at_last factors (i, a) (0, 0) in
-        subst (λ (f : ℕ × ℕ). f.0 * k + f.1 < n + 1) (sym last) (omega (arith, is))
-    | inr less ↦ subst (λ (f : ℕ × ℕ). f.0 * k + f.1 < n + 1) (sym (get_front factors ((i, a) ∷ []) j (0, 0) less)) (omega (arith, placed.before j less))
+        let last : factor_at (factors ++ factor_of i a ∷ []) j ≡ factor_of i a = ap (λ m. factor_at (factors ++ factor_of i a ∷ []) m) e ∙ at_last factors (factor_of i a) no_factor in
+        subst (λ (f : Factor). f.prefix * k + f.last < n + 1) (sym last) (omega (arith, is))
+    | inr less ↦ subst (λ (f : Factor). f.prefix * k + f.last < n + 1) (sym (get_front factors (factor_of i a ∷ []) j no_factor less)) (omega (arith, placed.before j less))
   ];
 }
 
-pub placed_more : (k : ℕ) (factors : List (ℕ × ℕ)) (n m : ℕ) → ArePlaced k factors n → n ≤ m → ArePlaced k factors m
+pub placed_more : (k : ℕ) (factors : List Factor) (n m : ℕ) → ArePlaced k factors n → n ≤ m → ArePlaced k factors m
 placed_more k factors n m placed h = record { before = λ j l. omega (arith, placed.before j l) }
 
 parents_front : (words : List Word) (c : Word) (j : ℕ) → j ≤ length words → parent (words ++ c ∷ []) j ≡ parent words j
 parents_front words c j h = get_front ([] ∷ words) (c ∷ []) j [] (omega arith)
 
 -- one word more is split
-pub tails_push : (words : List Word) (tails : List (ℕ × ℕ)) (c : Word) (b s : ℕ) → AreTails words tails → s ≤ length words → c ≡ b ∷ parent words s → AreTails (words ++ c ∷ []) (tails ++ (b, s) ∷ [])
+pub tails_push : (words : List Word) (tails : List Tail) (c : Word) (b s : ℕ) → AreTails words tails → s ≤ length words → c ≡ b ∷ parent words s → AreTails (words ++ c ∷ []) (tails ++ tail_of b s ∷ [])
 tails_push words tails c b s split h is =
     let long = length-append words (c ∷ []) in
-    let more = length-append tails ((b, s) ∷ []) in
-    let last : (j : ℕ) → j ≡ length words → get_or (tails ++ (b, s) ∷ []) j (0, 0) ≡ (b, s) = λ j e. ap (λ m. get_or (tails ++ (b, s) ∷ []) m (0, 0)) (e ∙ sym split.count) ∙ at_last tails (b, s) (0, 0) in
-    let front : (j : ℕ) → j < length words → get_or (tails ++ (b, s) ∷ []) j (0, 0) ≡ get_or tails j (0, 0) = λ j l. get_front tails ((b, s) ∷ []) j (0, 0) (omega (arith, split.count)) in
+    let more = length-append tails (tail_of b s ∷ []) in
+    let last : (j : ℕ) → j ≡ length words → tail_at (tails ++ tail_of b s ∷ []) j ≡ tail_of b s = λ j e. ap (λ m. tail_at (tails ++ tail_of b s ∷ []) m) (e ∙ sym split.count) ∙ at_last tails (tail_of b s) no_tail in
+    let front : (j : ℕ) → j < length words → tail_at (tails ++ tail_of b s ∷ []) j ≡ tail_at tails j = λ j l. get_front tails (tail_of b s ∷ []) j no_tail (omega (arith, split.count)) in
     record {
       count = omega (arith, split.count);
       earlier = λ j l. elim (equal_or_below j (length words) (omega arith)) [
-        | inl e ↦ subst (λ (t : ℕ × ℕ). t.1 ≤ j) (sym (last j e)) (omega arith)
-        | inr less ↦ subst (λ (t : ℕ × ℕ). t.1 ≤ j) (sym (front j less)) (split.earlier j less)
+        | inl e ↦ subst (λ (t : Tail). t.suffix ≤ j) (sym (last j e)) (omega arith)
+        | inr less ↦ subst (λ (t : Tail). t.suffix ≤ j) (sym (front j less)) (split.earlier j less)
       ];
       whole = λ j l. elim (equal_or_below j (length words) (omega arith)) [
         | inl e ↦
             let at : get_or (words ++ c ∷ []) j [] ≡ c = ap (λ m. get_or (words ++ c ∷ []) m []) e ∙ at_last words c [] in
-            subst (λ (t : ℕ × ℕ). get_or (words ++ c ∷ []) j [] ≡ t.0 ∷ parent (words ++ c ∷ []) t.1) (sym (last j e)) (at ∙ is ∙ ap (λ u. b ∷ u) (sym (parents_front words c s h)))
+            subst (λ (t : Tail). get_or (words ++ c ∷ []) j [] ≡ t.first ∷ parent (words ++ c ∷ []) t.suffix) (sym (last j e)) (at ∙ is ∙ ap (λ u. b ∷ u) (sym (parents_front words c s h)))
         | inr less ↦
-            let t : ℕ × ℕ = get_or tails j (0, 0) in
-            subst (λ (t : ℕ × ℕ). get_or (words ++ c ∷ []) j [] ≡ t.0 ∷ parent (words ++ c ∷ []) t.1) (sym (front j less)) (get_front words (c ∷ []) j [] less ∙ split.whole j less ∙ ap (λ u. t.0 ∷ u) (sym (parents_front words c t.1 (omega (arith, split.earlier j less)))))
+            let t : Tail = tail_at tails j in
+            subst (λ (t : Tail). get_or (words ++ c ∷ []) j [] ≡ t.first ∷ parent (words ++ c ∷ []) t.suffix) (sym (front j less)) (get_front words (c ∷ []) j [] less ∙ split.whole j less ∙ ap (λ u. t.first ∷ u) (sym (parents_front words c t.suffix (omega (arith, split.earlier j less)))))
       ];
     }
 
@@ -124,15 +126,15 @@ module _ {V : Type 0} {shape : V → ℕ × ℕ} {product : V → V → V} {equa
   }
 
   -- the next row
-  pub grown_row : (elements : List V) (factors tails : List (ℕ × ℕ)) (right : List ℕ) (i : ℕ) → IsGrown product equal generators unused elements factors tails right i (length generators) → IsGrown product equal generators unused elements factors tails right (i + 1) 0
+  pub grown_row : (elements : List V) (factors : List Factor) (tails : List Tail) (right : List ℕ) (i : ℕ) → IsGrown product equal generators unused elements factors tails right i (length generators) → IsGrown product equal generators unused elements factors tails right (i + 1) 0
   grown_row elements factors tails right i g = record { known = g.known; placed = g.placed; split = g.split; found = found_row setting unused (words_of factors) elements right i g.found }
 
   -- how many elements there are
-  pub grown_count : (elements : List V) (factors tails : List (ℕ × ℕ)) (right : List ℕ) (i a : ℕ) → IsGrown product equal generators unused elements factors tails right i a → length (words_of factors) ≡ length elements
+  pub grown_count : (elements : List V) (factors : List Factor) (tails : List Tail) (right : List ℕ) (i a : ℕ) → IsGrown product equal generators unused elements factors tails right i a → length (words_of factors) ≡ length elements
   grown_count elements factors tails right i a g = values_length equal (Val setting unused) (words_of factors) elements g.found.values
 
   -- an element of a level is about to be multiplied
-  pub level_at : (elements : List V) (factors tails : List (ℕ × ℕ)) (right left : List ℕ) (first last number : ℕ) → IsGrown product equal generators unused elements factors tails right (number + 1) 0 → Left (words_of factors) left
+  pub level_at : (elements : List V) (factors : List Factor) (tails : List Tail) (right left : List ℕ) (first last number : ℕ) → IsGrown product equal generators unused elements factors tails right (number + 1) 0 → Left (words_of factors) left
       → length left ≡ (first + 1) * length generators → IsLevel (words_of factors) first last → first ≤ number → number < last → IsAt product equal generators unused elements factors tails right left number 0
   level_at elements factors tails right left first last number g lefts rows level low high =
       let fewer : (first + 1) * length generators ≤ (number + 1) * length generators = mul-le-mul_right (length generators) (omega arith) in
@@ -144,7 +146,7 @@ module _ {V : Type 0} {shape : V → ℕ × ℕ} {product : V → V → V} {equa
         shorter = subst (λ n. ReachesShorter (length generators) (words_of factors) n number) (sym rows) (level_shorter (length generators) (words_of factors) first last number low high level);
       }
 
-  module _ (elements : List V) (factors tails : List (ℕ × ℕ)) (right left : List ℕ) (number a : ℕ) (at : IsAt product equal generators unused elements factors tails right left number a) (letter : a < length generators) where
+  module _ (elements : List V) (factors : List Factor) (tails : List Tail) (right left : List ℕ) (number a : ℕ) (at : IsAt product equal generators unused elements factors tails right left number a) (letter : a < length generators) where
     abbrev k : ℕ
     k = length generators
 
@@ -234,7 +236,7 @@ module _ {V : Type 0} {shape : V → ℕ × ℕ} {product : V → V → V} {equa
         abbrev now : List ℕ
         now = right ++ position_or_len (equal p) elements ∷ []
 
-        abbrev pub Made : List V → List (ℕ × ℕ) → List (ℕ × ℕ) → Type 0
+        abbrev pub Made : List V → List Factor → List Tail → Type 0
         Made es fs ts = IsAt product equal generators unused es fs ts now left number (a + 1) × GrowsTo product equal generators unused factors fs (length right) (length now) number steps (steps + 1)
 
         one_more : length right + 1 ≡ length now
@@ -257,18 +259,18 @@ module _ {V : Type 0} {shape : V → ℕ × ℕ} {product : V → V → V} {equa
               },
             )
 
-        made_new : list_any (equal p) elements ≡ false → Made (elements ++ p ∷ []) (factors ++ (number + 1, a) ∷ []) (tails ++ (b, m + 1) ∷ [])
+        made_new : list_any (equal p) elements ≡ false → Made (elements ++ p ∷ []) (factors ++ factor_of (number + 1) a ∷ []) (tails ++ tail_of b (m + 1) ∷ [])
         made_new none =
             let f : Found setting unused (words ++ c ∷ []) (elements ++ p ∷ []) now (number + 1) (a + 1) = found_new setting unused words elements right (number + 1) a at.grown.found row_in p letter value none in
-            let pushed : words_of (factors ++ (number + 1, a) ∷ []) ≡ words ++ c ∷ [] = words_push [] factors (number + 1) a in
+            let pushed : words_of (factors ++ factor_of (number + 1) a ∷ []) ≡ words ++ c ∷ [] = words_push [] factors (number + 1) a in
             let at_next : parent words (m + 1) ≡ get_or words m [] = rw add-one refl in
             let split : c ≡ b ∷ parent words (m + 1) = product_word setting unused elements factors tails right left number a at letter ∙ ap (λ u. b ∷ u) (sym rest_is ∙ sym at_next) in (
               record {
                 within = omega (arith, at.within, length-append elements (p ∷ []));
                 grown = record {
                   known = factors_push k factors (number + 1) a at.grown.known (omega (arith, row_in, words_length factors)) letter;
-                  placed = subst (λ z. ArePlaced k (factors ++ (number + 1, a) ∷ []) z) one_more (placed_push k factors (number + 1) a (length right) at.grown.placed at.grown.found.count);
-                  split = subst (λ ws. AreTails ws (tails ++ (b, m + 1) ∷ [])) (sym pushed) (tails_push words tails c b (m + 1) at.grown.split (omega (arith, rest_in)) split);
+                  placed = subst (λ z. ArePlaced k (factors ++ factor_of (number + 1) a ∷ []) z) one_more (placed_push k factors (number + 1) a (length right) at.grown.placed at.grown.found.count);
+                  split = subst (λ ws. AreTails ws (tails ++ tail_of b (m + 1) ∷ [])) (sym pushed) (tails_push words tails c b (m + 1) at.grown.split (omega (arith, rest_in)) split);
                   found = subst (λ ws. Found setting unused ws (elements ++ p ∷ []) now (number + 1) (a + 1)) (sym pushed) f;
                 };
                 left_numbers = subst (λ ws. Left ws left) (sym pushed) (left_push words c left at.left_numbers (λ j d h l. omega (arith, row_in, row_within k j (number + 1) 0 d (omega arith) (omega (arith, at.few, l)))));
@@ -277,13 +279,13 @@ module _ {V : Type 0} {shape : V → ℕ × ℕ} {product : V → V → V} {equa
               },
               record {
                 level = λ f l low high level. subst (λ ws. IsLevel ws f l) (sym pushed) (level_push words c number f l low high longer level);
-                counted = λ start counted. subst (λ z. Counted (words_of (factors ++ (number + 1, a) ∷ [])) z start (steps + 1)) one_more (subst (λ ws. Counted ws (length right + 1) start (steps + 1)) (sym pushed) (counted_word words c (length right) start steps counted));
+                counted = λ start counted. subst (λ z. Counted (words_of (factors ++ factor_of (number + 1) a ∷ [])) z start (steps + 1)) one_more (subst (λ ws. Counted ws (length right + 1) start (steps + 1)) (sym pushed) (counted_word words c (length right) start steps counted));
               },
             )
 
-        pub made : Made (insert_key equal elements p) (insert_factor equal elements factors p (number + 1) a) (insert_factor equal elements tails p b (m + 1))
+        pub made : Made (insert_key equal elements p) (insert_beside equal elements factors p (factor_of (number + 1) a)) (insert_beside equal elements tails p (tail_of b (m + 1)))
         made = by (list_any (equal p) elements) refl
           where
-            by : (x : Bool) → list_any (equal p) elements ≡ x → Made (insert_key equal elements p) (insert_factor equal elements factors p (number + 1) a) (insert_factor equal elements tails p b (m + 1))
-            by true e = subst (λ x. Made (if x then elements else elements ++ p ∷ []) (if x then factors else factors ++ (number + 1, a) ∷ []) (if x then tails else tails ++ (b, m + 1) ∷ [])) (sym e) (made_old e)
-            by false e = subst (λ x. Made (if x then elements else elements ++ p ∷ []) (if x then factors else factors ++ (number + 1, a) ∷ []) (if x then tails else tails ++ (b, m + 1) ∷ [])) (sym e) (made_new e)
+            by : (x : Bool) → list_any (equal p) elements ≡ x → Made (insert_key equal elements p) (insert_beside equal elements factors p (factor_of (number + 1) a)) (insert_beside equal elements tails p (tail_of b (m + 1)))
+            by true e = subst (λ x. Made (if x then elements else elements ++ p ∷ []) (if x then factors else factors ++ factor_of (number + 1) a ∷ []) (if x then tails else tails ++ tail_of b (m + 1) ∷ [])) (sym e) (made_old e)
+            by false e = subst (λ x. Made (if x then elements else elements ++ p ∷ []) (if x then factors else factors ++ factor_of (number + 1) a ∷ []) (if x then tails else tails ++ tail_of b (m + 1) ∷ [])) (sym e) (made_new e)

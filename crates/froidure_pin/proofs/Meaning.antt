@@ -10,19 +10,20 @@ use Rattle.froidure_pin.proofs.Places.{row_below}
 use Rattle.froidure_pin.proofs.Factors.{words_length}
 use Rattle.froidure_pin.proofs.Starts.{start_ascending, start_has, ascending_between, in_at, values_length}
 use Rattle.froidure_pin.proofs.Search.{IsSetting, R, Number, Val, Found, r_sym, r_trans, r_right}
+use Rattle.froidure_pin.specs.declared.parts.Factor.{Factor}
 
 module _ {V : Type 0} {shape : V → ℕ × ℕ} {product : V → V → V} {equal : V → V → Bool} {generators : List V} (setting : IsSetting shape product equal generators) (unused : V) where
-  row_count : (factors : List (ℕ × ℕ)) (elements : List V) (right : List ℕ) (i : ℕ) → Found setting unused (words_of factors) elements right i 0 → length elements < i → i ≤ length elements + 1 → i ≡ length factors + 1
+  row_count : (factors : List Factor) (elements : List V) (right : List ℕ) (i : ℕ) → Found setting unused (words_of factors) elements right i 0 → length elements < i → i ≤ length elements + 1 → i ≡ length factors + 1
   row_count factors elements right i f end reached = omega (arith, words_length factors, values_length equal (Val setting unused) (words_of factors) elements f.values)
 
   -- once every row is full
-  full_rows : (factors : List (ℕ × ℕ)) (elements : List V) (right : List ℕ) (i : ℕ) → Found setting unused (words_of factors) elements right i 0 → length elements < i → i ≤ length elements + 1
+  full_rows : (factors : List Factor) (elements : List V) (right : List ℕ) (i : ℕ) → Found setting unused (words_of factors) elements right i 0 → length elements < i → i ≤ length elements + 1
       → length right ≡ (length factors + 1) * length generators
   full_rows factors elements right i f end reached =
       let rows : i * length generators ≡ (length factors + 1) * length generators = ap (λ n. n * length generators) (row_count factors elements right i f end reached) in
       omega (arith, f.count, rows)
 
-  right_rows : (factors : List (ℕ × ℕ)) (elements : List V) (right : List ℕ) (i : ℕ) → 0 < length generators → Found setting unused (words_of factors) elements right i 0 → length elements < i → i ≤ length elements + 1
+  right_rows : (factors : List Factor) (elements : List V) (right : List ℕ) (i : ℕ) → 0 < length generators → Found setting unused (words_of factors) elements right i 0 → length elements < i → i ≤ length elements + 1
       → AreRows (length generators) (length factors) right
   right_rows factors elements right i some f end reached = record {
     count = full_rows factors elements right i f end reached;
@@ -34,7 +35,7 @@ module _ {V : Type 0} {shape : V → ℕ × ℕ} {product : V → V → V} {equa
         subst (λ q. get_or right q 0 < length factors) place (omega (arith, number.0, words_length factors));
   }
 
-  module _ (factors : List (ℕ × ℕ)) (elements : List V) (right left : List ℕ) (i : ℕ) (lefts : AreLeftNumbers product equal generators unused (words_of factors) left) (rows : length left ≡ (length factors + 1) * length generators)
+  module _ (factors : List Factor) (elements : List V) (right left : List ℕ) (i : ℕ) (lefts : AreLeftNumbers product equal generators unused (words_of factors) left) (rows : length left ≡ (length factors + 1) * length generators)
       (f : Found setting unused (words_of factors) elements right i 0) (full : length right ≡ (length factors + 1) * length generators) where
     abbrev k : ℕ
     k = length generators
@@ -95,14 +96,14 @@ module _ {V : Type 0} {shape : V → ℕ × ℕ} {product : V → V → V} {equa
     }
 
   -- the table at the end
-  pub numbering_as : (factors : List (ℕ × ℕ)) (elements : List V) (right left : List ℕ) (i letters : ℕ) → letters ≡ length generators → AreLeftNumbers product equal generators unused (words_of factors) left → length left ≡ i * length generators
+  pub numbering_as : (factors : List Factor) (elements : List V) (right left : List ℕ) (i letters : ℕ) → letters ≡ length generators → AreLeftNumbers product equal generators unused (words_of factors) left → length left ≡ i * length generators
       → Found setting unused (words_of factors) elements right i 0 → length elements < i → i ≤ length elements + 1
       → IsNumbering product equal generators unused (record { elements = elements; words = words_of factors; letters = letters; right = right; left = left })
   numbering_as factors elements right left i letters same lefts rows f end reached =
       subst (λ n. IsNumbering product equal generators unused (record { elements = elements; words = words_of factors; letters = n; right = right; left = left })) (sym same)
       (numbering factors elements right left i lefts (subst (λ n. length left ≡ n * length generators) (row_count factors elements right i f end reached) rows) f (full_rows factors elements right i f end reached))
 
-  left_rows : (factors : List (ℕ × ℕ)) (left : List ℕ) → 0 < length generators → AreLeftNumbers product equal generators unused (words_of factors) left → length left ≡ (length factors + 1) * length generators → AreRows (length generators) (length factors) left
+  left_rows : (factors : List Factor) (left : List ℕ) → 0 < length generators → AreLeftNumbers product equal generators unused (words_of factors) left → length left ≡ (length factors + 1) * length generators → AreRows (length generators) (length factors) left
   left_rows factors left some lefts rows = record {
     count = rows;
     within = λ p h.
@@ -113,7 +114,7 @@ module _ {V : Type 0} {shape : V → ℕ × ℕ} {product : V → V → V} {equa
   }
 
   -- and what its parts have in common
-  pub parts : (factors : List (ℕ × ℕ)) (elements : List V) (right left : List ℕ) (i letters : ℕ) → letters ≡ length generators → length generators ≤ 256 → 0 < length generators → AreFactors (length generators) factors
+  pub parts : (factors : List Factor) (elements : List V) (right left : List ℕ) (i letters : ℕ) → letters ≡ length generators → length generators ≤ 256 → 0 < length generators → AreFactors (length generators) factors
       → AreLeftNumbers product equal generators unused (words_of factors) left → length left ≡ i * length generators → Found setting unused (words_of factors) elements right i 0 → length elements < i → i ≤ length elements + 1
       → AreParts letters (length elements) factors right left
   parts factors elements right left i letters same few some known lefts rows f end reached =

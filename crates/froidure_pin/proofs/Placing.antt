@@ -5,7 +5,7 @@ use Rattle.theory.specs.ShortLex.{◌≺◌}
 use Rattle.theory.specs.Listing.{IsAscending, IsStartOf}
 use Rattle.theory.specs.Class.{IsLeast}
 use Rattle.theory.proofs.Words.{before_irrefl, before_trans, before_append_left}
-use Rattle.froidure_pin.specs.Found.{AreFactors, parent, words_of}
+use Rattle.froidure_pin.specs.Found.{AreFactors, parent, words_of, factor_at}
 use Rattle.froidure_pin.specs.Growing.{ArePlaced}
 use Rattle.froidure_pin.proofs.Order.{snoc_before, ahead, letter_before, below_or_not, equal_or_below}
 use Rattle.froidure_pin.proofs.Places.{row_below, row_within}
@@ -13,6 +13,7 @@ use Rattle.froidure_pin.proofs.Factors.{factor_word, words_length}
 use Rattle.froidure_pin.proofs.Starts.{start_ascending, start_has, in_at}
 use Rattle.froidure_pin.proofs.Search.{IsSetting, R, Number, r_sym}
 use Rattle.froidure_pin.proofs.LeastWords.{parents_rise, parent_once}
+use Rattle.froidure_pin.specs.declared.parts.Factor.{Factor}
 
 module _ {V : Type 0} {shape : V → ℕ × ℕ} {product : V → V → V} {equal : V → V → Bool} {generators : List V} (setting : IsSetting shape product equal generators) (unused : V)
     (words : List Word) (start : IsStartOf (IsLeast (R setting unused)) ◌≺◌ None words) where
@@ -60,10 +61,10 @@ module _ {V : Type 0} {shape : V → ℕ × ℕ} {product : V → V → V} {equa
 
 -- each word is before the next product
 pub words_before : {V : Type 0} {shape : V → ℕ × ℕ} {product : V → V → V} {equal : V → V → Bool} {generators : List V} (setting : IsSetting shape product equal generators) (unused : V)
-    (factors : List (ℕ × ℕ)) → IsStartOf (IsLeast (R setting unused)) ◌≺◌ None (words_of factors) → AreFactors (length generators) factors → (n i a : ℕ) → ArePlaced (length generators) factors n
+    (factors : List Factor) → IsStartOf (IsLeast (R setting unused)) ◌≺◌ None (words_of factors) → AreFactors (length generators) factors → (n i a : ℕ) → ArePlaced (length generators) factors n
     → i ≤ length (words_of factors) → a ≤ length generators → n ≡ i * length generators + a → (j : ℕ) → j < length (words_of factors) → get_or (words_of factors) j [] ≺ (parent (words_of factors) i ++ a ∷ [])
 words_before {V} {shape} {product} {equal} {generators} setting unused factors start known n i a placed h l is j g =
     let inside : j < length factors = omega (arith, words_length factors) in
-    let f : ℕ × ℕ = get_or factors j (0, 0) in
+    let f : Factor = factor_at factors j in
     subst (λ w. w ≺ (parent (words_of factors) i ++ a ∷ [])) (sym (factor_word (length generators) factors known j inside))
-    (place_before setting unused (words_of factors) start f.0 f.1 i a (omega (arith, known.earlier j inside)) h (known.letter j inside) l (omega (arith, placed.before j inside)))
+    (place_before setting unused (words_of factors) start f.prefix f.last i a (omega (arith, known.earlier j inside)) h (known.letter j inside) l (omega (arith, placed.before j inside)))

@@ -10,7 +10,7 @@ use Rattle.theory.proofs.Listings.{list_from_ascending}
 use Rattle.theory.proofs.ClassLaws.{IsPartialEquivalence, least_part, rule_order}
 use Rattle.theory.proofs.Completeness.{normal_unique}
 use Rattle.theory.proofs.ValueLaws.{value_kept_left, value_kept_right}
-use Rattle.froidure_pin.specs.Found.{AreFactors, parent, entry, words_of}
+use Rattle.froidure_pin.specs.Found.{AreFactors, parent, entry, words_of, factor_at}
 use Rattle.froidure_pin.specs.Numbering.{AreRows}
 use Rattle.froidure_pin.specs.Rules.{AreSuffixes, is_product, is_rule, rule_at, rules_to}
 use Rattle.froidure_pin.proofs.Order.{snoc, snoc_not_nil, ahead, letter_before, below_or_not, equal_or_below, empty_or_not}
@@ -20,6 +20,7 @@ use Rattle.froidure_pin.proofs.Factors.{factor_word, words_length}
 use Rattle.froidure_pin.proofs.Starts.{in_push, in_last}
 use Rattle.froidure_pin.proofs.LeastWords.{least_word, parents_rise, parent_once}
 use Rattle.froidure_pin.proofs.Search.{IsSetting, R, Number, known, generator_shape, r_sym, r_trans, r_refl}
+use Rattle.froidure_pin.specs.declared.parts.Factor.{Factor}
 
 -- the last letter, and what stands before it
 pub snoc_same : (u v : Word) (a b : ℕ) → u ++ a ∷ [] ≡ v ++ b ∷ [] → (u ≡ v) × (a ≡ b)
@@ -45,23 +46,23 @@ not_true true e = cc
 not_true false e = refl
 
 -- what the test of a product says
-pub product_is : (factors : List (ℕ × ℕ)) (m j a : ℕ) → is_product factors m j a ≡ true → ((get_or factors m (0, 0)).0 ≡ j) × ((get_or factors m (0, 0)).1 ≡ a)
+pub product_is : (factors : List Factor) (m j a : ℕ) → is_product factors m j a ≡ true → ((factor_at factors m).prefix ≡ j) × ((factor_at factors m).last ≡ a)
 product_is factors m j a e =
-    let f : ℕ × ℕ = get_or factors m (0, 0) in
-    let both = and_both (f.0 == j) (f.1 == a) e in
-    (eqb-true f.0 j both.0, eqb-true f.1 a both.1)
+    let f : Factor = factor_at factors m in
+    let both = and_both (f.prefix == j) (f.last == a) e in
+    (eqb-true f.prefix j both.0, eqb-true f.last a both.1)
 
-pub is_the_product : (factors : List (ℕ × ℕ)) (m j a : ℕ) → (get_or factors m (0, 0)).0 ≡ j → (get_or factors m (0, 0)).1 ≡ a → is_product factors m j a ≡ true
+pub is_the_product : (factors : List Factor) (m j a : ℕ) → (factor_at factors m).prefix ≡ j → (factor_at factors m).last ≡ a → is_product factors m j a ≡ true
 is_the_product factors m j a p q =
-    let f : ℕ × ℕ = get_or factors m (0, 0) in
-    ap (λ b. b && (f.1 == a)) (eq-eqb f.0 j p) ∙ eq-eqb f.1 a q
+    let f : Factor = factor_at factors m in
+    ap (λ b. b && (f.last == a)) (eq-eqb f.prefix j p) ∙ eq-eqb f.last a q
 
 ascending_push : {A : Type 0} (Less : A → A → Type 0) (cursor : Option A) (xs : List A) (y : A) → IsAscending Less cursor xs → IsAfter Less cursor y → ((x : A) → IsIn x xs → Less x y) → IsAscending Less cursor (xs ++ y ∷ [])
 ascending_push Less cursor [] y h after all = (after, tt)
 ascending_push Less cursor (x ∷ xs) y h after all = (h.0, ascending_push Less (Some x) xs y h.1 (all x (inl refl)) (λ z m. all z (inr m)))
 
 -- what the rules of a list of places are
-module _ (k : ℕ) (factors : List (ℕ × ℕ)) (right suffixes : List ℕ) where
+module _ (k : ℕ) (factors : List Factor) (right suffixes : List ℕ) where
   abbrev Rules : ℕ → List (Word × Word)
   Rules = rules_to k factors right suffixes
 
@@ -154,7 +155,7 @@ module _ {V : Type 0} {shape : V → ℕ × ℕ} {product : V → V → V} {equa
       (value_kept_right (λ z. shape z ≡ shape (get_or generators 0 unused)) product equal (known setting unused) k (λ b. get_or generators b unused) unused (generator_shape setting unused) f v y r (over_right k f y rest)) (over_left k x (f ++ y) whole) in
       least_part Related x f y kept here h
 
-  module _ (factors : List (ℕ × ℕ)) (right suffixes : List ℕ) (earlier : AreFactors (length generators) factors) (rows : AreRows (length generators) (length factors) right)
+  module _ (factors : List Factor) (right suffixes : List ℕ) (earlier : AreFactors (length generators) factors) (rows : AreRows (length generators) (length factors) right)
       (follow : AreSuffixes (length generators) factors right suffixes (length factors)) (some : 0 < length generators)
       (least_at : (m : ℕ) → m < length (words_of factors) → IsLeast Related (get_or (words_of factors) m []))
       (ascending : IsAscending ◌≺◌ None (words_of factors))
@@ -182,50 +183,50 @@ module _ {V : Type 0} {shape : V → ℕ × ℕ} {product : V → V → V} {equa
 
     product_test : (m j a : ℕ) → j ≤ length words → Number setting unused words m (parent words j ++ a ∷ []) → IsLeast Related (parent words j ++ a ∷ []) → is_product factors m j a ≡ true
     product_test m j a h n least =
-        let f : ℕ × ℕ = get_or factors m (0, 0) in
+        let f : Factor = factor_at factors m in
         let inside : m < length factors = omega (arith, words_length factors, n.0) in
-        let same : parent words f.0 ++ f.1 ∷ [] ≡ parent words j ++ a ∷ [] = sym (factor_word k factors earlier m inside) ∙ sym (least_word setting unused words least_at ascending (parent words j ++ a ∷ []) m least n) in
-        let both = snoc_same (parent words f.0) (parent words j) f.1 a same in
-        is_the_product factors m j a (parent_once setting unused words least_at ascending f.0 j (omega (arith, earlier.earlier m inside, words_length factors)) h both.0) both.1
+        let same : parent words f.prefix ++ f.last ∷ [] ≡ parent words j ++ a ∷ [] = sym (factor_word k factors earlier m inside) ∙ sym (least_word setting unused words least_at ascending (parent words j ++ a ∷ []) m least n) in
+        let both = snoc_same (parent words f.prefix) (parent words j) f.last a same in
+        is_the_product factors m j a (parent_once setting unused words least_at ascending f.prefix j (omega (arith, earlier.earlier m inside, words_length factors)) h both.0) both.1
 
     -- what is left without the first letter
     suffix_is : (n j : ℕ) → j ≤ n → 0 < j → j ≤ length words → (c : ℕ) × (parent words j ≡ c ∷ parent words (get_or suffixes j 0)) × (get_or suffixes j 0 ≤ length words)
     suffix_is n zero e h l = absurd (omega arith)
     suffix_is zero (suc i) e h l = absurd (omega arith)
-    suffix_is (suc n) (suc i) e h l = by f.0 refl (suffix_is n f.0)
+    suffix_is (suc n) (suc i) e h l = by f.prefix refl (suffix_is n f.prefix)
       where
-        f : ℕ × ℕ
-        f = get_or factors i (0, 0)
+        f : Factor
+        f = factor_at factors i
 
         inside : i < length factors
         inside = omega (arith, words_length factors)
 
-        early : f.0 ≤ i
+        early : f.prefix ≤ i
         early = earlier.earlier i inside
 
         otherwise : ℕ
-        otherwise = entry k right (get_or suffixes f.0 0) f.1 + 1
+        otherwise = entry k right (get_or suffixes f.prefix 0) f.last + 1
 
-        next : get_or suffixes (suc i) 0 ≡ (if f.0 == 0 then 0 else otherwise)
+        next : get_or suffixes (suc i) 0 ≡ (if f.prefix == 0 then 0 else otherwise)
         next = let place : i + 1 ≡ suc i = omega arith in ap (λ q. get_or suffixes q 0) (sym place) ∙ follow.next i inside
 
         Left : Type 0
         Left = (c : ℕ) × (parent words (suc i) ≡ c ∷ parent words (get_or suffixes (suc i) 0)) × (get_or suffixes (suc i) 0 ≤ length words)
 
-        by : (p : ℕ) → f.0 ≡ p → (f.0 ≤ n → 0 < f.0 → f.0 ≤ length words → (c : ℕ) × (parent words f.0 ≡ c ∷ parent words (get_or suffixes f.0 0)) × (get_or suffixes f.0 0 ≤ length words)) → Left
+        by : (p : ℕ) → f.prefix ≡ p → (f.prefix ≤ n → 0 < f.prefix → f.prefix ≤ length words → (c : ℕ) × (parent words f.prefix ≡ c ∷ parent words (get_or suffixes f.prefix 0)) × (get_or suffixes f.prefix 0 ≤ length words)) → Left
         by zero z before =
             let none : get_or suffixes (suc i) 0 ≡ 0 = next ∙ ap (λ q. if q == 0 then 0 else otherwise) z in
-            let whole : word i ≡ f.1 ∷ [] = factor_word k factors earlier i inside ∙ ap (λ q. parent words q ++ f.1 ∷ []) z in
-            (f.1, whole ∙ ap (λ q. f.1 ∷ parent words q) (sym none), omega (arith, none))
+            let whole : word i ≡ f.last ∷ [] = factor_word k factors earlier i inside ∙ ap (λ q. parent words q ++ f.last ∷ []) z in
+            (f.last, whole ∙ ap (λ q. f.last ∷ parent words q) (sym none), omega (arith, none))
         by (suc p) z before =
             let r = before (omega (arith, early)) (omega arith) (omega (arith, early)) in
-            let s : ℕ = get_or suffixes f.0 0 in
-            let t : Word = parent words s ++ f.1 ∷ [] in
-            let m : ℕ = entry k right s f.1 in
-            let whole : word i ≡ r.0 ∷ t = factor_word k factors earlier i inside ∙ ap (λ u. u ++ f.1 ∷ []) r.1 in
-            let least : IsLeast Related t = part_least (r.0 ∷ []) t [] (λ y. snoc_not_nil (parent words s) f.1 y) (subst (λ u. IsLeast Related u) (whole ∙ ap (λ u. r.0 ∷ u) (sym (append-nil t))) (least_at i (omega arith))) in
-            let n_t = number s f.1 r.2 (earlier.letter i inside) in
-            let some_left : get_or suffixes (suc i) 0 ≡ m + 1 = next ∙ ap (λ b. if b then 0 else otherwise) (not_zero f.0 p z) in
+            let s : ℕ = get_or suffixes f.prefix 0 in
+            let t : Word = parent words s ++ f.last ∷ [] in
+            let m : ℕ = entry k right s f.last in
+            let whole : word i ≡ r.0 ∷ t = factor_word k factors earlier i inside ∙ ap (λ u. u ++ f.last ∷ []) r.1 in
+            let least : IsLeast Related t = part_least (r.0 ∷ []) t [] (λ y. snoc_not_nil (parent words s) f.last y) (subst (λ u. IsLeast Related u) (whole ∙ ap (λ u. r.0 ∷ u) (sym (append-nil t))) (least_at i (omega arith))) in
+            let n_t = number s f.last r.2 (earlier.letter i inside) in
+            let some_left : get_or suffixes (suc i) 0 ≡ m + 1 = next ∙ ap (λ b. if b then 0 else otherwise) (not_zero f.prefix p z) in
             let at_next : parent words (m + 1) ≡ word m = rw add-one refl in
             let left : t ≡ parent words (get_or suffixes (suc i) 0) = least_word setting unused words least_at ascending t m least n_t ∙ sym at_next ∙ ap (λ q. parent words q) (sym some_left) in
             (r.0, whole ∙ ap (λ u. r.0 ∷ u) left, omega (arith, some_left, n_t.0))

@@ -4,7 +4,7 @@ use Rattle.theory.specs.Word.{Word, IsOver}
 use Rattle.theory.specs.ShortLex.{◌≺◌}
 use Rattle.theory.proofs.Words.{order_cases, before_no_longer, before_cons, before_trans}
 use Rattle.theory.proofs.ValueLaws.{value_kept_left}
-use Rattle.froidure_pin.specs.Found.{parent, entry, words_of}
+use Rattle.froidure_pin.specs.Found.{parent, entry, words_of, factor_at, tail_at}
 use Rattle.froidure_pin.specs.Growing.{IsAt}
 use Rattle.froidure_pin.specs.Rules.{is_product}
 use Rattle.froidure_pin.proofs.Order.{ahead}
@@ -14,9 +14,11 @@ use Rattle.froidure_pin.proofs.Starts.{values_length}
 use Rattle.froidure_pin.proofs.Search.{IsSetting, R, Number, Val, known, generator_shape, r_trans, r_right}
 use Rattle.froidure_pin.proofs.Reduced.{snoc_same, is_the_product}
 use Rattle.froidure_pin.proofs.Placing.{least_at, not_before, parent_same, place_from_before}
+use Rattle.froidure_pin.specs.declared.parts.Factor.{Factor}
+use Rattle.froidure_pin.specs.declared.parts.Tail.{Tail}
 
 module _ {V : Type 0} {shape : V → ℕ × ℕ} {product : V → V → V} {equal : V → V → Bool} {generators : List V} (setting : IsSetting shape product equal generators) (unused : V)
-    (elements : List V) (factors tails : List (ℕ × ℕ)) (right left : List ℕ) (number a : ℕ) (at : IsAt product equal generators unused elements factors tails right left number a) (letter : a < length generators) where
+    (elements : List V) (factors : List Factor) (tails : List Tail) (right left : List ℕ) (number a : ℕ) (at : IsAt product equal generators unused elements factors tails right left number a) (letter : a < length generators) where
   abbrev k : ℕ
   k = length generators
 
@@ -24,10 +26,10 @@ module _ {V : Type 0} {shape : V → ℕ × ℕ} {product : V → V → V} {equa
   words = words_of factors
 
   abbrev pub suffix : ℕ
-  suffix = (get_or tails number (0, 0)).1
+  suffix = (tail_at tails number).suffix
 
   abbrev pub first : ℕ
-  first = (get_or tails number (0, 0)).0
+  first = (tail_at tails number).first
 
   abbrev pub rest : ℕ
   rest = entry k right suffix a
@@ -68,36 +70,36 @@ module _ {V : Type 0} {shape : V → ℕ × ℕ} {product : V → V → V} {equa
 
   -- where the rest with the letter is no word, it has a lesser one
   module _ (lesser : is_product factors rest suffix a ≡ false) where
-    abbrev f : ℕ × ℕ
-    f = get_or factors rest (0, 0)
+    abbrev f : Factor
+    f = factor_at factors rest
 
-    rest_word : get_or words rest [] ≡ parent words f.0 ++ f.1 ∷ []
+    rest_word : get_or words rest [] ≡ parent words f.prefix ++ f.last ∷ []
     rest_word = factor_word k factors at.grown.known rest rest_within
 
-    prefix_within : f.0 ≤ length words
+    prefix_within : f.prefix ≤ length words
     prefix_within = omega (arith, at.grown.known.earlier rest rest_within, rest_number.0)
 
     falls : get_or words rest [] ≺ (parent words suffix ++ a ∷ [])
     falls = elim (order_cases (get_or words rest []) (parent words suffix ++ a ∷ [])) [
       | inl l ↦ l
       | inr (inl e) ↦
-          let both = snoc_same (parent words f.0) (parent words suffix) f.1 a (sym rest_word ∙ e) in
-          let same = parent_same setting unused words at.grown.found.start f.0 suffix prefix_within (omega (arith, early, inside)) both.0 in
+          let both = snoc_same (parent words f.prefix) (parent words suffix) f.last a (sym rest_word ∙ e) in
+          let same = parent_same setting unused words at.grown.found.start f.prefix suffix prefix_within (omega (arith, early, inside)) both.0 in
           absurd (true≢false (sym (is_the_product factors rest suffix a same both.1) ∙ lesser))
       | inr (inr g) ↦ absurd (not_before setting unused words at.grown.found.start (parent words suffix ++ a ∷ []) rest rest_number g)
     ]
 
-    pub prefix_place : f.0 * k + first < length left
+    pub prefix_place : f.prefix * k + first < length left
     prefix_place =
         let no_longer = before_no_longer (get_or words rest []) (parent words suffix ++ a ∷ []) falls in
-        let row = at.shorter.row f.0 prefix_within (omega (arith, no_longer, ap length rest_word, ap length whole, length-append (parent words f.0) (f.1 ∷ []), length-append (parent words suffix) (a ∷ []))) in
-        omega (arith, row, row_below k f.0 (f.0 + 1) first (omega arith) first_over)
+        let row = at.shorter.row f.prefix prefix_within (omega (arith, no_longer, ap length rest_word, ap length whole, length-append (parent words f.prefix) (f.last ∷ []), length-append (parent words suffix) (a ∷ []))) in
+        omega (arith, row, row_below k f.prefix (f.prefix + 1) first (omega arith) first_over)
 
     abbrev q : ℕ
-    q = entry k left f.0 first
+    q = entry k left f.prefix first
 
-    left_number : Number setting unused words q (first ∷ parent words f.0)
-    left_number = at.left_numbers.numbers f.0 first first_over prefix_place
+    left_number : Number setting unused words q (first ∷ parent words f.prefix)
+    left_number = at.left_numbers.numbers f.prefix first first_over prefix_place
 
     pub before_within : q < length factors
     before_within = omega (arith, left_number.0, words_length factors)
@@ -105,29 +107,29 @@ module _ {V : Type 0} {shape : V → ℕ × ℕ} {product : V → V → V} {equa
     at_next : parent words (q + 1) ≡ get_or words q []
     at_next = rw add-one refl
 
-    last_over : f.1 < k
+    last_over : f.last < k
     last_over = at.grown.known.letter rest rest_within
 
-    between : ((first ∷ parent words f.0) ++ f.1 ∷ []) ≺ (parent words (number + 1) ++ a ∷ [])
+    between : ((first ∷ parent words f.prefix) ++ f.last ∷ []) ≺ (parent words (number + 1) ++ a ∷ [])
     between = subst₂ (λ u v. u ≺ v) (ap (λ w. first ∷ w) rest_word) (sym product_word) (before_cons first (get_or words rest []) (parent words suffix ++ a ∷ []) falls)
 
-    order : (parent words (q + 1) ++ f.1 ∷ []) ≺ (parent words (number + 1) ++ a ∷ [])
-    order = subst (λ w. (w ++ f.1 ∷ []) ≺ (parent words (number + 1) ++ a ∷ [])) (sym at_next) (elim (order_cases (get_or words q []) (first ∷ parent words f.0)) [
-      | inl l ↦ before_trans (get_or words q [] ++ f.1 ∷ []) ((first ∷ parent words f.0) ++ f.1 ∷ []) (parent words (number + 1) ++ a ∷ []) (ahead (get_or words q []) (first ∷ parent words f.0) f.1 f.1 l) between
-      | inr (inl e) ↦ subst (λ w. (w ++ f.1 ∷ []) ≺ (parent words (number + 1) ++ a ∷ [])) (sym e) between
-      | inr (inr g) ↦ absurd (not_before setting unused words at.grown.found.start (first ∷ parent words f.0) q left_number g)
+    order : (parent words (q + 1) ++ f.last ∷ []) ≺ (parent words (number + 1) ++ a ∷ [])
+    order = subst (λ w. (w ++ f.last ∷ []) ≺ (parent words (number + 1) ++ a ∷ [])) (sym at_next) (elim (order_cases (get_or words q []) (first ∷ parent words f.prefix)) [
+      | inl l ↦ before_trans (get_or words q [] ++ f.last ∷ []) ((first ∷ parent words f.prefix) ++ f.last ∷ []) (parent words (number + 1) ++ a ∷ []) (ahead (get_or words q []) (first ∷ parent words f.prefix) f.last f.last l) between
+      | inr (inl e) ↦ subst (λ w. (w ++ f.last ∷ []) ≺ (parent words (number + 1) ++ a ∷ [])) (sym e) between
+      | inr (inr g) ↦ absurd (not_before setting unused words at.grown.found.start (first ∷ parent words f.prefix) q left_number g)
     ])
 
-    pub product_place : (q + 1) * k + f.1 < length right
-    product_place = omega (arith, at.grown.found.count, place_from_before setting unused words at.grown.found.start (q + 1) f.1 (number + 1) a (omega (arith, left_number.0)) (omega (arith, inside)) last_over order)
+    pub product_place : (q + 1) * k + f.last < length right
+    product_place = omega (arith, at.grown.found.count, place_from_before setting unused words at.grown.found.start (q + 1) f.last (number + 1) a (omega (arith, left_number.0)) (omega (arith, inside)) last_over order)
 
-    pub product_number : Number setting unused words (entry k right (q + 1) f.1) (parent words (number + 1) ++ a ∷ [])
+    pub product_number : Number setting unused words (entry k right (q + 1) f.last) (parent words (number + 1) ++ a ∷ [])
     product_number =
-        let n : ℕ = entry k right (q + 1) f.1 in
-        let next = at.grown.found.numbers (q + 1) f.1 last_over product_place in
-        let last : R setting unused (get_or words q [] ++ f.1 ∷ []) (get_or words n []) = subst (λ w. R setting unused (w ++ f.1 ∷ []) (get_or words n [])) at_next next.1 in
+        let n : ℕ = entry k right (q + 1) f.last in
+        let next = at.grown.found.numbers (q + 1) f.last last_over product_place in
+        let last : R setting unused (get_or words q [] ++ f.last ∷ []) (get_or words n []) = subst (λ w. R setting unused (w ++ f.last ∷ []) (get_or words n [])) at_next next.1 in
         let one : R setting unused (first ∷ (parent words suffix ++ a ∷ [])) (first ∷ get_or words rest []) =
         value_kept_left (λ z. shape z ≡ shape (get_or generators 0 unused)) product equal (known setting unused) k (λ b. get_or generators b unused) unused (generator_shape setting unused) (first ∷ []) (parent words suffix ++ a ∷ []) (get_or words rest []) rest_number.1 (first_over, tt) in
-        let two : R setting unused ((first ∷ parent words f.0) ++ f.1 ∷ []) (get_or words q [] ++ f.1 ∷ []) = r_right setting unused (first ∷ parent words f.0) (get_or words q []) f.1 left_number.1 last_over in
-        let start : R setting unused (parent words (number + 1) ++ a ∷ []) ((first ∷ parent words f.0) ++ f.1 ∷ []) = subst₂ (λ u v. R setting unused u v) (sym product_word) (ap (λ w. first ∷ w) rest_word) one in
-        (next.0, r_trans setting unused (parent words (number + 1) ++ a ∷ []) ((first ∷ parent words f.0) ++ f.1 ∷ []) (get_or words n []) start (r_trans setting unused ((first ∷ parent words f.0) ++ f.1 ∷ []) (get_or words q [] ++ f.1 ∷ []) (get_or words n []) two last))
+        let two : R setting unused ((first ∷ parent words f.prefix) ++ f.last ∷ []) (get_or words q [] ++ f.last ∷ []) = r_right setting unused (first ∷ parent words f.prefix) (get_or words q []) f.last left_number.1 last_over in
+        let start : R setting unused (parent words (number + 1) ++ a ∷ []) ((first ∷ parent words f.prefix) ++ f.last ∷ []) = subst₂ (λ u v. R setting unused u v) (sym product_word) (ap (λ w. first ∷ w) rest_word) one in
+        (next.0, r_trans setting unused (parent words (number + 1) ++ a ∷ []) ((first ∷ parent words f.prefix) ++ f.last ∷ []) (get_or words n []) start (r_trans setting unused ((first ∷ parent words f.prefix) ++ f.last ∷ []) (get_or words q [] ++ f.last ∷ []) (get_or words n []) two last))

@@ -13,6 +13,7 @@ use Rattle.froidure_pin.specs.Rules.{IsWholeTable, AreSuffixes, rules_to}
 use Rattle.froidure_pin.proofs.Starts.{start_ascending, start_has, in_at}
 use Rattle.froidure_pin.proofs.Search.{IsSetting, R, Number}
 use Rattle.froidure_pin.proofs.Reduced.{rules_listed}
+use Rattle.froidure_pin.specs.declared.parts.Factor.{Factor}
 
 pub ok_map : {A F : Type 0} (P Q : A → Type 0) (r : Result A F) → ((x : A) → P x → Q x) → IfOk r P → IfOk r Q
 ok_map P Q (Ok x) f h = f x h
@@ -23,7 +24,7 @@ list_start P cursor [] h = tt
 list_start P cursor (x ∷ xs) h = (h.0, list_start P (Some x) xs h.1)
 
 module _ {V : Type 0} {shape : V → ℕ × ℕ} {product : V → V → V} {equal : V → V → Bool} (products : (one : ℕ × ℕ) → IsProduct (λ x. shape x ≡ one) product equal) (alike : (x y : V) → IsTrue (equal x y) → shape x ≡ shape y)
-    (generators : List V) (unused : V) (factors : List (ℕ × ℕ)) (elements : List V) (right left suffixes : List ℕ) where
+    (generators : List V) (unused : V) (factors : List Factor) (elements : List V) (right left suffixes : List ℕ) where
   abbrev table : ℕ → TableOf V
   table n = record { elements = elements; words = words_of factors; letters = n; right = right; left = left }
 

@@ -5,20 +5,22 @@ use Rattle.theory.specs.Class.{IsReducedRule}
 use Rattle.theory.specs.Value.{SameValue}
 use Rattle.theory.proofs.Counting.{AreApart, IsIn}
 use Rattle.elements.specs.Generators.{value_by}
-use Rattle.froidure_pin.specs.Found.{AreFactors, AreFound, IsNumberIn, entry, parent, words_of}
+use Rattle.froidure_pin.specs.Found.{AreFactors, AreFound, IsNumberIn, entry, parent, words_of, factor_at, tail_at}
+use Rattle.froidure_pin.specs.declared.parts.Factor.{Factor}
+use Rattle.froidure_pin.specs.declared.parts.Tail.{Tail}
 
--- each pair is a place before the n-th, in rows of k
-pub record ArePlaced (k : ℕ) (factors : List (ℕ × ℕ)) (n : ℕ) : Type 0 where
+-- each factor is a place before the n-th, in rows of k
+pub record ArePlaced (k : ℕ) (factors : List Factor) (n : ℕ) : Type 0 where
   pub before : (j : ℕ) → j < length factors
-      → (slice_index_or factors j (0, 0)).0 * k + (slice_index_or factors j (0, 0)).1 < n
+      → (factor_at factors j).prefix * k + (factor_at factors j).last < n
 
 -- each word is a first letter and an earlier parent
-pub record AreTails (words : List Word) (tails : List (ℕ × ℕ)) : Type 0 where
+pub record AreTails (words : List Word) (tails : List Tail) : Type 0 where
   pub count : length tails ≡ length words
-  pub earlier : (j : ℕ) → j < length words → (slice_index_or tails j (0, 0)).1 ≤ j
+  pub earlier : (j : ℕ) → j < length words → (tail_at tails j).suffix ≤ j
   pub whole : (j : ℕ) → j < length words
-      → slice_index_or words j [] ≡ (slice_index_or tails j (0, 0)).0
-      ∷ parent words (slice_index_or tails j (0, 0)).1
+      → slice_index_or words j [] ≡ (tail_at tails j).first
+      ∷ parent words (tail_at tails j).suffix
 
 -- the words from the first to before the last are of one length, and those behind are one letter longer
 pub record IsLevel (words : List Word) (first last : ℕ) : Type 0 where
@@ -41,7 +43,7 @@ pub record ReachesAsLong (k : ℕ) (words : List Word) (n number : ℕ) : Type 0
 
 -- what is found, as far as the place of row i and letter a
 pub record IsGrown {V : Type 0} (product : V → V → V) (equal : V → V → Bool) (generators : List V)
-    (unused : V) (elements : List V) (factors tails : List (ℕ × ℕ)) (right : List ℕ)
+    (unused : V) (elements : List V) (factors : List Factor) (tails : List Tail) (right : List ℕ)
     (i a : ℕ) : Type 0 where
   pub known : AreFactors (length generators) factors
   pub placed : ArePlaced (length generators) factors (length right)
@@ -57,7 +59,7 @@ pub record AreLeftNumbers {V : Type 0} (product : V → V → V) (equal : V → 
 
 -- the element of a number is being multiplied by the letters
 pub record IsAt {V : Type 0} (product : V → V → V) (equal : V → V → Bool) (generators : List V)
-    (unused : V) (elements : List V) (factors tails : List (ℕ × ℕ)) (right left : List ℕ)
+    (unused : V) (elements : List V) (factors : List Factor) (tails : List Tail) (right left : List ℕ)
     (number a : ℕ) : Type 0 where
   pub within : number < length elements
   pub grown : IsGrown product equal generators unused elements factors tails right (number + 1) a
@@ -80,7 +82,7 @@ pub record AreCounted {V : Type 0} (product : V → V → V) (equal : V → V �
 
 -- one growth leads to another while the element of a number is multiplied: the levels stay, and what was counted
 pub record GrowsTo {V : Type 0} (product : V → V → V) (equal : V → V → Bool) (generators : List V)
-    (unused : V) (factors later : List (ℕ × ℕ)) (n m number before after : ℕ) : Type 0 where
+    (unused : V) (factors later : List Factor) (n m number before after : ℕ) : Type 0 where
   pub level : (first last : ℕ) → first ≤ number → number < last
       → IsLevel (words_of factors) first last → IsLevel (words_of later) first last
   pub counted : (start : ℕ) → AreCounted product equal generators unused

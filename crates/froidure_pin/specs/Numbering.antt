@@ -5,6 +5,7 @@ use Rattle.theory.specs.Word.{Word, IsElement}
 use Rattle.theory.specs.Generated.{AreNumbered}
 use Rattle.froidure_pin.specs.Found.{IsNumberIn, AreFactors, entry}
 use Rattle.elements.specs.Generators.{value_by}
+use Rattle.froidure_pin.specs.declared.parts.Factor.{Factor}
 
 -- the elements, their words, and how many letters there are; the numbers of the products by each letter on the right, and on the left, in a row of the empty word and then in one of each element
 pub record TableOf (V : Type 0) : Type 0 where
@@ -67,7 +68,7 @@ pub record AreRows (k n : ℕ) (numbers : List ℕ) : Type 0 where
   pub within : (p : ℕ) → p < length numbers → slice_index numbers p < n
 
 -- what the parts of a table have in common
-pub record AreParts (letters n : ℕ) (factors : List (ℕ × ℕ)) (right left : List ℕ) : Type 0 where
+pub record AreParts (letters n : ℕ) (factors : List Factor) (right left : List ℕ) : Type 0 where
   pub some : 0 < letters
   pub few : letters ≤ 256
   pub count : length factors ≡ n

@@ -1,25 +1,26 @@
 // The elements that were found so far.
 ghost use Rattle.std.specs.Prelude.{[], ◌∷◌, ◌++◌, ◌≡◌, ◌+◌, ◌*◌, ◌<◌, ◌↔◌, length, slice_index_or, IfOk, OnOk, IsTrue};
 ghost use Rattle.std.specs.List.{position_or_len};
-ghost use Rattle.froidure_pin.specs.Found.{entry, insert_factor};
+ghost use Rattle.froidure_pin.specs.Found.{entry, insert_beside, tail_at, tail_of};
 ghost use Rattle.indexmap.specs.IndexSet.{insert_key};
 
+use super::parts::{Factor, Tail};
 use super::rows::entry;
 use elements::Element;
 use indexmap::IndexSet;
 use ports::NoMemory;
 use std::alloc::Global;
 
-// What is found so far. Numbers of elements are plus one where 0 stands for the empty word.
+// What is found so far.
 #[derive(Drop)]
 pub(crate) struct Growth<E: Element> {
     pub(crate) elements: IndexSet<E>,
 
-    // of each element's word: the number of the word without its last letter; and the last letter
-    pub(crate) factors: Vec<(usize, usize)>,
+    // of each element's word
+    pub(crate) factors: Vec<Factor>,
 
-    // of each element's word: the first letter; and the number of the word without it
-    pub(crate) tails: Vec<(usize, usize)>,
+    // of each element's word
+    pub(crate) tails: Vec<Tail>,
 
     // a row of one number for each letter, for the empty word and then for each element that was
     // multiplied
@@ -43,19 +44,13 @@ impl<E: Element> Growth<E> {
     }
 
     // Takes in a product, with what its word is made of where it is new, and keeps its number.
-    fn take_in(
-        &mut self,
-        made: E,
-        factor: (usize, usize),
-        tail: (usize, usize),
-    ) -> Result<(), NoMemory>
+    fn take_in(&mut self, made: E, factor: Factor, tail: Tail) -> Result<(), NoMemory>
         ensures elements { OnOk result
             (self.new.elements.keys ≡ insert_key E.eq self.old.elements.keys made) }
         ensures factors { OnOk result (self.new.factors.items
-            ≡ insert_factor E.eq self.old.elements.keys self.old.factors.items
-            made factor.0 factor.1) }
+            ≡ insert_beside E.eq self.old.elements.keys self.old.factors.items made factor) }
         ensures tails { OnOk result (self.new.tails.items
-            ≡ insert_factor E.eq self.old.elements.keys self.old.tails.items made tail.0 tail.1) }
+            ≡ insert_beside E.eq self.old.elements.keys self.old.tails.items made tail) }
         ensures right { OnOk result (self.new.right.items
             ≡ self.old.right.items ++ position_or_len (E.eq made) self.old.elements.keys ∷ []) }
     {
@@ -72,17 +67,16 @@ impl<E: Element> Growth<E> {
     pub(crate) fn goes_over(
         &mut self,
         made: E,
-        factor: (usize, usize),
-        tail: (usize, usize),
+        factor: Factor,
+        tail: Tail,
         bound: usize,
     ) -> Result<bool, NoMemory>
         ensures elements { OnOk result
             (self.new.elements.keys ≡ insert_key E.eq self.old.elements.keys made) }
         ensures factors { OnOk result (self.new.factors.items
-            ≡ insert_factor E.eq self.old.elements.keys self.old.factors.items
-            made factor.0 factor.1) }
+            ≡ insert_beside E.eq self.old.elements.keys self.old.factors.items made factor) }
         ensures tails { OnOk result (self.new.tails.items
-            ≡ insert_factor E.eq self.old.elements.keys self.old.tails.items made tail.0 tail.1) }
+            ≡ insert_beside E.eq self.old.elements.keys self.old.tails.items made tail) }
         ensures right { OnOk result (self.new.right.items
             ≡ self.old.right.items ++ position_or_len (E.eq made) self.old.elements.keys ∷ []) }
         ensures over { IfOk result (λ over. IsTrue over ↔ (bound < length self.new.elements.keys)) }
@@ -92,22 +86,21 @@ impl<E: Element> Growth<E> {
     }
 
     // The first letter of an element's word with one letter more, and the number of the rest.
-    pub(crate) fn tail_of_product(
-        &self,
-        letters: usize,
-        number: usize,
-        letter: usize,
-    ) -> (usize, usize)
+    pub(crate) fn tail_of_product(&self, letters: usize, number: usize, letter: usize) -> Tail
         requires within { number < length self.now.tails.items }
-        requires place { (slice_index_or self.now.tails.items number (0, 0)).1 * letters + letter
+        requires place { (tail_at self.now.tails.items number).suffix * letters + letter
             < length self.now.right.items }
         requires known { entry letters self.now.right.items
-            (slice_index_or self.now.tails.items number (0, 0)).1 letter
+            (tail_at self.now.tails.items number).suffix letter
             < length self.now.factors.items }
-        ensures { let tail = slice_index_or self.now.tails.items number (0, 0) in
-            result ≡ (tail.0, entry letters self.now.right.items tail.1 letter + 1) }
+        ensures { let tail = tail_at self.now.tails.items number in
+            result ≡ tail_of tail.first
+            (entry letters self.now.right.items tail.suffix letter + 1) }
     {
-        let (first, suffix) = self.tails[number];
-        (first, entry(&self.right, letters, suffix, letter) + 1)
+        let tail = self.tails[number];
+        Tail {
+            first: tail.first,
+            suffix: entry(&self.right, letters, tail.suffix, letter) + 1,
+        }
     }
 }

@@ -5,6 +5,7 @@ ghost use Rattle.froidure_pin.specs.Found.{entry, words_of};
 ghost use Rattle.froidure_pin.specs.Growing.{AreLeftNumbers, IsGrown, IsLevel, ReachesAsLong};
 
 use super::growth::Growth;
+use super::parts::Factor;
 use elements::Element;
 use ports::NoMemory;
 
@@ -21,19 +22,18 @@ fn left_number(
     letters: usize,
     right: &Vec<usize>,
     left: &Vec<usize>,
-    factor: (usize, usize),
+    factor: Factor,
     before: usize,
 ) -> usize
-    requires letter { factor.1 < letters }
-    requires parent { factor.0 * letters + before < length left.now.items }
-    requires product { (entry letters left.now.items factor.0 before + 1) * letters + factor.1
+    requires letter { factor.last < letters }
+    requires parent { factor.prefix * letters + before < length left.now.items }
+    requires product { (entry letters left.now.items factor.prefix before + 1) * letters + factor.last
         < length right.now.items }
     ensures { result ≡ entry letters right.now.items
-        (entry letters left.now.items factor.0 before + 1) factor.1 }
+        (entry letters left.now.items factor.prefix before + 1) factor.last }
 {
-    let (parent, letter) = factor;
-    let number = entry(left, letters, parent, before);
-    entry(right, letters, number + 1, letter)
+    let number = entry(left, letters, factor.prefix, before);
+    entry(right, letters, number + 1, factor.last)
 }
 
 // Adds the row of a word: each letter times the word.

@@ -4,6 +4,7 @@ ghost use Rattle.froidure_pin.specs.Found.{AreFactors, entry, parent, words_of};
 ghost use Rattle.froidure_pin.specs.Numbering.{AreRows};
 ghost use Rattle.froidure_pin.specs.Rules.{AreSuffixes, is_product, is_rule, rules_at, rules_to};
 
+use super::parts::Factor;
 use super::rows::entry;
 use super::spell::spell;
 use ports::NoMemory;
@@ -11,33 +12,27 @@ use std::alloc::Global;
 use words::{Letter, Word};
 
 // The parent that is left of a word without its first letter.
-fn suffix_of(
-    letters: usize,
-    right: &Vec<usize>,
-    suffixes: &Vec<usize>,
-    factor: (usize, usize),
-) -> usize
-    requires letter { factor.1 < letters }
-    requires parent { factor.0 < length suffixes.now.items }
-    requires product { slice_index suffixes.now.items factor.0 * letters + factor.1
+fn suffix_of(letters: usize, right: &Vec<usize>, suffixes: &Vec<usize>, factor: Factor) -> usize
+    requires letter { factor.last < letters }
+    requires parent { factor.prefix < length suffixes.now.items }
+    requires product { slice_index suffixes.now.items factor.prefix * letters + factor.last
         < length right.now.items }
-    requires few { entry letters right.now.items (slice_index suffixes.now.items factor.0) factor.1
+    requires few { entry letters right.now.items (slice_index suffixes.now.items factor.prefix) factor.last
         < length right.now.items }
-    ensures { result ≡ (if factor.0 == 0 then 0 else entry letters right.now.items
-        (slice_index suffixes.now.items factor.0) factor.1 + 1) }
+    ensures { result ≡ (if factor.prefix == 0 then 0 else entry letters right.now.items
+        (slice_index suffixes.now.items factor.prefix) factor.last + 1) }
 {
-    let (parent, letter) = factor;
-    if parent == 0 {
+    if factor.prefix == 0 {
         return 0;
     }
-    entry(right, letters, suffixes[parent], letter) + 1
+    entry(right, letters, suffixes[factor.prefix], factor.last) + 1
 }
 
 // The parents that are left of the words without their first letters.
 pub(crate) fn suffixes_of(
     alloc: Global,
     letters: usize,
-    factors: &Vec<(usize, usize)>,
+    factors: &Vec<Factor>,
     right: &Vec<usize>,
 ) -> Result<Vec<usize>, NoMemory>
     requires some { 0 < letters }
@@ -56,23 +51,18 @@ pub(crate) fn suffixes_of(
 }
 
 // Whether the word of a number is a parent with a letter.
-pub(crate) fn is_product(
-    factors: &Vec<(usize, usize)>,
-    number: usize,
-    parent: usize,
-    letter: usize,
-) -> bool
+pub(crate) fn is_product(factors: &Vec<Factor>, number: usize, parent: usize, letter: usize) -> bool
     requires { number < length factors.now.items }
     ensures { result ≡ is_product factors.now.items number parent letter }
 {
     let factor = factors[number];
-    factor.0 == parent && factor.1 == letter
+    factor.prefix == parent && factor.last == letter
 }
 
 // Whether a product is the left side of a rule: no word, while it is one without its first letter.
 fn is_rule(
     letters: usize,
-    factors: &Vec<(usize, usize)>,
+    factors: &Vec<Factor>,
     right: &Vec<usize>,
     suffixes: &Vec<usize>,
     place: usize,
@@ -102,11 +92,7 @@ fn is_rule(
 }
 
 // The word of a parent.
-fn parent_word(
-    alloc: Global,
-    factors: &Vec<(usize, usize)>,
-    before: usize,
-) -> Result<Word, NoMemory>
+fn parent_word(alloc: Global, factors: &Vec<Factor>, before: usize) -> Result<Word, NoMemory>
     requires factors { AreFactors 256 factors.now.items }
     requires within { before ≤ length factors.now.items }
     ensures { IfOk result (λ word. word ≡ parent (words_of factors.now.items) before) }
@@ -120,7 +106,7 @@ fn parent_word(
 // The word of a parent with a letter.
 fn product_word(
     alloc: Global,
-    factors: &Vec<(usize, usize)>,
+    factors: &Vec<Factor>,
     before: usize,
     letter: usize,
 ) -> Result<Word, NoMemory>
@@ -139,7 +125,7 @@ fn product_word(
 fn add_rule(
     alloc: Global,
     letters: usize,
-    factors: &Vec<(usize, usize)>,
+    factors: &Vec<Factor>,
     right: &Vec<usize>,
     suffixes: &Vec<usize>,
     place: usize,
@@ -168,7 +154,7 @@ fn add_rule(
 pub(crate) fn rules_of(
     alloc: Global,
     letters: usize,
-    factors: &Vec<(usize, usize)>,
+    factors: &Vec<Factor>,
     right: &Vec<usize>,
     suffixes: &Vec<usize>,
 ) -> Result<Vec<(Word, Word)>, NoMemory>

@@ -3,7 +3,7 @@ ghost use Rattle.std.specs.Prelude.{[], ◌∷◌, ◌++◌, ◌≡◌, List, �
 ghost use Rattle.theory.specs.Class.{IsRuleList};
 ghost use Rattle.theory.specs.Value.{HasAtMostValues, HasMoreValues, SameValue};
 ghost use Rattle.theory.specs.Word.{Word};
-ghost use Rattle.froidure_pin.specs.Found.{IsNumberIn, IsTableOf, entry, parent, words_of};
+ghost use Rattle.froidure_pin.specs.Found.{IsNumberIn, IsTableOf, entry, parent, tail_at, words_of};
 ghost use Rattle.froidure_pin.specs.Growing.{AreCounted, AreLeftNumbers, GrowsTo, IsAt, IsGrown, IsLevel};
 ghost use Rattle.froidure_pin.specs.Rules.{is_product};
 ghost use Rattle.elements.specs.Generators.{value_by};
@@ -11,6 +11,7 @@ ghost use Rattle.froidure_pin.specs.Numbering.{IsNumbering};
 ghost use Rattle.elements.specs.Generators.{HaveOneShape};
 
 use super::growth::Growth;
+use super::parts::{Factor, Tail};
 use super::rows::{add_left_rows, entry};
 use super::rules::is_product;
 use super::steps::Steps;
@@ -74,7 +75,15 @@ fn take_generators<E: Element>(
 {
     for (letter, generator) in generators.iter().enumerate() {
         let copy = generator.copy(alloc)?;
-        if growth.goes_over(copy, (0, letter), (letter, 0), bound)? {
+        let factor = Factor {
+            prefix: 0,
+            last: letter,
+        };
+        let tail = Tail {
+            first: letter,
+            suffix: 0,
+        };
+        if growth.goes_over(copy, factor, tail, bound)? {
             return Ok(true);
         }
     }
@@ -99,19 +108,19 @@ fn read_product<E: Element>(
         → IsNumberIn (length generators.now.items) E.eq
         (value_by E.product generators.now.items unused) (words_of growth.now.factors.items) product
         (parent (words_of growth.now.factors.items) (number + 1) ++ letter ∷ [])) }
-    ensures least { let suffix = (slice_index_or growth.now.tails.items number (0, 0)).1 in
+    ensures least { let suffix = (tail_at growth.now.tails.items number).suffix in
         let rest = entry (length generators.now.items) growth.now.right.items suffix letter in
         result ≡ None → is_product growth.now.factors.items rest suffix letter ≡ true }
 {
     let letters = generators.len();
-    let (first, suffix) = growth.tails[number];
-    let rest = entry(&growth.right, letters, suffix, letter);
-    if is_product(&growth.factors, rest, suffix, letter) {
+    let tail = growth.tails[number];
+    let rest = entry(&growth.right, letters, tail.suffix, letter);
+    if is_product(&growth.factors, rest, tail.suffix, letter) {
         return None;
     }
-    let (prefix, last) = growth.factors[rest];
-    let product = entry(left, letters, prefix, first);
-    Some(entry(&growth.right, letters, product + 1, last))
+    let factor = growth.factors[rest];
+    let product = entry(left, letters, factor.prefix, tail.first);
+    Some(entry(&growth.right, letters, product + 1, factor.last))
 }
 
 // Whether there are more elements than the bound, once the product of the element of a number by a
@@ -131,7 +140,7 @@ fn make_product<E: Element, L: Ledger>(
     requires at { (unused : E) → IsAt E.product E.eq generators.now.items unused
         growth.old.elements.keys growth.old.factors.items growth.old.tails.items
         growth.old.right.items left.now.items number letter }
-    requires least { let suffix = (slice_index_or growth.old.tails.items number (0, 0)).1 in
+    requires least { let suffix = (tail_at growth.old.tails.items number).suffix in
         let rest = entry (length generators.now.items) growth.old.right.items suffix letter in
         is_product growth.old.factors.items rest suffix letter ≡ true }
     ensures whole { result ≡ Ok false → length growth.new.elements.keys ≤ bound }
@@ -151,7 +160,11 @@ fn make_product<E: Element, L: Ledger>(
 {
     let made = multiply(alloc, &growth.elements[number], &generators[letter], steps)?;
     let tail = growth.tail_of_product(generators.len(), number, letter);
-    growth.goes_over(made, (number + 1, letter), tail, bound)
+    let factor = Factor {
+        prefix: number + 1,
+        last: letter,
+    };
+    growth.goes_over(made, factor, tail, bound)
 }
 
 // The same, where the product is multiplied out only if the graphs do not tell it.

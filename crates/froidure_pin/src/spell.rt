@@ -1,7 +1,8 @@
-// Words from pairs of a parent and a letter.
+// Words from factors.
 ghost use Rattle.std.specs.Prelude.{◌≡◌, ◌<◌, [], IfOk, length, reverse, slice_index_or};
 ghost use Rattle.froidure_pin.specs.Found.{AreFactors, words_of};
 
+use super::parts::Factor;
 use ports::NoMemory;
 use std::alloc::Global;
 use words::{Letter, Word};
@@ -9,7 +10,7 @@ use words::{Letter, Word};
 // The letters of the word of a number, the last first.
 fn letters_back(
     alloc: Global,
-    factors: &Vec<(usize, usize)>,
+    factors: &Vec<Factor>,
     number: usize,
 ) -> Result<Vec<Letter>, NoMemory>
     requires factors { AreFactors 256 factors.now.items }
@@ -20,9 +21,9 @@ fn letters_back(
     let mut back = Vec::new(alloc);
     let mut at = number + 1;
     while at > 0 {
-        let (parent, letter) = factors[at - 1];
-        back.push(Letter::new(letter as u8))?;
-        at = parent;
+        let factor = factors[at - 1];
+        back.push(Letter::new(factor.last as u8))?;
+        at = factor.prefix;
     }
     Ok(back)
 }
@@ -39,11 +40,7 @@ fn turned_round(alloc: Global, mut back: Vec<Letter>) -> Result<Word, NoMemory>
 }
 
 // The word of a number.
-pub(crate) fn spell(
-    alloc: Global,
-    factors: &Vec<(usize, usize)>,
-    number: usize,
-) -> Result<Word, NoMemory>
+pub(crate) fn spell(alloc: Global, factors: &Vec<Factor>, number: usize) -> Result<Word, NoMemory>
     requires factors { AreFactors 256 factors.now.items }
     requires within { number < length factors.now.items }
     ensures { IfOk result (λ word. word ≡ slice_index_or (words_of factors.now.items) number []) }

@@ -8,6 +8,7 @@ ghost use Rattle.froidure_pin.specs.Rules.{IsWholeTable};
 ghost use Rattle.froidure_pin.specs.Numbering.{AreRowsBy, IsRowBy, left_number, letter_number, number_of, right_number};
 
 use super::lists::Words;
+use super::parts::Factor;
 use super::rows::entry;
 use super::rules::{rules_of, suffixes_of};
 use super::spell::spell;
@@ -26,9 +27,8 @@ use words::{Letter, Word};
 pub struct Table<E: Element> {
     pub(crate) elements: IndexSet<E>,
 
-    // of each element's word: the number of the word without its last letter, plus one, or 0 where
-    // nothing is left; and the last letter
-    pub(crate) factors: Vec<(usize, usize)>,
+    // of each element's word
+    pub(crate) factors: Vec<Factor>,
 
     pub(crate) letters: usize,
 

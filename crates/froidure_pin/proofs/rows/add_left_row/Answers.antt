@@ -1,11 +1,13 @@
 use Rattle.std.proofs.Common.{◌≡◌, ℕ, ◌+◌, ◌*◌, ◌<◌, List, [], ◌∷◌, ◌++◌, length, get_or, sym, ap, subst, subst₂, ◌∙◌, arith, length-append}
-use Rattle.froidure_pin.specs.Found.{entry, words_of}
+use Rattle.froidure_pin.specs.Found.{entry, words_of, no_factor, factor_at}
 use Rattle.froidure_pin.specs.Growing.{AreLeftNumbers}
 use Rattle.froidure_pin.proofs.OneShape.{get_any, some_value}
 use Rattle.froidure_pin.proofs.Search.{IsSetting}
 use Rattle.froidure_pin.proofs.Lefts.{in_factors, last_over, prefix_place, product_place, lefts_more}
 use Rattle.froidure_pin.proofs.rows.add_left_row.Given.{Over}
 use Rattle.froidure_pin.proofs.rows.add_left_row.Goals as goal
+use Rattle.froidure_pin.specs.declared.parts.Factor.{Factor}
+use Rattle.froidure_pin.specs.declared.parts.Tail.{Tail}
 
 pub index-requires : goal.index-requires
 index-requires g c =
@@ -13,8 +15,8 @@ index-requires g c =
     let setting : IsSetting g.E.Element.shape g.E.Element.product g.E.PartialEq.eq generators = record { products = g.met.E.Element.products; alike = g.met.E.Element.one_shape; shaped = c.requires.shape } in
     let unused : g.row.E.Denot = some_value generators c.requires.some in
     let elements : List g.row.E.Denot = c.args.growth.now.elements.keys in
-    let factors : List (ℕ × ℕ) = c.args.growth.now.factors.items in
-    let tails : List (ℕ × ℕ) = c.args.growth.now.tails.items in
+    let factors : List Factor = c.args.growth.now.factors.items in
+    let tails : List Tail = c.args.growth.now.tails.items in
     let right : List ℕ = c.args.growth.now.right.items in
     let left : List ℕ = c.loop-letter.left.items in
     let number : ℕ = c.args.number in
@@ -26,16 +28,16 @@ index-requires g c =
 
 -- where the numbers of the factor are, of the word without its last letter, and of the product
 asked : (g : Over) (c : goal.After-left_number-arg-1 g)
-    → (c.index.result.now.1 < c.len-letters.result)
-    × (c.index.result.now.0 * c.len-letters.result + c.loop-letter.letter < length c.loop-letter.left.items)
-    × ((entry c.len-letters.result c.loop-letter.left.items c.index.result.now.0 c.loop-letter.letter + 1) * c.len-letters.result + c.index.result.now.1 < length c.args.growth.now.right.items)
+    → (c.index.result.now.last < c.len-letters.result)
+    × (c.index.result.now.prefix * c.len-letters.result + c.loop-letter.letter < length c.loop-letter.left.items)
+    × ((entry c.len-letters.result c.loop-letter.left.items c.index.result.now.prefix c.loop-letter.letter + 1) * c.len-letters.result + c.index.result.now.last < length c.args.growth.now.right.items)
 asked g c =
     let generators : List g.row.E.Denot = c.args.generators.now.items in
     let setting : IsSetting g.E.Element.shape g.E.Element.product g.E.PartialEq.eq generators = record { products = g.met.E.Element.products; alike = g.met.E.Element.one_shape; shaped = c.requires.shape } in
     let unused : g.row.E.Denot = some_value generators c.requires.some in
     let elements : List g.row.E.Denot = c.args.growth.now.elements.keys in
-    let factors : List (ℕ × ℕ) = c.args.growth.now.factors.items in
-    let tails : List (ℕ × ℕ) = c.args.growth.now.tails.items in
+    let factors : List Factor = c.args.growth.now.factors.items in
+    let tails : List Tail = c.args.growth.now.tails.items in
     let right : List ℕ = c.args.growth.now.right.items in
     let left : List ℕ = c.loop-letter.left.items in
     let number : ℕ = c.args.number in
@@ -43,10 +45,10 @@ asked g c =
     let letters : length generators ≡ c.len-letters.result = omega (arith, c.len-letters.ensures) in
     let letter : b < length generators = omega (arith, c.loop-letter-test.true, letters) in
     let within = in_factors setting unused elements factors tails right left (c.requires.grown unused).0 (c.requires.grown unused).1 number b c.requires.within letter c.loop-letter.invariant.rows (c.loop-letter.invariant.lefts unused) in
-    let factor : get_or factors number (0, 0) ≡ c.index.result.now = get_any factors number (0, 0) c.index.result.now within ∙ sym c.index.ensures in (
-      subst₂ (λ n f. f.1 < n) letters factor (last_over setting unused elements factors tails right left (c.requires.grown unused).0 (c.requires.grown unused).1 number b c.requires.within letter c.loop-letter.invariant.rows (c.loop-letter.invariant.lefts unused)),
-      subst₂ (λ n f. f.0 * n + b < length left) letters factor (prefix_place setting unused elements factors tails right left (c.requires.grown unused).0 (c.requires.grown unused).1 number b c.requires.within letter c.loop-letter.invariant.rows (c.loop-letter.invariant.lefts unused)),
-      subst₂ (λ n f. (entry n left f.0 b + 1) * n + f.1 < length right) letters factor (product_place setting unused elements factors tails right left (c.requires.grown unused).0 (c.requires.grown unused).1 number b c.requires.within letter c.loop-letter.invariant.rows (c.loop-letter.invariant.lefts unused) c.requires.reach),
+    let factor : factor_at factors number ≡ c.index.result.now = get_any factors number no_factor c.index.result.now within ∙ sym c.index.ensures in (
+      subst₂ (λ n (f : Factor). f.last < n) letters factor (last_over setting unused elements factors tails right left (c.requires.grown unused).0 (c.requires.grown unused).1 number b c.requires.within letter c.loop-letter.invariant.rows (c.loop-letter.invariant.lefts unused)),
+      subst₂ (λ n (f : Factor). f.prefix * n + b < length left) letters factor (prefix_place setting unused elements factors tails right left (c.requires.grown unused).0 (c.requires.grown unused).1 number b c.requires.within letter c.loop-letter.invariant.rows (c.loop-letter.invariant.lefts unused)),
+      subst₂ (λ n (f : Factor). (entry n left f.prefix b + 1) * n + f.last < length right) letters factor (product_place setting unused elements factors tails right left (c.requires.grown unused).0 (c.requires.grown unused).1 number b c.requires.within letter c.loop-letter.invariant.rows (c.loop-letter.invariant.lefts unused) c.requires.reach),
     )
 
 pub left_number-product-requires-clause-letter : goal.left_number-product-requires-clause-letter
@@ -63,8 +65,8 @@ loop-letter-preserved g c =
     let generators : List g.row.E.Denot = c.args.generators.now.items in
     let setting : IsSetting g.E.Element.shape g.E.Element.product g.E.PartialEq.eq generators = record { products = g.met.E.Element.products; alike = g.met.E.Element.one_shape; shaped = c.requires.shape } in
     let elements : List g.row.E.Denot = c.args.growth.now.elements.keys in
-    let factors : List (ℕ × ℕ) = c.args.growth.now.factors.items in
-    let tails : List (ℕ × ℕ) = c.args.growth.now.tails.items in
+    let factors : List Factor = c.args.growth.now.factors.items in
+    let tails : List Tail = c.args.growth.now.tails.items in
     let right : List ℕ = c.args.growth.now.right.items in
     let left : List ℕ = c.loop-letter.left.items in
     let number : ℕ = c.args.number in
@@ -72,8 +74,8 @@ loop-letter-preserved g c =
     let letters : length generators ≡ c.len-letters.result = omega (arith, c.len-letters.ensures) in
     let letter : b < length generators = omega (arith, c.loop-letter-test.true, letters) in
     let within = in_factors setting (some_value generators c.requires.some) elements factors tails right left (c.requires.grown (some_value generators c.requires.some)).0 (c.requires.grown (some_value generators c.requires.some)).1 number b c.requires.within letter c.loop-letter.invariant.rows (c.loop-letter.invariant.lefts (some_value generators c.requires.some)) in
-    let factor : get_or factors number (0, 0) ≡ c.index.result.now = get_any factors number (0, 0) c.index.result.now within ∙ sym c.index.ensures in
-    let product : entry (length generators) right (entry (length generators) left (get_or factors number (0, 0)).0 b + 1) (get_or factors number (0, 0)).1 ≡ c.left_number-product.result = (λ i. entry (letters i) right (entry (letters i) left (factor i).0 b + 1) (factor i).1) ∙ sym c.left_number-product.ensures in
+    let factor : factor_at factors number ≡ c.index.result.now = get_any factors number no_factor c.index.result.now within ∙ sym c.index.ensures in
+    let product : entry (length generators) right (entry (length generators) left (factor_at factors number).prefix b + 1) (factor_at factors number).last ≡ c.left_number-product.result = (λ i. entry (letters i) right (entry (letters i) left (factor i).prefix b + 1) (factor i).last) ∙ sym c.left_number-product.ensures in
     record {
       rows = omega (arith, c.loop-letter.invariant.rows, ap length c.in_ok-push.ensures.items, length-append left (c.left_number-product.result ∷ []));
       lefts = λ unused. subst (λ ns. AreLeftNumbers g.E.Element.product g.E.PartialEq.eq generators unused (words_of factors) ns) (ap (λ n. left ++ n ∷ []) product ∙ sym c.in_ok-push.ensures.items) (lefts_more setting unused elements factors tails right left (c.requires.grown unused).0 (c.requires.grown unused).1 number b c.requires.within letter c.loop-letter.invariant.rows (c.loop-letter.invariant.lefts unused) c.requires.reach);

@@ -4,6 +4,7 @@ use Rattle.froidure_pin.specs.Rules.{is_product}
 use Rattle.froidure_pin.proofs.OneShape.{get_any}
 use Rattle.froidure_pin.proofs.RuleSteps.{row_of_place, entry_within, rule_test}
 use Rattle.froidure_pin.proofs.rules.is_rule.Goals as goal
+use Rattle.froidure_pin.specs.declared.parts.Factor.{Factor}
 
 read_zero : (suffixes : List ℕ) (j s : ℕ) → j < length suffixes → s ≡ get_or suffixes j s → s ≡ get_or suffixes j 0
 read_zero suffixes j s h e = e ∙ get_any suffixes j s 0 h
@@ -20,7 +21,7 @@ pub returns : goal.returns
 returns c =
     let k : ℕ = c.args.letters in
     let p : ℕ = c.args.place in
-    let factors : List (ℕ × ℕ) = c.args.factors.now.items in
+    let factors : List Factor = c.args.factors.now.items in
     let right : List ℕ = c.args.right.now.items in
     let s : ℕ = get_or c.args.suffixes.now.items (p / k) 0 in
     let row = row_of_place k (length factors) p c.requires.some (omega (arith, c.requires.within, c.requires.right.count)) in

@@ -1,20 +1,22 @@
 use Rattle.std.proofs.Common.{◌≡◌, ℕ, ◌+◌, ◌<◌, ◌≤◌, ◌∙◌, length, get_or, sym, subst, arith}
+use Rattle.froidure_pin.specs.Found.{no_factor, factor_at}
 use Rattle.froidure_pin.specs.Rules.{AreSuffixes}
 use Rattle.froidure_pin.proofs.OneShape.{get_any}
 use Rattle.froidure_pin.proofs.RuleSteps.{entry_within, suffixes_more}
 use Rattle.froidure_pin.proofs.rules.suffixes_of.Goals as goal
+use Rattle.froidure_pin.specs.declared.parts.Factor.{Factor}
 
 pub suffix_of-suffix-requires-clause-product : goal.suffix_of-suffix-requires-clause-product
 suffix_of-suffix-requires-clause-product c =
     let i : ℕ = c.loop-number.number in
     let inside : i < length c.args.factors.now.items = omega arith in
-    let at : get_or c.args.factors.now.items i (0, 0) ≡ c.index.result.now = get_any c.args.factors.now.items i (0, 0) c.index.result.now inside ∙ sym c.index.ensures in
-    let early = subst (λ f. f.0 ≤ i) at (c.requires.factors.earlier i inside) in
-    entry_within c.args.letters c.args.factors.now.items c.args.right.now.items c.requires.right c.loop-number.suffixes.items i c.index.result.now.0 c.index.result.now.1 c.loop-number.invariant (omega (arith, c.loop-number.invariant.count, early)) (subst (λ f. f.1 < c.args.letters) at (c.requires.factors.letter i inside))
+    let at : factor_at c.args.factors.now.items i ≡ c.index.result.now = get_any c.args.factors.now.items i no_factor c.index.result.now inside ∙ sym c.index.ensures in
+    let early = subst (λ (f : Factor). f.prefix ≤ i) at (c.requires.factors.earlier i inside) in
+    entry_within c.args.letters c.args.factors.now.items c.args.right.now.items c.requires.right c.loop-number.suffixes.items i c.index.result.now.prefix c.index.result.now.last c.loop-number.invariant (omega (arith, c.loop-number.invariant.count, early)) (subst (λ (f : Factor). f.last < c.args.letters) at (c.requires.factors.letter i inside))
 
 pub loop-number-preserved : goal.loop-number-preserved
 loop-number-preserved c =
     let i : ℕ = c.loop-number.number in
     let inside : i < length c.args.factors.now.items = omega arith in
-    let at : get_or c.args.factors.now.items i (0, 0) ≡ c.index.result.now = get_any c.args.factors.now.items i (0, 0) c.index.result.now inside ∙ sym c.index.ensures in
+    let at : factor_at c.args.factors.now.items i ≡ c.index.result.now = get_any c.args.factors.now.items i no_factor c.index.result.now inside ∙ sym c.index.ensures in
     subst (λ xs. AreSuffixes c.args.letters c.args.factors.now.items c.args.right.now.items xs (i + 1)) (sym c.in_ok-push-2.ensures.items) (suffixes_more c.args.letters c.args.factors.now.items c.args.right.now.items c.requires.right c.loop-number.suffixes.items i c.suffix_of-suffix.result c.index.result.now c.requires.factors c.loop-number.invariant inside at c.suffix_of-suffix.ensures)

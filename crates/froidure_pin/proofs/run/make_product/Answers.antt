@@ -1,7 +1,7 @@
 use Rattle.std.proofs.Common.{◌≡◌, ◌↔◌, ℕ, ◌+◌, ◌*◌, ◌<◌, List, [], ◌∷◌, ◌++◌, length, get_or, Bool, true, false, IsTrue, Ok, refl, sym, ap, subst, subst₂, ◌∙◌, arith}
 use Rattle.std.specs.List.{position_or_len}
 use Rattle.indexmap.specs.IndexSet.{insert_key}
-use Rattle.froidure_pin.specs.Found.{entry, insert_factor, words_of}
+use Rattle.froidure_pin.specs.Found.{entry, insert_beside, words_of, factor_of, tail_of, tail_at}
 use Rattle.froidure_pin.specs.Growing.{IsAt, GrowsTo}
 use Rattle.froidure_pin.proofs.OneShape.{some_value}
 use Rattle.froidure_pin.proofs.Results.{on_ok, if_ok, along}
@@ -10,6 +10,8 @@ use Rattle.froidure_pin.proofs.Telling.{rest_place, rest_within, tail_within}
 use Rattle.froidure_pin.proofs.Making.{made}
 use Rattle.froidure_pin.proofs.run.make_product.Given.{Over}
 use Rattle.froidure_pin.proofs.run.make_product.Goals as goal
+use Rattle.froidure_pin.specs.declared.parts.Factor.{Factor}
+use Rattle.froidure_pin.specs.declared.parts.Tail.{Tail}
 
 pub index-requires : goal.index-requires
 index-requires g c =
@@ -23,8 +25,8 @@ multiply-requires g c =
     let setting : IsSetting g.E.Element.shape g.E.Element.product g.E.PartialEq.eq generators = record { products = g.met.E.Element.products; alike = g.met.E.Element.one_shape; shaped = c.requires.shape } in
     let unused : g.row.E.Denot = some_value generators (omega (arith, c.requires.letter)) in
     let elements : List g.row.E.Denot = c.args.growth.now.elements.keys in
-    let factors : List (ℕ × ℕ) = c.args.growth.now.factors.items in
-    let tails : List (ℕ × ℕ) = c.args.growth.now.tails.items in
+    let factors : List Factor = c.args.growth.now.factors.items in
+    let tails : List Tail = c.args.growth.now.tails.items in
     let right : List ℕ = c.args.growth.now.right.items in
     let left : List ℕ = c.args.left.now.items in
     let number : ℕ = c.args.number in
@@ -37,23 +39,23 @@ multiply-requires g c =
 -- where the tail is, and the word without its first letter with the letter
 asked : (g : Over) (c : goal.After-len g)
     → (c.args.number < length c.args.growth.now.tails.items)
-    × ((get_or c.args.growth.now.tails.items c.args.number (0, 0)).1 * c.len.result + c.args.letter < length c.args.growth.now.right.items)
-    × (entry c.len.result c.args.growth.now.right.items (get_or c.args.growth.now.tails.items c.args.number (0, 0)).1 c.args.letter < length c.args.growth.now.factors.items)
+    × ((tail_at c.args.growth.now.tails.items c.args.number).suffix * c.len.result + c.args.letter < length c.args.growth.now.right.items)
+    × (entry c.len.result c.args.growth.now.right.items (tail_at c.args.growth.now.tails.items c.args.number).suffix c.args.letter < length c.args.growth.now.factors.items)
 asked g c =
     let generators : List g.row.E.Denot = c.args.generators.now.items in
     let setting : IsSetting g.E.Element.shape g.E.Element.product g.E.PartialEq.eq generators = record { products = g.met.E.Element.products; alike = g.met.E.Element.one_shape; shaped = c.requires.shape } in
     let unused : g.row.E.Denot = some_value generators (omega (arith, c.requires.letter)) in
     let elements : List g.row.E.Denot = c.args.growth.now.elements.keys in
-    let factors : List (ℕ × ℕ) = c.args.growth.now.factors.items in
-    let tails : List (ℕ × ℕ) = c.args.growth.now.tails.items in
+    let factors : List Factor = c.args.growth.now.factors.items in
+    let tails : List Tail = c.args.growth.now.tails.items in
     let right : List ℕ = c.args.growth.now.right.items in
     let left : List ℕ = c.args.left.now.items in
     let number : ℕ = c.args.number in
     let a : ℕ = c.args.letter in
     let letters : length generators ≡ c.len.result = omega (arith, c.len.ensures) in (
       tail_within setting unused elements factors tails right left number a (c.requires.at unused) c.requires.letter,
-      subst (λ n. (get_or tails number (0, 0)).1 * n + a < length right) letters (rest_place setting unused elements factors tails right left number a (c.requires.at unused) c.requires.letter),
-      subst (λ n. entry n right (get_or tails number (0, 0)).1 a < length factors) letters (rest_within setting unused elements factors tails right left number a (c.requires.at unused) c.requires.letter),
+      subst (λ n. (tail_at tails number).suffix * n + a < length right) letters (rest_place setting unused elements factors tails right left number a (c.requires.at unused) c.requires.letter),
+      subst (λ n. entry n right (tail_at tails number).suffix a < length factors) letters (rest_within setting unused elements factors tails right left number a (c.requires.at unused) c.requires.letter),
     )
 
 pub tail_of_product-tail-requires-clause-within : goal.tail_of_product-tail-requires-clause-within
@@ -65,14 +67,14 @@ tail_of_product-tail-requires-clause-place g c = (asked g c).1
 pub tail_of_product-tail-requires-clause-known : goal.tail_of_product-tail-requires-clause-known
 tail_of_product-tail-requires-clause-known g c = (asked g c).2
 
-pub overflow_add-number : goal.overflow_add-number
-overflow_add-number g c =
+pub overflow_add-factor : goal.overflow_add-factor
+overflow_add-factor g c =
     let generators : List g.row.E.Denot = c.args.generators.now.items in
     let setting : IsSetting g.E.Element.shape g.E.Element.product g.E.PartialEq.eq generators = record { products = g.met.E.Element.products; alike = g.met.E.Element.one_shape; shaped = c.requires.shape } in
     let unused : g.row.E.Denot = some_value generators (omega (arith, c.requires.letter)) in
     let elements : List g.row.E.Denot = c.args.growth.now.elements.keys in
-    let factors : List (ℕ × ℕ) = c.args.growth.now.factors.items in
-    let tails : List (ℕ × ℕ) = c.args.growth.now.tails.items in
+    let factors : List Factor = c.args.growth.now.factors.items in
+    let tails : List Tail = c.args.growth.now.tails.items in
     let right : List ℕ = c.args.growth.now.right.items in
     let left : List ℕ = c.args.left.now.items in
     let number : ℕ = c.args.number in
@@ -90,8 +92,8 @@ taken g c over e unused =
     let generators : List g.row.E.Denot = c.args.generators.now.items in
     let setting : IsSetting g.E.Element.shape g.E.Element.product g.E.PartialEq.eq generators = record { products = g.met.E.Element.products; alike = g.met.E.Element.one_shape; shaped = c.requires.shape } in
     let elements : List g.row.E.Denot = c.args.growth.now.elements.keys in
-    let factors : List (ℕ × ℕ) = c.args.growth.now.factors.items in
-    let tails : List (ℕ × ℕ) = c.args.growth.now.tails.items in
+    let factors : List Factor = c.args.growth.now.factors.items in
+    let tails : List Tail = c.args.growth.now.tails.items in
     let right : List ℕ = c.args.growth.now.right.items in
     let left : List ℕ = c.args.left.now.items in
     let number : ℕ = c.args.number in
@@ -100,15 +102,15 @@ taken g c over e unused =
     let y : g.row.E.Denot = c.index-2.result.now in
     let p : g.row.E.Denot = c.in_ok-made.made in
     let letters : length generators ≡ c.len.result = omega (arith, c.len.ensures) in
-    let tail : ((get_or tails number (0, 0)).0, entry (length generators) right (get_or tails number (0, 0)).1 a + 1) ≡ c.tail_of_product-tail.result = subst (λ n. ((get_or tails number (0, 0)).0, entry n right (get_or tails number (0, 0)).1 a + 1) ≡ c.tail_of_product-tail.result) (sym letters) (sym c.tail_of_product-tail.ensures) in
+    let tail : tail_of (tail_at tails number).first (entry (length generators) right (tail_at tails number).suffix a + 1) ≡ c.tail_of_product-tail.result = subst (λ n. tail_of (tail_at tails number).first (entry n right (tail_at tails number).suffix a + 1) ≡ c.tail_of_product-tail.result) (sym letters) (sym c.tail_of_product-tail.ensures) in
     let found = read_at elements number x (c.requires.at unused).within c.index.ensures in
     let read : get_or generators a y ≡ y = sym c.index-2.ensures in
     let value = product_is_value setting unused (words_of factors) elements right number a x y p (c.requires.at unused).grown.found (c.requires.at unused).within c.requires.letter found read c.in_ok-made.ensures.made in
     let keys = on_ok c.goes_over.result (c.goes_over.new.self.elements.keys ≡ insert_key g.E.PartialEq.eq elements p) over e c.goes_over.ensures.elements in
-    let fs = on_ok c.goes_over.result (c.goes_over.new.self.factors.items ≡ insert_factor g.E.PartialEq.eq elements factors p (number + 1) a) over e c.goes_over.ensures.factors in
-    let ts = on_ok c.goes_over.result (c.goes_over.new.self.tails.items ≡ insert_factor g.E.PartialEq.eq elements tails p c.tail_of_product-tail.result.0 c.tail_of_product-tail.result.1) over e c.goes_over.ensures.tails in
+    let fs = on_ok c.goes_over.result (c.goes_over.new.self.factors.items ≡ insert_beside g.E.PartialEq.eq elements factors p (factor_of (number + 1) a)) over e c.goes_over.ensures.factors in
+    let ts = on_ok c.goes_over.result (c.goes_over.new.self.tails.items ≡ insert_beside g.E.PartialEq.eq elements tails p c.tail_of_product-tail.result) over e c.goes_over.ensures.tails in
     let rs = on_ok c.goes_over.result (c.goes_over.new.self.right.items ≡ right ++ position_or_len (g.E.PartialEq.eq p) elements ∷ []) over e c.goes_over.ensures.right in
-    let tails_are = ts ∙ sym (ap (λ (t : ℕ × ℕ). insert_factor g.E.PartialEq.eq elements tails p t.0 t.1) tail) in
+    let tails_are = ts ∙ sym (ap (λ (t : Tail). insert_beside g.E.PartialEq.eq elements tails p t) tail) in
     let all = made setting unused elements factors tails right left number a (c.requires.at unused) c.requires.letter c.requires.least p value c.args.steps.now in (
       along (λ es fs ts rs (s : ℕ). IsAt g.E.Element.product g.E.PartialEq.eq generators unused es fs ts rs left number (a + 1)) {e = number} {e' = number} (sym keys) (sym fs) (sym tails_are) (sym rs) refl all.0,
       subst₂ (λ fs (rs : List ℕ). GrowsTo g.E.Element.product g.E.PartialEq.eq generators unused factors fs (length right) (length rs) number c.args.steps.now (c.args.steps.now + 1)) (sym fs) (sym rs) all.1,

@@ -6,10 +6,11 @@ use Rattle.froidure_pin.specs.Numbering.{AreRows}
 use Rattle.froidure_pin.specs.Rules.{IsWholeTable}
 use Rattle.froidure_pin.proofs.WholeTables.{ok_map, whole_rules}
 use Rattle.froidure_pin.proofs.table.Table.rules.Goals as goal
+use Rattle.froidure_pin.specs.declared.parts.Factor.{Factor}
 
 pub returns : goal.returns
 returns g c =
-    let factors : List (ℕ × ℕ) = c.self.inside.factors.items in
+    let factors : List Factor = c.self.inside.factors.items in
     let right : List ℕ = c.self.inside.right.items in
     let rows = subst (λ n. AreRows c.self.inside.letters n right) (sym c.self.invariant.count) c.self.invariant.on_right in
     ok_map _ _ c.rules_of.result (λ rules e generators unused whole.
