@@ -8,6 +8,8 @@ use Rattle.theory.specs.Class.{IsLeast, IsReducedRule}
 use Rattle.theory.proofs.Words.{before_irrefl}
 use Rattle.froidure_pin.specs.Found.{parent, entry, words_of, insert_beside, factor_of, no_factor, factor_at, tail_of, no_tail, tail_at}
 use Rattle.froidure_pin.specs.Growing.{AreCounted, AreLeftNumbers, ArePlaced, AreTails, GrowsTo, IsAt, IsGrown, IsLevel, ReachesShorter}
+use Rattle.froidure_pin.specs.Kept.{IsMultiplied, IsStep}
+use Rattle.froidure_pin.specs.declared.growth.Growth.{Growth}
 use Rattle.froidure_pin.specs.Rules.{is_product}
 use Rattle.froidure_pin.proofs.Order.{equal_or_below}
 use Rattle.froidure_pin.proofs.Places.{at_last, row_within}
@@ -27,6 +29,22 @@ pub grows_on : {V : Type 0} {product : V → V → V} {equal : V → V → Bool}
 grows_on p q = record {
   level = λ first last low high h. q.level first last low high (p.level first last low high h);
   counted = λ start h. q.counted start (p.counted start h);
+}
+
+-- no letter, and one letter after another
+pub step_none : {V : Type 0} {product : V → V → V} {equal : V → V → Bool} {generators : List V} {growth : Growth V} {number letter steps : ℕ} → IsMultiplied product equal generators growth number letter → IsStep product equal generators growth growth number letter steps steps
+step_none at = record {
+  at = at;
+  grows = λ unused. record { level = λ first last low high h. h; counted = λ start h. h };
+  left = refl;
+}
+
+pub step_on : {V : Type 0} {product : V → V → V} {equal : V → V → Bool} {generators : List V} {one two three : Growth V} {number a b before between after : ℕ}
+    → IsStep product equal generators one two number a before between → IsStep product equal generators two three number b between after → IsStep product equal generators one three number b before after
+step_on p q = record {
+  at = q.at;
+  grows = λ unused. grows_on (p.grows unused) (q.grows unused);
+  left = q.left ∙ p.left;
 }
 
 -- one factor more is placed

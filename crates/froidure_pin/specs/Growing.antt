@@ -59,8 +59,8 @@ pub record AreLeftNumbers {V : Type 0} (product : V → V → V) (equal : V → 
 
 -- the element of a number is being multiplied by the letters
 pub record IsAt {V : Type 0} (product : V → V → V) (equal : V → V → Bool) (generators : List V)
-    (unused : V) (elements : List V) (factors : List Factor) (tails : List Tail) (right left : List ℕ)
-    (number a : ℕ) : Type 0 where
+    (unused : V) (elements : List V) (factors : List Factor) (tails : List Tail)
+    (right left : List ℕ) (number a : ℕ) : Type 0 where
   pub within : number < length elements
   pub grown : IsGrown product equal generators unused elements factors tails right (number + 1) a
   pub left_numbers : AreLeftNumbers product equal generators unused (words_of factors) left

@@ -1,7 +1,8 @@
 // The elements that were found so far.
-ghost use Rattle.std.specs.Prelude.{[], ◌∷◌, ◌++◌, ◌≡◌, ◌+◌, ◌*◌, ◌<◌, ◌↔◌, length, slice_index_or, IfOk, OnOk, IsTrue};
+ghost use Rattle.std.specs.Prelude.{[], ◌∷◌, ◌++◌, ◌≡◌, ◌+◌, ◌*◌, ◌<◌, ◌↔◌, length, IfOk, OnOk, IsTrue};
 ghost use Rattle.std.specs.List.{position_or_len};
 ghost use Rattle.froidure_pin.specs.Found.{entry, insert_beside, tail_at, tail_of};
+ghost use Rattle.froidure_pin.specs.Kept.{HasTakenIn, IsNew};
 ghost use Rattle.indexmap.specs.IndexSet.{insert_key};
 
 use super::parts::{Factor, Tail};
@@ -25,21 +26,23 @@ pub(crate) struct Growth<E: Element> {
     // a row of one number for each letter, for the empty word and then for each element that was
     // multiplied
     pub(crate) right: Vec<usize>,
+
+    // the same with the letters on the left, of the elements whose words are shorter than those that
+    // are multiplied now
+    pub(crate) left: Vec<usize>,
 }
 
 impl<E: Element> Growth<E> {
     // Nothing is found yet.
     pub(crate) fn new(alloc: Global) -> Growth<E>
-        ensures elements { result.elements.keys ≡ [] }
-        ensures factors { result.factors.items ≡ [] }
-        ensures tails { result.tails.items ≡ [] }
-        ensures right { result.right.items ≡ [] }
+        ensures { IsNew result }
     {
         Growth {
             elements: IndexSet::new(alloc),
             factors: Vec::new(alloc),
             tails: Vec::new(alloc),
             right: Vec::new(alloc),
+            left: Vec::new(alloc),
         }
     }
 
@@ -53,6 +56,7 @@ impl<E: Element> Growth<E> {
             ≡ insert_beside E.eq self.old.elements.keys self.old.tails.items made tail) }
         ensures right { OnOk result (self.new.right.items
             ≡ self.old.right.items ++ position_or_len (E.eq made) self.old.elements.keys ∷ []) }
+        ensures left { OnOk result (self.new.left.items ≡ self.old.left.items) }
     {
         let (number, is_new) = self.elements.insert_full(made)?;
         self.right.push(number)?;
@@ -71,14 +75,7 @@ impl<E: Element> Growth<E> {
         tail: Tail,
         bound: usize,
     ) -> Result<bool, NoMemory>
-        ensures elements { OnOk result
-            (self.new.elements.keys ≡ insert_key E.eq self.old.elements.keys made) }
-        ensures factors { OnOk result (self.new.factors.items
-            ≡ insert_beside E.eq self.old.elements.keys self.old.factors.items made factor) }
-        ensures tails { OnOk result (self.new.tails.items
-            ≡ insert_beside E.eq self.old.elements.keys self.old.tails.items made tail) }
-        ensures right { OnOk result (self.new.right.items
-            ≡ self.old.right.items ++ position_or_len (E.eq made) self.old.elements.keys ∷ []) }
+        ensures taken { OnOk result (HasTakenIn E.eq self.old self.new made factor tail) }
         ensures over { IfOk result (λ over. IsTrue over ↔ (bound < length self.new.elements.keys)) }
     {
         self.take_in(made, factor, tail)?;

@@ -2,7 +2,8 @@
 ghost use Rattle.std.specs.Prelude.{◌≡◌, ℕ, ◌+◌, ◌*◌, ◌<◌, ◌≤◌, length, OnOk};
 ghost use Rattle.elements.specs.Generators.{HaveOneShape};
 ghost use Rattle.froidure_pin.specs.Found.{entry, words_of};
-ghost use Rattle.froidure_pin.specs.Growing.{AreLeftNumbers, IsGrown, IsLevel, ReachesAsLong};
+ghost use Rattle.froidure_pin.specs.Growing.{ReachesAsLong};
+ghost use Rattle.froidure_pin.specs.Kept.{HasLeft, IsKnown, IsWithin};
 
 use super::growth::Growth;
 use super::parts::Factor;
@@ -27,8 +28,8 @@ fn left_number(
 ) -> usize
     requires letter { factor.last < letters }
     requires parent { factor.prefix * letters + before < length left.now.items }
-    requires product { (entry letters left.now.items factor.prefix before + 1) * letters + factor.last
-        < length right.now.items }
+    requires product { (entry letters left.now.items factor.prefix before + 1) * letters
+        + factor.last < length right.now.items }
     ensures { result ≡ entry letters right.now.items
         (entry letters left.now.items factor.prefix before + 1) factor.last }
 {
@@ -36,63 +37,64 @@ fn left_number(
     entry(right, letters, number + 1, factor.last)
 }
 
-// Adds the row of a word: each letter times the word.
-fn add_left_row<E: Element>(
-    generators: &Vec<E>,
-    growth: &Growth<E>,
-    left: &mut Vec<usize>,
-    number: usize,
-) -> Result<(), NoMemory>
-    requires shape { HaveOneShape E.shape generators.now.items }
-    requires some { 0 < length generators.now.items }
-    requires within { number < length growth.now.elements.keys }
-    requires grown { (unused : E) → (row : ℕ)
-        × IsGrown E.product E.eq generators.now.items unused growth.now.elements.keys
-        growth.now.factors.items growth.now.tails.items growth.now.right.items row 0 }
-    requires reach { ReachesAsLong (length generators.now.items) (words_of growth.now.factors.items)
-        (length growth.now.right.items) number }
-    requires rows { length left.old.items ≡ (number + 1) * length generators.now.items }
-    requires left { (unused : E) → AreLeftNumbers E.product E.eq generators.now.items unused
-        (words_of growth.now.factors.items) left.old.items }
-    ensures rows { OnOk result (length left.new.items
-        ≡ (number + 1 + 1) * length generators.now.items) }
-    ensures left { OnOk result ((unused : E)
-        → AreLeftNumbers E.product E.eq generators.now.items unused
-        (words_of growth.now.factors.items) left.new.items) }
-{
-    let letters = generators.len();
-    for letter in 0..letters {
-        let product = left_number(letters, &growth.right, left, growth.factors[number], letter);
-        left.push(product)?;
+impl<E: Element> Growth<E> {
+    // Adds the row of the empty word on the left, which is that on the right.
+    pub(crate) fn begin_left(&mut self, generators: &Vec<E>) -> Result<(), NoMemory>
+        requires shape { HaveOneShape E.shape generators.now.items }
+        requires some { 0 < length generators.now.items }
+        requires known { IsKnown E.product E.eq generators.now.items self.old 1 0 }
+        ensures kept { self.new ≡ record self.old { left = self.new.left } }
+        ensures rows { OnOk result (length self.new.left.items ≡ length generators.now.items) }
+        ensures left { OnOk result (HasLeft E.product E.eq generators.now.items self.new) }
+    {
+        let alloc = *self.right.allocator();
+        self.left = Vec::from_slice(alloc, &self.right[..generators.len()])?;
+        Ok(())
     }
-    Ok(())
-}
 
-// Adds the rows of the words of one length: those from the first number to before the last.
-pub(crate) fn add_left_rows<E: Element>(
-    generators: &Vec<E>,
-    growth: &Growth<E>,
-    left: &mut Vec<usize>,
-    first: usize,
-    last: usize,
-) -> Result<(), NoMemory>
-    requires shape { HaveOneShape E.shape generators.now.items }
-    requires some { 0 < length generators.now.items }
-    requires order { first ≤ last }
-    requires grown { (unused : E) → IsGrown E.product E.eq generators.now.items unused
-        growth.now.elements.keys growth.now.factors.items growth.now.tails.items
-        growth.now.right.items (last + 1) 0 }
-    requires level { IsLevel (words_of growth.now.factors.items) first last }
-    requires rows { length left.old.items ≡ (first + 1) * length generators.now.items }
-    requires left { (unused : E) → AreLeftNumbers E.product E.eq generators.now.items unused
-        (words_of growth.now.factors.items) left.old.items }
-    ensures rows { OnOk result (length left.new.items ≡ (last + 1) * length generators.now.items) }
-    ensures left { OnOk result ((unused : E)
-        → AreLeftNumbers E.product E.eq generators.now.items unused
-        (words_of growth.now.factors.items) left.new.items) }
-{
-    for number in first..last {
-        add_left_row(generators, growth, left, number)?;
+    // Adds the row of a word on the left: each letter times the word.
+    fn add_left_row(&mut self, generators: &Vec<E>, number: usize) -> Result<(), NoMemory>
+        requires shape { HaveOneShape E.shape generators.now.items }
+        requires some { 0 < length generators.now.items }
+        requires within { number < length self.old.elements.keys }
+        requires known { (row : ℕ) × IsKnown E.product E.eq generators.now.items self.old row 0 }
+        requires reach { ReachesAsLong (length generators.now.items)
+            (words_of self.old.factors.items) (length self.old.right.items) number }
+        requires rows { length self.old.left.items ≡ (number + 1) * length generators.now.items }
+        requires left { HasLeft E.product E.eq generators.now.items self.old }
+        ensures kept { self.new ≡ record self.old { left = self.new.left } }
+        ensures rows { OnOk result (length self.new.left.items
+            ≡ (number + 1 + 1) * length generators.now.items) }
+        ensures left { OnOk result (HasLeft E.product E.eq generators.now.items self.new) }
+    {
+        let letters = generators.len();
+        for letter in 0..letters {
+            let factor = self.factors[number];
+            let product = left_number(letters, &self.right, &self.left, factor, letter);
+            self.left.push(product)?;
+        }
+        Ok(())
     }
-    Ok(())
+
+    // Adds the rows of the words of one length on the left: those from the first number to before
+    // the last.
+    pub(crate) fn add_left_rows(
+        &mut self,
+        generators: &Vec<E>,
+        first: usize,
+        last: usize,
+    ) -> Result<(), NoMemory>
+        requires shape { HaveOneShape E.shape generators.now.items }
+        requires some { 0 < length generators.now.items }
+        requires order { first < last }
+        requires within { IsWithin E.product E.eq generators.now.items self.old first last last }
+        ensures kept { self.new ≡ record self.old { left = self.new.left } }
+        ensures within { OnOk result (IsWithin E.product E.eq generators.now.items self.new
+            last (length self.new.elements.keys) last) }
+    {
+        for number in first..last {
+            self.add_left_row(generators, number)?;
+        }
+        Ok(())
+    }
 }

@@ -17,8 +17,8 @@ fn suffix_of(letters: usize, right: &Vec<usize>, suffixes: &Vec<usize>, factor: 
     requires parent { factor.prefix < length suffixes.now.items }
     requires product { slice_index suffixes.now.items factor.prefix * letters + factor.last
         < length right.now.items }
-    requires few { entry letters right.now.items (slice_index suffixes.now.items factor.prefix) factor.last
-        < length right.now.items }
+    requires few { entry letters right.now.items (slice_index suffixes.now.items factor.prefix)
+        factor.last < length right.now.items }
     ensures { result ≡ (if factor.prefix == 0 then 0 else entry letters right.now.items
         (slice_index suffixes.now.items factor.prefix) factor.last + 1) }
 {

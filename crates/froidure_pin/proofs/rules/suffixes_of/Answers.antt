@@ -1,4 +1,4 @@
-use Rattle.std.proofs.Common.{◌≡◌, ℕ, ◌+◌, ◌<◌, ◌≤◌, ◌∙◌, length, get_or, sym, subst, arith}
+use Rattle.std.proofs.Common.{◌≡◌, ℕ, ◌+◌, ◌<◌, ◌≤◌, ◌∙◌, length, sym, subst, arith}
 use Rattle.froidure_pin.specs.Found.{no_factor, factor_at}
 use Rattle.froidure_pin.specs.Rules.{AreSuffixes}
 use Rattle.froidure_pin.proofs.OneShape.{get_any}

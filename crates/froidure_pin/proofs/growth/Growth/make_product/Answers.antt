@@ -1,15 +1,14 @@
-use Rattle.std.proofs.Common.{◌≡◌, ◌↔◌, ℕ, ◌+◌, ◌*◌, ◌<◌, List, [], ◌∷◌, ◌++◌, length, get_or, Bool, true, false, IsTrue, Ok, refl, sym, ap, subst, subst₂, ◌∙◌, arith}
-use Rattle.std.specs.List.{position_or_len}
-use Rattle.indexmap.specs.IndexSet.{insert_key}
+use Rattle.std.proofs.Common.{◌≡◌, ◌↔◌, ℕ, ◌+◌, ◌*◌, ◌<◌, List, length, get_or, Bool, true, false, IsTrue, Ok, refl, sym, ap, subst, subst₂, ◌∙◌, arith}
 use Rattle.froidure_pin.specs.Found.{entry, insert_beside, words_of, factor_of, tail_of, tail_at}
 use Rattle.froidure_pin.specs.Growing.{IsAt, GrowsTo}
+use Rattle.froidure_pin.specs.Kept.{HasTakenIn}
 use Rattle.froidure_pin.proofs.OneShape.{some_value}
 use Rattle.froidure_pin.proofs.Results.{on_ok, if_ok, along}
 use Rattle.froidure_pin.proofs.Search.{IsSetting, read_at, shapes_agree, found_more, product_is_value}
 use Rattle.froidure_pin.proofs.Telling.{rest_place, rest_within, tail_within}
 use Rattle.froidure_pin.proofs.Making.{made}
-use Rattle.froidure_pin.proofs.run.make_product.Given.{Over}
-use Rattle.froidure_pin.proofs.run.make_product.Goals as goal
+use Rattle.froidure_pin.proofs.growth.Growth.make_product.Given.{Over}
+use Rattle.froidure_pin.proofs.growth.Growth.make_product.Goals as goal
 use Rattle.froidure_pin.specs.declared.parts.Factor.{Factor}
 use Rattle.froidure_pin.specs.declared.parts.Tail.{Tail}
 
@@ -24,11 +23,11 @@ multiply-requires g c =
     let generators : List g.row.E.Denot = c.args.generators.now.items in
     let setting : IsSetting g.E.Element.shape g.E.Element.product g.E.PartialEq.eq generators = record { products = g.met.E.Element.products; alike = g.met.E.Element.one_shape; shaped = c.requires.shape } in
     let unused : g.row.E.Denot = some_value generators (omega (arith, c.requires.letter)) in
-    let elements : List g.row.E.Denot = c.args.growth.now.elements.keys in
-    let factors : List Factor = c.args.growth.now.factors.items in
-    let tails : List Tail = c.args.growth.now.tails.items in
-    let right : List ℕ = c.args.growth.now.right.items in
-    let left : List ℕ = c.args.left.now.items in
+    let elements : List g.row.E.Denot = c.args.self.now.elements.keys in
+    let factors : List Factor = c.args.self.now.factors.items in
+    let tails : List Tail = c.args.self.now.tails.items in
+    let right : List ℕ = c.args.self.now.right.items in
+    let left : List ℕ = c.args.self.now.left.items in
     let number : ℕ = c.args.number in
     let a : ℕ = c.args.letter in
     let x : g.row.E.Denot = c.index.result.now in
@@ -38,18 +37,18 @@ multiply-requires g c =
 
 -- where the tail is, and the word without its first letter with the letter
 asked : (g : Over) (c : goal.After-len g)
-    → (c.args.number < length c.args.growth.now.tails.items)
-    × ((tail_at c.args.growth.now.tails.items c.args.number).suffix * c.len.result + c.args.letter < length c.args.growth.now.right.items)
-    × (entry c.len.result c.args.growth.now.right.items (tail_at c.args.growth.now.tails.items c.args.number).suffix c.args.letter < length c.args.growth.now.factors.items)
+    → (c.args.number < length c.args.self.now.tails.items)
+    × ((tail_at c.args.self.now.tails.items c.args.number).suffix * c.len.result + c.args.letter < length c.args.self.now.right.items)
+    × (entry c.len.result c.args.self.now.right.items (tail_at c.args.self.now.tails.items c.args.number).suffix c.args.letter < length c.args.self.now.factors.items)
 asked g c =
     let generators : List g.row.E.Denot = c.args.generators.now.items in
     let setting : IsSetting g.E.Element.shape g.E.Element.product g.E.PartialEq.eq generators = record { products = g.met.E.Element.products; alike = g.met.E.Element.one_shape; shaped = c.requires.shape } in
     let unused : g.row.E.Denot = some_value generators (omega (arith, c.requires.letter)) in
-    let elements : List g.row.E.Denot = c.args.growth.now.elements.keys in
-    let factors : List Factor = c.args.growth.now.factors.items in
-    let tails : List Tail = c.args.growth.now.tails.items in
-    let right : List ℕ = c.args.growth.now.right.items in
-    let left : List ℕ = c.args.left.now.items in
+    let elements : List g.row.E.Denot = c.args.self.now.elements.keys in
+    let factors : List Factor = c.args.self.now.factors.items in
+    let tails : List Tail = c.args.self.now.tails.items in
+    let right : List ℕ = c.args.self.now.right.items in
+    let left : List ℕ = c.args.self.now.left.items in
     let number : ℕ = c.args.number in
     let a : ℕ = c.args.letter in
     let letters : length generators ≡ c.len.result = omega (arith, c.len.ensures) in (
@@ -72,11 +71,11 @@ overflow_add-factor g c =
     let generators : List g.row.E.Denot = c.args.generators.now.items in
     let setting : IsSetting g.E.Element.shape g.E.Element.product g.E.PartialEq.eq generators = record { products = g.met.E.Element.products; alike = g.met.E.Element.one_shape; shaped = c.requires.shape } in
     let unused : g.row.E.Denot = some_value generators (omega (arith, c.requires.letter)) in
-    let elements : List g.row.E.Denot = c.args.growth.now.elements.keys in
-    let factors : List Factor = c.args.growth.now.factors.items in
-    let tails : List Tail = c.args.growth.now.tails.items in
-    let right : List ℕ = c.args.growth.now.right.items in
-    let left : List ℕ = c.args.left.now.items in
+    let elements : List g.row.E.Denot = c.args.self.now.elements.keys in
+    let factors : List Factor = c.args.self.now.factors.items in
+    let tails : List Tail = c.args.self.now.tails.items in
+    let right : List ℕ = c.args.self.now.right.items in
+    let left : List ℕ = c.args.self.now.left.items in
     let number : ℕ = c.args.number in
     let a : ℕ = c.args.letter in
     let within = tail_within setting unused elements factors tails right left number a (c.requires.at unused) c.requires.letter in
@@ -85,17 +84,17 @@ overflow_add-factor g c =
 -- what is found once the product is taken in, and what is counted with its step
 taken : (g : Over) (c : goal.After-goes_over g) (over : Bool) → c.goes_over.result ≡ Ok over → (unused : g.row.E.Denot)
     → IsAt g.E.Element.product g.E.PartialEq.eq c.args.generators.now.items unused c.goes_over.new.self.elements.keys c.goes_over.new.self.factors.items c.goes_over.new.self.tails.items
-    c.goes_over.new.self.right.items c.args.left.now.items c.args.number (c.args.letter + 1)
-    × GrowsTo g.E.Element.product g.E.PartialEq.eq c.args.generators.now.items unused c.args.growth.now.factors.items c.goes_over.new.self.factors.items (length c.args.growth.now.right.items)
+    c.goes_over.new.self.right.items c.args.self.now.left.items c.args.number (c.args.letter + 1)
+    × GrowsTo g.E.Element.product g.E.PartialEq.eq c.args.generators.now.items unused c.args.self.now.factors.items c.goes_over.new.self.factors.items (length c.args.self.now.right.items)
     (length c.goes_over.new.self.right.items) c.args.number c.args.steps.now (c.args.steps.now + 1)
 taken g c over e unused =
     let generators : List g.row.E.Denot = c.args.generators.now.items in
     let setting : IsSetting g.E.Element.shape g.E.Element.product g.E.PartialEq.eq generators = record { products = g.met.E.Element.products; alike = g.met.E.Element.one_shape; shaped = c.requires.shape } in
-    let elements : List g.row.E.Denot = c.args.growth.now.elements.keys in
-    let factors : List Factor = c.args.growth.now.factors.items in
-    let tails : List Tail = c.args.growth.now.tails.items in
-    let right : List ℕ = c.args.growth.now.right.items in
-    let left : List ℕ = c.args.left.now.items in
+    let elements : List g.row.E.Denot = c.args.self.now.elements.keys in
+    let factors : List Factor = c.args.self.now.factors.items in
+    let tails : List Tail = c.args.self.now.tails.items in
+    let right : List ℕ = c.args.self.now.right.items in
+    let left : List ℕ = c.args.self.now.left.items in
     let number : ℕ = c.args.number in
     let a : ℕ = c.args.letter in
     let x : g.row.E.Denot = c.index.result.now in
@@ -106,23 +105,23 @@ taken g c over e unused =
     let found = read_at elements number x (c.requires.at unused).within c.index.ensures in
     let read : get_or generators a y ≡ y = sym c.index-2.ensures in
     let value = product_is_value setting unused (words_of factors) elements right number a x y p (c.requires.at unused).grown.found (c.requires.at unused).within c.requires.letter found read c.in_ok-made.ensures.made in
-    let keys = on_ok c.goes_over.result (c.goes_over.new.self.elements.keys ≡ insert_key g.E.PartialEq.eq elements p) over e c.goes_over.ensures.elements in
-    let fs = on_ok c.goes_over.result (c.goes_over.new.self.factors.items ≡ insert_beside g.E.PartialEq.eq elements factors p (factor_of (number + 1) a)) over e c.goes_over.ensures.factors in
-    let ts = on_ok c.goes_over.result (c.goes_over.new.self.tails.items ≡ insert_beside g.E.PartialEq.eq elements tails p c.tail_of_product-tail.result) over e c.goes_over.ensures.tails in
-    let rs = on_ok c.goes_over.result (c.goes_over.new.self.right.items ≡ right ++ position_or_len (g.E.PartialEq.eq p) elements ∷ []) over e c.goes_over.ensures.right in
-    let tails_are = ts ∙ sym (ap (λ (t : Tail). insert_beside g.E.PartialEq.eq elements tails p t) tail) in
+    let now = on_ok c.goes_over.result (HasTakenIn g.E.PartialEq.eq c.args.self.now c.goes_over.new.self p (factor_of (number + 1) a) c.tail_of_product-tail.result) over e c.goes_over.ensures.taken in
+    let tails_are = now.tails ∙ sym (ap (λ (t : Tail). insert_beside g.E.PartialEq.eq elements tails p t) tail) in
     let all = made setting unused elements factors tails right left number a (c.requires.at unused) c.requires.letter c.requires.least p value c.args.steps.now in (
-      along (λ es fs ts rs (s : ℕ). IsAt g.E.Element.product g.E.PartialEq.eq generators unused es fs ts rs left number (a + 1)) {e = number} {e' = number} (sym keys) (sym fs) (sym tails_are) (sym rs) refl all.0,
-      subst₂ (λ fs (rs : List ℕ). GrowsTo g.E.Element.product g.E.PartialEq.eq generators unused factors fs (length right) (length rs) number c.args.steps.now (c.args.steps.now + 1)) (sym fs) (sym rs) all.1,
+      along (λ es fs ts rs (s : ℕ). IsAt g.E.Element.product g.E.PartialEq.eq generators unused es fs ts rs left number (a + 1)) {e = number} {e' = number} (sym now.elements) (sym now.factors) (sym tails_are) (sym now.right) refl all.0,
+      subst₂ (λ fs (rs : List ℕ). GrowsTo g.E.Element.product g.E.PartialEq.eq generators unused factors fs (length right) (length rs) number c.args.steps.now (c.args.steps.now + 1)) (sym now.factors) (sym now.right) all.1,
     )
 
-pub returns-clause-at : goal.returns-clause-at
-returns-clause-at g c = λ e unused. (taken g c false e unused).0
-
-pub returns-clause-grows : goal.returns-clause-grows
-returns-clause-grows g c = λ e unused.
-    subst (λ s. GrowsTo g.E.Element.product g.E.PartialEq.eq c.args.generators.now.items unused c.args.growth.now.factors.items c.goes_over.new.self.factors.items (length c.args.growth.now.right.items)
-    (length c.goes_over.new.self.right.items) c.args.number c.args.steps.now s) (sym c.in_ok-made.ensures.step) (taken g c false e unused).1
+pub returns-clause-step : goal.returns-clause-step
+returns-clause-step g c = λ e.
+    let left = (on_ok c.goes_over.result (HasTakenIn g.E.PartialEq.eq c.args.self.now c.goes_over.new.self c.in_ok-made.made (factor_of (c.args.number + 1) c.args.letter) c.tail_of_product-tail.result) false e c.goes_over.ensures.taken).left in
+    record {
+      at = λ unused. subst (λ ns. IsAt g.E.Element.product g.E.PartialEq.eq c.args.generators.now.items unused c.goes_over.new.self.elements.keys c.goes_over.new.self.factors.items c.goes_over.new.self.tails.items
+          c.goes_over.new.self.right.items ns c.args.number (c.args.letter + 1)) (sym left) (taken g c false e unused).0;
+      grows = λ unused. subst (λ s. GrowsTo g.E.Element.product g.E.PartialEq.eq c.args.generators.now.items unused c.args.self.now.factors.items c.goes_over.new.self.factors.items (length c.args.self.now.right.items)
+          (length c.goes_over.new.self.right.items) c.args.number c.args.steps.now s) (sym c.in_ok-made.ensures.step) (taken g c false e unused).1;
+      left = left;
+    }
 
 pub returns-clause-over : goal.returns-clause-over
 returns-clause-over g c = λ e unused.

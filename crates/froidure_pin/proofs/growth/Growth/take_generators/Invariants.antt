@@ -1,0 +1,12 @@
+use Rattle.std.proofs.Common.{◌≤◌, length}
+use Rattle.froidure_pin.specs.Found.{words_of}
+use Rattle.froidure_pin.specs.Kept.{IsKnown}
+use Rattle.froidure_pin.proofs.Beginning.{AreSingle}
+use Rattle.froidure_pin.proofs.growth.Growth.take_generators.Given as goal
+
+abbrev pub invariant-loop-letter : goal.invariant-loop-letter
+invariant-loop-letter g l = record {
+  few : length l.self.elements.keys ≤ l.bound;
+  known : IsKnown g.E.Element.product g.E.PartialEq.eq l.generators.items l.self 0 l.letter;
+  single : AreSingle (words_of l.self.factors.items);
+}

@@ -1,0 +1,28 @@
+use Rattle.std.proofs.Common.{◌≡◌, length, ap, subst, arith, Ok}
+use Rattle.froidure_pin.specs.Kept.{IsStep}
+use Rattle.froidure_pin.proofs.Making.{step_none, step_on}
+use Rattle.froidure_pin.proofs.growth.Growth.take_products.Goals as goal
+
+pub loop-letter-init : goal.loop-letter-init
+loop-letter-init g c = record {
+  few = c.requires.few;
+  counted = omega arith;
+  most = omega arith;
+  step = step_none c.requires.at;
+}
+
+pub returns-then-branch-clause-over : goal.returns-then-branch-clause-over
+returns-then-branch-clause-over g c = λ _. c.in_ok-take_product.ensures.over (ap Ok c.if-branch.true)
+
+pub loop-letter-preserved : goal.loop-letter-preserved
+loop-letter-preserved g c = record {
+  few = c.in_ok-take_product.ensures.whole (ap Ok c.if-branch.false);
+  counted = omega (arith, c.in_ok-take_product.ensures.counted, c.loop-letter.invariant.counted);
+  most = omega (arith, c.in_ok-take_product.ensures.most, c.loop-letter.invariant.most);
+  step = step_on c.loop-letter.invariant.step (c.in_ok-take_product.ensures.step (ap Ok c.if-branch.false));
+}
+
+pub returns-clause-step : goal.returns-clause-step
+returns-clause-step g c = λ _.
+    let full : c.loop-letter.letter ≡ length c.args.generators.now.items = omega (arith, c.loop-letter-test.false, c.loop-letter.auto.letter-end) in
+    subst (λ n. IsStep g.E.Element.product g.E.PartialEq.eq c.args.generators.now.items c.args.self.now c.loop-letter.self c.args.number n c.args.steps.now c.loop-letter.steps) full c.loop-letter.invariant.step
