@@ -1,9 +1,7 @@
 // The elements that were found so far.
-ghost use Rattle.std.specs.Prelude.{[], ◌∷◌, ◌++◌, ◌≡◌, ◌+◌, ◌*◌, ◌<◌, ◌↔◌, length, IfOk, OnOk, IsTrue};
-ghost use Rattle.std.specs.List.{position_or_len};
-ghost use Rattle.froidure_pin.specs.Found.{entry, insert_beside, tail_at, tail_of};
+ghost use Rattle.std.specs.Prelude.{◌≡◌, ◌+◌, ◌*◌, ◌<◌, ◌↔◌, length, IfOk, OnOk, IsTrue};
+ghost use Rattle.froidure_pin.specs.Found.{entry, tail_at, tail_of};
 ghost use Rattle.froidure_pin.specs.Kept.{HasTakenIn, IsNew};
-ghost use Rattle.indexmap.specs.IndexSet.{insert_key};
 
 use super::parts::{Factor, Tail};
 use super::rows::entry;
@@ -48,15 +46,7 @@ impl<E: Element> Growth<E> {
 
     // Takes in a product, with what its word is made of where it is new, and keeps its number.
     fn take_in(&mut self, made: E, factor: Factor, tail: Tail) -> Result<(), NoMemory>
-        ensures elements { OnOk result
-            (self.new.elements.keys ≡ insert_key E.eq self.old.elements.keys made) }
-        ensures factors { OnOk result (self.new.factors.items
-            ≡ insert_beside E.eq self.old.elements.keys self.old.factors.items made factor) }
-        ensures tails { OnOk result (self.new.tails.items
-            ≡ insert_beside E.eq self.old.elements.keys self.old.tails.items made tail) }
-        ensures right { OnOk result (self.new.right.items
-            ≡ self.old.right.items ++ position_or_len (E.eq made) self.old.elements.keys ∷ []) }
-        ensures left { OnOk result (self.new.left.items ≡ self.old.left.items) }
+        ensures { OnOk result (HasTakenIn E.eq self.old self.new made factor tail) }
     {
         let (number, is_new) = self.elements.insert_full(made)?;
         self.right.push(number)?;

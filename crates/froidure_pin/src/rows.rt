@@ -1,5 +1,5 @@
 // Rows of numbers, one behind the other.
-ghost use Rattle.std.specs.Prelude.{◌≡◌, ℕ, ◌+◌, ◌*◌, ◌<◌, ◌≤◌, length, OnOk};
+ghost use Rattle.std.specs.Prelude.{◌≡◌, ℕ, ◌+◌, ◌*◌, ◌<◌, length, OnOk};
 ghost use Rattle.elements.specs.Generators.{HaveOneShape};
 ghost use Rattle.froidure_pin.specs.Found.{entry, words_of};
 ghost use Rattle.froidure_pin.specs.Growing.{ReachesAsLong};

@@ -1,5 +1,5 @@
 // Reduced rules.
-ghost use Rattle.std.specs.Prelude.{◌≡◌, ◌+◌, ◌*◌, ◌/◌, ◌%◌, ◌<◌, ◌≤◌, [], ◌∷◌, ◌++◌, length, slice_index, slice_index_or, if◌then◌else◌, ◌==◌, OnOk, IfOk};
+ghost use Rattle.std.specs.Prelude.{◌≡◌, ◌+◌, ◌*◌, ◌/◌, ◌%◌, ◌<◌, ◌≤◌, [], ◌∷◌, ◌++◌, length, slice_index, if◌then◌else◌, ◌==◌, OnOk, IfOk};
 ghost use Rattle.froidure_pin.specs.Found.{AreFactors, entry, parent, words_of};
 ghost use Rattle.froidure_pin.specs.Numbering.{AreRows};
 ghost use Rattle.froidure_pin.specs.Rules.{AreSuffixes, is_product, is_rule, rules_at, rules_to};
