@@ -25,8 +25,8 @@ pub(crate) struct Growth<E: Element> {
     // multiplied
     pub(crate) right: Vec<usize>,
 
-    // the same with the letters on the left, of the elements whose words are shorter than those that
-    // are multiplied now
+    // the same with the letters on the left, of the elements whose words are shorter than those
+    // that are multiplied now
     pub(crate) left: Vec<usize>,
 }
 

@@ -8,8 +8,8 @@ pub(crate) struct Factor {
     pub(crate) last: usize,
 }
 
-// The first letter of a word; and the word without it, by its number plus one, or 0 where nothing is
-// left.
+// The first letter of a word; and the word without it, by its number plus one, or 0 where nothing
+// is left.
 #[derive(Clone, Copy)]
 pub(crate) struct Tail {
     pub(crate) first: usize,

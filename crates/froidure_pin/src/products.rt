@@ -183,8 +183,8 @@ impl<E: Element> Growth<E> {
         Ok(false)
     }
 
-    // Takes in the products of the elements whose words are of one length by each letter: those from
-    // the first number to before the last.
+    // Takes in the products of the elements whose words are of one length by each letter: those
+    // from the first number to before the last.
     pub(crate) fn take_level<L: Ledger>(
         &mut self,
         generators: &Vec<E>,
