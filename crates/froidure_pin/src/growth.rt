@@ -3,7 +3,7 @@ ghost use Rattle.std.specs.Prelude.{◌≡◌, ◌+◌, ◌*◌, ◌<◌, ◌↔
 ghost use Rattle.froidure_pin.specs.Found.{entry, tail_at, tail_of};
 ghost use Rattle.froidure_pin.specs.Kept.{HasTakenIn, IsNew};
 
-use super::parts::{Factor, Tail};
+use super::parts::{Factor, Tail, in_four_bytes};
 use super::rows::entry;
 use elements::Element;
 use indexmap::IndexSet;
@@ -23,11 +23,11 @@ pub(crate) struct Growth<E: Element> {
 
     // a row of one number for each letter, for the empty word and then for each element that was
     // multiplied
-    pub(crate) right: Vec<usize>,
+    pub(crate) right: Vec<u32>,
 
     // the same with the letters on the left, of the elements whose words are shorter than those
     // that are multiplied now
-    pub(crate) left: Vec<usize>,
+    pub(crate) left: Vec<u32>,
 }
 
 impl<E: Element> Growth<E> {
@@ -49,7 +49,7 @@ impl<E: Element> Growth<E> {
         ensures { OnOk result (HasTakenIn E.eq self.old self.new made factor tail) }
     {
         let (number, is_new) = self.elements.insert_full(made)?;
-        self.right.push(number)?;
+        self.right.push(in_four_bytes(number)?)?;
         if is_new {
             self.factors.push(factor)?;
             self.tails.push(tail)?;
@@ -73,7 +73,12 @@ impl<E: Element> Growth<E> {
     }
 
     // The first letter of an element's word with one letter more, and the number of the rest.
-    pub(crate) fn tail_of_product(&self, letters: usize, number: usize, letter: usize) -> Tail
+    pub(crate) fn tail_of_product(
+        &self,
+        letters: usize,
+        number: usize,
+        letter: usize,
+    ) -> Result<Tail, NoMemory>
         requires within { number < length self.now.tails.items }
         requires place { (tail_at self.now.tails.items number).suffix * letters + letter
             < length self.now.right.items }
@@ -81,13 +86,11 @@ impl<E: Element> Growth<E> {
             (tail_at self.now.tails.items number).suffix letter
             < length self.now.factors.items }
         ensures { let tail = tail_at self.now.tails.items number in
-            result ≡ tail_of tail.first
-            (entry letters self.now.right.items tail.suffix letter + 1) }
+            IfOk result (λ made. made ≡ tail_of tail.first
+            (entry letters self.now.right.items tail.suffix letter + 1)) }
     {
         let tail = self.tails[number];
-        Tail {
-            first: tail.first,
-            suffix: entry(&self.right, letters, tail.suffix, letter) + 1,
-        }
+        let suffix = entry(&self.right, letters, tail.suffix as usize, letter);
+        Tail::new(tail.first as usize, suffix + 1)
     }
 }

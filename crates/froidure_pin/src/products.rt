@@ -8,7 +8,7 @@ ghost use Rattle.froidure_pin.specs.Rules.{is_product};
 
 use super::growth::Growth;
 use super::parts::{Factor, Tail};
-use super::rows::entry;
+use super::rows::{entry, number_at};
 use super::rules::is_product;
 use super::steps::Steps;
 use elements::Element;
@@ -54,14 +54,8 @@ impl<E: Element> Growth<E> {
         let alloc = *self.right.allocator();
         for (letter, generator) in generators.iter().enumerate() {
             let copy = generator.copy(alloc)?;
-            let factor = Factor {
-                prefix: 0,
-                last: letter,
-            };
-            let tail = Tail {
-                first: letter,
-                suffix: 0,
-            };
+            let factor = Factor::new(0, letter)?;
+            let tail = Tail::new(letter, 0)?;
             if self.goes_over(copy, factor, tail, bound)? {
                 return Ok(true);
             }
@@ -72,7 +66,7 @@ impl<E: Element> Growth<E> {
     // The number of the product of an element by a letter, where the graphs tell it: without its
     // first letter, the element's word with the letter has a lesser word, and that one is read in
     // its place.
-    fn read_product(&self, generators: &Vec<E>, number: usize, letter: usize) -> Option<usize>
+    fn read_product(&self, generators: &Vec<E>, number: usize, letter: usize) -> Option<u32>
         requires shape { HaveOneShape E.shape generators.now.items }
         requires letter { letter < length generators.now.items }
         requires at { IsMultiplied E.product E.eq generators.now.items self.now number letter }
@@ -86,13 +80,18 @@ impl<E: Element> Growth<E> {
     {
         let letters = generators.len();
         let tail = self.tails[number];
-        let rest = entry(&self.right, letters, tail.suffix, letter);
-        if is_product(&self.factors, rest, tail.suffix, letter) {
+        let rest = entry(&self.right, letters, tail.suffix as usize, letter);
+        if is_product(&self.factors, rest, tail.suffix as usize, letter) {
             return None;
         }
         let factor = self.factors[rest];
-        let product = entry(&self.left, letters, factor.prefix, tail.first);
-        Some(entry(&self.right, letters, product + 1, factor.last))
+        let product = entry(
+            &self.left,
+            letters,
+            factor.prefix as usize,
+            tail.first as usize,
+        );
+        Some(number_at(&self.right, letters, product + 1, factor.last as usize))
     }
 
     // Takes in the product of an element by a letter, which is multiplied out.
@@ -120,11 +119,8 @@ impl<E: Element> Growth<E> {
     {
         let alloc = *self.right.allocator();
         let made = multiply(alloc, &self.elements[number], &generators[letter], steps)?;
-        let tail = self.tail_of_product(generators.len(), number, letter);
-        let factor = Factor {
-            prefix: number + 1,
-            last: letter,
-        };
+        let tail = self.tail_of_product(generators.len(), number, letter)?;
+        let factor = Factor::new(number + 1, letter)?;
         self.goes_over(made, factor, tail, bound)
     }
 

@@ -10,22 +10,30 @@ use super::parts::Factor;
 use elements::Element;
 use ports::NoMemory;
 
-// What the row of a parent has at a letter.
-pub(crate) fn entry(numbers: &Vec<usize>, letters: usize, parent: usize, letter: usize) -> usize
+// What the row of a parent has at a letter, in four bytes.
+pub(crate) fn number_at(numbers: &Vec<u32>, letters: usize, parent: usize, letter: usize) -> u32
     requires { parent * letters + letter < length numbers.now.items }
     ensures { result ≡ entry letters numbers.now.items parent letter }
 {
     numbers[parent * letters + letter]
 }
 
+// What the row of a parent has at a letter.
+pub(crate) fn entry(numbers: &Vec<u32>, letters: usize, parent: usize, letter: usize) -> usize
+    requires { parent * letters + letter < length numbers.now.items }
+    ensures { result ≡ entry letters numbers.now.items parent letter }
+{
+    number_at(numbers, letters, parent, letter) as usize
+}
+
 // The number of a letter times a word, from that of the letter times the word's parent.
 fn left_number(
     letters: usize,
-    right: &Vec<usize>,
-    left: &Vec<usize>,
+    right: &Vec<u32>,
+    left: &Vec<u32>,
     factor: Factor,
     before: usize,
-) -> usize
+) -> u32
     requires letter { factor.last < letters }
     requires parent { factor.prefix * letters + before < length left.now.items }
     requires product { (entry letters left.now.items factor.prefix before + 1) * letters
@@ -33,8 +41,8 @@ fn left_number(
     ensures { result ≡ entry letters right.now.items
         (entry letters left.now.items factor.prefix before + 1) factor.last }
 {
-    let number = entry(left, letters, factor.prefix, before);
-    entry(right, letters, number + 1, factor.last)
+    let number = entry(left, letters, factor.prefix as usize, before);
+    number_at(right, letters, number + 1, factor.last as usize)
 }
 
 impl<E: Element> Growth<E> {

@@ -12,7 +12,7 @@ use std::alloc::Global;
 use words::{Letter, Word};
 
 // The parent that is left of a word without its first letter.
-fn suffix_of(letters: usize, right: &Vec<usize>, suffixes: &Vec<usize>, factor: Factor) -> usize
+fn suffix_of(letters: usize, right: &Vec<u32>, suffixes: &Vec<usize>, factor: Factor) -> usize
     requires letter { factor.last < letters }
     requires parent { factor.prefix < length suffixes.now.items }
     requires product { slice_index suffixes.now.items factor.prefix * letters + factor.last
@@ -25,7 +25,8 @@ fn suffix_of(letters: usize, right: &Vec<usize>, suffixes: &Vec<usize>, factor: 
     if factor.prefix == 0 {
         return 0;
     }
-    entry(right, letters, suffixes[factor.prefix], factor.last) + 1
+    let suffix = suffixes[factor.prefix as usize];
+    entry(right, letters, suffix, factor.last as usize) + 1
 }
 
 // The parents that are left of the words without their first letters.
@@ -33,7 +34,7 @@ pub(crate) fn suffixes_of(
     alloc: Global,
     letters: usize,
     factors: &Vec<Factor>,
-    right: &Vec<usize>,
+    right: &Vec<u32>,
 ) -> Result<Vec<usize>, NoMemory>
     requires some { 0 < letters }
     requires factors { AreFactors letters factors.now.items }
@@ -56,14 +57,14 @@ pub(crate) fn is_product(factors: &Vec<Factor>, number: usize, parent: usize, le
     ensures { result ≡ is_product factors.now.items number parent letter }
 {
     let factor = factors[number];
-    factor.prefix == parent && factor.last == letter
+    factor.prefix as usize == parent && factor.last as usize == letter
 }
 
 // Whether a product is the left side of a rule: no word, while it is one without its first letter.
 fn is_rule(
     letters: usize,
     factors: &Vec<Factor>,
-    right: &Vec<usize>,
+    right: &Vec<u32>,
     suffixes: &Vec<usize>,
     place: usize,
 ) -> bool
@@ -76,7 +77,7 @@ fn is_rule(
 {
     let parent = place / letters;
     let letter = place % letters;
-    if is_product(factors, right[place], parent, letter) {
+    if is_product(factors, right[place] as usize, parent, letter) {
         return false;
     }
     if parent == 0 {
@@ -126,7 +127,7 @@ fn add_rule(
     alloc: Global,
     letters: usize,
     factors: &Vec<Factor>,
-    right: &Vec<usize>,
+    right: &Vec<u32>,
     suffixes: &Vec<usize>,
     place: usize,
     rules: &mut Vec<(Word, Word)>,
@@ -145,7 +146,7 @@ fn add_rule(
         return Ok(());
     }
     let reducible = product_word(alloc, factors, place / letters, place % letters)?;
-    let normal = spell(alloc, factors, right[place])?;
+    let normal = spell(alloc, factors, right[place] as usize)?;
     rules.push((reducible, normal))?;
     Ok(())
 }
@@ -155,7 +156,7 @@ pub(crate) fn rules_of(
     alloc: Global,
     letters: usize,
     factors: &Vec<Factor>,
-    right: &Vec<usize>,
+    right: &Vec<u32>,
     suffixes: &Vec<usize>,
 ) -> Result<Vec<(Word, Word)>, NoMemory>
     requires some { 0 < letters }

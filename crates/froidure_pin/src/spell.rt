@@ -23,7 +23,7 @@ fn letters_back(
     while at > 0 {
         let factor = factors[at - 1];
         back.push(Letter::new(factor.last as u8))?;
-        at = factor.prefix;
+        at = factor.prefix as usize;
     }
     Ok(back)
 }

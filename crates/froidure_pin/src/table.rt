@@ -33,9 +33,9 @@ pub struct Table<E: Element> {
     pub(crate) letters: usize,
 
     // a row of one number for each letter, for the empty word and then for each element
-    pub(crate) right: Vec<usize>,
+    pub(crate) right: Vec<u32>,
 
-    pub(crate) left: Vec<usize>,
+    pub(crate) left: Vec<u32>,
 }
 
 impl<E: Element> Model for Table<E> {
@@ -98,7 +98,7 @@ impl<E: Element> Table<E> {
         ensures within { result < length self.now.elements }
         ensures number { result ≡ letter_number self.now letter }
     {
-        self.right[letter.number()]
+        self.right[letter.number()] as usize
     }
 
     /// The number of the product of the element of a number by a letter's generator: the edge of the

@@ -4,6 +4,7 @@ ghost use Rattle.froidure_pin.specs.Found.{entry};
 ghost use Rattle.froidure_pin.specs.Numbering.{AreRows, AreRowsBy, IsRowBy};
 
 use super::lists::{Numbers, Rows, Words};
+use super::rows::entry;
 use ports::NoMemory;
 use std::alloc::Global;
 
@@ -21,14 +22,16 @@ pub struct CayleyTables {
 pub(crate) fn row_of(
     alloc: Global,
     letters: usize,
-    numbers: &Vec<usize>,
+    numbers: &Vec<u32>,
     parent: usize,
 ) -> Result<Numbers, NoMemory>
     requires { (parent + 1) * letters ≤ length numbers.now.items }
     ensures { IfOk result (λ row. IsRowBy letters (entry letters numbers.now.items parent) row) }
 {
-    let from = parent * letters;
-    let row = Vec::from_slice(alloc, &numbers[from..from + letters])?;
+    let mut row = Vec::new(alloc);
+    for letter in 0..letters {
+        row.push(entry(numbers, letters, parent, letter))?;
+    }
     Ok(Numbers::from_vec(row))
 }
 
@@ -36,7 +39,7 @@ pub(crate) fn row_of(
 pub(crate) fn element_rows(
     alloc: Global,
     letters: usize,
-    numbers: &Vec<usize>,
+    numbers: &Vec<u32>,
     count: usize,
 ) -> Result<Rows, NoMemory>
     requires { AreRows letters count numbers.now.items }

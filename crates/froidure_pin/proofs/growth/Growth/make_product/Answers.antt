@@ -9,6 +9,7 @@ use Rattle.froidure_pin.proofs.Telling.{rest_place, rest_within, tail_within}
 use Rattle.froidure_pin.proofs.Making.{made}
 use Rattle.froidure_pin.proofs.growth.Growth.make_product.Given.{Over}
 use Rattle.froidure_pin.proofs.growth.Growth.make_product.Goals as goal
+use Rattle.froidure_pin.proofs.growth.Growth.make_product.Goals.{After-len}
 use Rattle.froidure_pin.specs.declared.parts.Factor.{Factor}
 use Rattle.froidure_pin.specs.declared.parts.Tail.{Tail}
 
@@ -36,7 +37,7 @@ multiply-requires g c =
     shapes_agree setting unused (words_of factors) elements right number a a x y (c.requires.at unused).grown.found (c.requires.at unused).within c.requires.letter found (sym c.index-2.ensures)
 
 -- where the tail is, and the word without its first letter with the letter
-asked : (g : Over) (c : goal.After-len g)
+asked : (g : Over) (c : After-len g)
     → (c.args.number < length c.args.self.now.tails.items)
     × ((tail_at c.args.self.now.tails.items c.args.number).suffix * c.len.result + c.args.letter < length c.args.self.now.right.items)
     × (entry c.len.result c.args.self.now.right.items (tail_at c.args.self.now.tails.items c.args.number).suffix c.args.letter < length c.args.self.now.factors.items)
@@ -57,17 +58,17 @@ asked g c =
       subst (λ n. entry n right (tail_at tails number).suffix a < length factors) letters (rest_within setting unused elements factors tails right left number a (c.requires.at unused) c.requires.letter),
     )
 
-pub tail_of_product-tail-requires-clause-within : goal.tail_of_product-tail-requires-clause-within
-tail_of_product-tail-requires-clause-within g c = (asked g c).0
+pub tail_of_product-requires-clause-within : goal.tail_of_product-requires-clause-within
+tail_of_product-requires-clause-within g c = (asked g c).0
 
-pub tail_of_product-tail-requires-clause-place : goal.tail_of_product-tail-requires-clause-place
-tail_of_product-tail-requires-clause-place g c = (asked g c).1
+pub tail_of_product-requires-clause-place : goal.tail_of_product-requires-clause-place
+tail_of_product-requires-clause-place g c = (asked g c).1
 
-pub tail_of_product-tail-requires-clause-known : goal.tail_of_product-tail-requires-clause-known
-tail_of_product-tail-requires-clause-known g c = (asked g c).2
+pub tail_of_product-requires-clause-known : goal.tail_of_product-requires-clause-known
+tail_of_product-requires-clause-known g c = (asked g c).2
 
-pub overflow_add-factor : goal.overflow_add-factor
-overflow_add-factor g c =
+pub overflow_add-number : goal.overflow_add-number
+overflow_add-number g c =
     let generators : List g.row.E.Denot = c.args.generators.now.items in
     let setting : IsSetting g.E.Element.shape g.E.Element.product g.E.PartialEq.eq generators = record { products = g.met.E.Element.products; alike = g.met.E.Element.one_shape; shaped = c.requires.shape } in
     let unused : g.row.E.Denot = some_value generators (omega (arith, c.requires.letter)) in
@@ -101,20 +102,21 @@ taken g c over e unused =
     let y : g.row.E.Denot = c.index-2.result.now in
     let p : g.row.E.Denot = c.in_ok-made.made in
     let letters : length generators ≡ c.len.result = omega (arith, c.len.ensures) in
-    let tail : tail_of (tail_at tails number).first (entry (length generators) right (tail_at tails number).suffix a + 1) ≡ c.tail_of_product-tail.result = subst (λ n. tail_of (tail_at tails number).first (entry n right (tail_at tails number).suffix a + 1) ≡ c.tail_of_product-tail.result) (sym letters) (sym c.tail_of_product-tail.ensures) in
+    let tail : tail_of (tail_at tails number).first (entry (length generators) right (tail_at tails number).suffix a + 1) ≡ c.in_ok-tail.tail = subst (λ n. tail_of (tail_at tails number).first (entry n right (tail_at tails number).suffix a + 1) ≡ c.in_ok-tail.tail) (sym letters) (sym c.in_ok-tail.ensures) in
     let found = read_at elements number x (c.requires.at unused).within c.index.ensures in
     let read : get_or generators a y ≡ y = sym c.index-2.ensures in
     let value = product_is_value setting unused (words_of factors) elements right number a x y p (c.requires.at unused).grown.found (c.requires.at unused).within c.requires.letter found read c.in_ok-made.ensures.made in
-    let now = on_ok c.goes_over.result (HasTakenIn g.E.PartialEq.eq c.args.self.now c.goes_over.new.self p (factor_of (number + 1) a) c.tail_of_product-tail.result) over e c.goes_over.ensures.taken in
+    let now = on_ok c.goes_over.result (HasTakenIn g.E.PartialEq.eq c.args.self.now c.goes_over.new.self p c.in_ok-factor.factor c.in_ok-tail.tail) over e c.goes_over.ensures.taken in
+    let factors_are : c.goes_over.new.self.factors.items ≡ insert_beside g.E.PartialEq.eq elements factors p (factor_of (number + 1) a) = now.factors ∙ ap (λ (f : Factor). insert_beside g.E.PartialEq.eq elements factors p f) c.in_ok-factor.ensures in
     let tails_are = now.tails ∙ sym (ap (λ (t : Tail). insert_beside g.E.PartialEq.eq elements tails p t) tail) in
     let all = made setting unused elements factors tails right left number a (c.requires.at unused) c.requires.letter c.requires.least p value c.args.steps.now in (
-      along (λ es fs ts rs (s : ℕ). IsAt g.E.Element.product g.E.PartialEq.eq generators unused es fs ts rs left number (a + 1)) {e = number} {e' = number} (sym now.elements) (sym now.factors) (sym tails_are) (sym now.right) refl all.0,
-      subst₂ (λ fs (rs : List ℕ). GrowsTo g.E.Element.product g.E.PartialEq.eq generators unused factors fs (length right) (length rs) number c.args.steps.now (c.args.steps.now + 1)) (sym now.factors) (sym now.right) all.1,
+      along (λ es fs ts rs (s : ℕ). IsAt g.E.Element.product g.E.PartialEq.eq generators unused es fs ts rs left number (a + 1)) {e = number} {e' = number} (sym now.elements) (sym factors_are) (sym tails_are) (sym now.right) refl all.0,
+      subst₂ (λ fs (rs : List ℕ). GrowsTo g.E.Element.product g.E.PartialEq.eq generators unused factors fs (length right) (length rs) number c.args.steps.now (c.args.steps.now + 1)) (sym factors_are) (sym now.right) all.1,
     )
 
 pub returns-clause-step : goal.returns-clause-step
 returns-clause-step g c = λ e.
-    let left = (on_ok c.goes_over.result (HasTakenIn g.E.PartialEq.eq c.args.self.now c.goes_over.new.self c.in_ok-made.made (factor_of (c.args.number + 1) c.args.letter) c.tail_of_product-tail.result) false e c.goes_over.ensures.taken).left in
+    let left = (on_ok c.goes_over.result (HasTakenIn g.E.PartialEq.eq c.args.self.now c.goes_over.new.self c.in_ok-made.made c.in_ok-factor.factor c.in_ok-tail.tail) false e c.goes_over.ensures.taken).left in
     record {
       at = λ unused. subst (λ ns. IsAt g.E.Element.product g.E.PartialEq.eq c.args.generators.now.items unused c.goes_over.new.self.elements.keys c.goes_over.new.self.factors.items c.goes_over.new.self.tails.items
           c.goes_over.new.self.right.items ns c.args.number (c.args.letter + 1)) (sym left) (taken g c false e unused).0;

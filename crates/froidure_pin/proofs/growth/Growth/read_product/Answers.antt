@@ -98,8 +98,8 @@ overflow_add-product g c =
     let less : c.entry-product.result < length c.args.self.now.factors.items = omega (arith, small, before) in
     grind arith
 
-pub entry-requires : goal.entry-requires
-entry-requires g c =
+pub number_at-requires : goal.number_at-requires
+number_at-requires g c =
     let generators : List g.row.E.Denot = c.args.generators.now.items in
     let setting : IsSetting g.E.Element.shape g.E.Element.product g.E.PartialEq.eq generators = record { products = g.met.E.Element.products; alike = g.met.E.Element.one_shape; shaped = c.requires.shape } in
     let unused : g.row.E.Denot = some_value generators (omega (arith, c.requires.letter)) in
@@ -128,5 +128,5 @@ returns-clause-read g c = λ unused.
     let lesser : is_product c.args.self.now.factors.items (entry (length generators) c.args.self.now.right.items (tail_at tails c.args.number).suffix c.args.letter) (tail_at tails c.args.number).suffix c.args.letter ≡ false = (λ i. is_product c.args.self.now.factors.items (here i) (tail i).suffix c.args.letter) ∙ sym c.is_product.ensures ∙ c.if-is_product.false in
     let factor : factor_at c.args.self.now.factors.items (entry (length generators) c.args.self.now.right.items (tail_at tails c.args.number).suffix c.args.letter) ≡ c.index-factor.result.now = get_any c.args.self.now.factors.items (entry (length generators) c.args.self.now.right.items (tail_at tails c.args.number).suffix c.args.letter) no_factor c.index-factor.result.now rest_in ∙ ap (λ n. get_or c.args.self.now.factors.items n c.index-factor.result.now) here ∙ sym c.index-factor.ensures in
     let before : entry (length generators) c.args.self.now.left.items (factor_at c.args.self.now.factors.items (entry (length generators) c.args.self.now.right.items (tail_at tails c.args.number).suffix c.args.letter)).prefix (tail_at tails c.args.number).first ≡ c.entry-product.result = (λ i. entry (letters i) c.args.self.now.left.items (factor i).prefix (tail i).first) ∙ sym c.entry-product.ensures in
-    let product : entry (length generators) c.args.self.now.right.items (entry (length generators) c.args.self.now.left.items (factor_at c.args.self.now.factors.items (entry (length generators) c.args.self.now.right.items (tail_at tails c.args.number).suffix c.args.letter)).prefix (tail_at tails c.args.number).first + 1) (factor_at c.args.self.now.factors.items (entry (length generators) c.args.self.now.right.items (tail_at tails c.args.number).suffix c.args.letter)).last ≡ c.entry.result = (λ i. entry (letters i) c.args.self.now.right.items (before i + 1) (factor i).last) ∙ sym c.entry.ensures in
+    let product : entry (length generators) c.args.self.now.right.items (entry (length generators) c.args.self.now.left.items (factor_at c.args.self.now.factors.items (entry (length generators) c.args.self.now.right.items (tail_at tails c.args.number).suffix c.args.letter)).prefix (tail_at tails c.args.number).first + 1) (factor_at c.args.self.now.factors.items (entry (length generators) c.args.self.now.right.items (tail_at tails c.args.number).suffix c.args.letter)).last ≡ c.number_at.result = (λ i. entry (letters i) c.args.self.now.right.items (before i + 1) (factor i).last) ∙ sym c.number_at.ensures in
     subst (λ n. Number setting unused (words_of c.args.self.now.factors.items) n (parent (words_of c.args.self.now.factors.items) (c.args.number + 1) ++ c.args.letter ∷ [])) product (product_number setting unused c.args.self.now.elements.keys c.args.self.now.factors.items tails c.args.self.now.right.items c.args.self.now.left.items c.args.number c.args.letter (c.requires.at unused) c.requires.letter lesser)
