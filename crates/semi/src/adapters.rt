@@ -1,9 +1,10 @@
 // Streams of the outside as sources and sinks. They tell no content.
-ghost use Rattle.std.specs.Prelude.{◌≡◌, None, IfErr, OnErr, OnOk};
+ghost use Rattle.std.specs.Prelude.{◌≡◌, [], None, IfErr, OnErr, OnOk};
+ghost use Rattle.std.specs.Io.Buffered.{writer_buffer};
 ghost use Rattle.ports.specs.Bytes.{Rose};
 
 use ports::{Failed, Sink, Source, WriteFault};
-use std::io::{Read, Write};
+use std::io::{BufWriter, Read, Write};
 
 /// A reader as a source. It counts the reads that fail.
 #[derive(Drop)]
@@ -54,9 +55,10 @@ impl<W: Write> OutputSink<W> {
     }
 }
 
-impl<W: Write> OutputSink<W> {
-    /// Passes on what the writer keeps back. A failure counts as that of a write.
+impl<W: Write + Drop> OutputSink<BufWriter<W>> {
+    /// Passes on all that the writer keeps back. A failure counts as that of a write.
     pub fn flush(&mut self) -> Result<(), WriteFault>
+        ensures passed { OnOk result (writer_buffer self.new.writer ≡ []) }
         ensures kept { OnOk result (self.new.faults ≡ self.old.faults) }
         ensures failed { OnErr result (Rose self.old.faults self.new.faults) }
         ensures fault { IfErr result (λ fault. fault ≡ WriteFault.Failed) }

@@ -3,7 +3,8 @@
 //! queries.
 #![tactic(auto)]
 
-ghost use Rattle.std.specs.Prelude.{◌≡◌, ◌≤◌};
+ghost use Rattle.std.specs.Prelude.{◌≡◌, ◌≤◌, []};
+ghost use Rattle.std.specs.Io.Buffered.{writer_buffer};
 
 mod adapters;
 mod fault;
@@ -48,10 +49,11 @@ fn run<R: Threads + Sync, S: Source, W: Write + Drop, E: Sink>(
     alloc: Global,
     words: &Vec<String>,
     source: &mut S,
-    out: &mut OutputSink<W>,
+    out: &mut OutputSink<BufWriter<W>>,
     err: &mut E,
 ) -> u8
-    ensures { result ≤ 1 → out.new.faults ≡ out.old.faults }
+    ensures quiet { result ≤ 1 → out.new.faults ≡ out.old.faults }
+    ensures passed { result ≤ 1 → writer_buffer out.new.writer ≡ [] }
 {
     let status = semi(rt, alloc, words, source, out, err, &Open);
     match out.flush() {
