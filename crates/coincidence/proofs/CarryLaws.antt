@@ -7,7 +7,7 @@ use Rattle.theory.specs.Graph.{Graph, path, IsGraph}
 use Rattle.coincidence.specs.Folding.{IsMerging}
 use Rattle.coincidence.specs.Closing.{IsEdged}
 use Rattle.coincidence.specs.Marks.{IsCarried}
-use Rattle.coincidence.proofs.ClassLaws.{path_in}
+use Rattle.word_graph.proofs.StandardLaws.{path_in}
 use Rattle.coincidence.proofs.CloseLaws.{IsPlaced, edged_path}
 use Rattle.coincidence.proofs.MergeLaws.{folded_path}
 

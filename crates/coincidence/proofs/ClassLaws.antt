@@ -7,6 +7,7 @@ use Rattle.theory.specs.Graph.{Graph, target, path, IsGraph}
 use Rattle.theory.specs.Facts.{given, symmetric}
 use Rattle.coincidence.specs.Merged.{MergedNodes}
 use Rattle.coincidence.specs.Merging.{IsReached, EdgesReached, IsClassing, IsClash, relabel, joined}
+use Rattle.word_graph.proofs.StandardLaws.{path_in}
 use Rattle.word_graph.proofs.WalkLaws.{some_same}
 use Rattle.coincidence.proofs.FollowsLaws.{path_more}
 use Rattle.coincidence.proofs.MergeLaws.{clash_related}
@@ -27,15 +28,6 @@ pub index_map : (f : ℕ → ℕ) (xs : List ℕ) (n : ℕ) → f 0 ≡ 0 → sl
 index_map f [] n h = sym h
 index_map f (x ∷ xs) zero h = refl
 index_map f (x ∷ xs) (suc n) h = index_map f xs n h
-
--- a path ends within the graph
-pub path_in : (k : ℕ) (g : Graph) → IsGraph k g → (p n : ℕ) (u : Word) → p < length g → path g p u ≡ Some n → n < length g
-path_in k g is p n [] h e = subst (λ z. z < length g) (some_same p n e) h
-path_in k g is p n (a ∷ u) h e = go (target g p a) refl (λ m l d. path_in k g is m n u l d) e
-  where
-    go : (t : Option ℕ) → target g p a ≡ t → ((m : ℕ) → m < length g → path g m u ≡ Some n → n < length g) → option_and_then (λ next. path g next u) t ≡ Some n → n < length g
-    go None d further e = cc
-    go (Some m) d further e = further m (is.nodes p a m d) e
 
 -- each node its own class
 pub apart_classing : (k : ℕ) (g : Graph) (x y : ℕ) (class : List ℕ) → IsGraph k g → length class ≡ length g → ((n : ℕ) → n < length g → slice_index class n ≡ n) → IsClassing g x y class

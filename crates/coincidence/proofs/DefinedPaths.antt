@@ -10,7 +10,7 @@ use Rattle.word_graph.proofs.EdgeLaws.{target_in}
 use Rattle.word_graph.proofs.WalkLaws.{some_same}
 use Rattle.coincidence.specs.Closing.{IsEdged}
 use Rattle.coincidence.proofs.CloseLaws.{edged_path}
-use Rattle.coincidence.proofs.ClassLaws.{path_in}
+use Rattle.word_graph.proofs.StandardLaws.{path_in}
 use Rattle.coincidence.proofs.TableLaws.{target_node, define_edged, define_graph, path_same}
 
 module _ (k : ℕ) (g : Graph) (n a : ℕ) (is : IsGraph k g) (hn : n < length g) (ha : a < k) (none : target g n a ≡ None) where

@@ -18,7 +18,8 @@ use Rattle.coincidence.specs.Joining.{relabel_pair, AreOne, IsTaken, IsMarkMoved
 use Rattle.coincidence.specs.declared.pending.Pending.{Pending}
 use Rattle.coincidence.specs.declared.pending.Pending.TheVariants.{NewEdge}
 use Rattle.coincidence.proofs.FollowsLaws.{path_more}
-use Rattle.coincidence.proofs.ClassLaws.{relabel_same, relabel_other, relabel_zero, relabel_classing, index_map, path_in, apart_classing}
+use Rattle.coincidence.proofs.ClassLaws.{relabel_same, relabel_other, relabel_zero, relabel_classing, index_map, apart_classing}
+use Rattle.word_graph.proofs.StandardLaws.{path_in}
 use Rattle.coincidence.proofs.MergeLaws.{clash_related}
 use Rattle.coincidence.proofs.MarkLaws.{on_within}
 use Rattle.coincidence.proofs.LiveLaws.{count_fewer}

@@ -4,7 +4,7 @@ use Rattle.std.proofs.lemmas.Bool.{cases_eq}
 use Rattle.std.proofs.lemmas.List.{length-append, length-replicate}
 use Rattle.std.proofs.lemmas.List.Elements.{All-set, All-push}
 use Rattle.theory.specs.Graph.{Graph, target, IsGraph}
-use Rattle.theory.proofs.Counting.{IsIn, AreApart, pigeonhole}
+use Rattle.theory.proofs.Counting.{IsIn, AreApart, in_numbers, length_numbers, numbers_below, pigeonhole}
 use Rattle.word_graph.proofs.EdgeLaws.{target_is, target_in}
 use Rattle.word_graph.proofs.WalkLaws.{some_same}
 use Rattle.std.proofs.lemmas.List.{get_or-set_same, get_or-set_other}
@@ -63,21 +63,6 @@ chain_counted zero next start (n ∷ ns) c h = absurd (omega (arith, h))
 chain_counted (suc most) next start [] c h = rw c refl
 chain_counted (suc most) next start (n ∷ ns) c h = rw (c.0) (ap suc (chain_counted most next (next n) ns c.1 (omega (arith, h))))
 
--- numbers below n that stand once are at most n
-below : ℕ → List ℕ
-below zero = []
-below (suc n) = n ∷ below n
-
-length_below : (n : ℕ) → length (below n) ≡ n
-unfolding below
-length_below zero = refl
-length_below (suc n) = ap suc (length_below n)
-
-in_below : (n m : ℕ) → m < n → IsIn m (below n)
-unfolding below
-in_below zero m h = absurd (omega (arith, h))
-in_below (suc n) m h = elim (cases_eq m n) [ inl e ↦ inl e | inr d ↦ inr (in_below n m (omega (arith, h, d))) ]
-
 among_in : (n : ℕ) (ns : List ℕ) → IsIn n ns → IsAmong n ns
 among_in n [] h = absurd h
 among_in n (m ∷ ms) (inl e) = inl e
@@ -87,10 +72,11 @@ once_apart : (ns : List ℕ) → IsOnce ns → AreApart (λ (x : ℕ) (w : ℕ).
 once_apart [] o = tt
 once_apart (n ∷ ns) o = (λ y w m e d. o.0 (among_in n ns (subst (λ z. IsIn z ns) (d ∙ sym e) m)), once_apart ns o.1)
 
+-- numbers below n that stand once are at most n
 pub once_few : (n : ℕ) (ns : List ℕ) → IsOnce ns → ((m : ℕ) → IsAmong m ns → m < n) → length ns ≤ n
 once_few n ns once less =
-    let few : length ns ≤ length (below n) = pigeonhole (λ (x : ℕ) (w : ℕ). x ≡ w) ns (below n) (once_apart ns once) (λ x h. (x, in_below n x (less x (among_in x ns h)), refl)) in
-    omega (arith, few, length_below n)
+    let few : length ns ≤ length (numbers_below n) = pigeonhole (λ (x : ℕ) (w : ℕ). x ≡ w) ns (numbers_below n) (once_apart ns once) (λ x h. (x, in_numbers n x (less x (among_in x ns h)), refl)) in
+    omega (arith, few, length_numbers n)
 
 -- sources are at most as many as nodes
 pub sources_few : (k : ℕ) (t : Links) (node letter : ℕ) (list : List ℕ) → IsLinked k t → IsSources t node letter list → length list ≤ length t.graph

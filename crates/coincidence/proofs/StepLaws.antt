@@ -15,7 +15,7 @@ use Rattle.coincidence.specs.Live.{IsOn, IsLiveGraph}
 use Rattle.coincidence.proofs.FollowsLaws.{path_more}
 use Rattle.coincidence.proofs.CloseLaws.{IsPlaced, IsWithin, within_edge, edged_path}
 use Rattle.coincidence.proofs.FoldLaws.{edged_with}
-use Rattle.coincidence.proofs.ClassLaws.{path_in}
+use Rattle.word_graph.proofs.StandardLaws.{path_in}
 
 -- both ends of what is due are reached
 pub due_reached : (c : Congruence) (g : Graph) (at : Option ℕ) (j a m : ℕ) → IsDue c g at j a m → IsReached g j × IsReached g m

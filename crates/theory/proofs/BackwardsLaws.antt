@@ -3,7 +3,7 @@ use Rattle.std.proofs.Common.{◌≡◌, ℕ, ◌<◌, List, [], ◌∷◌, ◌+
 use Rattle.std.proofs.lemmas.List.{reverse-append}
 use Rattle.theory.specs.Word.{Word, IsOver, IsElement}
 use Rattle.theory.specs.ShortLex.{◌≺◌}
-use Rattle.theory.specs.Congruence.{Presentation, Congruence, IsWellFormed, as_right}
+use Rattle.theory.specs.Congruence.{Presentation, Congruence, IsWellFormed, read_backwards}
 use Rattle.theory.specs.Chain.{Related}
 use Rattle.theory.specs.Class.{SameClass, IsNormal, IsClassList}
 use Rattle.theory.specs.Listing.{IsAscending}
@@ -16,7 +16,7 @@ use Rattle.theory.proofs.Related.{element_over, related_element}
 use Rattle.theory.proofs.Counting.{in_from_contains, contains_from_in}
 use Rattle.theory.proofs.ClassLaws.{same_class_equivalence, list_from_least}
 use Rattle.theory.proofs.GraphLaws.{path_append, path_front, path_letter}
-use Rattle.theory.proofs.KindLaws.{over_turned, as_right_related}
+use Rattle.theory.proofs.KindLaws.{over_turned, left_backwards}
 
 reverse_cons : (a : ℕ) (u : Word) → reverse (a ∷ u) ≡ reverse u ++ a ∷ []
 reverse_cons a u = reverse-append (a ∷ []) u
@@ -132,9 +132,9 @@ module _ (c : Congruence) (is : IsWellFormed c) (g : Graph) (decides : DecidesBa
 -- a graph of the right congruence of the words backwards
 pub decides_backwards : (p : Presentation) (pairs : List (Word × Word)) (g : Graph)
     → let c : Congruence = record { presentation = p; kind = Left; pairs = pairs } in
-    ((u v : Word) → IsOver p.letters u → Related (as_right c) u v ↔ SameEnd g u v) → DecidesBackwards g c
+    ((u v : Word) → IsOver p.letters u → Related (read_backwards c) u v ↔ SameEnd g u v) → DecidesBackwards g c
 decides_backwards p pairs g same u v over =
     let c : Congruence = record { presentation = p; kind = Left; pairs = pairs } in
     let there = same (reverse u) (reverse v) (over_turned p.letters u over) in
-    let here = as_right_related c u v in
+    let here = left_backwards p pairs u v in
     (λ h. there.0 (here.0 h), λ h. here.1 (there.1 h))

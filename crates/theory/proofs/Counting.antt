@@ -1,5 +1,6 @@
 -- Counting by pigeonholes.
 use Rattle.std.proofs.Common.{◌≡◌, ℕ, zero, suc, ◌<◌, ◌≤◌, List, [], ◌∷◌, length, get_or, refl, sym, ◌∙◌, ap, subst, arith, ◌⊎◌, inl, inr, Contains}
+use Rattle.std.proofs.lemmas.Bool.{cases_eq}
 
 -- x is one of the list, by cases
 abbrev pub IsIn : {X : Type 0} → X → List X → Type 0
@@ -51,3 +52,39 @@ pigeonhole {X} {W} At (x ∷ xs) ws apart placed =
           | inl e ↦ absurd (apart.0 y w m here (subst (λ v. At y v) e at.2))
           | inr n ↦ (at.0, n, at.2)
         ]
+
+-- the numbers below n
+pub numbers_below : ℕ → List ℕ
+numbers_below zero = []
+numbers_below (suc n) = n ∷ numbers_below n
+
+pub length_numbers : (n : ℕ) → length (numbers_below n) ≡ n
+unfolding numbers_below
+length_numbers zero = refl
+length_numbers (suc n) = ap suc (length_numbers n)
+
+pub in_numbers : (n m : ℕ) → m < n → IsIn m (numbers_below n)
+unfolding numbers_below
+in_numbers zero m h = absurd (omega (arith, h))
+in_numbers (suc n) m h = elim (cases_eq m n) [ inl e ↦ inl e | inr d ↦ inr (in_numbers n m (omega (arith, h, d))) ]
+
+pub from_numbers : (n m : ℕ) → IsIn m (numbers_below n) → m < n
+unfolding numbers_below
+from_numbers zero m h = absurd h
+from_numbers (suc n) m (inl e) = omega (arith, e)
+from_numbers (suc n) m (inr h) = omega (arith, from_numbers n m h)
+
+-- no more numbers stand below m than below n, where each below m has a place below n of its own
+pub no_more_numbers : (At : ℕ → ℕ → Type 0) (m n : ℕ) → ((i j w : ℕ) → At i w → At j w → i ≡ j)
+    → ((i : ℕ) → i < m → (w : ℕ) × (w < n) × At i w) → m ≤ n
+unfolding numbers_below
+no_more_numbers At m n own placed =
+    let few = pigeonhole At (numbers_below m) (numbers_below n) (apart m) there in
+    omega (arith, few, length_numbers m, length_numbers n)
+  where
+    apart : (k : ℕ) → AreApart At (numbers_below k)
+    apart zero = tt
+    apart (suc k) = (λ j w h a b. let less = from_numbers k j h in let e = own k j w a b in omega (arith, less, e), apart k)
+
+    there : (i : ℕ) → IsIn i (numbers_below m) → (w : ℕ) × IsIn w (numbers_below n) × At i w
+    there i h = let p = placed i (from_numbers m i h) in (p.0, in_numbers n p.0 p.1, p.2)

@@ -3,7 +3,7 @@ use Rattle.std.proofs.Common.{◌≡◌, ℕ, Bool, true, false, List, [], ◌�
 use Rattle.std.proofs.lemmas.List.{reverse-append, reverse-reverse, length-map, get_or-map}
 use Rattle.std.proofs.lemmas.List.Elements.{Contains-append_left, Contains-append_right, Contains-append_cases, All-map, All-weaker, All-append, All-nil}
 use Rattle.theory.specs.Word.{Word, IsOver, IsElement, reversed_pair, reversed_pairs}
-use Rattle.theory.specs.Congruence.{Presentation, Congruence, EitherWay, AreElements, IsWellFormed, IsTwoSided, IsRightSided, of_presentation, with_relations, as_right, as_right_word}
+use Rattle.theory.specs.Congruence.{Presentation, Congruence, EitherWay, AreElements, IsWellFormed, IsTwoSided, IsRightSided, of_presentation, with_relations, read_backwards, as_right, as_right_word}
 use Rattle.theory.specs.Chain.{MayStand, Step, StepBy, Related}
 use Rattle.theory.specs.declared.Kind.{Kind}
 use Rattle.theory.specs.declared.Kind.TheVariants.{TwoSided, Right, Left}
@@ -133,6 +133,23 @@ left_from p pairs u v h = elim h [
       (λ r s e. subst (λ qs. EitherWay qs (reverse r) (reverse s)) (twice_turned pairs) (either_turned (reversed_pairs pairs) r s e)) u v b)
 ]
 
+-- a left congruence relates two words exactly where, read backwards, it relates the words backwards
+pub left_backwards : (p : Presentation) (pairs : List (Word × Word)) (u v : Word) →
+    let c : Congruence = record { presentation = p; kind = Left; pairs = pairs } in
+    Related c u v ↔ Related (read_backwards c) (reverse u) (reverse v)
+left_backwards p pairs u v = (
+  joined_map (StepBy (EitherWay p.relations) Left pairs) (StepBy (EitherWay (reversed_pairs p.relations)) Right (reversed_pairs pairs)) reverse
+      (left_to p pairs) u v,
+  λ h. subst₂ (λ x y. Related (record { presentation = p; kind = Left; pairs = pairs }) x y) (reverse-reverse u) (reverse-reverse v)
+      (joined_map (StepBy (EitherWay (reversed_pairs p.relations)) Right (reversed_pairs pairs)) (StepBy (EitherWay p.relations) Left pairs)
+      reverse (left_from p pairs) (reverse u) (reverse v) h),
+)
+
+-- without pairs their kind does not matter
+no_pairs : (p : Presentation) (kind other : Kind) (u v : Word) → StepBy (EitherWay p.relations) kind [] u v
+    → StepBy (EitherWay p.relations) other [] u v
+no_pairs p kind other u v h = elim h [ inl a ↦ inl a | inr b ↦ none_pair b.from b.to b.base ]
+
 by_kind : (p : Presentation) (kind : Kind) (pairs : List (Word × Word)) (u v : Word) →
     let c : Congruence = record { presentation = p; kind = kind; pairs = pairs } in
     Related c u v ↔ Related (as_right c) (as_right_word c u) (as_right_word c v)
@@ -142,13 +159,11 @@ by_kind p TwoSided pairs u v = (
       v,
 )
 by_kind p Right pairs u v = (λ h. h, λ h. h)
-by_kind p Left pairs u v = (
-  joined_map (StepBy (EitherWay p.relations) Left pairs) (StepBy (EitherWay (reversed_pairs p.relations)) Right (reversed_pairs pairs)) reverse
-      (left_to p pairs) u v,
-  λ h. subst₂ (λ x y. Related (record { presentation = p; kind = Left; pairs = pairs }) x y) (reverse-reverse u) (reverse-reverse v)
-      (joined_map (StepBy (EitherWay (reversed_pairs p.relations)) Right (reversed_pairs pairs)) (StepBy (EitherWay p.relations) Left pairs)
-      reverse (left_from p pairs) (reverse u) (reverse v) h),
+by_kind p Left [] u v = (
+  joined_map (StepBy (EitherWay p.relations) Left []) (StepBy (EitherWay p.relations) Right []) (λ w. w) (no_pairs p Left Right) u v,
+  joined_map (StepBy (EitherWay p.relations) Right []) (StepBy (EitherWay p.relations) Left []) (λ w. w) (no_pairs p Right Left) u v,
 )
+by_kind p Left (q ∷ pairs) u v = left_backwards p (q ∷ pairs) u v
 
 -- c relates two words exactly where the right congruence that stands for it does
 pub as_right_related : (c : Congruence) (u v : Word) → Related c u v ↔ Related (as_right c) (as_right_word c u) (as_right_word c v)
@@ -161,7 +176,8 @@ as_right_sided c = go c.presentation c.kind c.pairs
         → IsRightSided (as_right (record { presentation = p; kind = kind; pairs = pairs }))
     go p TwoSided pairs = inl refl
     go p Right pairs = inl refl
-    go p Left pairs = inl refl
+    go p Left [] = inl refl
+    go p Left (q ∷ pairs) = inl refl
 
 pub over_turned : (k : ℕ) (u : Word) → IsOver k u → IsOver k (reverse u)
 over_turned k [] h = tt
@@ -179,6 +195,12 @@ elements_turned b k pairs h =
     (λ (q : Word × Word). IsElement b k (reverse q.0) × IsElement b k (reverse q.1))
     (λ q e. (element_turned b k q.0 e.0, element_turned b k q.1 e.1)) pairs h)
 
+pub backwards_well_formed : (c : Congruence) → IsWellFormed c → IsWellFormed (read_backwards c)
+backwards_well_formed c h = record {
+  relations = elements_turned c.presentation.is_monoid c.presentation.letters c.presentation.relations h.relations;
+  pairs = elements_turned c.presentation.is_monoid c.presentation.letters c.pairs h.pairs;
+}
+
 pub as_right_well_formed : (c : Congruence) → IsWellFormed c → IsWellFormed (as_right c)
 as_right_well_formed c = go c.presentation c.kind c.pairs
   where
@@ -192,10 +214,8 @@ as_right_well_formed c = go c.presentation c.kind c.pairs
       pairs = All-nil (λ (q : Word × Word). IsElement p.is_monoid p.letters q.0 × IsElement p.is_monoid p.letters q.1);
     }
     go p Right pairs h = h
-    go p Left pairs h = record {
-      relations = elements_turned p.is_monoid p.letters p.relations h.relations;
-      pairs = elements_turned p.is_monoid p.letters pairs h.pairs;
-    }
+    go p Left [] h = record { relations = h.relations; pairs = h.pairs }
+    go p Left (q ∷ pairs) h = backwards_well_formed (record { presentation = p; kind = Left; pairs = q ∷ pairs }) h
 
 -- the pairs of a two-sided congruence are relations
 pub pairs_as_relations : (c : Congruence) → IsTwoSided c → (u v : Word)

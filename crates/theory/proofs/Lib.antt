@@ -1,4 +1,5 @@
 pub mod Words
+pub mod PieceLaws
 pub mod Counting
 pub mod Chains
 pub mod Related

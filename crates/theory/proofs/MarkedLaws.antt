@@ -5,7 +5,7 @@ use Rattle.std.proofs.lemmas.List.{reverse-append, reverse-reverse, length-rever
 use Rattle.std.proofs.lemmas.List.Elements.{All-map, All-weaker, All-append, All-nil}
 use Rattle.theory.specs.Word.{Word, IsOver, IsElement, reversed_pair, reversed_pairs}
 use Rattle.theory.specs.ShortLex.{◌≺◌}
-use Rattle.theory.specs.Congruence.{Presentation, Congruence, EitherWay, AreElements, IsWellFormed, of_presentation, reversed}
+use Rattle.theory.specs.Congruence.{Presentation, Congruence, EitherWay, AreElements, IsWellFormed, of_presentation, reversed, read_backwards}
 use Rattle.theory.specs.Chain.{Step, StepBy, Related, IsCongruenceOf}
 use Rattle.theory.specs.Marked.{marked_word, marker_before, marker_behind, marked_pairs, marked, as_marked_word, IsMarkedReduced}
 use Rattle.theory.specs.declared.Kind.{Kind}
@@ -20,7 +20,7 @@ use Rattle.theory.proofs.Completed.{completed_least, completed_reduced}
 use Rattle.theory.proofs.Chains.{joined_least, joined_map, joined_one, step_at, step_kept, step_more, related_congruence, either_symm}
 use Rattle.theory.proofs.Counting.{IsIn, in_from_contains, contains_from_in}
 use Rattle.theory.proofs.Related.{element_over, side_element, none_either, related_element}
-use Rattle.theory.proofs.KindLaws.{either_append, either_cases, pairs_as_relations, relations_well_formed, left_to, as_right_related, as_right_well_formed, over_turned, twice_turned}
+use Rattle.theory.proofs.KindLaws.{either_append, either_cases, pairs_as_relations, relations_well_formed, left_to, left_backwards, backwards_well_formed, over_turned, twice_turned}
 
 -- the marker is no letter
 no_marker : (k : ℕ) (u : Word) → IsOver k (k ∷ u) → ⊥
@@ -299,7 +299,7 @@ module _ (p : Presentation) (pairs : List (Word × Word)) (is : IsWellFormed (re
   by_left = record { presentation = p; kind = Left; pairs = pairs }
 
   abbrev backwards : Congruence
-  backwards = record { presentation = reversed p; kind = Right; pairs = reversed_pairs pairs }
+  backwards = read_backwards by_left
 
   abbrev ByRelations : List (Word × Word) → Word → Word → Type 0
   ByRelations rels = Related (of_presentation (record { letters = suc p.letters; is_monoid = p.is_monoid; relations = rels }))
@@ -309,7 +309,7 @@ module _ (p : Presentation) (pairs : List (Word × Word)) (is : IsWellFormed (re
   left_marked u v over = (to, from)
     where
       turned : IsWellFormed backwards
-      turned = as_right_well_formed by_left is
+      turned = backwards_well_formed by_left is
 
       both : Related backwards (reverse u) (reverse v) ↔ Related (of_presentation (marked backwards)) (p.letters ∷ reverse u) (p.letters ∷ reverse v)
       both = right_marked (reversed p) (reversed_pairs pairs) turned.relations turned.pairs (reverse u) (reverse v) (over_turned p.letters u over)
@@ -325,11 +325,11 @@ module _ (p : Presentation) (pairs : List (Word × Word)) (is : IsWellFormed (re
           subst₂ (λ x y. ByRelations (marked by_left).relations x y) (turned_marker p.letters u) (turned_marker p.letters v)
           (subst (λ (rels : List (Word × Word)). ByRelations rels (reverse (p.letters ∷ reverse u)) (reverse (p.letters ∷ reverse v))) again
           (turned_related (marked backwards).relations p.is_monoid (suc p.letters) (p.letters ∷ reverse u) (p.letters ∷ reverse v)
-          (both.0 ((as_right_related by_left u v).0 r))))
+          (both.0 ((left_backwards p pairs u v).0 r))))
 
       from : Related (of_presentation (marked by_left)) (u ++ p.letters ∷ []) (v ++ p.letters ∷ []) → Related by_left u v
       from r =
-          (as_right_related by_left u v).1
+          (left_backwards p pairs u v).1
           (both.1
           (subst₂ (λ x y. ByRelations (marked backwards).relations x y) (marker_turned p.letters u) (marker_turned p.letters v)
           (subst (λ (rels : List (Word × Word)). ByRelations rels (reverse (u ++ p.letters ∷ [])) (reverse (v ++ p.letters ∷ []))) same
@@ -440,7 +440,7 @@ left_shape : (p : Presentation) (pairs : List (Word × Word)) → IsWellFormed (
     → Related (of_presentation (marked (record { presentation = p; kind = Left; pairs = pairs }))) (u ++ p.letters ∷ []) x
     → HasShape (record { presentation = p; kind = Left; pairs = pairs }) u x
 left_shape p pairs is u x over r =
-    go (right_shape (reversed p) (reversed_pairs pairs) (as_right_well_formed (by_left p pairs is) is) (reverse u) (reverse x) (over_turned p.letters u over) turned)
+    go (right_shape (reversed p) (reversed_pairs pairs) (backwards_well_formed (by_left p pairs is) is) (reverse u) (reverse x) (over_turned p.letters u over) turned)
   where
     turned : Related (of_presentation (marked (backwards p pairs is))) (p.letters ∷ reverse u) (reverse x)
     turned =
@@ -453,7 +453,7 @@ left_shape p pairs is u x over r =
     go h = record {
       word = reverse h.word;
       related =
-          (as_right_related (by_left p pairs is) u (reverse h.word)).1
+          (left_backwards p pairs u (reverse h.word)).1
           (subst (λ w. Related (backwards p pairs is) (reverse u) w) (sym (reverse-reverse h.word)) h.related);
       shape = elim h.shape [
         | inl e ↦ inl (sym (reverse-reverse x) ∙ ap reverse e ∙ reverse-append (p.letters ∷ []) h.word)

@@ -1,5 +1,5 @@
 -- Presentations, and congruences given by pairs (Sims 1994, ch. 1 and 2; libsemigroups: Presentation, Congruence).
-use Rattle.std.specs.Prelude.{◌≡◌, ℕ, ◌==◌, Bool, true, List, [], ◌++◌, length, All, Contains, ◌⊎◌, reverse}
+use Rattle.std.specs.Prelude.{◌≡◌, ℕ, ◌==◌, Bool, true, List, [], ◌∷◌, ◌++◌, length, All, Contains, ◌⊎◌, reverse}
 use Rattle.theory.specs.Word.{Word, IsElement, reversed_pairs}
 use Rattle.theory.specs.declared.Kind.{Kind}
 use Rattle.theory.specs.declared.Kind.TheVariants.{TwoSided, Right, Left}
@@ -46,7 +46,16 @@ with_relations p pairs = record {
   relations = p.relations ++ pairs;
 }
 
--- the right congruence that stands for c: two-sided pairs become relations, left pairs are read backwards
+-- c read backwards: the right congruence of the reversed presentation and the reversed pairs
+abbrev pub read_backwards : Congruence → Congruence
+read_backwards c = record {
+  presentation = reversed c.presentation;
+  kind = Right;
+  pairs = reversed_pairs c.pairs;
+}
+
+-- the right congruence that stands for c: two-sided pairs become relations, left pairs are read
+-- backwards; without pairs the relations alone generate it, whatever its kind
 abbrev pub as_right : Congruence → Congruence
 as_right c =
     elim c.kind [
@@ -56,11 +65,10 @@ as_right c =
         pairs = [];
       }
       | Right ↦ c
-      | Left ↦ record {
-        presentation = reversed c.presentation;
-        kind = Right;
-        pairs = reversed_pairs c.pairs;
-      }
+      | Left ↦ elim c.pairs [
+        | [] ↦ record { presentation = c.presentation; kind = Right; pairs = [] }
+        | p ∷ pairs ↦ read_backwards c
+      ]
     ]
 
 -- c is generated as a two-sided congruence: its pairs are two-sided, or there are none
@@ -83,6 +91,10 @@ IsRightSided c = (c.kind ≡ Right) ⊎ (c.pairs ≡ [])
 abbrev pub of_presentation : Presentation → Congruence
 of_presentation p = record { presentation = p; kind = TwoSided; pairs = [] }
 
--- the word that stands for u there: left congruences are read backwards
+-- the word that stands for u there: with left pairs words are read backwards
 abbrev pub as_right_word : Congruence → Word → Word
-as_right_word c u = elim c.kind [ TwoSided ↦ u | Right ↦ u | Left ↦ reverse u ]
+as_right_word c u = elim c.kind [
+  | TwoSided ↦ u
+  | Right ↦ u
+  | Left ↦ elim c.pairs [ [] ↦ u | p ∷ pairs ↦ reverse u ]
+]

@@ -2,7 +2,7 @@
 ghost use Rattle.std.specs.Prelude.{ℕ, ◌≡◌, ◌<◌, ◌↔◌, List, ◌∷◌, Contains, Some, None, reverse, length};
 ghost use Rattle.theory.specs.Word.{Word, IsOver, IsElement};
 ghost use Rattle.theory.specs.ShortLex.{◌≺◌};
-ghost use Rattle.theory.specs.Congruence.{Presentation, Congruence, IsWellFormed, as_right};
+ghost use Rattle.theory.specs.Congruence.{Presentation, Congruence, IsWellFormed, read_backwards};
 ghost use Rattle.theory.specs.Chain.{Related};
 ghost use Rattle.theory.specs.declared.Kind.TheVariants.{Left};
 ghost use Rattle.theory.specs.Class.{SameClass, IsNormal, IsClassList};
@@ -40,6 +40,6 @@ pub fn left_classes_are_read_backwards()
         → IsClassList (SameClass c) words }
     ensures decides { (p : Presentation) (pairs : List (Word × Word)) (g : Graph)
         → let c : Congruence = record { presentation = p; kind = Left; pairs = pairs } in
-        ((u v : Word) → IsOver p.letters u → Related (as_right c) u v ↔ SameEnd g u v)
+        ((u v : Word) → IsOver p.letters u → Related (read_backwards c) u v ↔ SameEnd g u v)
         → DecidesBackwards g c }
 {}

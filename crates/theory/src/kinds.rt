@@ -1,9 +1,9 @@
 // Each kind of congruence as one of another kind.
 ghost use Rattle.std.specs.Prelude.{List, [], ◌↔◌, reverse};
-ghost use Rattle.theory.specs.Word.{Word, reversed_pairs};
-ghost use Rattle.theory.specs.Congruence.{Presentation, Congruence, IsWellFormed, IsTwoSided, IsRightSided, of_presentation, reversed, with_relations, as_right, as_right_word};
+ghost use Rattle.theory.specs.Word.{Word};
+ghost use Rattle.theory.specs.Congruence.{Presentation, Congruence, IsWellFormed, IsTwoSided, IsRightSided, of_presentation, with_relations, read_backwards, as_right, as_right_word};
 ghost use Rattle.theory.specs.Chain.{Related};
-ghost use Rattle.theory.specs.declared.Kind.TheVariants.{Right, Left};
+ghost use Rattle.theory.specs.declared.Kind.TheVariants.{Left};
 
 /// The pairs of a two-sided congruence are relations.
 pub fn pairs_are_relations()
@@ -16,9 +16,8 @@ pub fn pairs_are_relations()
 /// A left congruence is the right congruence of the reversed presentation and the reversed pairs, on reversed words.
 pub fn left_is_right_reversed()
     ensures { (p : Presentation) (pairs : List (Word × Word)) (u v : Word)
-        → Related (record { presentation = p; kind = Left; pairs = pairs }) u v
-        ↔ Related (record { presentation = reversed p; kind = Right; pairs = reversed_pairs pairs })
-        (reverse u) (reverse v) }
+        → let c : Congruence = record { presentation = p; kind = Left; pairs = pairs } in
+        Related c u v ↔ Related (read_backwards c) (reverse u) (reverse v) }
 {}
 
 /// A congruence relates two words exactly where the right congruence that stands for it relates the words that stand for them.

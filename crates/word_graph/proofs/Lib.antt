@@ -6,9 +6,9 @@ pub mod StepLaws
 pub mod RenumberLaws
 pub mod RowLaws
 pub mod StandardLaws
+pub mod NodeCounts
 pub mod WordLaws
 pub mod NumberLaws
-pub mod JoinedLaws
 pub mod ReadLaws
 pub mod TableLaws
 pub mod PrintLaws

@@ -1,7 +1,7 @@
 use Rattle.std.proofs.Common.{◌++◌, List, ℕ, get_or, ap, ◌∙◌, codes}
 use Rattle.std.specs.Prelude.{Option, None}
 use Rattle.word_graph.specs.TableText.{target_text}
-use Rattle.word_graph.proofs.JoinedLaws.{joined_first, joined_more}
+use Rattle.theory.proofs.PieceLaws.{joined_first, joined_more}
 use Rattle.word_graph.proofs.texts.print_row.Goals as goal
 use Rattle.word_graph.proofs.texts.print_row.Goals.{then-i-gt0+in_ok-push, else-i-gt0}
 

@@ -5,7 +5,7 @@ use Rattle.theory.specs.Facts.{AllDefined}
 use Rattle.theory.specs.Graph.{SameEnd, Shows, IsGraph}
 use Rattle.word_graph.specs.Standard.{IsStandardGraph}
 use Rattle.tc_felsch.specs.Stage.{FelschRun, IsAtStage}
-use Rattle.tc_felsch.proofs.NodeLaws.{no_more_nodes}
+use Rattle.word_graph.proofs.NodeCounts.{no_more_nodes}
 use Rattle.tc_felsch.proofs.TurnLaws.{same_stage, same_defined}
 use Rattle.tc_felsch.proofs.enumeration.Felsch.graph.Goals as goal
 

@@ -3,7 +3,7 @@ use Rattle.std.specs.Prelude.{Option}
 use Rattle.std.proofs.lemmas.List.{take_all}
 use Rattle.theory.specs.Graph.{Graph}
 use Rattle.word_graph.specs.TableText.{table_text, row_text}
-use Rattle.word_graph.proofs.JoinedLaws.{joined_first, joined_more}
+use Rattle.theory.proofs.PieceLaws.{joined_first, joined_more}
 use Rattle.word_graph.proofs.graphs.WordGraph.print_table.Goals as goal
 use Rattle.word_graph.proofs.graphs.WordGraph.print_table.Goals.{then-i-gt0+in_ok-push, else-i-gt0}
 
