@@ -32,6 +32,13 @@ impl Numbers {
     {
         self.numbers
     }
+
+    /// The numbers, in order, lent.
+    pub fn as_slice(&self) -> &[usize]
+        ensures { result.now ≡ self.now }
+    {
+        self.numbers.as_slice()
+    }
 }
 
 /// Rows of numbers. Contracts see their list, each row a list.
@@ -62,6 +69,13 @@ impl Rows {
     {
         self.rows
     }
+
+    /// The rows, in order, lent.
+    pub fn as_slice(&self) -> &[Numbers]
+        ensures { result.now ≡ self.now }
+    {
+        self.rows.as_slice()
+    }
 }
 
 /// Words. Contracts see their list.
@@ -91,5 +105,12 @@ impl Words {
         ensures { result.items ≡ self }
     {
         self.words
+    }
+
+    /// The words, in order, lent.
+    pub fn as_slice(&self) -> &[Word]
+        ensures { result.now ≡ self.now }
+    {
+        self.words.as_slice()
     }
 }

@@ -32,6 +32,27 @@ impl Pairs {
         }
     }
 
+    /// These pairs, in order. It takes no memory.
+    pub fn from_vec(pairs: Vec<(Word, Word)>) -> Pairs
+        ensures { result ≡ pairs.items }
+    {
+        Pairs { items: pairs }
+    }
+
+    /// The pairs, in order. It takes no memory.
+    pub fn into_vec(self) -> Vec<(Word, Word)>
+        ensures { result.items ≡ self }
+    {
+        self.items
+    }
+
+    /// The pairs, in order, lent.
+    pub fn as_slice(&self) -> &[(Word, Word)]
+        ensures { result.now ≡ self.now }
+    {
+        self.items.as_slice()
+    }
+
     /// How many pairs there are.
     pub fn len(&self) -> usize
         ensures { result ≡ length self.now }

@@ -69,16 +69,55 @@ fn takes_8192_relations(rt: HostRuntime) {
     assert_eq!(rt; behind_8192(alloc, b"", b"b"), Err(AddFault::EmptyWord));
 }
 
+// The texts of both sides of the relation at a place.
+fn relation(
+    presentation: &Presentation,
+    alloc: Global,
+    place: usize,
+) -> Result<(Vec<u8>, Vec<u8>), NoMemory> {
+    let relation = presentation
+        .relations()
+        .as_slice()
+        .get(place)
+        .ok_or(NoMemory)?;
+    let alphabet = presentation.alphabet();
+    Ok((
+        alphabet.print_word(alloc, &relation.0)?,
+        alphabet.print_word(alloc, &relation.1)?,
+    ))
+}
+
+// The presentation over `ab` with the one relation `aab = ba`.
+fn with_one_relation(alloc: Global) -> Result<Presentation, AddFault> {
+    let mut presentation = over_ab(alloc, true)?;
+    add(&mut presentation, alloc, b"aab", b"ba")?;
+    Ok(presentation)
+}
+
 #[test]
-fn reverses_and_extends(rt: HostRuntime) -> Result<(), Fail> {
+fn reverses_each_side(rt: HostRuntime) -> Result<(), Fail> {
     let alloc = rt.alloc();
-    let presentation = over_ab(alloc, true)?;
-    let turned = presentation.reversed(alloc)?;
+    let turned = with_one_relation(alloc)?.reversed(alloc)?;
+    let sides = relation(&turned, alloc, 0)?;
+    assert_eq!(rt; turned.relations().len(), 1);
+    assert_eq!(rt; sides.0.as_slice(), b"baa".as_slice());
+    assert_eq!(rt; sides.1.as_slice(), b"ab".as_slice());
+    Ok(())
+}
+
+#[test]
+fn puts_pairs_behind_relations(rt: HostRuntime) -> Result<(), Fail> {
+    let alloc = rt.alloc();
+    let presentation = with_one_relation(alloc)?;
     let mut pairs = Pairs::new(alloc);
     pairs.push(Word::new(alloc), Word::new(alloc))?;
-    let pairs = pairs.reversed(alloc)?;
-    assert_eq!(rt; pairs.len(), 1);
-    assert!(rt; turned.with_pairs(alloc, &Pairs::new(alloc)).is_ok());
+    let pairs = Pairs::from_vec(pairs.into_vec());
+    let more = presentation.with_pairs(alloc, &pairs)?;
+    let first = relation(&more, alloc, 0)?;
+    let second = relation(&more, alloc, 1)?;
+    assert_eq!(rt; more.relations().len(), 2);
+    assert_eq!(rt; first.0.as_slice(), b"aab".as_slice());
+    assert_eq!(rt; second.1.as_slice(), b"1".as_slice());
     Ok(())
 }
 

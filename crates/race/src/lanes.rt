@@ -122,6 +122,7 @@ pub fn settle<R: Racer>(lane: &mut Lane<R>, seen: u64)
 }
 
 /// One whole turn of a lane: [`begin`], the step that it gave on the word, and [`settle`]; after `Ended` neither.
+/// The lane's number is below 64, as that of each lane is that [`Lane::new`] made, so that one more is a word.
 pub fn turn<R: Racer>(lane: &mut Lane<R>, word: &mut u64)
     requires number { lane.old.number < 64 }
     requires word { word.old ≤ 64 }
