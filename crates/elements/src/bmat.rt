@@ -1,18 +1,17 @@
 // Boolean matrices.
-ghost use Rattle.std.specs.Prelude.{◌≡◌, ◌≢◌, ℕ, ◌*◌, ◌/◌, ◌%◌, ◌<◌, ◌⊎◌, ◌||◌, ◌&&◌, false, IfOk, IsErrOf, IsTrue, ◌↔◌, [], ◌∷◌, length, map, MatchOption, codes};
+ghost use Rattle.std.specs.Prelude.{◌≡◌, ◌≢◌, ℕ, ◌*◌, ◌<◌, ◌⊎◌, ◌||◌, ◌&&◌, false, IfOk, IsErrOf, IsTrue, ◌↔◌, [], ◌∷◌, length, map, MatchOption, codes};
 ghost use Rattle.std.specs.List.{join_by};
 ghost use Rattle.std.proofs.Common.{rules};
 ghost use Rattle.std.specs.Hash as fed;
 ghost use Rattle.std.specs.Cmp.Rules.{comparing};
 ghost use Rattle.std.specs.Ordering.{as_partial_cmp};
 ghost use Rattle.elements.specs.Fields.{IsFirstRefused};
-ghost use Rattle.elements.specs.Matrix.{product_entry, matrix_product};
 ghost use Rattle.elements.specs.BMat.{IsBooleanMatrix, boolean_product, IsBit, field_of_bit, bit_text};
 ghost use Rattle.elements.specs.BMatLaws.{boolean_matrix_eq, boolean_matrix_cmp, boolean_matrix_hash, boolean_matrix_total, boolean_matrix_ties, boolean_matrix_order, boolean_matrix_alike, boolean_products, one_boolean_dimension};
 
 use super::element::Element;
 use super::field::{ElementFault, Field};
-use super::places::{place_of, square};
+use super::matrix::{Semiring, multiply, square};
 use ports::NoMemory;
 use std::alloc::Global;
 use std::cmp::Ordering;
@@ -107,7 +106,7 @@ impl Element for BMat {
 
     fn product(&self, alloc: Global, other: &BMat) -> Result<BMat, NoMemory> {
         let dimension = self.dimension;
-        let entries = multiply_bits(alloc, dimension, &self.entries, &other.entries)?;
+        let entries = multiply(alloc, &Booleans, dimension, &self.entries, &other.entries)?;
         Ok(BMat { dimension, entries })
     }
 
@@ -118,43 +117,26 @@ impl Element for BMat {
     }
 }
 
-// The product of two matrices.
-fn multiply_bits(
-    alloc: Global,
-    dimension: u32,
-    left: &[bool],
-    right: &[bool],
-) -> Result<Vec<bool>, NoMemory>
-    requires left { length left.now ≡ dimension * dimension }
-    requires right { length right.now ≡ dimension * dimension }
-    ensures { IfOk result (λ v. v.items
-        ≡ matrix_product ◌||◌ ◌&&◌ false dimension left.now right.now) }
-{
-    let count = square(dimension);
-    let mut entries = Vec::with_capacity(alloc, count)?;
-    for place in 0..count {
-        entries.push(multiplied_bit(dimension, left, right, place))?;
-    }
-    Ok(entries)
-}
+// The semiring of `or` and `and`.
+#[derive(Clone, Copy)]
+struct Booleans;
 
-// The entry at a place of the product.
-fn multiplied_bit(dimension: u32, left: &[bool], right: &[bool], place: usize) -> bool
-    requires left { length left.now ≡ dimension * dimension }
-    requires right { length right.now ≡ dimension * dimension }
-    requires within { place < dimension * dimension }
-    ensures { result ≡ product_entry ◌||◌ ◌&&◌ false dimension left.now right.now
-        (place / dimension) (place % dimension) }
-{
-    let row = place / dimension as usize;
-    let column = place % dimension as usize;
-    let mut sum = false;
-    for k in 0..dimension as usize {
-        let p = left[place_of(dimension, row, k)];
-        let q = right[place_of(dimension, k, column)];
-        sum |= p & q;
+impl Semiring for Booleans {
+    type Entry = bool;
+
+    ghost add = { ◌||◌ };
+
+    ghost multiply = { λ unused. ◌&&◌ };
+
+    ghost nothing = { false };
+
+    fn nothing(&self) -> bool {
+        false
     }
-    sum
+
+    fn add_product(&self, sum: bool, p: bool, q: bool) -> bool {
+        sum | p & q
+    }
 }
 
 // The bit that a field names.
