@@ -5,3 +5,4 @@ pub mod Marks
 pub mod Refused
 pub mod TruncatedProducts
 pub mod ProductRows
+pub mod Writes

@@ -1,11 +1,11 @@
 // Boolean matrices.
-ghost use Rattle.std.specs.Prelude.{◌≡◌, ◌≢◌, ℕ, ◌*◌, ◌<◌, ◌⊎◌, ◌||◌, ◌&&◌, false, IfOk, IsErrOf, IsTrue, ◌↔◌, [], ◌∷◌, length, map, MatchOption, codes};
+ghost use Rattle.std.specs.Prelude.{◌≡◌, ◌≢◌, ℕ, ◌*◌, ◌<◌, ◌⊎◌, ◌||◌, ◌&&◌, false, IfOk, IsErrOf, IsTrue, ◌↔◌, [], ◌∷◌, length, map, MatchOption, codes, fold};
 ghost use Rattle.std.specs.List.{join_by};
 ghost use Rattle.std.proofs.Common.{rules};
-ghost use Rattle.std.specs.Hash as fed;
 ghost use Rattle.std.specs.Cmp.Rules.{comparing};
 ghost use Rattle.std.specs.Ordering.{as_partial_cmp};
 ghost use Rattle.elements.specs.Fields.{IsFirstRefused};
+ghost use Rattle.elements.specs.Hashes.{bits_number, block_number, bits_hash};
 ghost use Rattle.elements.specs.BMat.{IsBooleanMatrix, boolean_product, IsBit, field_of_bit, bit_text};
 ghost use Rattle.elements.specs.BMatLaws.{boolean_matrix_eq, boolean_matrix_cmp, boolean_matrix_hash, boolean_matrix_total, boolean_matrix_ties, boolean_matrix_order, boolean_matrix_alike, boolean_products, one_boolean_dimension};
 
@@ -14,7 +14,7 @@ use super::field::{ElementFault, Field};
 use super::matrix::{Semiring, multiply, square};
 use ports::NoMemory;
 use std::alloc::Global;
-use std::cmp::Ordering;
+use std::cmp::{Ordering, min};
 use std::hash::{Hash, Hasher};
 use std::marker::Model;
 
@@ -86,8 +86,7 @@ impl Hash for BMat {
     ghost respects_eq = { boolean_matrix_alike };
 
     fn hash<H: Hasher>(&self, state: &mut H) {
-        self.dimension.hash(state);
-        self.entries.hash(state);
+        hash_bits(&self.entries, state);
     }
 }
 
@@ -137,6 +136,35 @@ impl Semiring for Booleans {
     fn add_product(&self, sum: bool, p: bool, q: bool) -> bool {
         sum | p & q
     }
+}
+
+// Feeds a hasher one number for each 64 bits. The dimension is left out, since the matrices of a
+// set have the same one.
+fn hash_bits<H: Hasher>(bits: &[bool], state: &mut H)
+    ensures { state.new ≡ fold H.write state.old (bits_hash bits.now) }
+{
+    for k in 0..bits.len().div_ceil(64) {
+        state.write_u64(block_at(bits, 64 * k));
+    }
+}
+
+// The bits from i on as a number, 64 at most.
+fn block_at(bits: &[bool], i: usize) -> u64
+    requires { i < length bits.now }
+    ensures { result ≡ block_number bits.now i }
+{
+    number_of(&bits[i..min(i + 64, bits.len())])
+}
+
+// The last 64 of these bits as a number.
+fn number_of(bits: &[bool]) -> u64
+    ensures { result ≡ bits_number bits.now }
+{
+    let mut number = 0;
+    for bit in bits {
+        number = number << 1 | *bit as u64;
+    }
+    number
 }
 
 // The bit that a field names.

@@ -2,7 +2,6 @@
 ghost use Rattle.std.specs.Prelude.{◌≡◌, ◌≢◌, ℕ, ◌+◌, ◌*◌, ◌<◌, ◌⊎◌, None, IfOk, IsErrOf, IsTrue, ◌↔◌, length, map, codes};
 ghost use Rattle.std.specs.List.{join_by};
 ghost use Rattle.std.proofs.Common.{rules};
-ghost use Rattle.std.specs.Hash as fed;
 ghost use Rattle.std.specs.Cmp.Rules.{comparing};
 ghost use Rattle.std.specs.Ordering.{as_partial_cmp};
 ghost use Rattle.elements.specs.Fields.{field_of, IsBelowOrDash, IsFirstRefused, decimal_or_dash};
@@ -10,7 +9,7 @@ ghost use Rattle.elements.specs.MaxPlus.{IsTruncatedMatrix, greater_of, truncate
 ghost use Rattle.elements.specs.MaxPlusLaws.{truncated_matrix_eq, truncated_matrix_cmp, truncated_matrix_hash, truncated_matrix_equivalence, truncated_matrix_partial_equivalence, truncated_matrix_total, truncated_matrix_ties, truncated_matrix_order, truncated_matrix_alike, truncated_products, one_truncated_shape};
 
 use super::element::Element;
-use super::entries::{print_optional, read_optional};
+use super::entries::{hash_entries, print_optional, read_optional};
 use super::field::{ElementFault, Field};
 use super::matrix::{Semiring, multiply, square};
 use ports::NoMemory;
@@ -97,9 +96,7 @@ impl Hash for MaxPlusTrunc {
     ghost respects_eq = { truncated_matrix_alike };
 
     fn hash<H: Hasher>(&self, state: &mut H) {
-        self.dimension.hash(state);
-        self.bound.hash(state);
-        self.entries.hash(state);
+        hash_entries(&self.entries, state);
     }
 }
 
