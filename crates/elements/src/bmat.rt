@@ -17,6 +17,7 @@ use std::alloc::Global;
 use std::cmp::{Ordering, min};
 use std::hash::{Hash, Hasher};
 use std::marker::Model;
+use theory::values::Values;
 
 #[cfg(test)]
 mod tests;
@@ -90,18 +91,20 @@ impl Hash for BMat {
     }
 }
 
-impl Element for BMat {
+impl Values for BMat {
     ghost shape = { λ m. (m.dimension, 0) };
 
     ghost product = { boolean_product };
 
     ghost products = { boolean_products };
 
-    ghost one_shape = { one_boolean_dimension };
-
     fn same_shape(&self, other: &BMat) -> bool {
         self.dimension == other.dimension
     }
+}
+
+impl Element for BMat {
+    ghost one_shape = { one_boolean_dimension };
 
     fn product(&self, alloc: Global, other: &BMat) -> Result<BMat, NoMemory> {
         let dimension = self.dimension;

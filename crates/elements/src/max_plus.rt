@@ -17,6 +17,7 @@ use std::alloc::Global;
 use std::cmp::Ordering;
 use std::hash::{Hash, Hasher};
 use std::marker::Model;
+use theory::values::Values;
 
 #[cfg(test)]
 mod tests;
@@ -100,18 +101,20 @@ impl Hash for MaxPlusTrunc {
     }
 }
 
-impl Element for MaxPlusTrunc {
+impl Values for MaxPlusTrunc {
     ghost shape = { λ m. (m.dimension, m.bound) };
 
     ghost product = { truncated_product };
 
     ghost products = { truncated_products };
 
-    ghost one_shape = { one_truncated_shape };
-
     fn same_shape(&self, other: &MaxPlusTrunc) -> bool {
         self.dimension == other.dimension && self.bound == other.bound
     }
+}
+
+impl Element for MaxPlusTrunc {
+    ghost one_shape = { one_truncated_shape };
 
     fn product(&self, alloc: Global, other: &MaxPlusTrunc) -> Result<MaxPlusTrunc, NoMemory> {
         let (dimension, bound) = (self.dimension, self.bound);

@@ -19,6 +19,7 @@ use std::alloc::{AllocError, Global};
 use std::cmp::Ordering;
 use std::hash::{Hash, Hasher};
 use std::marker::Model;
+use theory::values::Values;
 
 #[cfg(test)]
 mod tests;
@@ -89,18 +90,20 @@ impl Hash for PPerm {
     }
 }
 
-impl Element for PPerm {
+impl Values for PPerm {
     ghost shape = { λ p. (length p, 0) };
 
     ghost product = { partially_composed };
 
     ghost products = { partial_products };
 
-    ghost one_shape = { one_partial_degree };
-
     fn same_shape(&self, other: &PPerm) -> bool {
         self.images.len() == other.images.len()
     }
+}
+
+impl Element for PPerm {
+    ghost one_shape = { one_partial_degree };
 
     fn product(&self, alloc: Global, other: &PPerm) -> Result<PPerm, NoMemory> {
         let images = compose_partial(alloc, &self.images, &other.images)?;

@@ -18,6 +18,7 @@ use std::alloc::Global;
 use std::cmp::Ordering;
 use std::hash::{Hash, Hasher};
 use std::marker::Model;
+use theory::values::Values;
 
 /// A transformation of the points 0 to n - 1: the list of their images (libsemigroups, `Transf`).
 /// Contracts see that list. Its shape is the degree n.
@@ -85,18 +86,20 @@ impl Hash for Transf {
     }
 }
 
-impl Element for Transf {
+impl Values for Transf {
     ghost shape = { λ t. (length t, 0) };
 
     ghost product = { composed };
 
     ghost products = { composed_products };
 
-    ghost one_shape = { one_degree };
-
     fn same_shape(&self, other: &Transf) -> bool {
         self.images.len() == other.images.len()
     }
+}
+
+impl Element for Transf {
+    ghost one_shape = { one_degree };
 
     fn product(&self, alloc: Global, other: &Transf) -> Result<Transf, NoMemory> {
         let images = compose(alloc, &self.images, &other.images)?;
