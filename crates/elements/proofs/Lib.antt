@@ -4,4 +4,5 @@ pub mod PartialProducts
 pub mod Marks
 pub mod Refused
 pub mod TruncatedProducts
-pub mod TableSteps
+pub mod ProductRows
+pub mod Writes

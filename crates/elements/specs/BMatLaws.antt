@@ -1,6 +1,6 @@
 -- What the product of Boolean matrices keeps.
 use mathlib.Core.Bool.{beq}
-use Rattle.std.specs.Prelude.{◌≡◌, ℕ, Bool, true, false, ◌||◌, ◌&&◌, ◌++◌, IsTrue, ◌==◌, refl}
+use Rattle.std.specs.Prelude.{◌≡◌, ℕ, Bool, true, false, ◌||◌, ◌&&◌, IsTrue, ◌==◌, refl}
 use Rattle.std.specs.Hash as fed
 use Rattle.std.specs.declared.cmp.Ordering.{Ordering}
 use Rattle.std.specs.Ordering.{nat_cmp, bool_cmp, eq_by_cmp, eq_of_both, on, then_cmp, as_partial_cmp}
@@ -8,6 +8,7 @@ use Rattle.std.specs.Cmp.{unsigned_Decides, booleans_Decides, unsigned_ties, nat
 use Rattle.std.specs.Cmp.Lexicographic.{pointwise, pointwise_decides, slice_cmp, lists_total, lists_ties}
 use Rattle.std.proofs.Common.{sym, ap, ◌∙◌}
 use Rattle.theory.specs.Value.{IsProduct}
+use Rattle.elements.specs.Hashes.{bits_hash}
 use Rattle.elements.specs.Matrix.{IsSemiring, matrix_product}
 use Rattle.elements.specs.MatrixLaws.{matrix_product-associative}
 use Rattle.elements.specs.BMat.{BooleanMatrix, boolean_product}
@@ -58,7 +59,7 @@ boolean_matrix_order = po boolean_matrix_total boolean_matrix_ties
 
 -- what a hasher is fed
 abbrev pub boolean_matrix_hash : BooleanMatrix → fed.HashWrites
-boolean_matrix_hash m = fed.u32 m.dimension ++ fed.slice fed.bool m.entries
+boolean_matrix_hash m = bits_hash m.entries
 
 pub boolean_matrix_alike : (x y : BooleanMatrix) → IsTrue (boolean_matrix_eq x y)
     → boolean_matrix_hash x ≡ boolean_matrix_hash y

@@ -1,5 +1,5 @@
 -- Square matrices, row by row.
-use Rattle.std.specs.Prelude.{◌≡◌, ℕ, zero, suc, ◌+◌, ◌*◌, ◌/◌, ◌%◌, List, map, slice_index_or}
+use Rattle.std.specs.Prelude.{◌≡◌, ℕ, zero, suc, ◌+◌, ◌*◌, ◌/◌, ◌%◌, List, length, map, slice_index_or}
 use Rattle.std.specs.List.{range_with_len}
 
 -- the n by n matrix with f i j in row i and column j
@@ -19,6 +19,12 @@ module _ {A : Type 0} (add multiply : A → A → A) (nothing : A) where
   -- row i of x times column j of y
   abbrev pub product_entry : ℕ → List A → List A → ℕ → ℕ → A
   product_entry n x y i j = sum_below (λ k. multiply (entry_at n x i k) (entry_at n y k j)) n
+
+  -- a row times column j of y, whose rows are as long
+  abbrev pub row_by_column : List A → List A → ℕ → A
+  row_by_column row y j =
+      sum_below (λ k. multiply (slice_index_or row k nothing) (entry_at (length row) y k j))
+      (length row)
 
   -- x times y
   abbrev pub matrix_product : ℕ → List A → List A → List A

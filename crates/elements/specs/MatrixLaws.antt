@@ -44,7 +44,7 @@ module _ {A : Type 0} (add multiply : A → A → A) (nothing : A) where
       (mul-add-lt i n j n in_rows in_columns) (Prim.omega arith)
       ∙ (λ t. f (div-mul-add i n j in_columns t) (mod-mul-add i n j in_columns t))
 
-  total-same : (f g : ℕ → A) (n : ℕ) → ((k : ℕ) → k < n → f k ≡ g k) → total f n ≡ total g n
+  pub total-same : (f g : ℕ → A) (n : ℕ) → ((k : ℕ) → k < n → f k ≡ g k) → total f n ≡ total g n
   total-same f g zero h = refl
   total-same f g (suc n) h = λ t. add (total-same f g n (λ k lt. h k (Prim.omega arith)) t)
       (h n (Prim.omega arith) t)

@@ -1,5 +1,5 @@
 -- What the product of truncated max-plus matrices keeps.
-use Rattle.std.specs.Prelude.{◌≡◌, ℕ, ◌+◌, min, max, Bool, ◌&&◌, ◌++◌, Option, Some, None, IsTrue, ◌==◌, refl}
+use Rattle.std.specs.Prelude.{◌≡◌, ℕ, ◌+◌, min, max, Bool, ◌&&◌, Option, Some, None, IsTrue, ◌==◌, refl}
 use Rattle.std.specs.Hash as fed
 use Rattle.std.specs.Option.{option_eq, option_cmp}
 use Rattle.std.specs.declared.cmp.Ordering.{Ordering}
@@ -8,6 +8,7 @@ use Rattle.std.specs.Cmp.{unsigned_Decides, unsigned_ties, nat_cmp_total, nat_eq
 use Rattle.std.specs.Cmp.Lexicographic.{pointwise, slice_cmp, lists_total, options_total, lists_equiv, options_equiv}
 use Rattle.std.proofs.Common.{sym, ap, ◌∙◌, arith}
 use Rattle.theory.specs.Value.{IsProduct}
+use Rattle.elements.specs.Hashes.{entries_hash}
 use Rattle.elements.specs.Matrix.{IsSemiring, matrix_product}
 use Rattle.elements.specs.MatrixLaws.{matrix_product-associative}
 use Rattle.elements.specs.MaxPlus.{TruncatedMatrix, greater_of, truncated_sum, truncated_product}
@@ -76,8 +77,7 @@ truncated_matrix_order = po truncated_matrix_total truncated_matrix_ties
 
 -- what a hasher is fed
 abbrev pub truncated_matrix_hash : TruncatedMatrix → fed.HashWrites
-truncated_matrix_hash m = fed.u32 m.dimension
-    ++ (fed.u32 m.bound ++ fed.slice (fed.option fed.u32) m.entries)
+truncated_matrix_hash m = entries_hash m.entries
 
 pub truncated_matrix_alike : (x y : TruncatedMatrix) → IsTrue (truncated_matrix_eq x y)
     → truncated_matrix_hash x ≡ truncated_matrix_hash y

@@ -4,6 +4,7 @@ use Rattle.std.proofs.Common.{sym, ap, ◌∙◌, arith, inl, inr, subst, subst�
 use Rattle.std.proofs.lemmas.List.{length-map, get_or-map, get_or_past}
 use Rattle.std.specs.Cmp.Lexicographic.{pointwise, same_text, nat_list_eq_equiv}
 use Rattle.theory.specs.Value.{IsProduct}
+use Rattle.elements.specs.Hashes.{images_hash}
 use Rattle.elements.specs.Transf.{image, composed}
 
 pub length-composed : (x y : List ℕ) → length (composed x y) ≡ length x
@@ -42,6 +43,9 @@ composed-associative x y z e =
 
 pub same_images : (x y : List ℕ) → IsTrue (pointwise ◌==◌ x y) → x ≡ y
 same_images x y h = same_text x y (sym h)
+
+pub images_alike : (x y : List ℕ) → IsTrue (pointwise ◌==◌ x y) → images_hash x ≡ images_hash y
+images_alike x y h = ap images_hash (same_images x y h)
 
 equals : (x y : List ℕ) → x ≡ y → IsTrue (pointwise ◌==◌ x y)
 equals x y e = subst (λ z. IsTrue (pointwise ◌==◌ x z)) e (nat_list_eq_equiv.refl x)

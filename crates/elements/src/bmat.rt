@@ -1,23 +1,23 @@
 // Boolean matrices.
-ghost use Rattle.std.specs.Prelude.{◌≡◌, ◌≢◌, ℕ, ◌*◌, ◌/◌, ◌%◌, ◌<◌, ◌⊎◌, ◌||◌, ◌&&◌, false, IfOk, IsErrOf, IsTrue, ◌↔◌, [], ◌∷◌, length, map, MatchOption, codes};
+ghost use Rattle.std.specs.Prelude.{◌≡◌, ◌≢◌, ℕ, ◌*◌, ◌<◌, ◌⊎◌, ◌||◌, ◌&&◌, false, IfOk, IsErrOf, IsTrue, ◌↔◌, [], ◌∷◌, length, map, MatchOption, codes, fold};
 ghost use Rattle.std.specs.List.{join_by};
 ghost use Rattle.std.proofs.Common.{rules};
-ghost use Rattle.std.specs.Hash as fed;
 ghost use Rattle.std.specs.Cmp.Rules.{comparing};
 ghost use Rattle.std.specs.Ordering.{as_partial_cmp};
 ghost use Rattle.elements.specs.Fields.{IsFirstRefused};
-ghost use Rattle.elements.specs.Matrix.{product_entry, matrix_product};
+ghost use Rattle.elements.specs.Hashes.{bits_number, block_number, bits_hash};
 ghost use Rattle.elements.specs.BMat.{IsBooleanMatrix, boolean_product, IsBit, field_of_bit, bit_text};
 ghost use Rattle.elements.specs.BMatLaws.{boolean_matrix_eq, boolean_matrix_cmp, boolean_matrix_hash, boolean_matrix_total, boolean_matrix_ties, boolean_matrix_order, boolean_matrix_alike, boolean_products, one_boolean_dimension};
 
 use super::element::Element;
 use super::field::{ElementFault, Field};
-use super::places::{place_of, square};
+use super::matrix::{Semiring, multiply, square};
 use ports::NoMemory;
 use std::alloc::Global;
-use std::cmp::Ordering;
+use std::cmp::{Ordering, min};
 use std::hash::{Hash, Hasher};
 use std::marker::Model;
+use theory::values::Values;
 
 #[cfg(test)]
 mod tests;
@@ -87,27 +87,28 @@ impl Hash for BMat {
     ghost respects_eq = { boolean_matrix_alike };
 
     fn hash<H: Hasher>(&self, state: &mut H) {
-        self.dimension.hash(state);
-        self.entries.hash(state);
+        hash_bits(&self.entries, state);
     }
 }
 
-impl Element for BMat {
+impl Values for BMat {
     ghost shape = { λ m. (m.dimension, 0) };
 
     ghost product = { boolean_product };
 
     ghost products = { boolean_products };
 
-    ghost one_shape = { one_boolean_dimension };
-
     fn same_shape(&self, other: &BMat) -> bool {
         self.dimension == other.dimension
     }
+}
+
+impl Element for BMat {
+    ghost one_shape = { one_boolean_dimension };
 
     fn product(&self, alloc: Global, other: &BMat) -> Result<BMat, NoMemory> {
         let dimension = self.dimension;
-        let entries = multiply_bits(alloc, dimension, &self.entries, &other.entries)?;
+        let entries = multiply(alloc, &Booleans, dimension, &self.entries, &other.entries)?;
         Ok(BMat { dimension, entries })
     }
 
@@ -118,43 +119,55 @@ impl Element for BMat {
     }
 }
 
-// The product of two matrices.
-fn multiply_bits(
-    alloc: Global,
-    dimension: u32,
-    left: &[bool],
-    right: &[bool],
-) -> Result<Vec<bool>, NoMemory>
-    requires left { length left.now ≡ dimension * dimension }
-    requires right { length right.now ≡ dimension * dimension }
-    ensures { IfOk result (λ v. v.items
-        ≡ matrix_product ◌||◌ ◌&&◌ false dimension left.now right.now) }
-{
-    let count = square(dimension);
-    let mut entries = Vec::with_capacity(alloc, count)?;
-    for place in 0..count {
-        entries.push(multiplied_bit(dimension, left, right, place))?;
+// The semiring of `or` and `and`.
+#[derive(Clone, Copy)]
+struct Booleans;
+
+impl Semiring for Booleans {
+    type Entry = bool;
+
+    ghost add = { ◌||◌ };
+
+    ghost multiply = { λ unused. ◌&&◌ };
+
+    ghost nothing = { false };
+
+    fn nothing(&self) -> bool {
+        false
     }
-    Ok(entries)
+
+    fn add_product(&self, sum: bool, p: bool, q: bool) -> bool {
+        sum | p & q
+    }
 }
 
-// The entry at a place of the product.
-fn multiplied_bit(dimension: u32, left: &[bool], right: &[bool], place: usize) -> bool
-    requires left { length left.now ≡ dimension * dimension }
-    requires right { length right.now ≡ dimension * dimension }
-    requires within { place < dimension * dimension }
-    ensures { result ≡ product_entry ◌||◌ ◌&&◌ false dimension left.now right.now
-        (place / dimension) (place % dimension) }
+// Feeds a hasher one number for each 64 bits. The dimension is left out, since the matrices of a
+// set have the same one.
+fn hash_bits<H: Hasher>(bits: &[bool], state: &mut H)
+    ensures { state.new ≡ fold H.write state.old (bits_hash bits.now) }
 {
-    let row = place / dimension as usize;
-    let column = place % dimension as usize;
-    let mut sum = false;
-    for k in 0..dimension as usize {
-        let p = left[place_of(dimension, row, k)];
-        let q = right[place_of(dimension, k, column)];
-        sum |= p & q;
+    for k in 0..bits.len().div_ceil(64) {
+        state.write_u64(block_at(bits, 64 * k));
     }
-    sum
+}
+
+// The bits from i on as a number, 64 at most.
+fn block_at(bits: &[bool], i: usize) -> u64
+    requires { i < length bits.now }
+    ensures { result ≡ block_number bits.now i }
+{
+    number_of(&bits[i..min(i + 64, bits.len())])
+}
+
+// The last 64 of these bits as a number.
+fn number_of(bits: &[bool]) -> u64
+    ensures { result ≡ bits_number bits.now }
+{
+    let mut number = 0;
+    for bit in bits {
+        number = number << 1 | *bit as u64;
+    }
+    number
 }
 
 // The bit that a field names.

@@ -1,12 +1,14 @@
 // Entries that are numbers or none, as they are read and printed.
-ghost use Rattle.std.specs.Prelude.{◌≡◌, ℕ, ◌<◌, ◌⊎◌, ◌++◌, IfOk, OnOk, IsErrOf, length, map, All, MatchOption, codes};
+ghost use Rattle.std.specs.Prelude.{◌≡◌, ℕ, ◌<◌, ◌⊎◌, ◌++◌, IfOk, OnOk, IsErrOf, length, map, All, MatchOption, codes, fold};
 ghost use Rattle.std.specs.List.{join_by};
+ghost use Rattle.elements.specs.Hashes.{entry_number, entries_hash};
 ghost use Rattle.elements.specs.Fields.{IsBelow, field_of, IsBelowOrDash, IsFirstRefused, decimal_or_dash};
 
 use super::field::{ElementFault, Field};
 use itoa::Buffer;
 use ports::NoMemory;
 use std::alloc::Global;
+use std::hash::Hasher;
 
 // The entry that a field names, if it is a dash or a number below the limit.
 fn optional_below(field: Field, limit: u64) -> Option<Option<u32>>
@@ -44,6 +46,26 @@ pub(crate) fn read_optional(
         }
     }
     Ok(entries)
+}
+
+// The number that stands for an entry: 0 for none, and else the entry plus one.
+fn number_of(entry: Option<u32>) -> u64
+    ensures { result ≡ entry_number entry }
+{
+    match entry {
+        Some(y) => y as u64 + 1,
+        None => 0,
+    }
+}
+
+// Feeds a hasher one number for each entry. The shape is left out, since the elements of a set
+// have the same one.
+pub(crate) fn hash_entries<H: Hasher>(entries: &[Option<u32>], state: &mut H)
+    ensures { state.new ≡ fold H.write state.old (entries_hash entries.now) }
+{
+    for entry in entries {
+        state.write_u64(number_of(*entry));
+    }
 }
 
 // Adds an entry in decimal, or a dash.

@@ -5,8 +5,8 @@ mod bmat;
 mod element;
 mod entries;
 mod field;
+mod matrix;
 mod max_plus;
-mod places;
 mod pperm;
 #[cfg(test)]
 mod tests;

@@ -1,24 +1,23 @@
 // Truncated max-plus matrices.
-ghost use Rattle.std.specs.Prelude.{◌≡◌, ◌≢◌, ℕ, ◌+◌, ◌*◌, ◌/◌, ◌%◌, ◌<◌, ◌⊎◌, None, IfOk, IsErrOf, IsTrue, ◌↔◌, length, map, codes};
+ghost use Rattle.std.specs.Prelude.{◌≡◌, ◌≢◌, ℕ, ◌+◌, ◌*◌, ◌<◌, ◌⊎◌, None, IfOk, IsErrOf, IsTrue, ◌↔◌, length, map, codes};
 ghost use Rattle.std.specs.List.{join_by};
 ghost use Rattle.std.proofs.Common.{rules};
-ghost use Rattle.std.specs.Hash as fed;
 ghost use Rattle.std.specs.Cmp.Rules.{comparing};
 ghost use Rattle.std.specs.Ordering.{as_partial_cmp};
 ghost use Rattle.elements.specs.Fields.{field_of, IsBelowOrDash, IsFirstRefused, decimal_or_dash};
-ghost use Rattle.elements.specs.Matrix.{product_entry, matrix_product};
 ghost use Rattle.elements.specs.MaxPlus.{IsTruncatedMatrix, greater_of, truncated_sum, truncated_product};
 ghost use Rattle.elements.specs.MaxPlusLaws.{truncated_matrix_eq, truncated_matrix_cmp, truncated_matrix_hash, truncated_matrix_equivalence, truncated_matrix_partial_equivalence, truncated_matrix_total, truncated_matrix_ties, truncated_matrix_order, truncated_matrix_alike, truncated_products, one_truncated_shape};
 
 use super::element::Element;
-use super::entries::{print_optional, read_optional};
+use super::entries::{hash_entries, print_optional, read_optional};
 use super::field::{ElementFault, Field};
-use super::places::{place_of, square};
+use super::matrix::{Semiring, multiply, square};
 use ports::NoMemory;
 use std::alloc::Global;
 use std::cmp::Ordering;
 use std::hash::{Hash, Hasher};
 use std::marker::Model;
+use theory::values::Values;
 
 #[cfg(test)]
 mod tests;
@@ -98,28 +97,29 @@ impl Hash for MaxPlusTrunc {
     ghost respects_eq = { truncated_matrix_alike };
 
     fn hash<H: Hasher>(&self, state: &mut H) {
-        self.dimension.hash(state);
-        self.bound.hash(state);
-        self.entries.hash(state);
+        hash_entries(&self.entries, state);
     }
 }
 
-impl Element for MaxPlusTrunc {
+impl Values for MaxPlusTrunc {
     ghost shape = { λ m. (m.dimension, m.bound) };
 
     ghost product = { truncated_product };
 
     ghost products = { truncated_products };
 
-    ghost one_shape = { one_truncated_shape };
-
     fn same_shape(&self, other: &MaxPlusTrunc) -> bool {
         self.dimension == other.dimension && self.bound == other.bound
     }
+}
+
+impl Element for MaxPlusTrunc {
+    ghost one_shape = { one_truncated_shape };
 
     fn product(&self, alloc: Global, other: &MaxPlusTrunc) -> Result<MaxPlusTrunc, NoMemory> {
         let (dimension, bound) = (self.dimension, self.bound);
-        let entries = multiply_truncated(alloc, dimension, bound, &self.entries, &other.entries)?;
+        let semiring = TruncatedSums { bound };
+        let entries = multiply(alloc, &semiring, dimension, &self.entries, &other.entries)?;
         Ok(MaxPlusTrunc {
             dimension,
             bound,
@@ -138,51 +138,28 @@ impl Element for MaxPlusTrunc {
     }
 }
 
-// The product of two matrices.
-fn multiply_truncated(
-    alloc: Global,
-    dimension: u32,
+// The semiring of the maximum and of sums up to a bound.
+#[derive(Clone, Copy)]
+struct TruncatedSums {
     bound: u32,
-    left: &[Option<u32>],
-    right: &[Option<u32>],
-) -> Result<Vec<Option<u32>>, NoMemory>
-    requires left { length left.now ≡ dimension * dimension }
-    requires right { length right.now ≡ dimension * dimension }
-    ensures { IfOk result (λ v. v.items
-        ≡ matrix_product greater_of (truncated_sum bound) None dimension left.now right.now) }
-{
-    let count = square(dimension);
-    let mut entries = Vec::with_capacity(alloc, count)?;
-    for place in 0..count {
-        entries.push(multiplied_truncated(dimension, bound, left, right, place))?;
-    }
-    Ok(entries)
 }
 
-// The entry at a place of the product.
-fn multiplied_truncated(
-    dimension: u32,
-    bound: u32,
-    left: &[Option<u32>],
-    right: &[Option<u32>],
-    place: usize,
-) -> Option<u32>
-    requires left { length left.now ≡ dimension * dimension }
-    requires right { length right.now ≡ dimension * dimension }
-    requires within { place < dimension * dimension }
-    ensures { result ≡ product_entry greater_of
-        (truncated_sum bound) None dimension left.now right.now (place / dimension)
-        (place % dimension) }
-{
-    let row = place / dimension as usize;
-    let column = place % dimension as usize;
-    let mut greatest = None;
-    for k in 0..dimension as usize {
-        let p = left[place_of(dimension, row, k)];
-        let q = right[place_of(dimension, k, column)];
-        greatest = greater(greatest, sum_up_to(bound, p, q));
+impl Semiring for TruncatedSums {
+    type Entry = Option<u32>;
+
+    ghost add = { greater_of };
+
+    ghost multiply = { λ s. truncated_sum s.bound };
+
+    ghost nothing = { None };
+
+    fn nothing(&self) -> Option<u32> {
+        None
     }
-    greatest
+
+    fn add_product(&self, sum: Option<u32>, p: Option<u32>, q: Option<u32>) -> Option<u32> {
+        greater(sum, sum_up_to(self.bound, p, q))
+    }
 }
 
 // The maximum, over minus infinity.

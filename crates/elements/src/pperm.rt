@@ -3,22 +3,23 @@ ghost use Rattle.std.specs.Prelude.{◌≡◌, ◌≢◌, ℕ, ◌<◌, ◌≤�
 ghost use Rattle.std.specs.List.{join_by};
 ghost use Rattle.std.specs.Option.{option_eq, option_cmp};
 ghost use Rattle.std.proofs.Common.{rules};
-ghost use Rattle.std.specs.Hash as fed;
 ghost use Rattle.std.specs.Cmp.Lexicographic.{pointwise, slice_cmp};
-ghost use Rattle.std.specs.Cmp.Rules.{comparing, hashing};
+ghost use Rattle.std.specs.Cmp.Rules.{comparing};
 ghost use Rattle.std.specs.Ordering.{nat_cmp, as_partial_cmp};
 ghost use Rattle.elements.specs.Fields.{IsBelow, field_of, IsBelowOrDash, IsFirstRefused, decimal_or_dash};
+ghost use Rattle.elements.specs.Hashes.{entries_hash};
 ghost use Rattle.elements.specs.PPerm.{partial_image, partially_composed, IsInjective, ArePartialImages, IsFirstRepeat, IsFirstAgain};
 ghost use Rattle.elements.specs.PPermLaws.{partial_products, one_partial_degree, entries_alike, entries_ties, entries_order};
 
 use super::element::Element;
-use super::entries::{print_optional, read_optional};
+use super::entries::{hash_entries, print_optional, read_optional};
 use super::field::{ElementFault, Field};
 use ports::NoMemory;
 use std::alloc::{AllocError, Global};
 use std::cmp::Ordering;
 use std::hash::{Hash, Hasher};
 use std::marker::Model;
+use theory::values::Values;
 
 #[cfg(test)]
 mod tests;
@@ -80,27 +81,29 @@ impl Ord for PPerm {
 }
 
 impl Hash for PPerm {
-    ghost hash_input = { fed.slice (fed.option fed.u32) };
+    ghost hash_input = { entries_hash };
 
     ghost respects_eq = { entries_alike };
 
     fn hash<H: Hasher>(&self, state: &mut H) {
-        self.images.hash(state);
+        hash_entries(&self.images, state);
     }
 }
 
-impl Element for PPerm {
+impl Values for PPerm {
     ghost shape = { λ p. (length p, 0) };
 
     ghost product = { partially_composed };
 
     ghost products = { partial_products };
 
-    ghost one_shape = { one_partial_degree };
-
     fn same_shape(&self, other: &PPerm) -> bool {
         self.images.len() == other.images.len()
     }
+}
+
+impl Element for PPerm {
+    ghost one_shape = { one_partial_degree };
 
     fn product(&self, alloc: Global, other: &PPerm) -> Result<PPerm, NoMemory> {
         let images = compose_partial(alloc, &self.images, &other.images)?;

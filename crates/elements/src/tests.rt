@@ -5,6 +5,7 @@ use std::alloc::Global;
 use std::cmp::Ordering;
 use std::hash::{DefaultHasher, Hash, Hasher};
 use std::test::Fail;
+use theory::values::Values;
 
 // The transformation of three points with these images.
 fn transf(alloc: Global, images: [u32; 3]) -> Result<Transf, ElementFault>

@@ -1,14 +1,14 @@
 // Transformations.
-ghost use Rattle.std.specs.Prelude.{◌≡◌, ◌≢◌, ℕ, ◌<◌, ◌≤◌, ◌⊎◌, IfOk, IsErrOf, IsTrue, ◌↔◌, length, map, All, List, MatchOption, ◌==◌, codes, decimal};
+ghost use Rattle.std.specs.Prelude.{◌≡◌, ◌≢◌, ℕ, ◌<◌, ◌≤◌, ◌⊎◌, IfOk, IsErrOf, IsTrue, ◌↔◌, length, map, All, List, MatchOption, ◌==◌, codes, decimal, fold};
 ghost use Rattle.std.specs.List.{join_by};
 ghost use Rattle.std.proofs.Common.{rules};
-ghost use Rattle.std.specs.Hash as fed;
 ghost use Rattle.std.specs.Cmp.Lexicographic.{pointwise, slice_cmp};
-ghost use Rattle.std.specs.Cmp.Rules.{comparing, hashing};
+ghost use Rattle.std.specs.Cmp.Rules.{comparing};
 ghost use Rattle.std.specs.Ordering.{nat_cmp, as_partial_cmp};
 ghost use Rattle.elements.specs.Fields.{IsImage, IsFirstBad};
 ghost use Rattle.elements.specs.Transf.{composed, AreImages};
-ghost use Rattle.elements.specs.TransfLaws.{composed_products, one_degree};
+ghost use Rattle.elements.specs.Hashes.{image_pair, images_hash};
+ghost use Rattle.elements.specs.TransfLaws.{images_alike, composed_products, one_degree};
 
 use super::element::Element;
 use super::field::{ElementFault, Field};
@@ -18,6 +18,7 @@ use std::alloc::Global;
 use std::cmp::Ordering;
 use std::hash::{Hash, Hasher};
 use std::marker::Model;
+use theory::values::Values;
 
 /// A transformation of the points 0 to n - 1: the list of their images (libsemigroups, `Transf`).
 /// Contracts see that list. Its shape is the degree n.
@@ -76,27 +77,29 @@ impl Ord for Transf {
 }
 
 impl Hash for Transf {
-    ghost hash_input = { fed.slice fed.u32 };
+    ghost hash_input = { images_hash };
 
-    ghost respects_eq = { Prim.search (hashing, rules) };
+    ghost respects_eq = { images_alike };
 
     fn hash<H: Hasher>(&self, state: &mut H) {
-        self.images.hash(state);
+        hash_images(&self.images, state);
     }
 }
 
-impl Element for Transf {
+impl Values for Transf {
     ghost shape = { λ t. (length t, 0) };
 
     ghost product = { composed };
 
     ghost products = { composed_products };
 
-    ghost one_shape = { one_degree };
-
     fn same_shape(&self, other: &Transf) -> bool {
         self.images.len() == other.images.len()
     }
+}
+
+impl Element for Transf {
+    ghost one_shape = { one_degree };
 
     fn product(&self, alloc: Global, other: &Transf) -> Result<Transf, NoMemory> {
         let images = compose(alloc, &self.images, &other.images)?;
@@ -119,6 +122,29 @@ fn compose(alloc: Global, left: &[u32], right: &[u32]) -> Result<Vec<u32>, NoMem
         images.push(right[*y as usize])?;
     }
     Ok(images)
+}
+
+// Feeds a hasher one number for each two images. The degree is left out, since the transformations
+// of a set have the same one.
+fn hash_images<H: Hasher>(images: &[u32], state: &mut H)
+    ensures { state.new ≡ fold H.write state.old (images_hash images.now) }
+{
+    for k in 0..images.len().div_ceil(2) {
+        state.write_u64(pair_at(images, 2 * k));
+    }
+}
+
+// The images at i and i + 1 as one number, with 0 past the end.
+fn pair_at(images: &[u32], i: usize) -> u64
+    requires { i < length images.now }
+    ensures { result ≡ image_pair images.now i }
+{
+    let second = if i + 1 < images.len() {
+        images[i + 1]
+    } else {
+        0
+    };
+    images[i] as u64 + ((second as u64) << 32)
 }
 
 // The image that an entry names, if it is below the degree.

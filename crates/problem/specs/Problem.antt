@@ -10,8 +10,8 @@ use Rattle.theory.specs.Class.{SameClass}
 use Rattle.theory.specs.Felsch.{FelschEnds}
 use Rattle.theory.specs.Hlt.{HltEnds}
 use Rattle.theory.specs.Decided.{CompletionDecides}
-use Rattle.theory.specs.Value.{SameValue, HasAtMostValues, HasMoreValues}
-use Rattle.elements.specs.Generators.{value_by}
+use Rattle.theory.specs.Value.{SameValue, SameElement, HasAtMostValues, HasMoreValues}
+use Rattle.elements.specs.Generators.{HaveOneShape, value_by}
 use Rattle.elements.specs.Fields.{decimal_or_dash}
 use Rattle.elements.specs.Transf.{composed}
 use Rattle.elements.specs.PPerm.{partially_composed}
@@ -62,17 +62,37 @@ count_of (PPerm p) = length p.generators
 count_of (BMat p) = length p.generators
 count_of (MaxPlus p) = length p.generators
 
--- both words are elements, and the congruence relates them, or they have one value
+-- both words are elements, and the congruence relates them, or a chain that replaces factors by words of equal value
 abbrev pub SameClassOf : Problem → Word → Word → Type 0
 SameClassOf (Presented p) = SameClass p.congruence
-SameClassOf (Transf p) = SameValue (length p.generators) (pointwise ◌==◌)
-    (value_by composed p.generators [])
-SameClassOf (PPerm p) = SameValue (length p.generators) (pointwise (option_eq ◌==◌))
-    (value_by partially_composed p.generators [])
-SameClassOf (BMat p) = SameValue (length p.generators) boolean_matrix_eq
-    (value_by boolean_product p.generators no_matrix)
-SameClassOf (MaxPlus p) = SameValue (length p.generators) truncated_matrix_eq
-    (value_by truncated_product p.generators no_truncated_matrix)
+SameClassOf (Transf p) = SameElement (length p.generators) (pointwise ◌==◌)
+    (value_by composed p.generators []) kind.TwoSided []
+SameClassOf (PPerm p) = SameElement (length p.generators) (pointwise (option_eq ◌==◌))
+    (value_by partially_composed p.generators []) kind.TwoSided []
+SameClassOf (BMat p) = SameElement (length p.generators) boolean_matrix_eq
+    (value_by boolean_product p.generators no_matrix) kind.TwoSided []
+SameClassOf (MaxPlus p) = SameElement (length p.generators) truncated_matrix_eq
+    (value_by truncated_product p.generators no_truncated_matrix) kind.TwoSided []
+
+-- both words are elements of equal values; words over relations have none
+abbrev pub SameValueOf : Problem → Word → Word → Type 0
+SameValueOf (Presented p) u v = ⊥
+SameValueOf (Transf p) u v = SameValue (length p.generators) (pointwise ◌==◌)
+    (value_by composed p.generators []) u v
+SameValueOf (PPerm p) u v = SameValue (length p.generators) (pointwise (option_eq ◌==◌))
+    (value_by partially_composed p.generators []) u v
+SameValueOf (BMat p) u v = SameValue (length p.generators) boolean_matrix_eq
+    (value_by boolean_product p.generators no_matrix) u v
+SameValueOf (MaxPlus p) u v = SameValue (length p.generators) truncated_matrix_eq
+    (value_by truncated_product p.generators no_truncated_matrix) u v
+
+-- the problem is given by generators of one shape
+abbrev pub HasOneShape : Problem → Type 0
+HasOneShape (Presented p) = ⊥
+HasOneShape (Transf p) = HaveOneShape (λ t. (length t, 0)) p.generators
+HasOneShape (PPerm p) = HaveOneShape (λ t. (length t, 0)) p.generators
+HasOneShape (BMat p) = HaveOneShape (λ m. (m.dimension, 0)) p.generators
+HasOneShape (MaxPlus p) = HaveOneShape (λ m. (m.dimension, m.bound)) p.generators
 
 -- the congruence has at most 8,192 relations and pairs together, and its pairs are two-sided or right ones
 pub record IsSolvable (c : Congruence) : Type 0 where

@@ -4,6 +4,7 @@
 #![tactic(auto)]
 
 mod budgets;
+pub mod facts;
 mod kinds;
 mod lists;
 mod posing;

@@ -10,56 +10,56 @@ use crate::values::Values;
 
 /// Two elements are related by R exactly where their numbers are connected in the right Cayley graph, by L in the left one, by H in each of them, and by J in both together.
 pub fn green_by_cayley_graphs<V: Values>()
-    ensures r { (k : ℕ) (generator : ℕ → V) (unused : V)
-        → ((a : ℕ) → a < k → V.has_shape (generator a))
+    ensures r { (k : ℕ) (generator : ℕ → V) (unused : V) (one : ℕ × ℕ)
+        → ((a : ℕ) → a < k → V.shape (generator a) ≡ one)
         → (n : ℕ) (word : ℕ → Word) (right left : ℕ → ℕ → ℕ)
-        → AreNumbered k V.equal (value V.product generator unused) n word right left
-        → (u v : Word) (i j : ℕ) → IsNumberOf k V.equal
+        → AreNumbered k V.eq (value V.product generator unused) n word right left
+        → (u v : Word) (i j : ℕ) → IsNumberOf k V.eq
         (value V.product generator unused) n word i u
-        → IsNumberOf k V.equal (value V.product generator unused) n word j v
-        → IsGreenR V.product V.equal k (value V.product generator unused)
+        → IsNumberOf k V.eq (value V.product generator unused) n word j v
+        → IsGreenR V.product V.eq k (value V.product generator unused)
         (value V.product generator unused u) (value V.product generator unused v)
         ↔ AreConnected (IsEdge k right) i j }
-    ensures l { (k : ℕ) (generator : ℕ → V) (unused : V)
-        → ((a : ℕ) → a < k → V.has_shape (generator a))
+    ensures l { (k : ℕ) (generator : ℕ → V) (unused : V) (one : ℕ × ℕ)
+        → ((a : ℕ) → a < k → V.shape (generator a) ≡ one)
         → (n : ℕ) (word : ℕ → Word) (right left : ℕ → ℕ → ℕ)
-        → AreNumbered k V.equal (value V.product generator unused) n word right left
-        → (u v : Word) (i j : ℕ) → IsNumberOf k V.equal
+        → AreNumbered k V.eq (value V.product generator unused) n word right left
+        → (u v : Word) (i j : ℕ) → IsNumberOf k V.eq
         (value V.product generator unused) n word i u
-        → IsNumberOf k V.equal (value V.product generator unused) n word j v
-        → IsGreenL V.product V.equal k (value V.product generator unused)
+        → IsNumberOf k V.eq (value V.product generator unused) n word j v
+        → IsGreenL V.product V.eq k (value V.product generator unused)
         (value V.product generator unused u) (value V.product generator unused v)
         ↔ AreConnected (IsEdge k left) i j }
-    ensures h { (k : ℕ) (generator : ℕ → V) (unused : V)
-        → ((a : ℕ) → a < k → V.has_shape (generator a))
+    ensures h { (k : ℕ) (generator : ℕ → V) (unused : V) (one : ℕ × ℕ)
+        → ((a : ℕ) → a < k → V.shape (generator a) ≡ one)
         → (n : ℕ) (word : ℕ → Word) (right left : ℕ → ℕ → ℕ)
-        → AreNumbered k V.equal (value V.product generator unused) n word right left
-        → (u v : Word) (i j : ℕ) → IsNumberOf k V.equal
+        → AreNumbered k V.eq (value V.product generator unused) n word right left
+        → (u v : Word) (i j : ℕ) → IsNumberOf k V.eq
         (value V.product generator unused) n word i u
-        → IsNumberOf k V.equal (value V.product generator unused) n word j v
-        → IsGreenH V.product V.equal k (value V.product generator unused)
+        → IsNumberOf k V.eq (value V.product generator unused) n word j v
+        → IsGreenH V.product V.eq k (value V.product generator unused)
         (value V.product generator unused u) (value V.product generator unused v)
         ↔ (AreConnected (IsEdge k right) i j × AreConnected (IsEdge k left) i j) }
-    ensures j { (k : ℕ) (generator : ℕ → V) (unused : V)
-        → ((a : ℕ) → a < k → V.has_shape (generator a))
+    ensures j { (k : ℕ) (generator : ℕ → V) (unused : V) (one : ℕ × ℕ)
+        → ((a : ℕ) → a < k → V.shape (generator a) ≡ one)
         → (n : ℕ) (word : ℕ → Word) (right left : ℕ → ℕ → ℕ)
-        → AreNumbered k V.equal (value V.product generator unused) n word right left
-        → (u v : Word) (i j : ℕ) → IsNumberOf k V.equal
+        → AreNumbered k V.eq (value V.product generator unused) n word right left
+        → (u v : Word) (i j : ℕ) → IsNumberOf k V.eq
         (value V.product generator unused) n word i u
-        → IsNumberOf k V.equal (value V.product generator unused) n word j v
-        → IsGreenJ V.product V.equal k (value V.product generator unused)
+        → IsNumberOf k V.eq (value V.product generator unused) n word j v
+        → IsGreenJ V.product V.eq k (value V.product generator unused)
         (value V.product generator unused u) (value V.product generator unused v)
         ↔ AreConnected (IsEdgeOfEither k right left) i j }
 {}
 
 /// An element is idempotent exactly where its own word leads in the right Cayley graph from its number back to it.
 pub fn idempotents_by_cayley_graphs<V: Values>()
-    ensures { (k : ℕ) (generator : ℕ → V) (unused : V)
-        → ((a : ℕ) → a < k → V.has_shape (generator a))
+    ensures { (k : ℕ) (generator : ℕ → V) (unused : V) (one : ℕ × ℕ)
+        → ((a : ℕ) → a < k → V.shape (generator a) ≡ one)
         → (n : ℕ) (word : ℕ → Word) (right left : ℕ → ℕ → ℕ)
-        → AreNumbered k V.equal (value V.product generator unused) n word right left
-        → (u : Word) (i : ℕ) → IsNumberOf k V.equal (value V.product generator unused) n word i u
-        → IsIdempotent V.product V.equal (value V.product generator unused u)
+        → AreNumbered k V.eq (value V.product generator unused) n word right left
+        → (u : Word) (i : ℕ) → IsNumberOf k V.eq (value V.product generator unused) n word i u
+        → IsIdempotent V.product V.eq (value V.product generator unused u)
         ↔ (follow right i (word i) ≡ i) }
 {}
 

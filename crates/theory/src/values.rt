@@ -7,105 +7,105 @@ ghost use Rattle.theory.specs.Class.{IsNormal, IsClassList};
 ghost use Rattle.theory.specs.Generated.{GeneratedValue, AreNumbered, IsNumberOf, GeneratedNumber, Linked, AreMerges};
 ghost use Rattle.theory.specs.Value.{value, IsProduct, SameValue, SameElement, HasAtMostValues, HasMoreValues};
 
-/// What values are: of one shape, with an associative product that keeps equal values equal.
-pub trait Values {
+/// What values are: those of one shape have an associative product, which keeps their shape and what is equal. Equality is that of `Eq`.
+pub trait Values: Eq {
     /// Values of one shape can be multiplied.
-    ghost has_shape: { Self → Type 0 };
+    ghost shape: { Self → ℕ × ℕ };
 
+    /// The product, which acts from the left factor first.
     ghost product: { Self → Self → Self };
 
-    ghost equal: { Self → Self → Bool };
+    /// Whether two values can be multiplied.
+    fn same_shape(&self, other: &Self) -> bool
+        ensures { IsTrue result ↔ (shape self.now ≡ shape other.now) };
 
-    /// Whether two values are the same.
-    fn same(&self, other: &Self) -> bool
-        ensures { result ≡ equal self.now other.now };
-
-    ghost laws: { IsProduct has_shape product equal };
+    /// The values of one shape have an associative product, which keeps their shape and what is equal.
+    ghost products: { (one : ℕ × ℕ) → IsProduct (λ x. shape x ≡ one) product Self.eq };
 }
 
 /// The value of a product is the product of the values.
 pub fn value_of_product<V: Values>()
-    ensures { (k : ℕ) (generator : ℕ → V) (unused : V)
-        → ((a : ℕ) → a < k → V.has_shape (generator a))
+    ensures { (k : ℕ) (generator : ℕ → V) (unused : V) (one : ℕ × ℕ)
+        → ((a : ℕ) → a < k → V.shape (generator a) ≡ one)
         → (u v : Word) → IsElement false k u → IsElement false k v
-        → IsTrue (V.equal (value V.product generator unused (u ++ v))
+        → IsTrue (V.eq (value V.product generator unused (u ++ v))
         (V.product (value V.product generator unused u) (value V.product generator unused v))) }
 {}
 
 /// Without pairs two elements are related exactly where their values are equal.
 pub fn related_by_value<V: Values>()
-    ensures { (k : ℕ) (generator : ℕ → V) (unused : V)
-        → ((a : ℕ) → a < k → V.has_shape (generator a)) → (kind : Kind) (u v : Word)
-        → SameElement k V.equal (value V.product generator unused) kind [] u v
-        ↔ SameValue k V.equal (value V.product generator unused) u v }
+    ensures { (k : ℕ) (generator : ℕ → V) (unused : V) (one : ℕ × ℕ)
+        → ((a : ℕ) → a < k → V.shape (generator a) ≡ one) → (kind : Kind) (u v : Word)
+        → SameElement k V.eq (value V.product generator unused) kind [] u v
+        ↔ SameValue k V.eq (value V.product generator unused) u v }
 {}
 
 /// With pairs two elements are related exactly where their values are, by the least equivalence that has the values of the pairs and is kept under multiplication by generators on the sides of its kind.
 pub fn related_by_values<V: Values>()
-    ensures { (k : ℕ) (generator : ℕ → V) (unused : V)
-        → ((a : ℕ) → a < k → V.has_shape (generator a)) → (kind : Kind) (pairs : List (Word × Word))
+    ensures { (k : ℕ) (generator : ℕ → V) (unused : V) (one : ℕ × ℕ)
+        → ((a : ℕ) → a < k → V.shape (generator a) ≡ one) → (kind : Kind) (pairs : List (Word × Word))
         → AreElements false k pairs
         → (u v : Word) → IsElement false k u → IsElement false k v
-        → SameElement k V.equal (value V.product generator unused) kind pairs u v
-        ↔ GeneratedValue V.has_shape V.product V.equal k generator unused kind pairs
+        → SameElement k V.eq (value V.product generator unused) kind pairs u v
+        ↔ GeneratedValue (λ x. V.shape x ≡ one) V.product V.eq k generator unused kind pairs
         (value V.product generator unused u) (value V.product generator unused v) }
 {}
 
 /// The same on numbers of values: by the least equivalence that has the numbers of the pairs and is kept along the edges of the right, the left, or both Cayley graphs.
 pub fn related_by_numbers<V: Values>()
-    ensures { (k : ℕ) (generator : ℕ → V) (unused : V)
-        → ((a : ℕ) → a < k → V.has_shape (generator a)) → (kind : Kind) (pairs : List (Word × Word))
+    ensures { (k : ℕ) (generator : ℕ → V) (unused : V) (one : ℕ × ℕ)
+        → ((a : ℕ) → a < k → V.shape (generator a) ≡ one) → (kind : Kind) (pairs : List (Word × Word))
         → AreElements false k pairs
         → (n : ℕ) (word : ℕ → Word) (right left : ℕ → ℕ → ℕ)
-        → AreNumbered k V.equal (value V.product generator unused) n word right left
-        → (u v : Word) (i j : ℕ) → IsNumberOf k V.equal
+        → AreNumbered k V.eq (value V.product generator unused) n word right left
+        → (u v : Word) (i j : ℕ) → IsNumberOf k V.eq
         (value V.product generator unused) n word i u
-        → IsNumberOf k V.equal (value V.product generator unused) n word j v
-        → SameElement k V.equal (value V.product generator unused) kind pairs u v
-        ↔ GeneratedNumber k V.equal (value V.product generator unused) n word right left kind pairs
+        → IsNumberOf k V.eq (value V.product generator unused) n word j v
+        → SameElement k V.eq (value V.product generator unused) kind pairs u v
+        ↔ GeneratedNumber k V.eq (value V.product generator unused) n word right left kind pairs
         i j }
 {}
 
 /// So it is enough to merge numbers: those of the pairs, and for each merge those to which its edges lead. Two elements are related exactly where the merges link their numbers.
 pub fn related_by_merges<V: Values>()
-    ensures { (k : ℕ) (generator : ℕ → V) (unused : V)
-        → ((a : ℕ) → a < k → V.has_shape (generator a)) → (kind : Kind) (pairs : List (Word × Word))
+    ensures { (k : ℕ) (generator : ℕ → V) (unused : V) (one : ℕ × ℕ)
+        → ((a : ℕ) → a < k → V.shape (generator a) ≡ one) → (kind : Kind) (pairs : List (Word × Word))
         → AreElements false k pairs
         → (n : ℕ) (word : ℕ → Word) (right left : ℕ → ℕ → ℕ)
-        → AreNumbered k V.equal (value V.product generator unused) n word right left
-        → (merges : List (ℕ × ℕ)) → AreMerges k V.equal
+        → AreNumbered k V.eq (value V.product generator unused) n word right left
+        → (merges : List (ℕ × ℕ)) → AreMerges k V.eq
         (value V.product generator unused) n word right left kind pairs merges
-        → (u v : Word) (i j : ℕ) → IsNumberOf k V.equal
+        → (u v : Word) (i j : ℕ) → IsNumberOf k V.eq
         (value V.product generator unused) n word i u
-        → IsNumberOf k V.equal (value V.product generator unused) n word j v
-        → SameElement k V.equal (value V.product generator unused) kind pairs u v
+        → IsNumberOf k V.eq (value V.product generator unused) n word j v
+        → SameElement k V.eq (value V.product generator unused) kind pairs u v
         ↔ Linked n merges i j }
 {}
 
 /// An element has one normal form, by which relatedness is decided, and the classes of elements one list.
 pub fn element_classes_are_determined<V: Values>()
-    ensures normal { (k : ℕ) (generator : ℕ → V) (unused : V)
-        → ((a : ℕ) → a < k → V.has_shape (generator a)) → (kind : Kind) (pairs : List (Word × Word))
+    ensures normal { (k : ℕ) (generator : ℕ → V) (unused : V) (one : ℕ × ℕ)
+        → ((a : ℕ) → a < k → V.shape (generator a) ≡ one) → (kind : Kind) (pairs : List (Word × Word))
         → AreElements false k pairs → (u v w : Word)
-        → IsNormal (SameElement k V.equal (value V.product generator unused) kind pairs) u v
-        → IsNormal (SameElement k V.equal (value V.product generator unused) kind pairs) u w
+        → IsNormal (SameElement k V.eq (value V.product generator unused) kind pairs) u v
+        → IsNormal (SameElement k V.eq (value V.product generator unused) kind pairs) u w
         → v ≡ w }
-    ensures decide { (k : ℕ) (generator : ℕ → V) (unused : V)
-        → ((a : ℕ) → a < k → V.has_shape (generator a)) → (kind : Kind) (pairs : List (Word × Word))
+    ensures decide { (k : ℕ) (generator : ℕ → V) (unused : V) (one : ℕ × ℕ)
+        → ((a : ℕ) → a < k → V.shape (generator a) ≡ one) → (kind : Kind) (pairs : List (Word × Word))
         → AreElements false k pairs → (u v x y : Word)
-        → IsNormal (SameElement k V.equal (value V.product generator unused) kind pairs) u x
-        → IsNormal (SameElement k V.equal (value V.product generator unused) kind pairs) v y
-        → SameElement k V.equal (value V.product generator unused) kind pairs u v ↔ (x ≡ y) }
-    ensures list { (k : ℕ) (generator : ℕ → V) (unused : V)
-        → ((a : ℕ) → a < k → V.has_shape (generator a)) → (kind : Kind) (pairs : List (Word × Word))
+        → IsNormal (SameElement k V.eq (value V.product generator unused) kind pairs) u x
+        → IsNormal (SameElement k V.eq (value V.product generator unused) kind pairs) v y
+        → SameElement k V.eq (value V.product generator unused) kind pairs u v ↔ (x ≡ y) }
+    ensures list { (k : ℕ) (generator : ℕ → V) (unused : V) (one : ℕ × ℕ)
+        → ((a : ℕ) → a < k → V.shape (generator a) ≡ one) → (kind : Kind) (pairs : List (Word × Word))
         → AreElements false k pairs → (xs ys : List Word)
-        → IsClassList (SameElement k V.equal (value V.product generator unused) kind pairs) xs
-        → IsClassList (SameElement k V.equal (value V.product generator unused) kind pairs) ys
+        → IsClassList (SameElement k V.eq (value V.product generator unused) kind pairs) xs
+        → IsClassList (SameElement k V.eq (value V.product generator unused) kind pairs) ys
         → xs ≡ ys }
 {}
 
 /// Elements that have at most m values, and more than n, show that n is less than m.
 pub fn values_bound<V: Values>()
-    ensures { (k : ℕ) (value_of : Word → V) (m n : ℕ) → HasAtMostValues k V.equal value_of m
-        → HasMoreValues k V.equal value_of n → n < m }
+    ensures { (k : ℕ) (value_of : Word → V) (m n : ℕ) → HasAtMostValues k V.eq value_of m
+        → HasMoreValues k V.eq value_of n → n < m }
 {}

@@ -1,5 +1,6 @@
+use Rattle.std.proofs.Common.{◌≡◌}
 use Rattle.theory.proofs.GeneratedLaws.{same_element_by_numbers}
 use Rattle.theory.proofs.values.related_by_numbers.Goals as goal
 
 pub returns : goal.returns
-returns g c = λ k generator unused shaped. same_element_by_numbers g.V.Values.has_shape g.V.Values.product g.V.Values.equal g.met.V.Values.laws k generator unused shaped
+returns g c = λ k generator unused one shaped. same_element_by_numbers (λ x. g.V.Values.shape x ≡ one) g.V.Values.product g.V.PartialEq.eq (g.met.V.Values.products one) k generator unused shaped

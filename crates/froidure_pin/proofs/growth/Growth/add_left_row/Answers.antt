@@ -13,7 +13,7 @@ use Rattle.froidure_pin.specs.declared.parts.Tail.{Tail}
 pub index-factor-requires : goal.index-factor-requires
 index-factor-requires g c =
     let generators : List g.row.E.Denot = c.args.generators.now.items in
-    let setting : IsSetting g.E.Element.shape g.E.Element.product g.E.PartialEq.eq generators = record { products = g.met.E.Element.products; alike = g.met.E.Element.one_shape; shaped = c.requires.shape } in
+    let setting : IsSetting g.E.Values.shape g.E.Values.product g.E.PartialEq.eq generators = record { products = g.met.E.Values.products; alike = g.met.E.Element.one_shape; shaped = c.requires.shape } in
     let unused : g.row.E.Denot = some_value generators c.requires.some in
     let elements : List g.row.E.Denot = c.loop-letter.self.elements.keys in
     let factors : List Factor = c.loop-letter.self.factors.items in
@@ -34,7 +34,7 @@ asked : (g : Over) (c : goal.After-left_number-arg-in-loop-letter-1 g)
     × ((entry c.len-letters.result c.loop-letter.self.left.items c.index-factor.result.now.prefix c.loop-letter.letter + 1) * c.len-letters.result + c.index-factor.result.now.last < length c.loop-letter.self.right.items)
 asked g c =
     let generators : List g.row.E.Denot = c.args.generators.now.items in
-    let setting : IsSetting g.E.Element.shape g.E.Element.product g.E.PartialEq.eq generators = record { products = g.met.E.Element.products; alike = g.met.E.Element.one_shape; shaped = c.requires.shape } in
+    let setting : IsSetting g.E.Values.shape g.E.Values.product g.E.PartialEq.eq generators = record { products = g.met.E.Values.products; alike = g.met.E.Element.one_shape; shaped = c.requires.shape } in
     let unused : g.row.E.Denot = some_value generators c.requires.some in
     let elements : List g.row.E.Denot = c.loop-letter.self.elements.keys in
     let factors : List Factor = c.loop-letter.self.factors.items in
@@ -64,7 +64,7 @@ left_number-product-requires-clause-product g c = (asked g c).2
 pub loop-letter-preserved : goal.loop-letter-preserved
 loop-letter-preserved g c =
     let generators : List g.row.E.Denot = c.args.generators.now.items in
-    let setting : IsSetting g.E.Element.shape g.E.Element.product g.E.PartialEq.eq generators = record { products = g.met.E.Element.products; alike = g.met.E.Element.one_shape; shaped = c.requires.shape } in
+    let setting : IsSetting g.E.Values.shape g.E.Values.product g.E.PartialEq.eq generators = record { products = g.met.E.Values.products; alike = g.met.E.Element.one_shape; shaped = c.requires.shape } in
     let elements : List g.row.E.Denot = c.loop-letter.self.elements.keys in
     let factors : List Factor = c.loop-letter.self.factors.items in
     let tails : List Tail = c.loop-letter.self.tails.items in
@@ -83,5 +83,5 @@ loop-letter-preserved g c =
       reach = c.loop-letter.invariant.reach;
       kept = ap (λ (grown : Growth g.row.E.Denot). record grown { left = c.push.new.self }) c.loop-letter.invariant.kept;
       rows = omega (arith, c.loop-letter.invariant.rows, ap length c.in_ok-push.ensures.items, length-append left (c.left_number-product.result ∷ []));
-      lefts = λ unused. subst (λ ns. AreLeftNumbers g.E.Element.product g.E.PartialEq.eq generators unused (words_of factors) ns) (ap (λ n. left ++ n ∷ []) product ∙ sym c.in_ok-push.ensures.items) (lefts_more setting unused elements factors tails right left c.loop-letter.invariant.known.0 (c.loop-letter.invariant.known.1 unused) number b c.loop-letter.invariant.within letter c.loop-letter.invariant.rows (c.loop-letter.invariant.lefts unused) c.loop-letter.invariant.reach);
+      lefts = λ unused. subst (λ ns. AreLeftNumbers g.E.Values.product g.E.PartialEq.eq generators unused (words_of factors) ns) (ap (λ n. left ++ n ∷ []) product ∙ sym c.in_ok-push.ensures.items) (lefts_more setting unused elements factors tails right left c.loop-letter.invariant.known.0 (c.loop-letter.invariant.known.1 unused) number b c.loop-letter.invariant.within letter c.loop-letter.invariant.rows (c.loop-letter.invariant.lefts unused) c.loop-letter.invariant.reach);
     }

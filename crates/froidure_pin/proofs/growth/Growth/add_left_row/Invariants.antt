@@ -7,9 +7,9 @@ use Rattle.froidure_pin.proofs.growth.Growth.add_left_row.Given as goal
 abbrev pub invariant-loop-letter : goal.invariant-loop-letter
 invariant-loop-letter g l = record {
   within : l.number < length l.self.elements.keys;
-  known : (row : ℕ) × IsKnown g.E.Element.product g.E.PartialEq.eq l.generators.items l.self row 0;
+  known : (row : ℕ) × IsKnown g.E.Values.product g.E.PartialEq.eq l.generators.items l.self row 0;
   reach : ReachesAsLong (length l.generators.items) (words_of l.self.factors.items) (length l.self.right.items) l.number;
   kept : l.self ≡ record l.fn.self { left = l.self.left };
   rows : length l.self.left.items ≡ (l.number + 1) * length l.generators.items + l.letter;
-  lefts : HasLeft g.E.Element.product g.E.PartialEq.eq l.generators.items l.self;
+  lefts : HasLeft g.E.Values.product g.E.PartialEq.eq l.generators.items l.self;
 }

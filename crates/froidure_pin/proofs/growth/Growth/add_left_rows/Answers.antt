@@ -12,7 +12,7 @@ use Rattle.froidure_pin.proofs.growth.Growth.add_left_rows.Goals as goal
 pub add_left_row-requires-clause-within : goal.add_left_row-requires-clause-within
 add_left_row-requires-clause-within g c =
     let generators : List g.row.E.Denot = c.args.generators.now.items in
-    let setting : IsSetting g.E.Element.shape g.E.Element.product g.E.PartialEq.eq generators = record { products = g.met.E.Element.products; alike = g.met.E.Element.one_shape; shaped = c.requires.shape } in
+    let setting : IsSetting g.E.Values.shape g.E.Values.product g.E.PartialEq.eq generators = record { products = g.met.E.Values.products; alike = g.met.E.Element.one_shape; shaped = c.requires.shape } in
     let unused : g.row.E.Denot = some_value generators c.requires.some in
     omega (arith, c.loop-number.invariant.level.within, c.loop-number-test.true, grown_count setting unused c.loop-number.self.elements.keys c.loop-number.self.factors.items c.loop-number.self.tails.items c.loop-number.self.right.items (c.args.last + 1) 0 (c.loop-number.invariant.known unused))
 
@@ -32,7 +32,7 @@ loop-number-preserved g c =
     record {
       low = omega (arith, c.loop-number.invariant.low);
       kept = kept ∙ ap (λ (grown : Growth g.row.E.Denot). record grown { left = c.add_left_row.new.self.left }) c.loop-number.invariant.kept;
-      known = subst (λ grown. IsKnown g.E.Element.product g.E.PartialEq.eq c.args.generators.now.items grown (c.args.last + 1) 0) (sym kept) c.loop-number.invariant.known;
+      known = subst (λ grown. IsKnown g.E.Values.product g.E.PartialEq.eq c.args.generators.now.items grown (c.args.last + 1) 0) (sym kept) c.loop-number.invariant.known;
       level = subst (λ (grown : Growth g.row.E.Denot). IsLevel (words_of grown.factors.items) c.args.first c.args.last) (sym kept) c.loop-number.invariant.level;
       rows = c.in_ok-add_left_row.ensures.rows;
       lefts = c.in_ok-add_left_row.ensures.left;
@@ -41,7 +41,7 @@ loop-number-preserved g c =
 pub returns-clause-within : goal.returns-clause-within
 returns-clause-within g c =
     let generators : List g.row.E.Denot = c.args.generators.now.items in
-    let setting : IsSetting g.E.Element.shape g.E.Element.product g.E.PartialEq.eq generators = record { products = g.met.E.Element.products; alike = g.met.E.Element.one_shape; shaped = c.requires.shape } in
+    let setting : IsSetting g.E.Values.shape g.E.Values.product g.E.PartialEq.eq generators = record { products = g.met.E.Values.products; alike = g.met.E.Element.one_shape; shaped = c.requires.shape } in
     let unused : g.row.E.Denot = some_value generators c.requires.some in
     let full : c.loop-number.number ≡ c.args.last = omega (arith, c.loop-number-test.false, c.loop-number.auto.number-end) in
     let words = words_of c.loop-number.self.factors.items in

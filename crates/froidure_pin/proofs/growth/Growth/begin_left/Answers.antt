@@ -27,5 +27,5 @@ returns-clause-rows g c =
 pub returns-clause-left : goal.returns-clause-left
 returns-clause-left g c = λ unused.
     let generators : List g.row.E.Denot = c.args.generators.now.items in
-    let setting : IsSetting g.E.Element.shape g.E.Element.product g.E.PartialEq.eq generators = record { products = g.met.E.Element.products; alike = g.met.E.Element.one_shape; shaped = c.requires.shape } in
-    subst (λ ns. AreLeftNumbers g.E.Element.product g.E.PartialEq.eq generators unused (words_of c.args.self.now.factors.items) ns) (sym (copied g c)) (left_first setting unused c.args.self.now.elements.keys c.args.self.now.factors.items c.args.self.now.tails.items c.args.self.now.right.items (c.requires.known unused))
+    let setting : IsSetting g.E.Values.shape g.E.Values.product g.E.PartialEq.eq generators = record { products = g.met.E.Values.products; alike = g.met.E.Element.one_shape; shaped = c.requires.shape } in
+    subst (λ ns. AreLeftNumbers g.E.Values.product g.E.PartialEq.eq generators unused (words_of c.args.self.now.factors.items) ns) (sym (copied g c)) (left_first setting unused c.args.self.now.elements.keys c.args.self.now.factors.items c.args.self.now.tails.items c.args.self.now.right.items (c.requires.known unused))

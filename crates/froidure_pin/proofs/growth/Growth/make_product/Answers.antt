@@ -22,7 +22,7 @@ index-requires g c =
 pub multiply-requires : goal.multiply-requires
 multiply-requires g c =
     let generators : List g.row.E.Denot = c.args.generators.now.items in
-    let setting : IsSetting g.E.Element.shape g.E.Element.product g.E.PartialEq.eq generators = record { products = g.met.E.Element.products; alike = g.met.E.Element.one_shape; shaped = c.requires.shape } in
+    let setting : IsSetting g.E.Values.shape g.E.Values.product g.E.PartialEq.eq generators = record { products = g.met.E.Values.products; alike = g.met.E.Element.one_shape; shaped = c.requires.shape } in
     let unused : g.row.E.Denot = some_value generators (omega (arith, c.requires.letter)) in
     let elements : List g.row.E.Denot = c.args.self.now.elements.keys in
     let factors : List Factor = c.args.self.now.factors.items in
@@ -43,7 +43,7 @@ asked : (g : Over) (c : After-len g)
     × (entry c.len.result c.args.self.now.right.items (tail_at c.args.self.now.tails.items c.args.number).suffix c.args.letter < length c.args.self.now.factors.items)
 asked g c =
     let generators : List g.row.E.Denot = c.args.generators.now.items in
-    let setting : IsSetting g.E.Element.shape g.E.Element.product g.E.PartialEq.eq generators = record { products = g.met.E.Element.products; alike = g.met.E.Element.one_shape; shaped = c.requires.shape } in
+    let setting : IsSetting g.E.Values.shape g.E.Values.product g.E.PartialEq.eq generators = record { products = g.met.E.Values.products; alike = g.met.E.Element.one_shape; shaped = c.requires.shape } in
     let unused : g.row.E.Denot = some_value generators (omega (arith, c.requires.letter)) in
     let elements : List g.row.E.Denot = c.args.self.now.elements.keys in
     let factors : List Factor = c.args.self.now.factors.items in
@@ -70,7 +70,7 @@ tail_of_product-requires-clause-known g c = (asked g c).2
 pub overflow_add-number : goal.overflow_add-number
 overflow_add-number g c =
     let generators : List g.row.E.Denot = c.args.generators.now.items in
-    let setting : IsSetting g.E.Element.shape g.E.Element.product g.E.PartialEq.eq generators = record { products = g.met.E.Element.products; alike = g.met.E.Element.one_shape; shaped = c.requires.shape } in
+    let setting : IsSetting g.E.Values.shape g.E.Values.product g.E.PartialEq.eq generators = record { products = g.met.E.Values.products; alike = g.met.E.Element.one_shape; shaped = c.requires.shape } in
     let unused : g.row.E.Denot = some_value generators (omega (arith, c.requires.letter)) in
     let elements : List g.row.E.Denot = c.args.self.now.elements.keys in
     let factors : List Factor = c.args.self.now.factors.items in
@@ -84,13 +84,13 @@ overflow_add-number g c =
 
 -- what is found once the product is taken in, and what is counted with its step
 taken : (g : Over) (c : goal.After-goes_over g) (over : Bool) → c.goes_over.result ≡ Ok over → (unused : g.row.E.Denot)
-    → IsAt g.E.Element.product g.E.PartialEq.eq c.args.generators.now.items unused c.goes_over.new.self.elements.keys c.goes_over.new.self.factors.items c.goes_over.new.self.tails.items
+    → IsAt g.E.Values.product g.E.PartialEq.eq c.args.generators.now.items unused c.goes_over.new.self.elements.keys c.goes_over.new.self.factors.items c.goes_over.new.self.tails.items
     c.goes_over.new.self.right.items c.args.self.now.left.items c.args.number (c.args.letter + 1)
-    × GrowsTo g.E.Element.product g.E.PartialEq.eq c.args.generators.now.items unused c.args.self.now.factors.items c.goes_over.new.self.factors.items (length c.args.self.now.right.items)
+    × GrowsTo g.E.Values.product g.E.PartialEq.eq c.args.generators.now.items unused c.args.self.now.factors.items c.goes_over.new.self.factors.items (length c.args.self.now.right.items)
     (length c.goes_over.new.self.right.items) c.args.number c.args.steps.now (c.args.steps.now + 1)
 taken g c over e unused =
     let generators : List g.row.E.Denot = c.args.generators.now.items in
-    let setting : IsSetting g.E.Element.shape g.E.Element.product g.E.PartialEq.eq generators = record { products = g.met.E.Element.products; alike = g.met.E.Element.one_shape; shaped = c.requires.shape } in
+    let setting : IsSetting g.E.Values.shape g.E.Values.product g.E.PartialEq.eq generators = record { products = g.met.E.Values.products; alike = g.met.E.Element.one_shape; shaped = c.requires.shape } in
     let elements : List g.row.E.Denot = c.args.self.now.elements.keys in
     let factors : List Factor = c.args.self.now.factors.items in
     let tails : List Tail = c.args.self.now.tails.items in
@@ -110,24 +110,24 @@ taken g c over e unused =
     let factors_are : c.goes_over.new.self.factors.items ≡ insert_beside g.E.PartialEq.eq elements factors p (factor_of (number + 1) a) = now.factors ∙ ap (λ (f : Factor). insert_beside g.E.PartialEq.eq elements factors p f) c.in_ok-factor.ensures in
     let tails_are = now.tails ∙ sym (ap (λ (t : Tail). insert_beside g.E.PartialEq.eq elements tails p t) tail) in
     let all = made setting unused elements factors tails right left number a (c.requires.at unused) c.requires.letter c.requires.least p value c.args.steps.now in (
-      along (λ es fs ts rs (s : ℕ). IsAt g.E.Element.product g.E.PartialEq.eq generators unused es fs ts rs left number (a + 1)) {e = number} {e' = number} (sym now.elements) (sym factors_are) (sym tails_are) (sym now.right) refl all.0,
-      subst₂ (λ fs (rs : List ℕ). GrowsTo g.E.Element.product g.E.PartialEq.eq generators unused factors fs (length right) (length rs) number c.args.steps.now (c.args.steps.now + 1)) (sym factors_are) (sym now.right) all.1,
+      along (λ es fs ts rs (s : ℕ). IsAt g.E.Values.product g.E.PartialEq.eq generators unused es fs ts rs left number (a + 1)) {e = number} {e' = number} (sym now.elements) (sym factors_are) (sym tails_are) (sym now.right) refl all.0,
+      subst₂ (λ fs (rs : List ℕ). GrowsTo g.E.Values.product g.E.PartialEq.eq generators unused factors fs (length right) (length rs) number c.args.steps.now (c.args.steps.now + 1)) (sym factors_are) (sym now.right) all.1,
     )
 
 pub returns-clause-step : goal.returns-clause-step
 returns-clause-step g c = λ e.
     let left = (on_ok c.goes_over.result (HasTakenIn g.E.PartialEq.eq c.args.self.now c.goes_over.new.self c.in_ok-made.made c.in_ok-factor.factor c.in_ok-tail.tail) false e c.goes_over.ensures.taken).left in
     record {
-      at = λ unused. subst (λ ns. IsAt g.E.Element.product g.E.PartialEq.eq c.args.generators.now.items unused c.goes_over.new.self.elements.keys c.goes_over.new.self.factors.items c.goes_over.new.self.tails.items
+      at = λ unused. subst (λ ns. IsAt g.E.Values.product g.E.PartialEq.eq c.args.generators.now.items unused c.goes_over.new.self.elements.keys c.goes_over.new.self.factors.items c.goes_over.new.self.tails.items
           c.goes_over.new.self.right.items ns c.args.number (c.args.letter + 1)) (sym left) (taken g c false e unused).0;
-      grows = λ unused. subst (λ s. GrowsTo g.E.Element.product g.E.PartialEq.eq c.args.generators.now.items unused c.args.self.now.factors.items c.goes_over.new.self.factors.items (length c.args.self.now.right.items)
+      grows = λ unused. subst (λ s. GrowsTo g.E.Values.product g.E.PartialEq.eq c.args.generators.now.items unused c.args.self.now.factors.items c.goes_over.new.self.factors.items (length c.args.self.now.right.items)
           (length c.goes_over.new.self.right.items) c.args.number c.args.steps.now s) (sym c.in_ok-made.ensures.step) (taken g c false e unused).1;
       left = left;
     }
 
 pub returns-clause-over : goal.returns-clause-over
 returns-clause-over g c = λ e unused.
-    let setting : IsSetting g.E.Element.shape g.E.Element.product g.E.PartialEq.eq c.args.generators.now.items = record { products = g.met.E.Element.products; alike = g.met.E.Element.one_shape; shaped = c.requires.shape } in
+    let setting : IsSetting g.E.Values.shape g.E.Values.product g.E.PartialEq.eq c.args.generators.now.items = record { products = g.met.E.Values.products; alike = g.met.E.Element.one_shape; shaped = c.requires.shape } in
     let over = if_ok c.goes_over.result (λ over. IsTrue over ↔ (c.args.bound < length c.goes_over.new.self.elements.keys)) true e c.goes_over.ensures.over in
     found_more setting unused (words_of c.goes_over.new.self.factors.items) c.goes_over.new.self.elements.keys c.goes_over.new.self.right.items (c.args.number + 1) (c.args.letter + 1) c.args.bound
     (taken g c true e unused).0.grown.found (over.0 refl)

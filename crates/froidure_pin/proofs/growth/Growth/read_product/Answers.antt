@@ -11,7 +11,7 @@ use Rattle.froidure_pin.specs.declared.parts.Tail.{Tail}
 pub index-tail-requires : goal.index-tail-requires
 index-tail-requires g c =
     let generators : List g.row.E.Denot = c.args.generators.now.items in
-    let setting : IsSetting g.E.Element.shape g.E.Element.product g.E.PartialEq.eq generators = record { products = g.met.E.Element.products; alike = g.met.E.Element.one_shape; shaped = c.requires.shape } in
+    let setting : IsSetting g.E.Values.shape g.E.Values.product g.E.PartialEq.eq generators = record { products = g.met.E.Values.products; alike = g.met.E.Element.one_shape; shaped = c.requires.shape } in
     let unused : g.row.E.Denot = some_value generators (omega (arith, c.requires.letter)) in
     let within = tail_within setting unused c.args.self.now.elements.keys c.args.self.now.factors.items c.args.self.now.tails.items c.args.self.now.right.items c.args.self.now.left.items c.args.number c.args.letter (c.requires.at unused) c.requires.letter in
     omega (arith, within, c.args.self.now.tails.ok.0)
@@ -19,7 +19,7 @@ index-tail-requires g c =
 pub entry-rest-requires : goal.entry-rest-requires
 entry-rest-requires g c =
     let generators : List g.row.E.Denot = c.args.generators.now.items in
-    let setting : IsSetting g.E.Element.shape g.E.Element.product g.E.PartialEq.eq generators = record { products = g.met.E.Element.products; alike = g.met.E.Element.one_shape; shaped = c.requires.shape } in
+    let setting : IsSetting g.E.Values.shape g.E.Values.product g.E.PartialEq.eq generators = record { products = g.met.E.Values.products; alike = g.met.E.Element.one_shape; shaped = c.requires.shape } in
     let unused : g.row.E.Denot = some_value generators (omega (arith, c.requires.letter)) in
     let tails : List Tail = c.args.self.now.tails.items in
     let within = tail_within setting unused c.args.self.now.elements.keys c.args.self.now.factors.items tails c.args.self.now.right.items c.args.self.now.left.items c.args.number c.args.letter (c.requires.at unused) c.requires.letter in
@@ -30,7 +30,7 @@ entry-rest-requires g c =
 pub is_product-requires : goal.is_product-requires
 is_product-requires g c =
     let generators : List g.row.E.Denot = c.args.generators.now.items in
-    let setting : IsSetting g.E.Element.shape g.E.Element.product g.E.PartialEq.eq generators = record { products = g.met.E.Element.products; alike = g.met.E.Element.one_shape; shaped = c.requires.shape } in
+    let setting : IsSetting g.E.Values.shape g.E.Values.product g.E.PartialEq.eq generators = record { products = g.met.E.Values.products; alike = g.met.E.Element.one_shape; shaped = c.requires.shape } in
     let unused : g.row.E.Denot = some_value generators (omega (arith, c.requires.letter)) in
     let tails : List Tail = c.args.self.now.tails.items in
     let within = tail_within setting unused c.args.self.now.elements.keys c.args.self.now.factors.items tails c.args.self.now.right.items c.args.self.now.left.items c.args.number c.args.letter (c.requires.at unused) c.requires.letter in
@@ -42,7 +42,7 @@ is_product-requires g c =
 pub returns-then-is_product-clause-least : goal.returns-then-is_product-clause-least
 returns-then-is_product-clause-least g c = λ _.
     let generators : List g.row.E.Denot = c.args.generators.now.items in
-    let setting : IsSetting g.E.Element.shape g.E.Element.product g.E.PartialEq.eq generators = record { products = g.met.E.Element.products; alike = g.met.E.Element.one_shape; shaped = c.requires.shape } in
+    let setting : IsSetting g.E.Values.shape g.E.Values.product g.E.PartialEq.eq generators = record { products = g.met.E.Values.products; alike = g.met.E.Element.one_shape; shaped = c.requires.shape } in
     let unused : g.row.E.Denot = some_value generators (omega (arith, c.requires.letter)) in
     let tails : List Tail = c.args.self.now.tails.items in
     let within = tail_within setting unused c.args.self.now.elements.keys c.args.self.now.factors.items tails c.args.self.now.right.items c.args.self.now.left.items c.args.number c.args.letter (c.requires.at unused) c.requires.letter in
@@ -54,7 +54,7 @@ returns-then-is_product-clause-least g c = λ _.
 pub index-factor-requires : goal.index-factor-requires
 index-factor-requires g c =
     let generators : List g.row.E.Denot = c.args.generators.now.items in
-    let setting : IsSetting g.E.Element.shape g.E.Element.product g.E.PartialEq.eq generators = record { products = g.met.E.Element.products; alike = g.met.E.Element.one_shape; shaped = c.requires.shape } in
+    let setting : IsSetting g.E.Values.shape g.E.Values.product g.E.PartialEq.eq generators = record { products = g.met.E.Values.products; alike = g.met.E.Element.one_shape; shaped = c.requires.shape } in
     let unused : g.row.E.Denot = some_value generators (omega (arith, c.requires.letter)) in
     let tails : List Tail = c.args.self.now.tails.items in
     let within = tail_within setting unused c.args.self.now.elements.keys c.args.self.now.factors.items tails c.args.self.now.right.items c.args.self.now.left.items c.args.number c.args.letter (c.requires.at unused) c.requires.letter in
@@ -67,7 +67,7 @@ index-factor-requires g c =
 pub entry-product-requires : goal.entry-product-requires
 entry-product-requires g c =
     let generators : List g.row.E.Denot = c.args.generators.now.items in
-    let setting : IsSetting g.E.Element.shape g.E.Element.product g.E.PartialEq.eq generators = record { products = g.met.E.Element.products; alike = g.met.E.Element.one_shape; shaped = c.requires.shape } in
+    let setting : IsSetting g.E.Values.shape g.E.Values.product g.E.PartialEq.eq generators = record { products = g.met.E.Values.products; alike = g.met.E.Element.one_shape; shaped = c.requires.shape } in
     let unused : g.row.E.Denot = some_value generators (omega (arith, c.requires.letter)) in
     let tails : List Tail = c.args.self.now.tails.items in
     let within = tail_within setting unused c.args.self.now.elements.keys c.args.self.now.factors.items tails c.args.self.now.right.items c.args.self.now.left.items c.args.number c.args.letter (c.requires.at unused) c.requires.letter in
@@ -83,7 +83,7 @@ entry-product-requires g c =
 pub overflow_add-product : goal.overflow_add-product
 overflow_add-product g c =
     let generators : List g.row.E.Denot = c.args.generators.now.items in
-    let setting : IsSetting g.E.Element.shape g.E.Element.product g.E.PartialEq.eq generators = record { products = g.met.E.Element.products; alike = g.met.E.Element.one_shape; shaped = c.requires.shape } in
+    let setting : IsSetting g.E.Values.shape g.E.Values.product g.E.PartialEq.eq generators = record { products = g.met.E.Values.products; alike = g.met.E.Element.one_shape; shaped = c.requires.shape } in
     let unused : g.row.E.Denot = some_value generators (omega (arith, c.requires.letter)) in
     let tails : List Tail = c.args.self.now.tails.items in
     let within = tail_within setting unused c.args.self.now.elements.keys c.args.self.now.factors.items tails c.args.self.now.right.items c.args.self.now.left.items c.args.number c.args.letter (c.requires.at unused) c.requires.letter in
@@ -101,7 +101,7 @@ overflow_add-product g c =
 pub number_at-requires : goal.number_at-requires
 number_at-requires g c =
     let generators : List g.row.E.Denot = c.args.generators.now.items in
-    let setting : IsSetting g.E.Element.shape g.E.Element.product g.E.PartialEq.eq generators = record { products = g.met.E.Element.products; alike = g.met.E.Element.one_shape; shaped = c.requires.shape } in
+    let setting : IsSetting g.E.Values.shape g.E.Values.product g.E.PartialEq.eq generators = record { products = g.met.E.Values.products; alike = g.met.E.Element.one_shape; shaped = c.requires.shape } in
     let unused : g.row.E.Denot = some_value generators (omega (arith, c.requires.letter)) in
     let tails : List Tail = c.args.self.now.tails.items in
     let within = tail_within setting unused c.args.self.now.elements.keys c.args.self.now.factors.items tails c.args.self.now.right.items c.args.self.now.left.items c.args.number c.args.letter (c.requires.at unused) c.requires.letter in
@@ -118,7 +118,7 @@ number_at-requires g c =
 pub returns-clause-read : goal.returns-clause-read
 returns-clause-read g c = λ unused.
     let generators : List g.row.E.Denot = c.args.generators.now.items in
-    let setting : IsSetting g.E.Element.shape g.E.Element.product g.E.PartialEq.eq generators = record { products = g.met.E.Element.products; alike = g.met.E.Element.one_shape; shaped = c.requires.shape } in
+    let setting : IsSetting g.E.Values.shape g.E.Values.product g.E.PartialEq.eq generators = record { products = g.met.E.Values.products; alike = g.met.E.Element.one_shape; shaped = c.requires.shape } in
     let tails : List Tail = c.args.self.now.tails.items in
     let within = tail_within setting unused c.args.self.now.elements.keys c.args.self.now.factors.items tails c.args.self.now.right.items c.args.self.now.left.items c.args.number c.args.letter (c.requires.at unused) c.requires.letter in
     let tail : tail_at tails c.args.number ≡ c.index-tail.result.now = get_any tails c.args.number no_tail c.index-tail.result.now within ∙ sym c.index-tail.ensures in

@@ -7,6 +7,6 @@ use Rattle.froidure_pin.proofs.growth.Growth.take_generators.Given as goal
 abbrev pub invariant-loop-letter : goal.invariant-loop-letter
 invariant-loop-letter g l = record {
   few : length l.self.elements.keys ≤ l.bound;
-  known : IsKnown g.E.Element.product g.E.PartialEq.eq l.generators.items l.self 0 l.letter;
+  known : IsKnown g.E.Values.product g.E.PartialEq.eq l.generators.items l.self 0 l.letter;
   single : AreSingle (words_of l.self.factors.items);
 }

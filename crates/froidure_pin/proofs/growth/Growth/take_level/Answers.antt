@@ -7,7 +7,7 @@ use Rattle.froidure_pin.proofs.growth.Growth.take_level.Goals as goal
 
 pub take_products-requires-clause-at : goal.take_products-requires-clause-at
 take_products-requires-clause-at g c = λ unused.
-    let setting : IsSetting g.E.Element.shape g.E.Element.product g.E.PartialEq.eq c.args.generators.now.items = record { products = g.met.E.Element.products; alike = g.met.E.Element.one_shape; shaped = c.requires.shape } in
+    let setting : IsSetting g.E.Values.shape g.E.Values.product g.E.PartialEq.eq c.args.generators.now.items = record { products = g.met.E.Values.products; alike = g.met.E.Element.one_shape; shaped = c.requires.shape } in
     level_at setting unused c.loop-number.self.elements.keys c.loop-number.self.factors.items c.loop-number.self.tails.items c.loop-number.self.right.items c.loop-number.self.left.items c.args.first c.args.last c.loop-number.number (c.loop-number.invariant.within.known unused) (c.loop-number.invariant.within.lefts unused) c.loop-number.invariant.within.rows c.loop-number.invariant.within.level c.loop-number.invariant.low c.loop-number-test.true
 
 pub returns-then-branch-clause-over : goal.returns-then-branch-clause-over
@@ -15,7 +15,7 @@ returns-then-branch-clause-over g c = λ _. c.in_ok-take_products.ensures.over (
 
 pub loop-number-preserved : goal.loop-number-preserved
 loop-number-preserved g c =
-    let setting : IsSetting g.E.Element.shape g.E.Element.product g.E.PartialEq.eq c.args.generators.now.items = record { products = g.met.E.Element.products; alike = g.met.E.Element.one_shape; shaped = c.requires.shape } in
+    let setting : IsSetting g.E.Values.shape g.E.Values.product g.E.PartialEq.eq c.args.generators.now.items = record { products = g.met.E.Values.products; alike = g.met.E.Element.one_shape; shaped = c.requires.shape } in
     let ok = ap Ok c.if-branch.false in
     let step = c.in_ok-take_products.ensures.step ok in
     let before = c.loop-number.invariant.within in
@@ -36,4 +36,4 @@ loop-number-preserved g c =
 pub returns-clause-within : goal.returns-clause-within
 returns-clause-within g c = λ _.
     let full : c.loop-number.number ≡ c.args.last = omega (arith, c.loop-number-test.false, c.loop-number.auto.number-end) in
-    subst (λ n. IsWithin g.E.Element.product g.E.PartialEq.eq c.args.generators.now.items c.loop-number.self c.args.first c.args.last n) full c.loop-number.invariant.within
+    subst (λ n. IsWithin g.E.Values.product g.E.PartialEq.eq c.args.generators.now.items c.loop-number.self c.args.first c.args.last n) full c.loop-number.invariant.within

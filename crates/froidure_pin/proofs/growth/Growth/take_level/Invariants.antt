@@ -8,6 +8,6 @@ invariant-loop-number g l = record {
   counted : l.fn.steps ≤ l.steps;
   most : l.steps + l.first * length l.generators.items ≤ l.fn.steps + l.number * length l.generators.items;
   low : l.first ≤ l.number;
-  within : IsWithin g.E.Element.product g.E.PartialEq.eq l.generators.items l.self l.first l.last l.number;
-  count : KeepsCount g.E.Element.product g.E.PartialEq.eq l.generators.items l.fn.self l.self l.fn.steps l.steps;
+  within : IsWithin g.E.Values.product g.E.PartialEq.eq l.generators.items l.self l.first l.last l.number;
+  count : KeepsCount g.E.Values.product g.E.PartialEq.eq l.generators.items l.fn.self l.self l.fn.steps l.steps;
 }

@@ -25,4 +25,4 @@ loop-letter-preserved g c = record {
 pub returns-clause-step : goal.returns-clause-step
 returns-clause-step g c = λ _.
     let full : c.loop-letter.letter ≡ length c.args.generators.now.items = omega (arith, c.loop-letter-test.false, c.loop-letter.auto.letter-end) in
-    subst (λ n. IsStep g.E.Element.product g.E.PartialEq.eq c.args.generators.now.items c.args.self.now c.loop-letter.self c.args.number n c.args.steps.now c.loop-letter.steps) full c.loop-letter.invariant.step
+    subst (λ n. IsStep g.E.Values.product g.E.PartialEq.eq c.args.generators.now.items c.args.self.now c.loop-letter.self c.args.number n c.args.steps.now c.loop-letter.steps) full c.loop-letter.invariant.step

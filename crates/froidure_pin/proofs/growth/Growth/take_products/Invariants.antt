@@ -7,5 +7,5 @@ invariant-loop-letter g l = record {
   few : length l.self.elements.keys ≤ l.bound;
   counted : l.fn.steps ≤ l.steps;
   most : l.steps ≤ l.fn.steps + l.letter;
-  step : IsStep g.E.Element.product g.E.PartialEq.eq l.generators.items l.fn.self l.self l.number l.letter l.fn.steps l.steps;
+  step : IsStep g.E.Values.product g.E.PartialEq.eq l.generators.items l.fn.self l.self l.number l.letter l.fn.steps l.steps;
 }

@@ -31,7 +31,7 @@ returns-then-branch-clause-over g c = λ unused. (λ _. (c.in_ok-take_generators
 
 pub returns-then-branch-clause-whole : goal.returns-then-branch-clause-whole
 returns-then-branch-clause-whole g c = λ unused.
-    let setting : IsSetting g.E.Element.shape g.E.Element.product g.E.PartialEq.eq c.args.generators.now.items = record { products = g.met.E.Element.products; alike = g.met.E.Element.one_shape; shaped = c.requires.shape } in
+    let setting : IsSetting g.E.Values.shape g.E.Values.product g.E.PartialEq.eq c.args.generators.now.items = record { products = g.met.E.Values.products; alike = g.met.E.Element.one_shape; shaped = c.requires.shape } in
     (λ h. absurd (over_not_whole h.0 h.1), λ few. absurd (exclusive setting unused c.args.bound (c.in_ok-take_generators.ensures.over (ap Ok c.if-branch.true) unused) few))
 
 pub returns-then-branch-2-clause-over : goal.returns-then-branch-2-clause-over
@@ -39,7 +39,7 @@ returns-then-branch-2-clause-over g c = λ unused. (λ _. (c.in_ok-take_level.en
 
 pub returns-then-branch-2-clause-whole : goal.returns-then-branch-2-clause-whole
 returns-then-branch-2-clause-whole g c = λ unused.
-    let setting : IsSetting g.E.Element.shape g.E.Element.product g.E.PartialEq.eq c.args.generators.now.items = record { products = g.met.E.Element.products; alike = g.met.E.Element.one_shape; shaped = c.requires.shape } in
+    let setting : IsSetting g.E.Values.shape g.E.Values.product g.E.PartialEq.eq c.args.generators.now.items = record { products = g.met.E.Values.products; alike = g.met.E.Element.one_shape; shaped = c.requires.shape } in
     (λ h. absurd (over_not_whole h.0 h.1), λ few. absurd (exclusive setting unused c.args.bound (c.in_ok-take_level.ensures.over (ap Ok c.if-branch-2.true) unused) few))
 
 pub begin_left-requires-clause-known : goal.begin_left-requires-clause-known
@@ -47,7 +47,7 @@ begin_left-requires-clause-known g c = c.in_ok-take_generators.ensures.known (ap
 
 pub loop-first-init : goal.loop-first-init
 loop-first-init g c =
-    let setting : IsSetting g.E.Element.shape g.E.Element.product g.E.PartialEq.eq c.args.generators.now.items = record { products = g.met.E.Element.products; alike = g.met.E.Element.one_shape; shaped = c.requires.shape } in
+    let setting : IsSetting g.E.Values.shape g.E.Values.product g.E.PartialEq.eq c.args.generators.now.items = record { products = g.met.E.Values.products; alike = g.met.E.Element.one_shape; shaped = c.requires.shape } in
     let ok = ap Ok c.if-branch.false in
     let kept = c.in_ok-begin_left.ensures.kept in
     record {
@@ -56,7 +56,7 @@ loop-first-init g c =
       counted = omega arith;
       most = omega arith;
       within = record {
-        known = subst (λ growth. IsKnown g.E.Element.product g.E.PartialEq.eq c.args.generators.now.items growth 1 0) (sym kept) (c.in_ok-take_generators.ensures.known ok);
+        known = subst (λ growth. IsKnown g.E.Values.product g.E.PartialEq.eq c.args.generators.now.items growth 1 0) (sym kept) (c.in_ok-take_generators.ensures.known ok);
         lefts = c.in_ok-begin_left.ensures.left;
         rows = omega (arith, c.in_ok-begin_left.ensures.rows);
         level = subst (λ (growth : Growth g.row.E.Denot). IsLevel (words_of growth.factors.items) 0 (length growth.elements.keys)) (sym kept) (c.in_ok-take_generators.ensures.level ok);
@@ -67,14 +67,14 @@ loop-first-init g c =
 pub take_level-requires-clause-within : goal.take_level-requires-clause-within
 take_level-requires-clause-within g c =
     let last : length c.loop-first.growth.elements.keys ≡ c.len-last.result = omega (arith, c.len-last.ensures.len) in
-    subst (λ n. IsWithin g.E.Element.product g.E.PartialEq.eq c.args.generators.now.items c.loop-first.growth c.loop-first.first n c.loop-first.first) last c.loop-first.invariant.within
+    subst (λ n. IsWithin g.E.Values.product g.E.PartialEq.eq c.args.generators.now.items c.loop-first.growth c.loop-first.first n c.loop-first.first) last c.loop-first.invariant.within
 
 pub add_left_rows-requires-clause-within : goal.add_left_rows-requires-clause-within
 add_left_rows-requires-clause-within g c = c.in_ok-take_level.ensures.within (ap Ok c.if-branch-2.false)
 
 pub loop-first-preserved : goal.loop-first-preserved
 loop-first-preserved g c =
-    let setting : IsSetting g.E.Element.shape g.E.Element.product g.E.PartialEq.eq c.args.generators.now.items = record { products = g.met.E.Element.products; alike = g.met.E.Element.one_shape; shaped = c.requires.shape } in
+    let setting : IsSetting g.E.Values.shape g.E.Values.product g.E.PartialEq.eq c.args.generators.now.items = record { products = g.met.E.Values.products; alike = g.met.E.Element.one_shape; shaped = c.requires.shape } in
     let unused : g.row.E.Denot = some_value c.args.generators.now.items c.requires.some in
     let ok = ap Ok c.if-branch-2.false in
     let within = c.in_ok-take_level.ensures.within ok in
@@ -86,34 +86,34 @@ loop-first-preserved g c =
       counted = omega (arith, c.in_ok-take_level.ensures.counted, c.loop-first.invariant.counted);
       most = omega (arith, c.in_ok-take_level.ensures.most, c.loop-first.invariant.most);
       within = c.in_ok-add_left_rows.ensures.within;
-      count = λ unused. subst (λ (growth : Growth g.row.E.Denot). AreCounted g.E.Element.product g.E.PartialEq.eq c.args.generators.now.items unused (words_of growth.factors.items) (length growth.right.items) c.args.steps.now c.take_level.new.steps) (sym kept) (c.in_ok-take_level.ensures.count ok unused c.args.steps.now (c.loop-first.invariant.count unused));
+      count = λ unused. subst (λ (growth : Growth g.row.E.Denot). AreCounted g.E.Values.product g.E.PartialEq.eq c.args.generators.now.items unused (words_of growth.factors.items) (length growth.right.items) c.args.steps.now c.take_level.new.steps) (sym kept) (c.in_ok-take_level.ensures.count ok unused c.args.steps.now (c.loop-first.invariant.count unused));
     }
 
 pub returns-clause-whole : goal.returns-clause-whole
 returns-clause-whole g c = λ unused.
-    let setting : IsSetting g.E.Element.shape g.E.Element.product g.E.PartialEq.eq c.args.generators.now.items = record { products = g.met.E.Element.products; alike = g.met.E.Element.one_shape; shaped = c.requires.shape } in
+    let setting : IsSetting g.E.Values.shape g.E.Values.product g.E.PartialEq.eq c.args.generators.now.items = record { products = g.met.E.Values.products; alike = g.met.E.Element.one_shape; shaped = c.requires.shape } in
     let words : List Word = words_of c.loop-first.growth.factors.items in
     let table : TableOf g.row.E.Denot = record { elements = c.loop-first.growth.elements.keys; words = words; letters = c.len-letters.result; right = c.loop-first.growth.right.items; left = c.loop-first.growth.left.items } in
     (λ _. (found_few setting unused words c.loop-first.growth.elements.keys c.loop-first.growth.right.items (c.loop-first.first + 1) c.args.bound (c.loop-first.invariant.within.known unused).found (omega (arith, c.len.ensures.len, c.loop-first-test.false)) c.loop-first.invariant.few), λ _. (table, refl))
 
 pub returns-clause-over : goal.returns-clause-over
 returns-clause-over g c = λ unused.
-    let setting : IsSetting g.E.Element.shape g.E.Element.product g.E.PartialEq.eq c.args.generators.now.items = record { products = g.met.E.Element.products; alike = g.met.E.Element.one_shape; shaped = c.requires.shape } in
+    let setting : IsSetting g.E.Values.shape g.E.Values.product g.E.PartialEq.eq c.args.generators.now.items = record { products = g.met.E.Values.products; alike = g.met.E.Element.one_shape; shaped = c.requires.shape } in
     let words : List Word = words_of c.loop-first.growth.factors.items in
     let table : TableOf g.row.E.Denot = record { elements = c.loop-first.growth.elements.keys; words = words; letters = c.len-letters.result; right = c.loop-first.growth.right.items; left = c.loop-first.growth.left.items } in
     (λ e. absurd (whole_not_over table e), λ more. absurd (exclusive setting unused c.args.bound more (found_few setting unused words c.loop-first.growth.elements.keys c.loop-first.growth.right.items (c.loop-first.first + 1) c.args.bound (c.loop-first.invariant.within.known unused).found (omega (arith, c.len.ensures.len, c.loop-first-test.false)) c.loop-first.invariant.few)))
 
 pub returns-clause-table : goal.returns-clause-table
 returns-clause-table g c = λ other e unused.
-    let setting : IsSetting g.E.Element.shape g.E.Element.product g.E.PartialEq.eq c.args.generators.now.items = record { products = g.met.E.Element.products; alike = g.met.E.Element.one_shape; shaped = c.requires.shape } in
+    let setting : IsSetting g.E.Values.shape g.E.Values.product g.E.PartialEq.eq c.args.generators.now.items = record { products = g.met.E.Values.products; alike = g.met.E.Element.one_shape; shaped = c.requires.shape } in
     let words : List Word = words_of c.loop-first.growth.factors.items in
     let table : TableOf g.row.E.Denot = record { elements = c.loop-first.growth.elements.keys; words = words; letters = c.len-letters.result; right = c.loop-first.growth.right.items; left = c.loop-first.growth.left.items } in
     let same = one_table table other e in
-    subst (λ t. IsTableOf g.E.Element.product g.E.PartialEq.eq c.args.generators.now.items unused t.words t.elements) same (found_table setting unused words c.loop-first.growth.elements.keys c.loop-first.growth.right.items (c.loop-first.first + 1) (c.loop-first.invariant.within.known unused).found (omega (arith, c.len.ensures.len, c.loop-first-test.false)))
+    subst (λ t. IsTableOf g.E.Values.product g.E.PartialEq.eq c.args.generators.now.items unused t.words t.elements) same (found_table setting unused words c.loop-first.growth.elements.keys c.loop-first.growth.right.items (c.loop-first.first + 1) (c.loop-first.invariant.within.known unused).found (omega (arith, c.len.ensures.len, c.loop-first-test.false)))
 
 pub returns-clause-steps : goal.returns-clause-steps
 returns-clause-steps g c = λ other e unused rules all.
-    let setting : IsSetting g.E.Element.shape g.E.Element.product g.E.PartialEq.eq c.args.generators.now.items = record { products = g.met.E.Element.products; alike = g.met.E.Element.one_shape; shaped = c.requires.shape } in
+    let setting : IsSetting g.E.Values.shape g.E.Values.product g.E.PartialEq.eq c.args.generators.now.items = record { products = g.met.E.Values.products; alike = g.met.E.Element.one_shape; shaped = c.requires.shape } in
     let words : List Word = words_of c.loop-first.growth.factors.items in
     let table : TableOf g.row.E.Denot = record { elements = c.loop-first.growth.elements.keys; words = words; letters = c.len-letters.result; right = c.loop-first.growth.right.items; left = c.loop-first.growth.left.items } in
     let same = one_table table other e in
@@ -123,16 +123,16 @@ returns-clause-steps g c = λ other e unused rules all.
 
 pub invariant_of-result : goal.invariant_of-result
 invariant_of-result g c =
-    let setting : IsSetting g.E.Element.shape g.E.Element.product g.E.PartialEq.eq c.args.generators.now.items = record { products = g.met.E.Element.products; alike = g.met.E.Element.one_shape; shaped = c.requires.shape } in
+    let setting : IsSetting g.E.Values.shape g.E.Values.product g.E.PartialEq.eq c.args.generators.now.items = record { products = g.met.E.Values.products; alike = g.met.E.Element.one_shape; shaped = c.requires.shape } in
     let unused : g.row.E.Denot = some_value c.args.generators.now.items c.requires.some in
     let letters : c.len-letters.result ≡ length c.args.generators.now.items = omega (arith, c.len-letters.ensures) in
     parts setting unused c.loop-first.growth.factors.items c.loop-first.growth.elements.keys c.loop-first.growth.right.items c.loop-first.growth.left.items (c.loop-first.first + 1) c.len-letters.result letters c.requires.few c.requires.some (c.loop-first.invariant.within.known unused).known (c.loop-first.invariant.within.lefts unused) c.loop-first.invariant.within.rows (c.loop-first.invariant.within.known unused).found (omega (arith, c.len.ensures.len, c.loop-first-test.false)) (omega (arith, c.loop-first.invariant.reached))
 
 pub returns-clause-numbers : goal.returns-clause-numbers
 returns-clause-numbers g c = λ other e unused.
-    let setting : IsSetting g.E.Element.shape g.E.Element.product g.E.PartialEq.eq c.args.generators.now.items = record { products = g.met.E.Element.products; alike = g.met.E.Element.one_shape; shaped = c.requires.shape } in
+    let setting : IsSetting g.E.Values.shape g.E.Values.product g.E.PartialEq.eq c.args.generators.now.items = record { products = g.met.E.Values.products; alike = g.met.E.Element.one_shape; shaped = c.requires.shape } in
     let words : List Word = words_of c.loop-first.growth.factors.items in
     let table : TableOf g.row.E.Denot = record { elements = c.loop-first.growth.elements.keys; words = words; letters = c.len-letters.result; right = c.loop-first.growth.right.items; left = c.loop-first.growth.left.items } in
     let same = one_table table other e in
     let letters : c.len-letters.result ≡ length c.args.generators.now.items = omega (arith, c.len-letters.ensures) in
-    subst (λ t. IsNumbering g.E.Element.product g.E.PartialEq.eq c.args.generators.now.items unused t) same (numbering_as setting unused c.loop-first.growth.factors.items c.loop-first.growth.elements.keys c.loop-first.growth.right.items c.loop-first.growth.left.items (c.loop-first.first + 1) c.len-letters.result letters (c.loop-first.invariant.within.lefts unused) c.loop-first.invariant.within.rows (c.loop-first.invariant.within.known unused).found (omega (arith, c.len.ensures.len, c.loop-first-test.false)) (omega (arith, c.loop-first.invariant.reached)))
+    subst (λ t. IsNumbering g.E.Values.product g.E.PartialEq.eq c.args.generators.now.items unused t) same (numbering_as setting unused c.loop-first.growth.factors.items c.loop-first.growth.elements.keys c.loop-first.growth.right.items c.loop-first.growth.left.items (c.loop-first.first + 1) c.len-letters.result letters (c.loop-first.invariant.within.lefts unused) c.loop-first.invariant.within.rows (c.loop-first.invariant.within.known unused).found (omega (arith, c.len.ensures.len, c.loop-first-test.false)) (omega (arith, c.loop-first.invariant.reached)))

@@ -1,0 +1,41 @@
+-- What a hasher is fed for an element: a few numbers. The elements of a set have one shape, so it is left out.
+use Rattle.std.specs.Prelude.{ℕ, ◌+◌, ◌*◌, ◌%◌, ◌^◌, min, bit_or, Bool, List, length, map, fold, Option, Some, None, slice_index_or}
+use Rattle.std.specs.Hash as fed
+use Rattle.std.specs.Int.{div_ceil}
+use Rattle.std.specs.Bool.{if◌then◌else◌}
+use Rattle.std.specs.List.{between, flat_map, range_with_len}
+
+-- one write for each number
+abbrev pub numbers_hash : List ℕ → fed.HashWrites
+numbers_hash xs = flat_map fed.u64 xs
+
+-- 0 for none, and else the entry plus one
+abbrev pub entry_number : Option ℕ → ℕ
+entry_number None = 0
+entry_number (Some y) = y + 1
+
+-- one number for each entry
+abbrev pub entries_hash : List (Option ℕ) → fed.HashWrites
+entries_hash x = numbers_hash (map entry_number x)
+
+-- the images at i and i + 1 as one number, with 0 past the end
+abbrev pub image_pair : List ℕ → ℕ → ℕ
+image_pair x i = slice_index_or x i 0 + slice_index_or x (i + 1) 0 * 2 ^ 32
+
+-- one number for each two images
+abbrev pub images_hash : List ℕ → fed.HashWrites
+images_hash x =
+    numbers_hash (map (λ k. image_pair x (2 * k)) (range_with_len 0 (div_ceil (length x) 2)))
+
+-- the last 64 of these bits as a number
+abbrev pub bits_number : List Bool → ℕ
+bits_number bits = fold (λ n b. bit_or (n * 2 % 2 ^ 64) (if b then 1 else 0)) 0 bits
+
+-- the bits from i on as a number, 64 at most
+abbrev pub block_number : List Bool → ℕ → ℕ
+block_number bits i = bits_number (between i (min (i + 64) (length bits)) bits)
+
+-- one number for each 64 bits
+abbrev pub bits_hash : List Bool → fed.HashWrites
+bits_hash bits = numbers_hash
+    (map (λ k. block_number bits (64 * k)) (range_with_len 0 (div_ceil (length bits) 64)))
