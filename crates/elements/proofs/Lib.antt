@@ -1,5 +1,4 @@
 pub mod Composed
-pub mod Joined
 pub mod PartialProducts
 pub mod Marks
 pub mod Refused

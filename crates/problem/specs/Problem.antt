@@ -62,7 +62,8 @@ count_of (PPerm p) = length p.generators
 count_of (BMat p) = length p.generators
 count_of (MaxPlus p) = length p.generators
 
--- both words are elements, and the congruence relates them, or a chain that replaces factors by words of equal value
+-- both words are elements, and the congruence relates them; or a chain joins them that replaces
+-- factors by words of equal value
 abbrev pub SameClassOf : Problem → Word → Word → Type 0
 SameClassOf (Presented p) = SameClass p.congruence
 SameClassOf (Transf p) = SameElement (length p.generators) (pointwise ◌==◌)

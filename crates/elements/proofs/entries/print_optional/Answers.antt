@@ -1,7 +1,7 @@
 use Rattle.std.proofs.Common.{◌++◌, List, ℕ, get_or, ap, ◌∙◌, codes}
 use Rattle.std.specs.Prelude.{Option, None}
 use Rattle.elements.specs.Fields.{decimal_or_dash}
-use Rattle.elements.proofs.Joined.{joined_first, joined_more}
+use Rattle.theory.proofs.PieceLaws.{joined_first, joined_more}
 use Rattle.elements.proofs.entries.print_optional.Goals as goal
 use Rattle.elements.proofs.entries.print_optional.Goals.{then-i-gt0+in_ok-push, else-i-gt0}
 

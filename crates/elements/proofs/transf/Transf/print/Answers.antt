@@ -1,6 +1,6 @@
 use Rattle.std.proofs.Common.{◌≡◌, ◌++◌, ◌<◌, List, ℕ, length, get_or, ap, ◌∙◌, codes, arith}
 use Rattle.std.specs.Fmt.{decimal}
-use Rattle.elements.proofs.Joined.{joined_first, joined_more}
+use Rattle.theory.proofs.PieceLaws.{joined_first, joined_more}
 use Rattle.elements.proofs.transf.Transf.print.Goals as goal
 use Rattle.elements.proofs.transf.Transf.print.Goals.{then-i-gt0+in_ok-push, else-i-gt0}
 
