@@ -12,7 +12,8 @@ pub record IsEdged (old new : Graph) (j a m : ℕ) : Type 0 where
   pub back : (n b t : ℕ) → target new n b ≡ Some t
       → (target old n b ≡ Some t) ⊎ ((n ≡ j) × (b ≡ a) × (t ≡ m))
 
--- the first side of a pair leads from the node to m, and all but the last letter a of the second to j
+-- the first side of a pair leads from the node to m, and all but the last letter a of the second to
+-- j
 pub record IsRead (pairs : List (Word × Word)) (g : Graph) (node j a m : ℕ) : Type 0 where
   pub r : Word
   pub s : Word

@@ -33,7 +33,8 @@ pub record IsMarkMoved (was is : List Bool) (lost kept : ℕ) : Type 0 where
   pub moved : IsOn was lost → IsOn is kept
   pub from : (n : ℕ) → IsOn is n → (n ≢ lost) × (IsOn was n ⊎ ((n ≡ kept) × IsOn was lost))
 
--- x and y are one, with all that follows; marks and the node at go with the classes, and what is new is pending
+-- x and y are one, with all that follows; marks and the node at go with the classes, and what is
+-- new is pending
 pub record IsJoined (old new : Graph) (was is marked marks : List Bool)
     (before after : List Pending) (x y : ℕ) (at to : Option ℕ) : Type 0 where
   pub class : List ℕ

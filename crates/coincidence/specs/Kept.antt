@@ -26,7 +26,8 @@ walked steps places word = record {
   place = λ m. slice_index_or places m None;
 }
 
--- the steps are the order of the nodes as far as the walk has come, and the nodes before done are marked
+-- the steps are the order of the nodes as far as the walk has come, and the nodes before done are
+-- marked
 pub record IsKeptAs (k : ℕ) (g : Graph) (marked : List Bool) (steps : List Step)
     (places : List (Option ℕ)) (row letter done : ℕ) : Type 0 where
   pub word : ℕ → Word

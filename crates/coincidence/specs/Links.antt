@@ -3,7 +3,8 @@ use Rattle.std.specs.Prelude.{◌≡◌, ℕ, zero, suc, ◌≤◌, All, List, [
 use Rattle.theory.specs.Graph.{Graph, target, IsGraph}
 use Rattle.coincidence.specs.Pending.{IsAmong}
 
--- the edges; the first source of each node and letter; and the source after each node in the list of its target
+-- the edges; the first source of each node and letter; and the source after each node in the list
+-- of its target
 pub record Links : Type 0 where
   pub graph : Graph
   pub firsts : Graph

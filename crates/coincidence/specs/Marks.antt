@@ -25,7 +25,8 @@ pub record AreCarried (class : List ℕ) (was is : List Bool) : Type 0 where
   pub kept : (n : ℕ) → IsOn was n → IsOn is (slice_index class n)
   pub from : (m : ℕ) → IsOn is m → (n : ℕ) × IsOn was n × (slice_index class n ≡ m)
 
--- a word's node is marked in new exactly where the word is related there to one whose node was marked in old
+-- a word's node is marked in new exactly where the word is related there to one whose node was
+-- marked in old
 pub record KeepsMarks (old : Graph) (was : List Bool) (new : Graph) (is : List Bool) : Type 0 where
   pub kept : (u v : Word) (n m : ℕ) → path old 0 v ≡ Some m → IsOn was m → path new 0 v ≡ Some n
       → path new 0 u ≡ Some n → IsOn is n
@@ -39,7 +40,8 @@ pub record IsFirstUnmarked (g : Graph) (marked : List Bool) (node : ℕ) : Type 
   pub unmarked : IsOn marked node → ⊥
   pub least : (v : Word) (n : ℕ) → v ≺ word → path g 0 v ≡ Some n → IsOn marked n
 
--- of the first n words, which lead to these nodes, the place is that of the least whose node has no mark
+-- of the first n words, which lead to these nodes, the place is that of the least whose node has no
+-- mark
 abbrev pub IsLeastUnmarked : List (ℕ × Word) → List Bool → ℕ → Option ℕ → Type 0
 IsLeastUnmarked least marked n None = (i : ℕ) (d : ℕ × Word) → i < n
     → IsOn marked (slice_index_or least i d).0

@@ -40,7 +40,8 @@ abbrev pub IsSound : Graph → List ℕ → (Word → Word → Type 0) → Type 
 IsSound g class F = (u v : Word) (n m : ℕ) → path g 0 u ≡ Some n → path g 0 v ≡ Some m
     → slice_index class n ≡ slice_index class m → F u v
 
--- classes of nodes, each named by its least, of which each holds only nodes that follow to be one once x and y are
+-- classes of nodes, each named by its least, of which each holds only nodes that follow to be one
+-- once x and y are
 pub record IsClassing (g : Graph) (x y : ℕ) (class : List ℕ) : Type 0 where
   pub shape : length class ≡ length g
   pub below : (n : ℕ) → slice_index class n ≤ n

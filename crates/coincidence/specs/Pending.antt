@@ -46,7 +46,8 @@ IsClosedThrough pairs g live x b = (node : ℕ) (r s : Word) (a m j : ℕ)
     → Crosses g node r x b ⊎ Crosses g node s x b
     → target g j a ≡ Some m
 
--- from old to new, each edge and node is an old one or pending, and old edges between live nodes stay
+-- from old to new, each edge and node is an old one or pending, and old edges between live nodes
+-- stay
 pub record IsRenewed (old new : Graph) (was is : List Bool)
     (before after : List Pending) : Type 0 where
   pub edges : (n a t : ℕ) → target new n a ≡ Some t

@@ -43,7 +43,8 @@ IsDueBehind g node front first second (Join j a t m) = IsAskedBehind g node fron
 abbrev pub IsAskedBefore : Graph → ℕ → Word → Word → Due → Type 0
 IsAskedBefore g node first second due = (front : Word) × IsAskedBehind g node front first second due
 
--- a read of the side that is at the node at the place stops behind one letter, with two more to come
+-- a read of the side that is at the node at the place stops behind one letter, with two more to
+-- come
 pub record IsCut (g : Graph) (node : ℕ) (side : Word) (place : ℕ) : Type 0 where
   pub letter : ℕ
   pub next : ℕ

@@ -10,8 +10,8 @@ use Rattle.coincidence.specs.Pending.{IsClosedBut}
 use Rattle.coincidence.specs.declared.order.Order.{Order}
 use Rattle.coincidence.specs.declared.pending.Pending.{Pending}
 
--- what it was made for, a row for each node, the lists of sources, which nodes are live and which marked, and whether
--- memory was wanting
+-- what it was made for, a row for each node, the lists of sources, which nodes are live and which
+-- marked, and whether memory was wanting
 pub record CosetTable : Type 0 where
   pub congruence : Congruence
   pub graph : Graph
@@ -25,7 +25,8 @@ pub record CosetTable : Type 0 where
 abbrev pub links_of : CosetTable → Links
 links_of t = record { graph = t.graph; firsts = t.firsts; nexts = t.nexts }
 
--- the live nodes are those that are reached, only they are marked, and each node has a list of sources for each letter
+-- the live nodes are those that are reached, only they are marked, and each node has a list of
+-- sources for each letter
 pub record IsTable (t : CosetTable) : Type 0 where
   pub congruence : IsWellFormed t.congruence
   pub graph : IsGraph t.congruence.presentation.letters t.graph
@@ -51,8 +52,8 @@ shown c failed links live marked = record {
   failed = failed;
 }
 
--- the parts of a table show one, and unless memory was wanting, all is closed but for what is pending, and the order is
--- that of the nodes
+-- the parts of a table show one, and unless memory was wanting, all is closed but for what is
+-- pending, and the order is that of the nodes
 pub record IsHeld (c : Congruence) (failed : Bool) (links : Links) (live marked : List Bool)
     (o : Order) (pending : List Pending) : Type 0 where
   pub table : IsTable (shown c failed links live marked)

@@ -9,7 +9,8 @@ use crate::pending::{Pending, Worklist};
 use ports::NoMemory;
 use words::Letter;
 
-// The edges of the letter into the one node lead to the other. Refused only where memory is wanting.
+// The edges of the letter into the one node lead to the other. Refused only where memory is
+// wanting.
 fn redirect(
     edges: &mut Edges,
     pending: &mut Worklist,
@@ -33,8 +34,8 @@ fn redirect(
     Ok(())
 }
 
-// The edge of the letter from the one node starts at the other, or where that has one itself, their ends are to be
-// one. Refused only where memory is wanting.
+// The edge of the letter from the one node starts at the other, or where that has one itself, their
+// ends are to be one. Refused only where memory is wanting.
 fn move_edge(
     edges: &mut Edges,
     pending: &mut Worklist,
@@ -64,8 +65,8 @@ fn move_edge(
     Ok(())
 }
 
-/// All edges into the one node lead to the other, and all edges from it start there. Where both have an edge of one
-/// letter, the ends are to be one. Refused only where memory is wanting.
+/// All edges into the one node lead to the other, and all edges from it start there. Where both
+/// have an edge of one letter, the ends are to be one. Refused only where memory is wanting.
 pub fn absorb(
     edges: &mut Edges,
     pending: &mut Worklist,

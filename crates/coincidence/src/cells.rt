@@ -50,7 +50,8 @@ fn place(nodes: usize, letters: usize, node: usize, letter: usize) -> usize
     node * letters + letter
 }
 
-// One entry more for each letter, and nothing in it. Only want of memory refuses it, and then nothing has changed.
+// One entry more for each letter, and nothing in it. Only want of memory refuses it, and then
+// nothing has changed.
 fn push_row(entries: &mut Vec<Entry>, letters: usize) -> Result<(), NoMemory>
     ensures ok { OnOk result (entries.new.items ≡ entries.old.items ++ replicate letters None) }
     ensures err { OnErr result (entries.new.items ≡ entries.old.items) }
@@ -128,8 +129,8 @@ impl Cells {
         self.entries[place] = Entry::new(entry);
     }
 
-    /// One node more, without entries. Only want of memory refuses it, and then nothing has changed: more nodes than
-    /// entries of four bytes can tell apart do not fit.
+    /// One node more, without entries. Only want of memory refuses it, and then nothing has
+    /// changed: more nodes than entries of four bytes can tell apart do not fit.
     pub fn add_row(&mut self) -> Result<(), NoMemory>
         ensures ok { OnOk result ((k : ℕ) → All (λ row. length row ≡ k) self.old
             → self.new ≡ with_node k self.old) }

@@ -48,7 +48,8 @@ fn due_of(edges: &Edges, live: &Vec<bool>, relations: &Pairs, entry: Pending) ->
     }
 }
 
-// What relations or pairs ask for, with nothing read but what is pending, and the pairs at the root.
+// What relations or pairs ask for, with nothing read but what is pending, and the pairs at the
+// root.
 fn due_next(congruence: &Congruence, edges: &Edges, live: &Vec<bool>, pending: &mut Worklist) -> Due
     requires live { IsLiveGraph edges.now.graph live.now.items }
     requires closed { IsClosedBut congruence.now.congruence.presentation.relations edges.now.graph
@@ -104,8 +105,9 @@ fn due_in(
     }
 }
 
-/// Draws what the relations ask for everywhere, or at one node and where it goes, and the pairs at the root, until
-/// nothing is left. Marks go with their nodes. Refused only where memory is wanting.
+/// Draws what the relations ask for everywhere, or at one node and where it goes, and the pairs at
+/// the root, until nothing is left. Marks go with their nodes. Refused only where memory is
+/// wanting.
 pub fn close_in(
     alloc: Global,
     congruence: &Congruence,
@@ -155,8 +157,8 @@ pub fn close_in(
     }
 }
 
-/// Makes two nodes one, with all that follows by letters. Marks go with their nodes. Refused only where memory is
-/// wanting.
+/// Makes two nodes one, with all that follows by letters. Marks go with their nodes. Refused only
+/// where memory is wanting.
 pub fn identify_in(
     alloc: Global,
     edges: &mut Edges,
@@ -190,8 +192,8 @@ pub fn identify_in(
     Ok(())
 }
 
-/// An edge to a new node, whose number it gives; both are pending. Only want of memory refuses it, and then the graph
-/// and the live nodes are as they were.
+/// An edge to a new node, whose number it gives; both are pending. Only want of memory refuses it,
+/// and then the graph and the live nodes are as they were.
 pub fn define_in(
     edges: &mut Edges,
     live: &mut Vec<bool>,

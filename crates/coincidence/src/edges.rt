@@ -11,7 +11,8 @@ use std::alloc::Global;
 use std::marker::Model;
 use words::Letter;
 
-// A word graph that also lists, for each node and letter, the nodes where the edges of the letter into the node start.
+// A word graph that also lists, for each node and letter, the nodes where the edges of the letter
+// into the node start.
 #[derive(Drop)]
 pub struct Edges {
     letters: usize,
@@ -67,29 +68,32 @@ impl Edges {
         self.letters
     }
 
-    /// Where the edge of the letter leads from the node. `None` exactly where there is no such edge.
+    /// Where the edge of the letter leads from the node. `None` exactly where there is no such
+    /// edge.
     pub fn target(&self, node: usize, letter: Letter) -> Option<usize>
         ensures { result ≡ target_of self.now.graph node letter }
     {
         self.targets.get(node, letter)
     }
 
-    /// The first of the nodes whose edge of the letter leads to the node. `None` exactly where there is none.
+    /// The first of the nodes whose edge of the letter leads to the node. `None` exactly where
+    /// there is none.
     pub fn first_source(&self, node: usize, letter: Letter) -> Option<usize>
         ensures { result ≡ target_of self.now.firsts node letter }
     {
         self.firsts.get(node, letter)
     }
 
-    /// The node after this one among those whose edge of the letter leads where its own does. `None` exactly where it
-    /// is the last.
+    /// The node after this one among those whose edge of the letter leads where its own does.
+    /// `None` exactly where it is the last.
     pub fn next_source(&self, node: usize, letter: Letter) -> Option<usize>
         ensures { result ≡ target_of self.now.nexts node letter }
     {
         self.nexts.get(node, letter)
     }
 
-    /// Adds a node without edges. Only want of memory refuses it, and then the edges stay as they were.
+    /// Adds a node without edges. Only want of memory refuses it, and then the edges stay as they
+    /// were.
     pub fn add_node(&mut self) -> Result<(), NoMemory>
         ensures ok { OnOk result ((k : ℕ) → IsLinked k self.old
             → self.new.graph ≡ with_node k self.old.graph) }
@@ -115,7 +119,8 @@ impl Edges {
         self.targets.put(node, letter, Some(to));
     }
 
-    // The node before this one in the list of the node that its edge leads to. `None` where it is the first.
+    // The node before this one in the list of the node that its edge leads to. `None` where it is
+    // the first.
     fn source_before(&self, node: usize, letter: Letter, to: usize) -> Option<usize>
         requires { target_of self.now.graph node letter ≡ Some to }
         ensures { (list : List ℕ) → IsSources self.now to letter list → IsBehind list node result }

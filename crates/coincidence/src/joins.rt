@@ -65,8 +65,8 @@ fn gone(at: Option<usize>, lost: usize, kept: usize) -> Option<usize>
     }
 }
 
-/// The least merging under which two nodes are one. It tells where a node has gone, marks go with their nodes, and
-/// edges that are new are pending. Refused only where memory is wanting.
+/// The least merging under which two nodes are one. It tells where a node has gone, marks go with
+/// their nodes, and edges that are new are pending. Refused only where memory is wanting.
 pub fn merge(
     alloc: Global,
     edges: &mut Edges,

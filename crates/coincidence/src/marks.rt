@@ -8,7 +8,8 @@ use std::alloc::Global;
 use word_graph::WordGraph;
 use words::{Word, shortlex};
 
-// The place of the lesser of two words whose nodes have no mark: of the one at a place so far, and of the next.
+// The place of the lesser of two words whose nodes have no mark: of the one at a place so far, and
+// of the next.
 fn lesser_unmarked(
     least: &Vec<(usize, Word)>,
     marked: &Vec<bool>,
@@ -45,7 +46,8 @@ fn least_unmarked(least: &Vec<(usize, Word)>, marked: &Vec<bool>) -> Option<usiz
     first
 }
 
-/// The node of the least word whose node has no mark; `None` where each has one. Only want of memory refuses it.
+/// The node of the least word whose node has no mark; `None` where each has one. Only want of
+/// memory refuses it.
 pub fn first_unmarked(
     alloc: Global,
     graph: &WordGraph,

@@ -22,9 +22,9 @@ pub struct Step {
     pub letter: usize,
 }
 
-// The nodes found so far, in the order of their least words, the place of each, the row and letter at which the walk
-// over the edges stands, and a count of nodes at the front that are marked. No edge is missing before the place where
-// the walk stands.
+// The nodes found so far, in the order of their least words, the place of each, the row and letter
+// at which the walk over the edges stands, and a count of nodes at the front that are marked. No
+// edge is missing before the place where the walk stands.
 #[derive(Drop)]
 pub struct Order {
     pub steps: Vec<Step>,
@@ -105,7 +105,8 @@ impl Order {
         self.done = self.done.min(self.steps.len());
     }
 
-    /// Takes nodes off the end of the order until the node that is lost has no place. It is not the root.
+    /// Takes nodes off the end of the order until the node that is lost has no place. It is not the
+    /// root.
     pub fn cut(&mut self, lost: usize)
         requires lost { 0 < lost }
         requires kept { IsSome self.old }
@@ -181,8 +182,8 @@ impl Order {
         Ok(Ahead::More)
     }
 
-    /// The least word without a path, as the node that all but its last letter lead to, and that letter. `None` exactly
-    /// where each word has one. Only want of memory refuses it.
+    /// The least word without a path, as the node that all but its last letter lead to, and that
+    /// letter. `None` exactly where each word has one. Only want of memory refuses it.
     pub fn first_missing(
         &mut self,
         edges: &Edges,
@@ -232,8 +233,8 @@ impl Order {
         None
     }
 
-    /// The node of the least word whose node has no mark. `None` exactly where each has one. Only want of memory
-    /// refuses it.
+    /// The node of the least word whose node has no mark. `None` exactly where each has one. Only
+    /// want of memory refuses it.
     pub fn first_unmarked(
         &mut self,
         alloc: Global,

@@ -46,7 +46,8 @@ fn side_end(edges: &Edges, at: usize, side: &Word) -> Option<usize>
     edges.target(at, side.letter(count - 1))
 }
 
-// What a side asks for at a node from which all but its last letter lead here, and the other side to the end.
+// What a side asks for at a node from which all but its last letter lead here, and the other side
+// to the end.
 fn due_to(edges: &Edges, end: Option<usize>, at: usize, side: &Word) -> Due
     ensures { (node : ℕ) (other : Letters) → end ≡ path_of edges.now.graph node other
         → path_of edges.now.graph node (take (length side.now - 1) side.now) ≡ Some at
@@ -122,8 +123,9 @@ fn due_behind(edges: &Edges, node: usize, side: &Word, count: usize, other: &Wor
     Due::Nothing
 }
 
-// Whether the side may be read across the edge of the letter from the node with its letter at the place: the letters are
-// the same, and the letter behind it, if it is not the last of the side, has an edge there.
+// Whether the side may be read across the edge of the letter from the node with its letter at the
+// place: the letters are the same, and the letter behind it, if it is not the last of the side, has
+// an edge there.
 fn may_cross(edges: &Edges, node: usize, letter: Letter, side: &Word, place: usize) -> bool
     requires { place < length side.now }
     ensures { result ≡ false → slice_get side.now place ≡ Some letter

@@ -25,13 +25,14 @@ use std::marker::Model;
 use word_graph::WordGraph;
 use words::Letter;
 
-/// The coset table of a congruence (libsemigroups, `ToddCoxeter`): a partial rooted word graph with root 0, of which
-/// some nodes are live, and of these some marked. The live nodes are exactly those that some word leads to from the
-/// root, and only they have edges. The root is always live. For each node and letter, the nodes whose edge of the letter
-/// leads to the node stand in a list.
+/// The coset table of a congruence (libsemigroups, `ToddCoxeter`): a partial rooted word graph with
+/// root 0, of which some nodes are live, and of these some marked. The live nodes are exactly those
+/// that some word leads to from the root, and only they have edges. The root is always live. For
+/// each node and letter, the nodes whose edge of the letter leads to the node stand in a list.
 ///
-/// Each call that gives a `Result` may find memory wanting. It then answers `NoMemory`, as does each later call, and
-/// the table shows the root alone. Nodes stand in four bytes, so that there is no memory for more than 2³² − 1 of them.
+/// Each call that gives a `Result` may find memory wanting. It then answers `NoMemory`, as does
+/// each later call, and the table shows the root alone. Nodes stand in four bytes, so that there is
+/// no memory for more than 2³² − 1 of them.
 #[derive(Drop)]
 pub struct Table {
     alloc: Global,
@@ -65,8 +66,8 @@ fn fail(failed: &mut bool) -> NoMemory
 }
 
 impl Table {
-    /// The table of the congruence with the root alone and no edge. The congruence has right pairs, or none. Refused
-    /// only where memory is wanting.
+    /// The table of the congruence with the root alone and no edge. The congruence has right pairs,
+    /// or none. Refused only where memory is wanting.
     pub fn new(alloc: Global, congruence: &Congruence) -> Result<Table, NoMemory>
         requires { IsRightSided congruence.now.congruence }
         ensures table { IfOk result IsTable }
@@ -98,8 +99,8 @@ impl Table {
         })
     }
 
-    /// Where the edge of the letter leads from the node. `None` exactly where there is no such edge. No call on the
-    /// table has found memory wanting.
+    /// Where the edge of the letter leads from the node. `None` exactly where there is no such
+    /// edge. No call on the table has found memory wanting.
     pub fn target(&self, node: usize, letter: Letter) -> Option<usize>
         requires { self.now.failed ≡ false }
         ensures { result ≡ target_of self.now.graph node letter }
@@ -107,8 +108,8 @@ impl Table {
         self.edges.target(node, letter)
     }
 
-    /// The first in the list of the nodes whose edge of the letter leads to the node. `None` exactly where there is
-    /// none. No call on the table has found memory wanting.
+    /// The first in the list of the nodes whose edge of the letter leads to the node. `None`
+    /// exactly where there is none. No call on the table has found memory wanting.
     pub fn first_source(&self, node: usize, letter: Letter) -> Option<usize>
         requires { self.now.failed ≡ false }
         ensures first { result ≡ target_of self.now.firsts node letter }
@@ -118,9 +119,9 @@ impl Table {
         self.edges.first_source(node, letter)
     }
 
-    /// The node after this one in the list of the nodes whose edge of the letter leads where its own does. `None`
-    /// exactly where it is the last. The node has an edge of the letter, and no call on the table has found memory
-    /// wanting.
+    /// The node after this one in the list of the nodes whose edge of the letter leads where its
+    /// own does. `None` exactly where it is the last. The node has an edge of the letter, and no
+    /// call on the table has found memory wanting.
     pub fn next_source(&self, node: usize, letter: Letter) -> Option<usize>
         requires failed { self.now.failed ≡ false }
         requires edge { target_of self.now.graph node letter ≢ None }
@@ -132,8 +133,8 @@ impl Table {
         self.edges.next_source(node, letter)
     }
 
-    /// Makes an edge of the letter from the live node to a new node, which is live and not marked, and tells its
-    /// number. The node had no such edge.
+    /// Makes an edge of the letter from the live node to a new node, which is live and not marked,
+    /// and tells its number. The node had no such edge.
     pub fn define(&mut self, node: usize, letter: Letter) -> Result<usize, NoMemory>
         requires node { IsLive self.old node }
         requires letter { letter < self.old.congruence.presentation.letters }
@@ -193,10 +194,11 @@ impl Table {
         Ok(())
     }
 
-    /// Makes two live nodes one, and with them all nodes to which this leads: the paths then relate what they related
-    /// before, the words that lead to the one node and the words that lead to the other, and what follows from that by
-    /// adding letters (a coincidence: Sims 1994, 5.1). The numbers of nodes stay, and nodes that are merged into
-    /// another are no longer live. A word's node is marked then where the word is related to one whose node was marked.
+    /// Makes two live nodes one, and with them all nodes to which this leads: the paths then relate
+    /// what they related before, the words that lead to the one node and the words that lead to the
+    /// other, and what follows from that by adding letters (a coincidence: Sims 1994, 5.1). The
+    /// numbers of nodes stay, and nodes that are merged into another are no longer live. A word's
+    /// node is marked then where the word is related to one whose node was marked.
     pub fn identify(&mut self, x: usize, y: usize) -> Result<(), NoMemory>
         requires x { IsLive self.old x }
         requires y { IsLive self.old y }
@@ -233,7 +235,8 @@ impl Table {
         }
     }
 
-    // Draws what follows from the relations, read at every node or at one alone, and from the pairs.
+    // Draws what follows from the relations, read at every node or at one alone, and from the
+    // pairs.
     fn close(&mut self, at: Option<usize>) -> Result<(), NoMemory>
         requires at { ForSome at (IsLive self.old) }
         ensures relates { OnOk result (PathsRelate self.new.graph
@@ -269,9 +272,10 @@ impl Table {
         }
     }
 
-    /// Draws all that follows from the relations, read at the words that lead to the live node, and from the pairs,
-    /// read at the empty word, until nothing new follows: the paths then relate what they related before, and what
-    /// follows from it (the row of a word: Sims 1994, 5.2). Marks go with their words, as at `identify`.
+    /// Draws all that follows from the relations, read at the words that lead to the live node, and
+    /// from the pairs, read at the empty word, until nothing new follows: the paths then relate
+    /// what they related before, and what follows from it (the row of a word: Sims 1994, 5.2).
+    /// Marks go with their words, as at `identify`.
     pub fn close_at(&mut self, node: usize) -> Result<(), NoMemory>
         requires { IsLive self.old node }
         ensures relates { OnOk result ((w : Letters) → path self.old.graph 0 w ≡ Some node
@@ -291,9 +295,9 @@ impl Table {
         self.close(Some(node))
     }
 
-    /// Draws all that follows from the relations, read at each word that has a path, and from the pairs, read at the
-    /// empty word, until nothing new follows: the paths then relate what they related before, and what follows from
-    /// it. Marks go with their words, as at `identify`.
+    /// Draws all that follows from the relations, read at each word that has a path, and from the
+    /// pairs, read at the empty word, until nothing new follows: the paths then relate what they
+    /// related before, and what follows from it. Marks go with their words, as at `identify`.
     pub fn close_all(&mut self) -> Result<(), NoMemory>
         ensures relates { OnOk result (PathsRelate self.new.graph
             (ClosedAll self.old.congruence (SameEnd self.old.graph))) }
@@ -327,8 +331,8 @@ impl Table {
         Ok(())
     }
 
-    /// The node of the least word in short-lex order whose node is not marked. `None` exactly where each live node is
-    /// marked.
+    /// The node of the least word in short-lex order whose node is not marked. `None` exactly where
+    /// each live node is marked.
     pub fn first_unprocessed(&mut self) -> Result<Option<usize>, NoMemory>
         ensures first { IfOk result (λ found. MatchOption found
             (AllMarked self.old.graph self.old.marked)
@@ -352,8 +356,8 @@ impl Table {
         }
     }
 
-    /// The least word in short-lex order that has no path, as the live node that all but its last letter lead to, and
-    /// that letter. `None` exactly where each word has a path.
+    /// The least word in short-lex order that has no path, as the live node that all but its last
+    /// letter lead to, and that letter. `None` exactly where each word has a path.
     pub fn first_missing(&mut self) -> Result<Option<(usize, Letter)>, NoMemory>
         ensures first { IfOk result (λ found. MatchOption found
             (AllDefined self.old.congruence.presentation.letters (SameEnd self.old.graph))
@@ -374,8 +378,8 @@ impl Table {
         }
     }
 
-    /// The live part of the table as a word graph of its own, whose equal paths are those of the table: each of its
-    /// nodes is reached. It is standard where each word has a path.
+    /// The live part of the table as a word graph of its own, whose equal paths are those of the
+    /// table: each of its nodes is reached. It is standard where each word has a path.
     pub fn graph(&mut self) -> Result<WordGraph, NoMemory>
         ensures shows { IfOk result (λ g. Shows g (SameEnd self.old.graph)) }
         ensures graph { IfOk result (λ g. IsGraph self.old.congruence.presentation.letters g) }
@@ -396,8 +400,8 @@ impl Table {
         }
     }
 
-    /// As [`graph`](Table::graph), of a table that is only lent. Refused only where memory is wanting, for which no later
-    /// call answers, or was for an earlier one.
+    /// As [`graph`](Table::graph), of a table that is only lent. Refused only where memory is
+    /// wanting, for which no later call answers, or was for an earlier one.
     pub fn live_graph(&self) -> Result<WordGraph, NoMemory>
         ensures shows { IfOk result (λ g. Shows g (SameEnd self.now.graph)) }
         ensures graph { IfOk result (λ g. IsGraph self.now.congruence.presentation.letters g) }

@@ -16,7 +16,8 @@ normal_of g least u = word_at least (node_of g u)
 abbrev pub Falls : Graph → List (ℕ × Word) → Word → Type 0
 Falls g least u = normal_of g least u ≺ u
 
--- the left side is the word of a place with the letter behind it; it falls to the right side, and without its first letter does not fall
+-- the left side is the word of a place with the letter behind it; it falls to the right side, and
+-- without its first letter does not fall
 pub record IsRuleAt (g : Graph) (least : List (ℕ × Word)) (place letter : ℕ)
     (rule : Word × Word) : Type 0 where
   pub left : rule.0 ≡ word_at least place ++ letter ∷ []
@@ -30,7 +31,8 @@ IsRuleOf g least place letter found =
     MatchOption found ((rule : Word × Word) → IsRuleAt g least place letter rule → ⊥)
     (IsRuleAt g least place letter)
 
--- the rules of the places before i and all letters, and of the place i and the letters before a, in order
+-- the rules of the places before i and all letters, and of the place i and the letters before a, in
+-- order
 pub record AreRulesTo (k : ℕ) (g : Graph) (least : List (ℕ × Word)) (i a : ℕ)
     (rules : List (Word × Word)) : Type 0 where
   pub sound : (rule : Word × Word)

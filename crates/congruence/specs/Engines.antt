@@ -19,7 +19,8 @@ use Rattle.knuth_bendix.specs.Runs.{CompletionRun, CompletionTask}
 use Rattle.congruence.specs.declared.engine.Engine.{Engine}
 use Rattle.congruence.specs.declared.engine.Engine.TheVariants.{Felsch, Hlt, Completion}
 
--- whether a strategy ends for a right congruence within a budget, or completion of a presentation within a length
+-- whether a strategy ends for a right congruence within a budget, or completion of a presentation
+-- within a length
 pub data EngineTask : Type 0 where
   Definitions : FelschTask → EngineTask
   Rows : HltTask → EngineTask
@@ -58,7 +59,8 @@ as_racer = record {
 abbrev pub related_presentation : Congruence → Presentation
 related_presentation c = with_relations c.presentation c.pairs
 
--- the tasks of the lanes for a congruence: Felsch's strategy, the strategy of rows, and completion where it is two-sided
+-- the tasks of the lanes for a congruence: Felsch's strategy, the strategy of rows, and completion
+-- where it is two-sided
 abbrev pub tasks_for : Congruence → Budgets → List EngineTask
 tasks_for c b =
     Definitions (record { congruence = as_right c; budget = b.defs })

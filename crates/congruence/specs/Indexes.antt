@@ -5,7 +5,8 @@ use Rattle.theory.specs.Class.{HasIndex, IsInfinite}
 use Rattle.congruence.specs.declared.answers.Index.{Index}
 use Rattle.congruence.specs.declared.answers.Index.TheVariants.{Finite, Infinite, Over}
 
--- so many classes, which is at most the bound, infinitely many, or finitely many and more than the bound
+-- so many classes, which is at most the bound, infinitely many, or finitely many and more than the
+-- bound
 abbrev pub IsIndexWithin : (Word → Word → Type 0) → ℕ → Index → Type 0
 IsIndexWithin R bound (Finite n) = HasIndex R n × (n ≤ bound)
 IsIndexWithin R bound Infinite = IsInfinite R

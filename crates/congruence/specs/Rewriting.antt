@@ -16,7 +16,8 @@ pub record AreRulesOf (c : Congruence) (rules : List (Word × Word)) : Type 0 wh
   pub reduced : (u v : Word) → Listed rules u v ↔ Rule (related_presentation c) length u v
   pub list : IsRuleList (SameClass (of_presentation (related_presentation c))) rules
 
--- the rules decide the congruence, they are its reduced rules, and the least words of its classes are the elements to which none applies
+-- the rules decide the congruence, they are its reduced rules, and the least words of its classes
+-- are the elements to which none applies
 pub record DecidesBy (c : Congruence) (a : Reading) : Type 0 where
   pub well_formed : IsWellFormed c
   pub letters : a.letters ≡ c.presentation.letters

@@ -43,7 +43,8 @@ node_of g u = unwrap_or (path g 0 u) 0
 abbrev pub AreListed : Graph → List (ℕ × Word) → Type 0
 AreListed g least = (u : Word) → node_of g u < length least
 
--- the graph decides the congruence, and from the first class on the words are the least of all classes, in order
+-- the graph decides the congruence, and from the first class on the words are the least of all
+-- classes, in order
 pub record IsSolution (c : Congruence) (g : Graph) (least : List (ℕ × Word)) : Type 0 where
   pub graph : IsGraph c.presentation.letters g
   pub root : word_at least 0 ≡ []
@@ -59,7 +60,8 @@ pub record IsSolution (c : Congruence) (g : Graph) (least : List (ℕ × Word)) 
       → (first_class c.presentation.is_monoid ≤ node) × (node < length least)
       × SameClass c u (word_at least node)
 
--- of the words from the first class on, those from the place on come after the cursor, and those before it do not
+-- of the words from the first class on, those from the place on come after the cursor, and those
+-- before it do not
 pub record IsPlaceAfter (first : ℕ) (least : List (ℕ × Word)) (cursor : Option Word)
     (place : ℕ) : Type 0 where
   pub within : (first ≤ place) × (place ≤ length least)

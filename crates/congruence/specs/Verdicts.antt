@@ -18,7 +18,8 @@ IsCongruenceIn (PPerm p) c = ⊥
 IsCongruenceIn (BMat p) c = ⊥
 IsCongruenceIn (MaxPlus p) c = ⊥
 
--- a known verdict is of the congruence, which some engine decides within its budget, and keeps the lanes of a race that one of them won; else each is spent
+-- a known verdict is of the congruence, which some engine decides within its budget, and keeps the
+-- lanes of a race that one of them won; else each is spent
 abbrev pub Decides : Congruence → Budgets → Verdict → Type 0
 Decides c b (Known solved) =
     IsCongruenceDecided c b × (solved.congruence ≡ c)

@@ -28,15 +28,16 @@ pub enum Index {
     Over,
 }
 
-/// How the classes are known: by the graph of the cosets, or by the reduced words of rewriting rules.
+/// How the classes are known: by the graph of the cosets, or by the reduced words of rewriting
+/// rules.
 #[derive(Drop)]
 pub enum Classes {
     Cosets(CosetClasses),
     Reduced(ReducedClasses),
 }
 
-/// What is known of a congruence that was decided (libsemigroups, `Congruence`). The empty word counts as a class of a
-/// monoid, and is no element of a semigroup.
+/// What is known of a congruence that was decided (libsemigroups, `Congruence`). The empty word
+/// counts as a class of a monoid, and is no element of a semigroup.
 #[derive(Drop)]
 pub struct Solved {
     classes: Classes,
@@ -77,7 +78,8 @@ impl Solved {
         }
     }
 
-    /// Whether the two words, which are elements, are of one class. Refused only where memory is wanting.
+    /// Whether the two words, which are elements, are of one class. Refused only where memory is
+    /// wanting.
     pub fn equal(&self, u: &Word, v: &Word) -> Result<bool, NoMemory>
         requires left { IsElement self.now.congruence.presentation.is_monoid
             self.now.congruence.presentation.letters u.now }
@@ -91,8 +93,8 @@ impl Solved {
         }
     }
 
-    /// The normal form of the word, which is an element: the least word of its class in short-lex order. Refused only
-    /// where memory is wanting.
+    /// The normal form of the word, which is an element: the least word of its class in short-lex
+    /// order. Refused only where memory is wanting.
     pub fn normal(&self, u: &Word) -> Result<Word, NoMemory>
         requires { IsElement self.now.congruence.presentation.is_monoid
             self.now.congruence.presentation.letters u.now }
@@ -104,9 +106,10 @@ impl Solved {
         }
     }
 
-    /// The first least word of a class after the cursor, or the first at all; `None` where there is none. The cursor
-    /// need not be the least word of its class. What holds of every decided congruence is told here: after each cursor
-    /// comes a next class, or none. Refused only where memory is wanting.
+    /// The first least word of a class after the cursor, or the first at all; `None` where there is
+    /// none. The cursor need not be the least word of its class. What holds of every decided
+    /// congruence is told here: after each cursor comes a next class, or none. Refused only where
+    /// memory is wanting.
     pub fn next_after(&self, after: Option<&Word>) -> Result<Option<Word>, NoMemory>
         ensures goes_on { GoesOnOrEnds (IsLeast (SameClass self.now.congruence)) ◌≺◌ }
         ensures next { IfOk result (λ next. MatchOption next
@@ -119,8 +122,8 @@ impl Solved {
         }
     }
 
-    /// The reduced rules of a two-sided congruence, in short-lex order of their left sides (Froidure and Pin 1997).
-    /// Refused only where memory is wanting.
+    /// The reduced rules of a two-sided congruence, in short-lex order of their left sides
+    /// (Froidure and Pin 1997). Refused only where memory is wanting.
     pub fn rules(&self) -> Result<Rules, NoMemory>
         requires { is_two_sided self.now.congruence ≡ true }
         ensures { IfOk result (IsRuleList (SameClass self.now.congruence)) }

@@ -19,8 +19,8 @@ use std::marker::Model;
 use word_graph::WordGraph;
 use words::{Letter, Word, shortlex};
 
-/// The classes of a congruence by the graph of its cosets, and the least words of the nodes. The empty word counts as a
-/// class of a monoid, and is no element of a semigroup.
+/// The classes of a congruence by the graph of its cosets, and the least words of the nodes. The
+/// empty word counts as a class of a monoid, and is no element of a semigroup.
 #[derive(Drop)]
 pub struct CosetClasses {
     alloc: Global,
@@ -127,8 +127,8 @@ fn word_on(
     Ok(word)
 }
 
-// The rule whose left side is the word of the place with the letter behind it, where there is one: the word falls, and
-// what is left of it without its first letter does not.
+// The rule whose left side is the word of the place with the letter behind it, where there is one:
+// the word falls, and what is left of it without its first letter does not.
 fn rule_at(
     alloc: Global,
     graph: &WordGraph,
@@ -197,7 +197,8 @@ fn all_rules(
 }
 
 impl CosetClasses {
-    /// The classes that a graph gives whose equal paths are the congruence. Refused only where memory is wanting.
+    /// The classes that a graph gives whose equal paths are the congruence. Refused only where
+    /// memory is wanting.
     pub fn new(
         alloc: Global,
         congruence: &Congruence,
@@ -240,7 +241,8 @@ impl CosetClasses {
         }
     }
 
-    /// Whether the two words, which are elements, are of one class. Refused only where memory is wanting.
+    /// Whether the two words, which are elements, are of one class. Refused only where memory is
+    /// wanting.
     pub fn equal(&self, u: &Word, v: &Word) -> Result<bool, NoMemory>
         requires left { IsElement self.now.presentation.is_monoid self.now.presentation.letters
             u.now }
@@ -251,8 +253,8 @@ impl CosetClasses {
         Ok(self.graph.path(0, u) == self.graph.path(0, v))
     }
 
-    /// The normal form of the word, which is an element: the least word of its class in short-lex order. Refused only
-    /// where memory is wanting.
+    /// The normal form of the word, which is an element: the least word of its class in short-lex
+    /// order. Refused only where memory is wanting.
     pub fn normal(&self, u: &Word) -> Result<Word, NoMemory>
         requires { IsElement self.now.presentation.is_monoid self.now.presentation.letters u.now }
         ensures { IfOk result (IsNormal (SameClass self.now) u.now) }
@@ -260,9 +262,10 @@ impl CosetClasses {
         normal_of(self.alloc, &self.graph, self.least.as_slice(), u)
     }
 
-    /// The first least word of a class after the cursor, or the first at all; `None` where there is none. The cursor
-    /// need not be the least word of its class. What holds of every decided congruence is told here: after each cursor
-    /// comes a next class, or none. Refused only where memory is wanting.
+    /// The first least word of a class after the cursor, or the first at all; `None` where there is
+    /// none. The cursor need not be the least word of its class. What holds of every decided
+    /// congruence is told here: after each cursor comes a next class, or none. Refused only where
+    /// memory is wanting.
     pub fn next_after(&self, after: Option<&Word>) -> Result<Option<Word>, NoMemory>
         ensures goes_on { GoesOnOrEnds (IsLeast (SameClass self.now)) ◌≺◌ }
         ensures next { IfOk result (λ next. MatchOption next
@@ -280,8 +283,8 @@ impl CosetClasses {
         }
     }
 
-    /// The reduced rules of a two-sided congruence, in short-lex order of their left sides (Froidure and Pin 1997). Refused
-    /// only where memory is wanting.
+    /// The reduced rules of a two-sided congruence, in short-lex order of their left sides
+    /// (Froidure and Pin 1997). Refused only where memory is wanting.
     pub fn rules(&self) -> Result<Rules, NoMemory>
         requires { is_two_sided self.now ≡ true }
         ensures { IfOk result (IsRuleList (SameClass self.now)) }

@@ -17,8 +17,9 @@ use std::alloc::Global;
 use std::marker::Model;
 use words::Word;
 
-/// The classes of a two-sided congruence by its reduced rules: a word is the least of its class exactly where no rule
-/// applies to it. The empty word counts as a class of a monoid, and is no element of a semigroup.
+/// The classes of a two-sided congruence by its reduced rules: a word is the least of its class
+/// exactly where no rule applies to it. The empty word counts as a class of a monoid, and is no
+/// element of a semigroup.
 #[derive(Drop)]
 pub struct ReducedClasses {
     alloc: Global,
@@ -38,7 +39,8 @@ impl Model for ReducedClasses {
 }
 
 impl ReducedClasses {
-    /// The classes that the rules of a completion give which has decided. Refused only where memory is wanting.
+    /// The classes that the rules of a completion give which has decided. Refused only where memory
+    /// is wanting.
     pub fn new(
         alloc: Global,
         congruence: &Congruence,
@@ -67,8 +69,8 @@ impl ReducedClasses {
         self.count(bound)
     }
 
-    // The number of classes, if it is at most the bound, where they are finitely many. Refused only where memory is
-    // wanting.
+    // The number of classes, if it is at most the bound, where they are finitely many. Refused only
+    // where memory is wanting.
     fn count(&self, bound: usize) -> Result<Index, NoMemory>
         requires { (n : ℕ) × HasIndex (SameClass self.now) n }
         ensures { IfOk result (IsIndexWithin (SameClass self.now) bound) }
@@ -85,7 +87,8 @@ impl ReducedClasses {
         Ok(Index::Finite(count))
     }
 
-    /// Whether the two words, which are elements, are of one class. Refused only where memory is wanting.
+    /// Whether the two words, which are elements, are of one class. Refused only where memory is
+    /// wanting.
     pub fn equal(&self, u: &Word, v: &Word) -> Result<bool, NoMemory>
         requires left { IsElement self.now.presentation.is_monoid self.now.presentation.letters
             u.now }
@@ -98,8 +101,8 @@ impl ReducedClasses {
         Ok(left.letters() == right.letters())
     }
 
-    /// The normal form of the word, which is an element: the least word of its class in short-lex order. Refused only
-    /// where memory is wanting.
+    /// The normal form of the word, which is an element: the least word of its class in short-lex
+    /// order. Refused only where memory is wanting.
     pub fn normal(&self, u: &Word) -> Result<Word, NoMemory>
         requires { IsElement self.now.presentation.is_monoid self.now.presentation.letters u.now }
         ensures { IfOk result (IsNormal (SameClass self.now) u.now) }
@@ -107,9 +110,10 @@ impl ReducedClasses {
         self.automaton.reduce(u)
     }
 
-    /// The first least word of a class after the cursor, or the first at all; `None` where there is none. The cursor
-    /// need not be the least word of its class. What holds of every decided congruence is told here: after each cursor
-    /// comes a next class, or none. Refused only where memory is wanting.
+    /// The first least word of a class after the cursor, or the first at all; `None` where there is
+    /// none. The cursor need not be the least word of its class. What holds of every decided
+    /// congruence is told here: after each cursor comes a next class, or none. Refused only where
+    /// memory is wanting.
     pub fn next_after(&self, after: Option<&Word>) -> Result<Option<Word>, NoMemory>
         ensures goes_on { GoesOnOrEnds (IsLeast (SameClass self.now)) ◌≺◌ }
         ensures next { IfOk result (λ next. MatchOption next
@@ -129,8 +133,8 @@ impl ReducedClasses {
         }
     }
 
-    /// The reduced rules of a two-sided congruence, in short-lex order of their left sides (Froidure and Pin 1997).
-    /// Refused only where memory is wanting.
+    /// The reduced rules of a two-sided congruence, in short-lex order of their left sides
+    /// (Froidure and Pin 1997). Refused only where memory is wanting.
     pub fn rules(&self) -> Result<Rules, NoMemory>
         requires { is_two_sided self.now ≡ true }
         ensures { IfOk result (IsRuleList (SameClass self.now)) }

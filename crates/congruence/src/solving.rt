@@ -59,7 +59,8 @@ fn completion_of(
     Completion::new(alloc, &relations, length)
 }
 
-// The lanes for the congruence: Felsch's strategy, the strategy of rows, and completion where it is two-sided.
+// The lanes for the congruence: Felsch's strategy, the strategy of rows, and completion where it is
+// two-sided.
 fn lanes_for(
     alloc: Global,
     congruence: &Congruence,
@@ -127,8 +128,9 @@ fn verdict_at(
     }
 }
 
-/// Decides the congruence within the budgets by a race on one thread, whose lanes take turns by the schedule and then in
-/// rotation. No schedule changes an answer. Refused only where memory is wanting.
+/// Decides the congruence within the budgets by a race on one thread, whose lanes take turns by the
+/// schedule and then in rotation. No schedule changes an answer. Refused only where memory is
+/// wanting.
 pub fn decide(
     alloc: Global,
     congruence: &Congruence,
@@ -161,13 +163,15 @@ fn decide_over_threads<R: Threads + Sync, G: Gate + Sync>(
     verdict_at(alloc, congruence, lanes, outcome)
 }
 
-/// Decides the problem, which is given by relations, by engines that race: coset enumeration by Felsch's strategy with the
-/// budget `defs` of definitions, and by that of Haselgrove, Leech and Trotter with the budget `rows` of rows, and where the
-/// congruence is two-sided completion with words of at most `length` letters (Felsch 1961; Knuth and Bendix 1970; Sims
-/// 1994, 2.5 and 5.2; libsemigroups, `ToddCoxeter`, `KnuthBendix`). They race over as many threads as there are workers,
-/// each turn behind the gate; with one worker they take turns on this one, without the gate. The number of workers changes
-/// no answer. The pairs of its congruence are two-sided or right pairs. `Undecided` exactly where no budget suffices; the
-/// lanes are kept as the race left them. Refused only where memory is wanting.
+/// Decides the problem, which is given by relations, by engines that race: coset enumeration by
+/// Felsch's strategy with the budget `defs` of definitions, and by that of Haselgrove, Leech and
+/// Trotter with the budget `rows` of rows, and where the congruence is two-sided completion with
+/// words of at most `length` letters (Felsch 1961; Knuth and Bendix 1970; Sims 1994, 2.5 and 5.2;
+/// libsemigroups, `ToddCoxeter`, `KnuthBendix`). They race over as many threads as there are
+/// workers, each turn behind the gate; with one worker they take turns on this one, without the
+/// gate. The number of workers changes no answer. The pairs of its congruence are two-sided or
+/// right pairs. `Undecided` exactly where no budget suffices; the lanes are kept as the race left
+/// them. Refused only where memory is wanting.
 pub fn solve<R: Threads + Sync, G: Gate + Sync>(
     rt: &R,
     alloc: Global,

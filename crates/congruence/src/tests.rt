@@ -1,4 +1,5 @@
-// Congruences on the symmetric group of degree three, on a semilattice, on a cyclic group and on the bicyclic monoid.
+// Congruences on the symmetric group of degree three, on a semilattice, on a cyclic group and on
+// the bicyclic monoid.
 ghost use Rattle.std.specs.Prelude.{◌≡◌, ◌⊎◌, true, length, IfOk, IfSome};
 ghost use Rattle.theory.specs.Word.{IsOver};
 ghost use Rattle.theory.specs.Congruence.{is_two_sided};

@@ -8,6 +8,7 @@ abbrev pub HaveOneShape : {V : Type 0} → (V → ℕ × ℕ) → List V → Typ
 HaveOneShape {V} shape xs = (i j : ℕ) (unused : V) → i < length xs → j < length xs
     → shape (slice_index_or xs i unused) ≡ shape (slice_index_or xs j unused)
 
--- the value of a word over the generators; nothing but words beyond them, and the empty word, have the value `unused`
+-- the value of a word over the generators; nothing but words beyond them, and the empty word, have
+-- the value `unused`
 abbrev pub value_by : {V : Type 0} → (V → V → V) → List V → V → Word → V
 value_by product generators unused = value product (λ a. slice_index_or generators a unused) unused

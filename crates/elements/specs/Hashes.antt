@@ -1,4 +1,5 @@
--- What a hasher is fed for an element: a few numbers. The elements of a set have one shape, so it is left out.
+-- What a hasher is fed for an element: a few numbers. The elements of a set have one shape, so it
+-- is left out.
 use Rattle.std.specs.Prelude.{ℕ, ◌+◌, ◌*◌, ◌%◌, ◌^◌, min, bit_or, Bool, List, length, map, fold, Option, Some, None, slice_index_or}
 use Rattle.std.specs.Hash as fed
 use Rattle.std.specs.Int.{div_ceil}

@@ -1,4 +1,5 @@
--- Truncated max-plus matrices, row by row (libsemigroups, MaxPlusTruncMat). No number stands for minus infinity.
+-- Truncated max-plus matrices, row by row (libsemigroups, MaxPlusTruncMat). No number stands for
+-- minus infinity.
 use Rattle.std.specs.Prelude.{◌≡◌, ℕ, ◌+◌, ◌*◌, min, max, List, length, All, Option, Some, None}
 use Rattle.elements.specs.Fields.{IsBelow}
 use Rattle.elements.specs.Matrix.{matrix_product}

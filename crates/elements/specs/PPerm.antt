@@ -18,7 +18,8 @@ abbrev pub IsInjective : List (Option ℕ) → Type 0
 IsInjective x = (i j y : ℕ) → slice_index_or x i None ≡ Some y → slice_index_or x j None ≡ Some y
     → i ≡ j
 
--- the images of the points 0 to n - 1, n the length of the list: each below n or none, and no image twice
+-- the images of the points 0 to n - 1, n the length of the list: each below n or none, and no image
+-- twice
 pub record ArePartialImages (x : List (Option ℕ)) : Type 0 where
   pub in_range : All (IsBelow (length x)) x
   pub injective : IsInjective x

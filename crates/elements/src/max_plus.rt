@@ -207,9 +207,9 @@ impl MaxPlusTrunc {
     }
 
     /// The matrix of this shape, the dimension n and the bound t, with these entries, row by row; a
-    /// dash is minus infinity. Refused with `BadCount` exactly where there are not n times n entries,
-    /// then with `BadEntry` at the first entry that is neither a dash nor a number from 0 to t; never
-    /// with `NotInjective`.
+    /// dash is minus infinity. Refused with `BadCount` exactly where there are not n times n
+    /// entries, then with `BadEntry` at the first entry that is neither a dash nor a number from 0
+    /// to t; never with `NotInjective`.
     pub fn read(
         alloc: Global,
         shape: (u32, u32),

@@ -22,7 +22,8 @@ pub record AreTails (words : List Word) (tails : List Tail) : Type 0 where
       → slice_index_or words j [] ≡ (tail_at tails j).first
       ∷ parent words (tail_at tails j).suffix
 
--- the words from the first to before the last are of one length, and those behind are one letter longer
+-- the words from the first to before the last are of one length, and those behind are one letter
+-- longer
 pub record IsLevel (words : List Word) (first last : ℕ) : Type 0 where
   pub within : last ≤ length words
   pub here : (j : ℕ) → first ≤ j → j < last
@@ -67,7 +68,8 @@ pub record IsAt {V : Type 0} (product : V → V → V) (equal : V → V → Bool
   pub few : length left ≤ (number + 1) * length generators
   pub shorter : ReachesShorter (length generators) (words_of factors) (length left) number
 
--- steps from a start are no more than the words and some reduced rules, whose left sides are at the first n places
+-- steps from a start are no more than the words and some reduced rules, whose left sides are at the
+-- first n places
 pub record AreCounted {V : Type 0} (product : V → V → V) (equal : V → V → Bool)
     (generators : List V) (unused : V) (words : List Word) (n start steps : ℕ) : Type 0 where
   pub rules : List (Word × Word)
@@ -80,7 +82,8 @@ pub record AreCounted {V : Type 0} (product : V → V → V) (equal : V → V �
       × (j * length generators + b < n) × (p.0 ≡ parent words j ++ b ∷ [])
   pub few : steps ≤ start + (length words + length rules)
 
--- one growth leads to another while the element of a number is multiplied: the levels stay, and what was counted
+-- one growth leads to another while the element of a number is multiplied: the levels stay, and
+-- what was counted
 pub record GrowsTo {V : Type 0} (product : V → V → V) (equal : V → V → Bool) (generators : List V)
     (unused : V) (factors later : List Factor) (n m number before after : ℕ) : Type 0 where
   pub level : (first last : ℕ) → first ≤ number → number < last

@@ -67,7 +67,8 @@ pub record IsStep {V : Type 0} (product : V → V → V) (equal : V → V → Bo
       new.factors.items (length old.right.items) (length new.right.items) number before after
   pub left : new.left.items ≡ old.left.items
 
--- the words from the first to before the last are of one length: the elements before a number are multiplied on the right, and on the left those before the first
+-- the words from the first to before the last are of one length: the elements before a number are
+-- multiplied on the right, and on the left those before the first
 pub record IsWithin {V : Type 0} (product : V → V → V) (equal : V → V → Bool) (generators : List V)
     (growth : Growth V) (first last number : ℕ) : Type 0 where
   pub known : IsKnown product equal generators growth (number + 1) 0

@@ -7,7 +7,8 @@ use Rattle.froidure_pin.specs.Found.{IsNumberIn, AreFactors, entry}
 use Rattle.elements.specs.Generators.{value_by}
 use Rattle.froidure_pin.specs.declared.parts.Factor.{Factor}
 
--- the elements, their words, and how many letters there are; the numbers of the products by each letter on the right, and on the left, in a row of the empty word and then in one of each element
+-- the elements, their words, and how many letters there are; the numbers of the products by each
+-- letter on the right, and on the left, in a row of the empty word and then in one of each element
 pub record TableOf (V : Type 0) : Type 0 where
   pub elements : List V
   pub words : List Word

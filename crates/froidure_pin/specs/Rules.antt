@@ -29,7 +29,8 @@ abbrev pub is_product : List Factor → ℕ → ℕ → ℕ → Bool
 is_product factors m j a =
     ((factor_at factors m).prefix == j) && ((factor_at factors m).last == a)
 
--- whether the product at a place is the left side of a rule: no word, while it is one without its first letter, or has no other letter
+-- whether the product at a place is the left side of a rule: no word, while it is one without its
+-- first letter, or has no other letter
 abbrev pub is_rule : ℕ → List Factor → List ℕ → List ℕ → ℕ → Bool
 is_rule k factors right suffixes p =
     not (is_product factors (slice_index right p) (p / k) (p % k))

@@ -29,8 +29,8 @@ pub struct FroidurePin;
 
 impl FroidurePin {
     /// The table of the semigroup that the generators generate, or `Over` exactly where it has more
-    /// elements than the bound. The generators are the letters, in their order. Each product that is
-    /// multiplied out is one step: there are no more of them than elements and reduced rules
+    /// elements than the bound. The generators are the letters, in their order. Each product that
+    /// is multiplied out is one step: there are no more of them than elements and reduced rules
     /// together, and, however the run ends, no more than the bound times the generators. Only want
     /// of memory refuses a run.
     pub fn run<E: Element, L: Ledger>(

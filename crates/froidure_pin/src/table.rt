@@ -101,8 +101,8 @@ impl<E: Element> Table<E> {
         self.right[letter.number()] as usize
     }
 
-    /// The number of the product of the element of a number by a letter's generator: the edge of the
-    /// right Cayley graph.
+    /// The number of the product of the element of a number by a letter's generator: the edge of
+    /// the right Cayley graph.
     pub fn right(&self, number: usize, letter: Letter) -> usize
         requires number { number < length self.now.elements }
         requires letter { letter < self.now.letters }
@@ -112,8 +112,8 @@ impl<E: Element> Table<E> {
         entry(&self.right, self.letters, number + 1, letter.number())
     }
 
-    /// The number of the product of a letter's generator by the element of a number: the edge of the
-    /// left Cayley graph.
+    /// The number of the product of a letter's generator by the element of a number: the edge of
+    /// the left Cayley graph.
     pub fn left(&self, number: usize, letter: Letter) -> usize
         requires number { number < length self.now.elements }
         requires letter { letter < self.now.letters }

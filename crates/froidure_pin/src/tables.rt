@@ -8,8 +8,8 @@ use super::rows::entry;
 use ports::NoMemory;
 use std::alloc::Global;
 
-/// The words of a table, its right and its left Cayley graph, and the numbers of its letters. A graph
-/// has a row for each element, and in it a number for each letter.
+/// The words of a table, its right and its left Cayley graph, and the numbers of its letters. A
+/// graph has a row for each element, and in it a number for each letter.
 #[derive(Drop)]
 pub struct CayleyTables {
     pub words: Words,

@@ -17,7 +17,8 @@ pub record SetsAside (left : Word) (rules kept old new : List (Word × Word)) : 
   pub kept_is : kept ≡ filter (λ r. not (stands_in left r.0)) rules
   pub moved : IsPermutation (old ++ filter (λ r. stands_in left r.0) rules) new
 
--- right sides have been rewritten: each new one is linked to the old one by the new rules, through words no later than that
+-- right sides have been rewritten: each new one is linked to the old one by the new rules, through
+-- words no later than that
 pub record Rewrites (old new : List (Word × Word)) : Type 0 where
   pub lefts : lefts new ≡ lefts old
   pub falling : AreFalling new
@@ -32,7 +33,8 @@ abbrev pub IsDone : Word → List (Word × Word) → List (Word × Word) → ℕ
 IsDone f old new i = IsReduced (Listed new) (rule_at new i).1
     ⊎ ((rule_at new i ≡ rule_at old i) × (IsFactor f (rule_at old i).1 → ⊥))
 
--- a rule has been added: rules in which its left side stands became equations, right sides were rewritten, and its overlaps within the length were joined
+-- a rule has been added: rules in which its left side stands became equations, right sides were
+-- rewritten, and its overlaps within the length were joined
 pub record AddsRule (L : ℕ) (left right : Word)
     (rules equations new_rules new_equations : List (Word × Word)) : Type 0 where
   pub kept : List (Word × Word)
@@ -48,7 +50,8 @@ pub record AddsRule (L : ℕ) (left right : Word)
       × AreJoined (UpTo L) new_rules new_equations (rule_at new_rules other)
       (rule_at new_rules (length kept))
 
--- the two words were rewritten, and if they became different, these are the sides of a rule that has been added
+-- the two words were rewritten, and if they became different, these are the sides of a rule that
+-- has been added
 pub record Joins (L : ℕ) (u v : Word)
     (rules equations new_rules new_equations : List (Word × Word)) : Type 0 where
   pub left : Word

@@ -30,7 +30,8 @@ abbrev pub AreAllClear : List Word → Type 0
 AreAllClear [] = Unit {0}
 AreAllClear (f ∷ fs) = All (λ g. AreClear f g) fs × AreAllClear fs
 
--- the rules and equations that completion of a presentation within a length may hold between two turns
+-- the rules and equations that completion of a presentation within a length may hold between two
+-- turns
 pub record IsSound (p : Presentation) (L : ℕ) (h : Held) : Type 0 where
   pub falls : (l r : Word) → Listed h.rules l r → r ≺ l
   pub within : (u v : Word) → Known h u v → Within p L u v

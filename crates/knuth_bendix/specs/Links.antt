@@ -37,7 +37,8 @@ IsNoMore u v x = NoLater x u ⊎ NoLater x v
 abbrev pub IsCovered : (Word → Word → Type 0) → (Word → Word → Type 0) → Type 0
 IsCovered S S' = (u v : Word) → S u v → Linked S' (IsNoMore u v) u v
 
--- the rules fall and stand apart, the overlaps that fit are linked below, and the relations that fit through short words
+-- the rules fall and stand apart, the overlaps that fit are linked below, and the relations that
+-- fit through short words
 pub record IsLinkedUp (p : Presentation) (L : ℕ) (S : Word → Word → Type 0)
     (rules : List (Word × Word)) : Type 0 where
   pub falls : (l r : Word) → Listed rules l r → r ≺ l

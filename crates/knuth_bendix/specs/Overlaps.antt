@@ -1,4 +1,5 @@
--- Overlaps of left sides, and the pairs of words to which they lead (Knuth and Bendix 1970; Sims 1994, 2.5).
+-- Overlaps of left sides, and the pairs of words to which they lead (Knuth and Bendix 1970; Sims
+-- 1994, 2.5).
 use Rattle.std.specs.Prelude.{◌≡◌, ◌≢◌, ℕ, ◌+◌, ◌-◌, ◌<◌, ◌≤◌, ◌⊎◌, List, [], length, take, drop, slice_index_or, All}
 use Rattle.theory.specs.Word.{Word}
 use Rattle.theory.specs.Completion.{IsReduced, Listed, Reduces}

@@ -14,7 +14,8 @@ pub record CompletionTask : Type 0 where
   pub presentation : Presentation
   pub length : ℕ
 
--- a completion: what it was made for, the rules it holds, a measure of the turns that are left, and what the last turn gave
+-- a completion: what it was made for, the rules it holds, a measure of the turns that are left, and
+-- what the last turn gave
 pub record CompletionRun : Type 0 where
   pub presentation : Presentation
   pub length : ℕ

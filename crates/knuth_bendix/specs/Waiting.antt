@@ -10,7 +10,8 @@ use Rattle.knuth_bendix.specs.declared.equations.Equation.{Equation}
 abbrev pub longer : Word × Word → ℕ
 longer pair = max (length pair.0) (length pair.1)
 
--- the greater equation is the one whose longer word is shorter, or of two of one length the older one
+-- the greater equation is the one whose longer word is shorter, or of two of one length the older
+-- one
 abbrev pub turn_cmp : Equation → Equation → Ordering
 turn_cmp = then_cmp (flip_args (on (λ e. longer e.pair) nat_cmp))
     (flip_args (on (λ e. e.number) nat_cmp))

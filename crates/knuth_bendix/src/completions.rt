@@ -21,8 +21,9 @@ use std::marker::Model;
 use std::mem;
 use words::{Word, shortlex};
 
-/// A completion of a presentation within a bound on the length of words: an engine that decides whether it ends there,
-/// as `CompletionEnds` of `theory` says. The rules that it holds have no longer side.
+/// A completion of a presentation within a bound on the length of words: an engine that decides
+/// whether it ends there, as `CompletionEnds` of `theory` says. The rules that it holds have no
+/// longer side.
 #[derive(Drop)]
 pub struct Completion {
     alloc: Global,
@@ -83,8 +84,8 @@ fn are_short(relations: &Pairs, bound: usize) -> bool
     true
 }
 
-// Whether completion ends, once no equation is left: each relation is within the length, and each longer overlap leads
-// to one word.
+// Whether completion ends, once no equation is left: each relation is within the length, and each
+// longer overlap leads to one word.
 fn ends(
     alloc: Global,
     presentation: &Presentation,
@@ -170,9 +171,10 @@ impl Racer for Completion {
 
     ghost said = { λ c. c.said };
 
-    /// Joins one pair of words that are related: a relation, or the words to which an overlap leads. Where none is left
-    /// that fits, the last turn tests the longer overlaps. After it two words within the length have one normal
-    /// form exactly where the relation of that length relates them. No rule that is held has a longer side.
+    /// Joins one pair of words that are related: a relation, or the words to which an overlap
+    /// leads. Where none is left that fits, the last turn tests the longer overlaps. After it two
+    /// words within the length have one normal form exactly where the relation of that length
+    /// relates them. No rule that is held has a longer side.
     fn advance(&mut self) -> Progress
         ensures task { (self.new.presentation ≡ self.old.presentation)
             × (self.new.length ≡ self.old.length) }
@@ -210,8 +212,8 @@ impl Racer for Completion {
 }
 
 impl Completion {
-    /// The completion of the presentation within so many letters. No turn has been made. Refused only where memory is
-    /// wanting.
+    /// The completion of the presentation within so many letters. No turn has been made. Refused
+    /// only where memory is wanting.
     pub fn new(
         alloc: Global,
         presentation: &Presentation,
@@ -240,8 +242,9 @@ impl Completion {
         self.said == Progress::Decided
     }
 
-    /// The rules of a completion that has decided: the reduced rules of the presentation's congruence, in short-lex order
-    /// of their left sides (Sims 1994, 2.6; libsemigroups, `active_rules`). Refused only where memory is wanting.
+    /// The rules of a completion that has decided: the reduced rules of the presentation's
+    /// congruence, in short-lex order of their left sides (Sims 1994, 2.6; libsemigroups,
+    /// `active_rules`). Refused only where memory is wanting.
     pub fn rules(&self) -> Result<Rules, NoMemory>
         requires { self.now.said ≡ Progress.Decided }
         ensures list { IfOk result (IsRuleList

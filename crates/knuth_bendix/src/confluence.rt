@@ -50,8 +50,8 @@ fn row_is_joined(
     Ok(true)
 }
 
-/// Whether each overlap of the rules in a word of such a length leads to one word (Sims 1994, 2.3). Refused only where
-/// memory is wanting.
+/// Whether each overlap of the rules in a word of such a length leads to one word (Sims 1994, 2.3).
+/// Refused only where memory is wanting.
 pub fn are_joined(alloc: Global, rules: &KeptRules, lengths: Lengths) -> Result<bool, NoMemory>
     ensures { IfOk result (λ joined. MatchBool joined
         ((first second : ℕ) → first < length rules.now → second < length rules.now

@@ -72,8 +72,8 @@ impl Ord for Equation {
     }
 }
 
-// Pairs of related words that no rules join yet. The pair whose longer word is shortest is taken first, and of those of
-// one length the oldest.
+// Pairs of related words that no rules join yet. The pair whose longer word is shortest is taken
+// first, and of those of one length the oldest.
 #[derive(Drop)]
 pub struct Equations {
     heap: BinaryHeap<Equation>,
@@ -135,7 +135,8 @@ impl Equations {
         Ok(())
     }
 
-    /// Takes out a pair whose longer word is no longer than that of any other; `None` exactly where there is none.
+    /// Takes out a pair whose longer word is no longer than that of any other; `None` exactly where
+    /// there is none.
     pub fn pop(&mut self) -> Option<(Word, Word)>
         ensures pair { MatchOption result ((self.old ≡ []) × (self.new ≡ []))
             (λ pair. IsPermutation self.old (pair ∷ self.new)) }

@@ -5,8 +5,8 @@ ghost use Rattle.theory.specs.Congruence.{Presentation};
 ghost use Rattle.theory.specs.Completion.{Fits, Within, Reduces, IsReduced, Listed, AreRules};
 ghost use Rattle.knuth_bendix.specs.Links.{IsLinkedUp};
 
-/// Rules whose overlaps are linked below, and which link the relations, are the rules within the bound where their right
-/// sides are reduced and related to the left ones.
+/// Rules whose overlaps are linked below, and which link the relations, are the rules within the
+/// bound where their right sides are reduced and related to the left ones.
 pub fn linked_rules_are_kept()
     ensures { (p : Presentation) (L : ℕ) (rules : List (Word × Word))
         → IsLinkedUp p L (Listed rules) rules
@@ -15,7 +15,8 @@ pub fn linked_rules_are_kept()
         → AreRules p L rules }
 {}
 
-/// Two words that fit are related within the bound exactly where the rules lead them to one reduced word.
+/// Two words that fit are related within the bound exactly where the rules lead them to one reduced
+/// word.
 pub fn normal_forms_decide_within()
     ensures { (p : Presentation) (L : ℕ) (rules : List (Word × Word)) → AreRules p L rules
         → (u v x y : Word) → Fits p L u → Fits p L v

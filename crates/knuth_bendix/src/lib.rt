@@ -1,8 +1,9 @@
 //! Completion of presentations by rewriting rules, within a bound on the length of words.
 //!
-//! A [`Completion`] turns the relations of a presentation into rewriting rules whose left sides are greater in short-lex
-//! order, and adds the critical pairs of their overlaps, the shortest first, until none is left that fits the bound (Knuth
-//! and Bendix 1970; Sims, *Computation with finitely presented groups*, 1994, 2.5 to 2.7; libsemigroups, `KnuthBendix`).
+//! A [`Completion`] turns the relations of a presentation into rewriting rules whose left sides are
+//! greater in short-lex order, and adds the critical pairs of their overlaps, the shortest first,
+//! until none is left that fits the bound (Knuth and Bendix 1970; Sims, *Computation with finitely
+//! presented groups*, 1994, 2.5 to 2.7; libsemigroups, `KnuthBendix`).
 #![tactic(auto)]
 
 mod completions;

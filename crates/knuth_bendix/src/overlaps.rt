@@ -91,8 +91,8 @@ fn push_different(left: Word, right: Word, equations: &mut Equations) -> Result<
     Ok(())
 }
 
-// Joins the words to which an overlap of two rules leads: where the rules lead them to different words, these become an
-// equation.
+// Joins the words to which an overlap of two rules leads: where the rules lead them to different
+// words, these become an equation.
 fn join_overlap(
     alloc: Global,
     rules: &KeptRules,
@@ -117,8 +117,9 @@ fn join_overlap(
     Ok(())
 }
 
-/// Joins the overlaps of two rules, by their places, in words of such lengths: where the two ways to rewrite one lead to
-/// different words, these become an equation. Refused only where memory is wanting.
+/// Joins the overlaps of two rules, by their places, in words of such lengths: where the two ways
+/// to rewrite one lead to different words, these become an equation. Refused only where memory is
+/// wanting.
 pub fn join_overlaps(
     alloc: Global,
     rules: &KeptRules,
@@ -143,8 +144,8 @@ pub fn join_overlaps(
     Ok(())
 }
 
-/// Joins the overlaps of a rule, by its place, with each rule, itself among them, on both sides, in words of such
-/// lengths. Refused only where memory is wanting.
+/// Joins the overlaps of a rule, by its place, with each rule, itself among them, on both sides, in
+/// words of such lengths. Refused only where memory is wanting.
 pub fn join_all(
     alloc: Global,
     rules: &KeptRules,

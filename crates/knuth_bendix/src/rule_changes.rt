@@ -42,8 +42,9 @@ fn rewrite_rights(rules: &mut KeptRules, newest: usize) -> Result<(), NoMemory>
     Ok(())
 }
 
-// The rules with one more, which leads from the one word to the other. Rules in which its left side stands become
-// equations, and so do the words to which its overlaps within the length lead where no rules join them.
+// The rules with one more, which leads from the one word to the other. Rules in which its left side
+// stands become equations, and so do the words to which its overlaps within the length lead where
+// no rules join them.
 fn add_rule(
     alloc: Global,
     rules: KeptRules,
@@ -64,8 +65,9 @@ fn add_rule(
     Ok(rules)
 }
 
-/// The rules made to join the two words: where they lead to different words, a rule is added. Its overlaps whose words
-/// have at most `length` letters are joined too, or become equations. Refused only where memory is wanting.
+/// The rules made to join the two words: where they lead to different words, a rule is added. Its
+/// overlaps whose words have at most `length` letters are joined too, or become equations. Refused
+/// only where memory is wanting.
 pub fn join(
     alloc: Global,
     rules: KeptRules,

@@ -148,7 +148,8 @@ fn ends_once(rt: HostRuntime) -> Result<(), Fail> {
     Ok(())
 }
 
-// If the first relation were joined first, its rule would become an equation again when the other is joined.
+// If the first relation were joined first, its rule would become an equation again when the other
+// is joined.
 #[test]
 fn the_shortest_relation_is_joined_first(rt: HostRuntime) -> Result<(), Fail> {
     let alloc = rt.alloc();
@@ -180,7 +181,8 @@ fn completes_a_semilattice(rt: HostRuntime) -> Result<(), Fail> {
     Ok(())
 }
 
-// The rule overlaps itself in a word that is longer than the length, and leads it to two reduced words.
+// The rule overlaps itself in a word that is longer than the length, and leads it to two reduced
+// words.
 #[test]
 fn long_overlaps_are_tested(rt: HostRuntime) -> Result<(), Fail> {
     let alloc = rt.alloc();

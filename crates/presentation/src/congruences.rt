@@ -10,8 +10,8 @@ use std::alloc::Global;
 use std::marker::Model;
 use theory::Kind;
 
-/// The congruence of a kind that pairs generate on a presentation (libsemigroups, `Congruence`). The sides of the
-/// pairs are elements.
+/// The congruence of a kind that pairs generate on a presentation (libsemigroups, `Congruence`).
+/// The sides of the pairs are elements.
 #[derive(Drop)]
 pub struct Congruence {
     presentation: Presentation,
@@ -57,7 +57,8 @@ impl Congruence {
         }
     }
 
-    /// The presentation. What holds of every congruence is told here: the sides of relations and pairs are elements.
+    /// The presentation. What holds of every congruence is told here: the sides of relations and
+    /// pairs are elements.
     pub fn presentation(&self) -> &Presentation
         ensures alphabet { result.now.alphabet ≡ self.now.alphabet }
         ensures presentation { result.now.presentation ≡ self.now.congruence.presentation }
@@ -80,7 +81,8 @@ impl Congruence {
         &self.pairs
     }
 
-    /// Whether it is generated as a two-sided congruence: its pairs are two-sided, or there are none.
+    /// Whether it is generated as a two-sided congruence: its pairs are two-sided, or there are
+    /// none.
     pub fn is_two_sided(&self) -> bool
         ensures { result ≡ is_two_sided self.now.congruence }
     {

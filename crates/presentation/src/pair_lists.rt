@@ -75,7 +75,8 @@ impl Pairs {
         &self.items[place]
     }
 
-    /// Puts a pair at the end. Refused only where memory is wanting, and then the list stays as it was.
+    /// Puts a pair at the end. Refused only where memory is wanting, and then the list stays as it
+    /// was.
     pub fn push(&mut self, left: Word, right: Word) -> Result<(), NoMemory>
         ensures ok { OnOk result (self.new ≡ self.old ++ (left, right) ∷ []) }
         ensures err { OnErr result (self.new ≡ self.old) }
@@ -97,7 +98,8 @@ impl Pairs {
         Ok(copy)
     }
 
-    /// These pairs, and then the others, in memory of their own. Refused only where memory is wanting.
+    /// These pairs, and then the others, in memory of their own. Refused only where memory is
+    /// wanting.
     pub fn concat(&self, alloc: Global, other: &Pairs) -> Result<Pairs, NoMemory>
         ensures { IfOk result (λ p. p ≡ self.now ++ other.now) }
     {
@@ -110,7 +112,8 @@ impl Pairs {
         Ok(all)
     }
 
-    /// Each word of each pair read from right to left, in memory of their own. Refused only where memory is wanting.
+    /// Each word of each pair read from right to left, in memory of their own. Refused only where
+    /// memory is wanting.
     pub fn reversed(&self, alloc: Global) -> Result<Pairs, NoMemory>
         ensures { IfOk result (λ p. p ≡ reversed_pairs self.now) }
     {

@@ -14,9 +14,9 @@ use words::{Alphabet, Word};
 /// The most relations that a presentation has.
 pub const MOST_RELATIONS: usize = 8192;
 
-/// A monoid or a semigroup by generators and relations (libsemigroups, `Presentation`): an alphabet, and pairs of
-/// words over it. The empty word is an element of a monoid, and no side of a relation of a semigroup is empty.
-/// There are at most [`MOST_RELATIONS`] relations.
+/// A monoid or a semigroup by generators and relations (libsemigroups, `Presentation`): an
+/// alphabet, and pairs of words over it. The empty word is an element of a monoid, and no side of a
+/// relation of a semigroup is empty. There are at most [`MOST_RELATIONS`] relations.
 #[derive(Drop)]
 pub struct Presentation {
     alphabet: Alphabet,
@@ -60,8 +60,8 @@ impl Presentation {
         }
     }
 
-    /// The alphabet. What holds of every presentation is told here: the sides of its relations are elements, and
-    /// there are at most [`MOST_RELATIONS`].
+    /// The alphabet. What holds of every presentation is told here: the sides of its relations are
+    /// elements, and there are at most [`MOST_RELATIONS`].
     pub fn alphabet(&self) -> &Alphabet
         ensures alphabet { result.now ≡ self.now.alphabet }
         ensures presented { IsPresented self.now }
@@ -93,10 +93,10 @@ impl Presentation {
         &self.relations
     }
 
-    /// Puts the relation of the two words at the end; their letters are those of the alphabet. Refused with
-    /// `EmptyWord` exactly where a side is empty and this is no monoid, and else with `TooMany` exactly where there
-    /// are [`MOST_RELATIONS`] relations already; with `NoMemory` only where neither is so. After a refusal the
-    /// presentation is as it was.
+    /// Puts the relation of the two words at the end; their letters are those of the alphabet.
+    /// Refused with `EmptyWord` exactly where a side is empty and this is no monoid, and else with
+    /// `TooMany` exactly where there are [`MOST_RELATIONS`] relations already; with `NoMemory` only
+    /// where neither is so. After a refusal the presentation is as it was.
     pub fn add(&mut self, u: Word, v: Word) -> Result<(), AddFault>
         requires left { IsOver self.old.presentation.letters u }
         requires right { IsOver self.old.presentation.letters v }
@@ -118,8 +118,8 @@ impl Presentation {
         Ok(())
     }
 
-    /// The presentation with each side of each relation read from right to left: of the opposite monoid or
-    /// semigroup. Refused only where memory is wanting.
+    /// The presentation with each side of each relation read from right to left: of the opposite
+    /// monoid or semigroup. Refused only where memory is wanting.
     pub fn reversed(&self, alloc: Global) -> Result<Presentation, NoMemory>
         ensures { IfOk result (λ p. p ≡ backwards self.now) }
     {
@@ -132,8 +132,9 @@ impl Presentation {
         })
     }
 
-    /// The presentation with the pairs as further relations. There are together at most [`MOST_RELATIONS`], and the
-    /// sides of the pairs are elements. Refused only where memory is wanting.
+    /// The presentation with the pairs as further relations. There are together at most
+    /// [`MOST_RELATIONS`], and the sides of the pairs are elements. Refused only where memory is
+    /// wanting.
     pub fn with_pairs(&self, alloc: Global, pairs: &Pairs) -> Result<Presentation, NoMemory>
         requires few { length self.now.presentation.relations + length pairs.now ≤ MOST_RELATIONS }
         requires elements { AreElements self.now.presentation.is_monoid

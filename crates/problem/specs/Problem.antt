@@ -1,4 +1,5 @@
--- Problems: congruences on presentations (Sims 1994), and semigroups by generators of one kind, each with a letter (Froidure and Pin 1997).
+-- Problems: congruences on presentations (Sims 1994), and semigroups by generators of one kind,
+-- each with a letter (Froidure and Pin 1997).
 use Rattle.std.specs.Prelude.{◌≡◌, ℕ, ◌+◌, ◌≤◌, ◌⊎◌, Bool, true, false, List, [], ◌==◌, length, codes, decimal}
 use Rattle.std.specs.Cmp.Lexicographic.{pointwise}
 use Rattle.std.specs.List.{join_by}
@@ -95,7 +96,8 @@ HasOneShape (PPerm p) = HaveOneShape (λ t. (length t, 0)) p.generators
 HasOneShape (BMat p) = HaveOneShape (λ m. (m.dimension, 0)) p.generators
 HasOneShape (MaxPlus p) = HaveOneShape (λ m. (m.dimension, m.bound)) p.generators
 
--- the congruence has at most 8,192 relations and pairs together, and its pairs are two-sided or right ones
+-- the congruence has at most 8,192 relations and pairs together, and its pairs are two-sided or
+-- right ones
 pub record IsSolvable (c : Congruence) : Type 0 where
   pub few : length c.presentation.relations + length c.pairs ≤ 8192
   pub sided : (c.kind ≡ kind.TwoSided) ⊎ (c.kind ≡ kind.Right)
@@ -120,11 +122,13 @@ IsPosable (MaxPlus p) = Unit {0}
 abbrev pub EnumerationEnds : Congruence → Budgets → Type 0
 EnumerationEnds c b = FelschEnds (as_right c) b.defs ⊎ HltEnds (as_right c) b.rows
 
--- some engine decides the congruence within its budget: a strategy of coset enumeration, or completion where it is two-sided
+-- some engine decides the congruence within its budget: a strategy of coset enumeration, or
+-- completion where it is two-sided
 abbrev pub IsCongruenceDecided : Congruence → Budgets → Type 0
 IsCongruenceDecided c b = EnumerationEnds c b ⊎ CompletionDecides c b.length
 
--- the problem is decided within the budgets: some engine decides it, or the words have no more values than may be
+-- the problem is decided within the budgets: some engine decides it, or the words have no more
+-- values than may be
 abbrev pub IsDecided : Problem → Budgets → Type 0
 IsDecided (Presented p) b = IsCongruenceDecided p.congruence b
 IsDecided (Transf p) b = HasAtMostValues (length p.generators) (pointwise ◌==◌)
@@ -136,7 +140,8 @@ IsDecided (BMat p) b = HasAtMostValues (length p.generators) boolean_matrix_eq
 IsDecided (MaxPlus p) b = HasAtMostValues (length p.generators) truncated_matrix_eq
     (value_by truncated_product p.generators no_truncated_matrix) b.elements
 
--- the problem is not decided within the budgets: no engine decides it, or the words have more values
+-- the problem is not decided within the budgets: no engine decides it, or the words have more
+-- values
 abbrev pub IsUndecided : Problem → Budgets → Type 0
 IsUndecided (Presented p) b = IsCongruenceDecided p.congruence b → ⊥
 IsUndecided (Transf p) b = HasMoreValues (length p.generators) (pointwise ◌==◌)

@@ -48,7 +48,8 @@ impl Problem {
         matches!(self, Problem::Presented(_))
     }
 
-    /// Whether the empty word is an element: in a monoid that is given by relations, and nowhere else.
+    /// Whether the empty word is an element: in a monoid that is given by relations, and nowhere
+    /// else.
     pub fn has_empty_word(&self) -> bool
         ensures { result ≡ has_empty_word self.now }
     {
@@ -69,9 +70,9 @@ impl Problem {
         }
     }
 
-    /// The entries of a word's value, with one space between each two: numbers in decimal, and a dash
-    /// for an undefined image or minus infinity. The problem is given by generators. Only want of
-    /// memory refuses it.
+    /// The entries of a word's value, with one space between each two: numbers in decimal, and a
+    /// dash for an undefined image or minus infinity. The problem is given by generators. Only want
+    /// of memory refuses it.
     pub fn value(&self, alloc: Global, word: &Word) -> Result<Vec<u8>, NoMemory>
         requires generated { is_presented self.now ≡ false }
         requires some { word.now ≢ [] }

@@ -89,7 +89,8 @@ module _ {A : Type 0} (kind : Ghosts A) where
   abbrev pub Begins : Lane A → Step → Lane A → Type 0
   Begins l step m = BeginsFrom l.state l step m
 
-  -- what one turn makes of a lane and of the word. A running lane advances, and looks or publishes where it goes on or has decided
+  -- what one turn makes of a lane and of the word. A running lane advances, and looks or publishes
+  -- where it goes on or has decided
   abbrev pub TurnsFrom : LaneState → ℕ → Lane A → ℕ → Lane A → ℕ → Type 0
   TurnsFrom Running i l n m w =
       (p : Progress) × (r : A) × MayAnswer kind l.racer p r × (m ≡ settled (advanced l p r) n)

@@ -1,4 +1,5 @@
--- Whole races: what happens to the word and the lanes, which states are sound, and where a race ends.
+-- Whole races: what happens to the word and the lanes, which states are sound, and where a race
+-- ends.
 use Rattle.race.specs.declared.engines.Racer.{Ghosts}
 use Rattle.std.specs.Prelude.{◌≡◌, ◌≢◌, ◌⊎◌, ℕ, zero, suc, ◌+◌, ◌-◌, ◌==◌, if◌then◌else◌, List, [], ◌∷◌, ◌++◌, Option, Some, None, length, slice_get, map}
 use Rattle.race.specs.Answer.{MayAnswer}
@@ -38,7 +39,8 @@ module _ {A : Type 0} where
   word_at None i n = n
   word_at (Some l) i n = word_after l i n
 
-  -- only a running lane changes. A look is made after a step Load, and an exchange after a step Exchange
+  -- only a running lane changes. A look is made after a step Load, and an exchange after a step
+  -- Exchange
   abbrev pub happens : RaceState A → Event A → RaceState A
   happens s (Advances i p r) = record s { lanes = changed s.lanes i (λ l. advanced l p r) }
   happens s (Looks i) = record s { lanes = changed s.lanes i (λ l. looks l s.word) }
@@ -163,7 +165,8 @@ module _ {A : Type 0} (kind : Ghosts A) where
   abbrev pub Starts : List (Lane A) → Type 0
   Starts ls = (i : ℕ) (l : Lane A) → slice_get ls i ≡ Some l → LaneFits 0 i l × (l.state ≡ Running)
 
-  -- the lanes have ended with this outcome: with some word they are a sound end, and each has kept its task
+  -- the lanes have ended with this outcome: with some word they are a sound end, and each has kept
+  -- its task
   pub record EndsAs (old : List (Lane A)) (o : Outcome) (new : List (Lane A)) : Type 0 where
     pub word : ℕ
     pub sound : IsSound (state_at word new)

@@ -23,7 +23,8 @@ module _ {A : Type 0} where
   own i [] = []
   own i (e ∷ es) = if lane_of e == i then e ∷ own i es else own i es
 
-  -- the events of one lane, of whose turn this step is due, are the rest of that turn and then whole turns
+  -- the events of one lane, of whose turn this step is due, are the rest of that turn and then
+  -- whole turns
   abbrev pub Finishes : Step → List (Event A) → Type 0
   Finishes Ended [] = Unit {0}
   Finishes Ended (Advances i p r ∷ es) = Finishes (step_of p) es

@@ -97,8 +97,8 @@ keeps_one v = if v.keeps then 1 else 0
 abbrev pub next_of : View → ℕ
 next_of v = if v.keeps then v.next else 0
 
--- where the word is 0 every lane is Looking. Where it is i + 1, exactly one lane is Won and it has number i,
--- and each Lost or Cancelled one carries i. `count` says how many entries a weight counts
+-- where the word is 0 every lane is Looking. Where it is i + 1, exactly one lane is Won and it has
+-- number i, and each Lost or Cancelled one carries i. `count` says how many entries a weight counts
 pub record WordFits (w : ℕ) (count : (Entry → ℕ) → ℕ) : Type 0 where
   pub small : w ≤ 64
   pub looking : w ≡ 0 → count is_settled ≡ 0
@@ -106,7 +106,8 @@ pub record WordFits (w : ℕ) (count : (Entry → ℕ) → ℕ) : Type 0 where
   pub number : (i : ℕ) → w ≡ i + 1 → count (is_won_by i) ≡ 1
   pub carried : (i : ℕ) → w ≡ i + 1 → count (is_other i) ≡ 0
 
--- exactly one view is the keeper's. The numbers of all entries are distinct, and below the keeper's next number, which is at most 64
+-- exactly one view is the keeper's. The numbers of all entries are distinct, and below the keeper's
+-- next number, which is at most 64
 pub record IsRuled (s : State (Unit {0}) View) : Type 0 where
   pub word : ℕ
   pub word_is : s.words ≡ word ∷ []

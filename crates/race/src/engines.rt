@@ -13,10 +13,11 @@ pub enum Progress {
     NoMemory,
 }
 
-/// An engine that is advanced by turns, until it has decided whether its condition holds (libsemigroups, `Runner`).
+/// An engine that is advanced by turns, until it has decided whether its condition holds
+/// (libsemigroups, `Runner`).
 ///
-/// Its ghost members say what it means to a contract: the task that it was made for, the condition of the task that
-/// it decides, a measure of the turns that are left, and what its last turn gave.
+/// Its ghost members say what it means to a contract: the task that it was made for, the condition
+/// of the task that it decides, a measure of the turns that are left, and what its last turn gave.
 pub trait Racer: Drop {
     ghost use Rattle.std.specs.Prelude.{◌≡◌, ℕ, ◌<◌};
     ghost use Rattle.race.specs.declared.engines.Progress.{Progress};
@@ -35,10 +36,10 @@ pub trait Racer: Drop {
     /// What the last turn gave, and `More` where there was none.
     ghost said: { Self → Progress };
 
-    /// One turn. It gives `Decided` only where the condition of the engine's task holds, `Spent` only where it
-    /// fails, and `More` only where the measure fell. `NoMemory` may come in the place of any of these. The task
-    /// stays the same. After `Decided` or `Spent` each further turn gives the same and changes nothing; after
-    /// `NoMemory` it gives `NoMemory`.
+    /// One turn. It gives `Decided` only where the condition of the engine's task holds, `Spent`
+    /// only where it fails, and `More` only where the measure fell. `NoMemory` may come in the
+    /// place of any of these. The task stays the same. After `Decided` or `Spent` each further turn
+    /// gives the same and changes nothing; after `NoMemory` it gives `NoMemory`.
     fn advance(&mut self) -> Progress
         ensures task { task self.new ≡ task self.old }
         ensures said { said self.new ≡ result }

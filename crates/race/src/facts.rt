@@ -11,9 +11,10 @@ pub fn events_keep_states_sound<R: Racer>()
         → IsSound R.Racer (happens s e) }
 {}
 
-/// Events of which each lane's own are whole turns, however those of different lanes are mixed, leave the state that
-/// these turns leave one after another, in the order of their looks and publishes; a turn that ends with its advance
-/// stands at the place of the advance. Each lane's own events are the same there.
+/// Events of which each lane's own are whole turns, however those of different lanes are mixed,
+/// leave the state that these turns leave one after another, in the order of their looks and
+/// publishes; a turn that ends with its advance stands at the place of the advance. Each lane's own
+/// events are the same there.
 pub fn turns_stand_one_by_one<R>()
     ensures state { (events : List (Event R)) (s : RaceState R) → EachIsWhole events
         → run events s ≡ run (one_by_one (turns_in_order events)) s }

@@ -32,7 +32,8 @@ pub enum LaneState {
     Starved,
 }
 
-/// One engine in a race, with its number, the step that its last turn gave, and how far it has come.
+/// One engine in a race, with its number, the step that its last turn gave, and how far it has
+/// come.
 #[derive(Drop)]
 pub struct Lane<R> {
     pub(crate) number: usize,
@@ -76,9 +77,10 @@ pub(crate) fn is_running(state: LaneState) -> bool
     matches!(state, LaneState::Running)
 }
 
-/// Advances the engine of a running lane once, and gives the step that is due: `Load` where the engine goes on,
-/// `Exchange` where it has decided, and `Ended` where its budget is used up or it found no memory, with which the
-/// lane ends. On a lane that does not run it gives `Ended` and changes nothing.
+/// Advances the engine of a running lane once, and gives the step that is due: `Load` where the
+/// engine goes on, `Exchange` where it has decided, and `Ended` where its budget is used up or it
+/// found no memory, with which the lane ends. On a lane that does not run it gives `Ended` and
+/// changes nothing.
 pub fn begin<R: Racer>(lane: &mut Lane<R>) -> Step
     ensures { Begins R.Racer lane.old result lane.new }
 {
@@ -101,9 +103,9 @@ pub fn begin<R: Racer>(lane: &mut Lane<R>) -> Step
     step
 }
 
-/// Takes in the word that the lane's step found: 0, or one more than the number of the lane that published. After
-/// `Load`, 0 keeps the lane running, and another word cancels it; after `Exchange`, with 0 it has won, and with
-/// another word lost.
+/// Takes in the word that the lane's step found: 0, or one more than the number of the lane that
+/// published. After `Load`, 0 keeps the lane running, and another word cancels it; after
+/// `Exchange`, with 0 it has won, and with another word lost.
 pub fn settle<R: Racer>(lane: &mut Lane<R>, seen: u64)
     requires running { lane.old.state ≡ LaneState.Running }
     requires step { IsSteps lane.old.step }
@@ -121,8 +123,9 @@ pub fn settle<R: Racer>(lane: &mut Lane<R>, seen: u64)
     }
 }
 
-/// One whole turn of a lane: [`begin`], the step that it gave on the word, and [`settle`]; after `Ended` neither.
-/// The lane's number is below 64, as that of each lane is that [`Lane::new`] made, so that one more is a word.
+/// One whole turn of a lane: [`begin`], the step that it gave on the word, and [`settle`]; after
+/// `Ended` neither. The lane's number is below 64, as that of each lane is that [`Lane::new`] made,
+/// so that one more is a word.
 pub fn turn<R: Racer>(lane: &mut Lane<R>, word: &mut u64)
     requires number { lane.old.number < 64 }
     requires word { word.old ≤ 64 }

@@ -83,11 +83,12 @@ pub(crate) fn outcome_at<R>(lanes: &[Lane<R>], word: u64) -> Outcome
     Outcome::AllSpent
 }
 
-/// A race on one thread, of 1 to 64 running lanes that are numbered by place: a turn for each lane that the schedule
-/// names, and then turns of all lanes in rotation, until each has ended. A number without a lane, or of a lane that
-/// has ended, does nothing. The lanes keep their numbers and their engines' tasks. It asks for no memory beside what
-/// the engines ask for. A lane may be handed in between its [`begin`](crate::begin) and its
-/// [`settle`](crate::settle): one whose step is `Exchange` has an engine that has decided, as `begin` leaves it.
+/// A race on one thread, of 1 to 64 running lanes that are numbered by place: a turn for each lane
+/// that the schedule names, and then turns of all lanes in rotation, until each has ended. A number
+/// without a lane, or of a lane that has ended, does nothing. The lanes keep their numbers and
+/// their engines' tasks. It asks for no memory beside what the engines ask for. A lane may be
+/// handed in between its [`begin`](crate::begin) and its [`settle`](crate::settle): one whose step
+/// is `Exchange` has an engine that has decided, as `begin` leaves it.
 pub fn play<R: Racer>(lanes: &mut Vec<Lane<R>>, schedule: &Vec<usize>) -> Outcome
     requires count { (1 ≤ length lanes.old.items) × (length lanes.old.items ≤ 64) }
     requires running { Starts R.Racer lanes.old.items }

@@ -7,8 +7,8 @@ use ports::NoMemory;
 use std::alloc::Global;
 use std::marker::Model;
 
-/// An engine for tests that gives these answers in turn, and the last one for good. Its condition holds exactly where the
-/// last one is `Decided`.
+/// An engine for tests that gives these answers in turn, and the last one for good. Its condition
+/// holds exactly where the last one is `Decided`.
 #[derive(Drop)]
 pub struct Scripted {
     answers: Vec<Progress>,
@@ -27,7 +27,8 @@ impl Model for Scripted {
 }
 
 impl Scripted {
-    /// The engine that gives these answers: `More` any number of times, or never, and then one other.
+    /// The engine that gives these answers: `More` any number of times, or never, and then one
+    /// other.
     pub fn new(_alloc: Global, answers: Vec<Progress>) -> Result<Scripted, NoMemory>
         requires { IsScript answers.items }
         ensures { IfOk result (λ s. s ≡ scripting answers.items 0 Progress.More) }

@@ -23,7 +23,8 @@ fn look<R: Racer>(word: &Word, seated: &mut SeatedLane<R>) -> u64
     found
 }
 
-// A running lane whose engine has decided exchanges 0 for its number once, and takes in the word that it found.
+// A running lane whose engine has decided exchanges 0 for its number once, and takes in the word
+// that it found.
 fn publish<R: Racer>(word: &Word, seated: &mut SeatedLane<R>) -> u64
     requires word { word.now.table_id.words ≡ 1 }
     requires seated { IsSeated R.Racer word.now.table_id seated.old }
@@ -38,7 +39,8 @@ fn publish<R: Racer>(word: &Word, seated: &mut SeatedLane<R>) -> u64
     seen
 }
 
-// A whole turn of a seated lane that runs, once the gate lets it pass: a turn of the machine at the word that it finds.
+// A whole turn of a seated lane that runs, once the gate lets it pass: a turn of the machine at the
+// word that it finds.
 pub(crate) fn turn_seated<R: Racer, G: Gate>(word: &Word, gate: &G, seated: &mut SeatedLane<R>)
     requires word { word.now.table_id.words ≡ 1 }
     requires seated { IsSeated R.Racer word.now.table_id seated.old }

@@ -57,7 +57,8 @@ fn played(alloc: Global, first: &[Progress], second: &[Progress]) -> Result<Endi
     Ok(ending(outcome, &lanes))
 }
 
-// Whether these answers end in one of two ways, on one thread and over threads by 1, 2 and 3 workers.
+// Whether these answers end in one of two ways, on one thread and over threads by 1, 2 and 3
+// workers.
 fn ends<T: Threads + Sync>(
     rt: &T,
     alloc: Global,

@@ -126,11 +126,12 @@ fn last_word(table: WordTable, keeper: WordSeat) -> u64
     word
 }
 
-/// A race over threads, of 1 to 64 running lanes that are numbered by place. Lane i goes to group i modulo the number of
-/// workers, and the groups run at the same time; each goes in rotation over its running lanes, each of which passes the
-/// gate and then has a turn. With one worker it is [`play`] with the empty schedule, and the gate is not passed. The
-/// lanes keep their numbers, their places and their engines' tasks. All memory is taken before the first turn, beside
-/// what the engines ask for; where it is wanting the lanes are as they were.
+/// A race over threads, of 1 to 64 running lanes that are numbered by place. Lane i goes to group i
+/// modulo the number of workers, and the groups run at the same time; each goes in rotation over
+/// its running lanes, each of which passes the gate and then has a turn. With one worker it is
+/// [`play`] with the empty schedule, and the gate is not passed. The lanes keep their numbers,
+/// their places and their engines' tasks. All memory is taken before the first turn, beside what
+/// the engines ask for; where it is wanting the lanes are as they were.
 pub fn race<T: Threads + Sync, R: Racer + Send, G: Gate + Sync>(
     rt: &T,
     alloc: Global,

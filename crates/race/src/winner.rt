@@ -17,15 +17,16 @@ pub struct Entry {
     pub phase: Phase,
 }
 
-// What a seat knows: whether it is the keeper's, and then the number that it gives next; and its lanes. A view that is
-// not the keeper's and has no lane is spent. No value of it is made.
+// What a seat knows: whether it is the keeper's, and then the number that it gives next; and its
+// lanes. A view that is not the keeper's and has no lane is spent. No value of it is made.
 pub struct View {
     pub keeps: bool,
     pub next: usize,
     pub entries: LinkedList<Entry>,
 }
 
-// The rule: 0 while no lane has published, and then one more than the number of the lane that has won.
+// The rule: 0 while no lane has published, and then one more than the number of the lane that has
+// won.
 pub struct Winner;
 
 impl TableRule<(), View, ()> for Winner {

@@ -60,7 +60,8 @@ pub record IsLeastLetter (g : Graph) (depths : List (Option ℕ))
   pub allows : Allows (slice_index_or depths next None) n
   pub least : (b : ℕ) → first ≤ b → b < a → LeadsOn g depths node n b → ⊥
 
--- a node before a round: without a depth it has a path of as many letters as the round's number, and a depth is lower and right
+-- a node before a round: without a depth it has a path of as many letters as the round's number,
+-- and a depth is lower and right
 abbrev pub IsSettled : ℕ → Graph → ℕ → ℕ → Option ℕ → Type 0
 IsSettled k g round node None = GoesOn k g node round
 IsSettled k g round node (Some most) = (most < round) × GoesOn k g node most
@@ -102,7 +103,8 @@ pub record AreNodesAlong (g : Graph) (u : Word) (nodes : List ℕ) : Type 0 wher
       → path g 0 (take place u) ≡ Some (slice_index nodes place)
   pub end : length nodes < length u → path g 0 (take (length nodes) u) ≡ None
 
--- so many letters of u, the letter a, and then the least word of n letters from the node make the next word after u
+-- so many letters of u, the letter a, and then the least word of n letters from the node make the
+-- next word after u
 pub record IsRise (k : ℕ) (g : Graph) (u : Word) (place a node n : ℕ) : Type 0 where
   pub within : place ≤ length u
   pub goes : GoesOn k g node n

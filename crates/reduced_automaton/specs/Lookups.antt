@@ -1,4 +1,5 @@
--- How rules that change are found: by a table of those that were there when it was made, and by a scan of the newer.
+-- How rules that change are found: by a table of those that were there when it was made, and by a
+-- scan of the newer.
 use Rattle.std.specs.Prelude.{◌≡◌, ℕ, ◌<◌, ◌≤◌, List, [], ◌∷◌, ◌++◌, length, slice_index_or, Option, None, Some}
 use Rattle.theory.specs.Word.{Word, IsFactor}
 use Rattle.theory.specs.Completion.{IsReduced, Listed}
@@ -33,13 +34,15 @@ moves_or_none (Some moves) = moves
 abbrev pub moves_of : Lookup → Moves
 moves_of lookup = moves_or_none lookup.table
 
--- where the rule of a number in the table stands now; where it is gone, the left side of a newer rule stands in its own
+-- where the rule of a number in the table stands now; where it is gone, the left side of a newer
+-- rule stands in its own
 abbrev pub IsPlaced : List (Word × Word) → ℕ → Word → Option ℕ → Type 0
 IsPlaced rules first left (Some place) = (place < length rules) × (left_at rules place ≡ left)
 IsPlaced rules first left None =
     (place : ℕ) × (first ≤ place) × (place < length rules) × IsFactor (left_at rules place) left
 
--- the lookup finds the rules: its table is that of some rules, and the rules before the first newer one are among these
+-- the lookup finds the rules: its table is that of some rules, and the rules before the first newer
+-- one are among these
 pub record IsLookup (rules : List (Word × Word)) (lookup : Lookup) : Type 0 where
   pub letters : ℕ
   pub tabled : List (Word × Word)
@@ -70,7 +73,8 @@ abbrev pub reads_to : {rules : List (Word × Word)} {lookup : Lookup} {done : Wo
     → IsAtLetter rules lookup done state → List Word
 reads_to at = states_by at.is
 
--- what a letter behind a reduced word leads to: a rule whose left side ends there, or else the longest state there
+-- what a letter behind a reduced word leads to: a rule whose left side ends there, or else the
+-- longest state there
 abbrev pub IsNext : List (Word × Word) → List Word → Word → ℕ → Option ℕ → Type 0
 IsNext rules states u next (Some place) = EndsAt rules u place
 IsNext rules states u next None = (HasEnd rules u → ⊥) × IsLongest states u next

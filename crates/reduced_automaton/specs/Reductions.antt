@@ -29,7 +29,8 @@ letters_in_rules (r ∷ rs) = max (max (letters_in r.0) (letters_in r.1)) (lette
 abbrev pub letters_for : List (Word × Word) → Word → ℕ
 letters_for rules u = max (letters_in u) (letters_in_rules rules)
 
--- the rules lead from the word to what is done and what is left, backwards; what is done is reduced, and the stack has the longest state at the end of each front of it
+-- the rules lead from the word to what is done and what is left, backwards; what is done is
+-- reduced, and the stack has the longest state at the end of each front of it
 pub record IsReducing (rules : List (Word × Word)) (states : List Word) (word done rest : Word)
     (path : List ℕ) : Type 0 where
   pub over : IsOver (letters_for rules word) (done ++ reverse rest)

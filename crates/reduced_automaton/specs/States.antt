@@ -1,4 +1,5 @@
--- The states of the automaton: the proper prefixes of left sides (Aho and Corasick 1975; Sims 1994, 3.5).
+-- The states of the automaton: the proper prefixes of left sides (Aho and Corasick 1975; Sims 1994,
+-- 3.5).
 use Rattle.std.specs.Prelude.{◌≡◌, ℕ, ◌<◌, ◌≤◌, List, [], ◌∷◌, ◌++◌, length, take, slice_index_or, Contains, Option, None, Some}
 use Rattle.theory.specs.Word.{Word}
 use Rattle.theory.specs.Completion.{Listed}

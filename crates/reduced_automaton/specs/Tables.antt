@@ -40,7 +40,8 @@ pub record IsTable (m : Moves) : Type 0 where
   pub targets_within : (i : ℕ) → i < length m.prefixes * m.letters
       → slice_index_or m.targets i 0 < length m.prefixes
 
--- the states of rules: the empty word first, and the proper prefixes of the left sides, each once, and no other word
+-- the states of rules: the empty word first, and the proper prefixes of the left sides, each once,
+-- and no other word
 pub record IsStateList (rules : List (Word × Word)) (states : List Word) : Type 0 where
   pub are : AreStates rules states
   pub distinct : (i j : ℕ) → i < length states → j < length states

@@ -189,7 +189,8 @@ pub record Reads (rules : List (Word × Word)) (states : List Word) (u : Word) (
   pub longest : IsLongest states u target
   pub ends : IsEnd rules u end
 
--- the row of the node comes before the place in the order, or it is the row there and the letter comes before the letter
+-- the row of the node comes before the place in the order, or it is the row there and the letter
+-- comes before the letter
 abbrev pub IsDone : List ℕ → ℕ → ℕ → ℕ → ℕ → Type 0
 IsDone order place letter n a =
     ((j : ℕ) × (j < place) × (j < length order) × (slice_index_or order j 0 ≡ n))

@@ -20,8 +20,8 @@ use std::alloc::Global;
 use std::marker::Model;
 use words::{Letter, Word};
 
-/// A finite automaton that reads just the words over so many letters to which no rule of a list applies (Sims 1994,
-/// 3.5; libsemigroups, the Gilman graph of `KnuthBendix`).
+/// A finite automaton that reads just the words over so many letters to which no rule of a list
+/// applies (Sims 1994, 3.5; libsemigroups, the Gilman graph of `KnuthBendix`).
 #[derive(Drop)]
 pub struct Automaton {
     pub(crate) alloc: Global,
@@ -48,8 +48,8 @@ impl Model for Automaton {
 }
 
 impl Automaton {
-    /// The automaton of the rules, whose words are over the letters below `letters`, at most 256. Refused only where
-    /// memory is wanting.
+    /// The automaton of the rules, whose words are over the letters below `letters`, at most 256.
+    /// Refused only where memory is wanting.
     pub fn build(alloc: Global, letters: usize, rules: &Rules) -> Result<Automaton, NoMemory>
         requires few { letters ≤ 256 }
         requires over { AreOver letters rules.now }
@@ -69,8 +69,8 @@ impl Automaton {
         })
     }
 
-    /// How many states there are. What the states are is told here: the empty word is the first, and the others are the
-    /// proper prefixes of left sides. It takes no memory.
+    /// How many states there are. What the states are is told here: the empty word is the first,
+    /// and the others are the proper prefixes of left sides. It takes no memory.
     pub fn states(&self) -> usize
         ensures count { result ≡ length self.now.states }
         ensures states { IsStateList self.now.rules self.now.states }
@@ -79,7 +79,8 @@ impl Automaton {
         self.table.nodes()
     }
 
-    // The longest state at the end of the state and the letter, and the rule whose left side stands there.
+    // The longest state at the end of the state and the letter, and the rule whose left side stands
+    // there.
     pub(crate) fn read(&self, state: usize, letter: Letter) -> (usize, Option<usize>)
         requires { state < length self.now.states }
         ensures { Reads self.now.rules self.now.states
@@ -89,8 +90,8 @@ impl Automaton {
         self.table.read(state, letter)
     }
 
-    /// Where the state's word with the letter leads: `None` exactly where a left side stands at its end, and else the
-    /// longest state that does. It takes no memory.
+    /// Where the state's word with the letter leads: `None` exactly where a left side stands at its
+    /// end, and else the longest state that does. It takes no memory.
     pub fn step_from(&self, state: usize, letter: Letter) -> Option<usize>
         requires { state < length self.now.states }
         ensures { Leads self.now.rules self.now.states
@@ -115,7 +116,8 @@ impl Automaton {
         self.table.path(word).is_some()
     }
 
-    /// Whether infinitely many words over the letters are reduced; else they have a list. It takes no memory.
+    /// Whether infinitely many words over the letters are reduced; else they have a list. It takes
+    /// no memory.
     pub fn is_infinite(&self) -> bool
         ensures infinite { IsTrue result ↔ AreInfinite (IsReducedWord self.now) ◌≺◌ }
         ensures finite { result ≡ false → AreFinite (IsReducedWord self.now) ◌≺◌ }
@@ -123,9 +125,10 @@ impl Automaton {
         self.depths[0].is_none()
     }
 
-    /// The least reduced word after the cursor in short-lex order, or the least at all; `None` exactly where there is
-    /// none. The cursor may be any word. What holds of every automaton is told here: after each cursor comes a next
-    /// reduced word, or none. Refused only where memory is wanting.
+    /// The least reduced word after the cursor in short-lex order, or the least at all; `None`
+    /// exactly where there is none. The cursor may be any word. What holds of every automaton is
+    /// told here: after each cursor comes a next reduced word, or none. Refused only where memory
+    /// is wanting.
     pub fn next_after(&self, after: Option<&Word>) -> Result<Option<Word>, NoMemory>
         ensures goes_on { GoesOnOrEnds (IsReducedWord self.now) ◌≺◌ }
         ensures next { IfOk result (λ next. MatchOption next

@@ -41,8 +41,8 @@ fn led_to(
     }
 }
 
-/// The least letter, from a number on, that leads to a node from which `count` letters can follow, and that node;
-/// `None` exactly where there is none.
+/// The least letter, from a number on, that leads to a node from which `count` letters can follow,
+/// and that node; `None` exactly where there is none.
 pub fn least_letter(
     graph: &Table,
     depths: &[Option<usize>],
@@ -71,8 +71,8 @@ pub fn no_numbers(alloc: Global, count: usize) -> Result<Vec<Option<usize>>, NoM
     Ok(Vec::from_elem(alloc, None, count)?)
 }
 
-// A node without a depth gets the number of the round, where it has no edge on to a node from which as many letters
-// can follow. Whether it got one.
+// A node without a depth gets the number of the round, where it has no edge on to a node from which
+// as many letters can follow. Whether it got one.
 fn settle(graph: &Table, depths: &mut Vec<Option<usize>>, node: usize, round: usize) -> bool
     requires node { node < length depths.old.items }
     requires count { length depths.old.items ≡ length (edges graph.now) }
@@ -110,8 +110,8 @@ fn settle_all(graph: &Table, depths: &mut Vec<Option<usize>>, round: usize) -> b
     changed
 }
 
-/// The greatest length of a path from each node, in letters; `None` where there are paths of every length. Refused only
-/// where memory is wanting.
+/// The greatest length of a path from each node, in letters; `None` where there are paths of every
+/// length. Refused only where memory is wanting.
 pub fn depths_of(alloc: Global, graph: &Table) -> Result<Vec<Option<usize>>, NoMemory>
     ensures { IfOk result (λ depths. (k : ℕ) → IsGraph k (edges graph.now)
         → AreDepths k (edges graph.now) depths.items) }

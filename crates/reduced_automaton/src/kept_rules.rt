@@ -16,16 +16,16 @@ use std::alloc::Global;
 use std::marker::Model;
 use words::Word;
 
-// With more newer rules than this the table is made anew. More of them slow each letter that is read; fewer cost more
-// tables.
+// With more newer rules than this the table is made anew. More of them slow each letter that is
+// read; fewer cost more tables.
 const NEWER_AT_MOST: usize = 8;
 
 // A table with many states is dear: so many of them are worth one newer rule more.
 const STATES_FOR_ONE_MORE: usize = 4096;
 
 /// A list of rewriting rules that changes often. Words are reduced by the states of an
-/// [`Automaton`](crate::Automaton) of the rules that were there some time ago, and the few newer rules are looked
-/// through one by one.
+/// [`Automaton`](crate::Automaton) of the rules that were there some time ago, and the few newer
+/// rules are looked through one by one.
 #[derive(Drop)]
 pub struct KeptRules {
     rules: Rules,
@@ -66,8 +66,8 @@ impl KeptRules {
         }
     }
 
-    /// How many rules there are. What holds of every list of rules is told here: left sides are greater than right
-    /// sides.
+    /// How many rules there are. What holds of every list of rules is told here: left sides are
+    /// greater than right sides.
     pub fn len(&self) -> usize
         ensures len { result ≡ length self.now }
         ensures falling { AreFalling self.now }
@@ -75,8 +75,8 @@ impl KeptRules {
         self.rules.len()
     }
 
-    /// The rule at a place, from 0: its left side, and its right side. That left sides are greater than right sides is
-    /// told here too.
+    /// The rule at a place, from 0: its left side, and its right side. That left sides are greater
+    /// than right sides is told here too.
     pub fn rule(&self, place: usize) -> &(Word, Word)
         requires { place < length self.now }
         ensures rule { result.now ≡ slice_index_or self.now place result.now }
@@ -102,7 +102,8 @@ impl KeptRules {
         self.rules.set_right(place, right);
     }
 
-    /// Makes the table anew, of all rules. The list stays as it is. Refused only where memory is wanting.
+    /// Makes the table anew, of all rules. The list stays as it is. Refused only where memory is
+    /// wanting.
     pub fn rebuild(&mut self) -> Result<(), NoMemory>
         ensures { self.new ≡ self.old }
     {
@@ -117,9 +118,9 @@ impl KeptRules {
         Ok(())
     }
 
-    /// Takes out the rules in whose left sides that of a new rule stands, and puts the new rule at the end. Its left
-    /// side is greater than its right side. What was taken out is given back, in order. Refused only where memory is
-    /// wanting.
+    /// Takes out the rules in whose left sides that of a new rule stands, and puts the new rule at
+    /// the end. Its left side is greater than its right side. What was taken out is given back, in
+    /// order. Refused only where memory is wanting.
     pub fn add(self, left: Word, right: Word) -> Result<(KeptRules, Vec<(Word, Word)>), NoMemory>
         requires { right ≺ left }
         ensures kept { IfOk result (λ r.
@@ -157,7 +158,8 @@ impl KeptRules {
         Ok(kept)
     }
 
-    /// A word to which the rules lead from the word, and to which none applies. Refused only where memory is wanting.
+    /// A word to which the rules lead from the word, and to which none applies. Refused only where
+    /// memory is wanting.
     pub fn reduce(&self, word: &Word) -> Result<Word, NoMemory>
         ensures reached { IfOk result (λ w. Reduces (Listed self.now) word.now w) }
         ensures reduced { IfOk result (λ w. IsReduced (Listed self.now) w) }

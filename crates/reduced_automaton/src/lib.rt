@@ -1,8 +1,9 @@
 //! Rewriting of words by finite lists of rules, and the words to which no rule applies.
 //!
-//! [`Rules`] rewrite a word until none of them applies, and so do [`KeptRules`], which change often. An [`Automaton`]
-//! reads just the words that are reduced: it finds whether they are infinitely many, and lists them in short-lex order
-//! (Sims, *Computation with finitely presented groups*, 1994, 3.5; libsemigroups, `KnuthBendix` and its Gilman graph).
+//! [`Rules`] rewrite a word until none of them applies, and so do [`KeptRules`], which change
+//! often. An [`Automaton`] reads just the words that are reduced: it finds whether they are
+//! infinitely many, and lists them in short-lex order (Sims, *Computation with finitely presented
+//! groups*, 1994, 3.5; libsemigroups, `KnuthBendix` and its Gilman graph).
 #![tactic(auto)]
 
 mod automata;

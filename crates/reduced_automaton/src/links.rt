@@ -1,4 +1,5 @@
-// The tables of the automaton: where each state and letter lead, by the links to shorter states (Aho and Corasick 1975).
+// The tables of the automaton: where each state and letter lead, by the links to shorter states
+// (Aho and Corasick 1975).
 ghost use Rattle.std.specs.Prelude.{◌≡◌, ℕ, ◌+◌, ◌*◌, ◌<◌, ◌≤◌, length, slice_index_or, slice_set, replicate, Option, None, unwrap_or, IfOk};
 ghost use Rattle.reduced_automaton.specs.Rules.{AreOver};
 ghost use Rattle.reduced_automaton.specs.Tries.{IsBehind, IsOrder, IsTreeOf, first_of, linked, states_of};
@@ -10,8 +11,8 @@ use crate::tries::{Trie, place};
 use ports::NoMemory;
 use std::alloc::Global;
 
-/// For each state and letter the longest state at their end, and a rule whose left side stands there; and for each
-/// state the longest state at its end that is not all of it.
+/// For each state and letter the longest state at their end, and a rule whose left side stands
+/// there; and for each state the longest state at its end that is not all of it.
 #[derive(Drop)]
 pub struct Tables {
     pub targets: Vec<usize>,
@@ -36,7 +37,8 @@ fn first_of(first: Option<usize>, second: Option<usize>) -> Option<usize>
     }
 }
 
-// What is read behind the first letter of the state and the letter: where its link leads by the letter.
+// What is read behind the first letter of the state and the letter: where its link leads by the
+// letter.
 fn read_behind(
     tables: &Tables,
     letters: usize,

@@ -1,5 +1,5 @@
-// How rules are found at the end of a word: in a table of those that were there when it was made, and one by one where
-// they are newer.
+// How rules are found at the end of a word: in a table of those that were there when it was made,
+// and one by one where they are newer.
 ghost use Rattle.std.specs.Prelude.{◌≡◌, ℕ, ◌<◌, ◌≤◌, [], ◌∷◌, ◌++◌, List, length, true, false, IfOk, OnOk, IsTrue, ◌↔◌, MatchOption};
 ghost use Rattle.theory.specs.Word.{Word as Letters};
 ghost use Rattle.reduced_automaton.specs.Rules.{AreFalling};
@@ -16,8 +16,8 @@ use ports::NoMemory;
 use std::alloc::Global;
 use words::{Letter, Word};
 
-/// The table of the rules that were there when it was made, the place where each of these stands now, if it is still
-/// there, and the place of the first newer rule, behind which all are newer.
+/// The table of the rules that were there when it was made, the place where each of these stands
+/// now, if it is still there, and the place of the first newer rule, behind which all are newer.
 #[derive(Drop)]
 pub struct Lookup {
     pub table: Option<Table>,
@@ -71,8 +71,8 @@ impl Lookup {
         None
     }
 
-    // What the table reads: the longest state at the end of the state and the letter, and the number of a left side
-    // that stands there.
+    // What the table reads: the longest state at the end of the state and the letter, and the
+    // number of a left side that stands there.
     fn read(&self, state: usize, letter: Letter) -> (usize, Option<usize>)
         requires { state < length (moves_of self.now).prefixes }
         ensures { (k : ℕ) (tabled : List (Letters × Letters)) → AreFalling tabled
@@ -86,8 +86,8 @@ impl Lookup {
         }
     }
 
-    // What the letter leads to behind a reduced word, at whose end the state is the longest one: the place of a rule
-    // whose left side stands there, or else the longest state.
+    // What the letter leads to behind a reduced word, at whose end the state is the longest one:
+    // the place of a rule whose left side stands there, or else the longest state.
     fn step(
         &self,
         rules: &Rules,

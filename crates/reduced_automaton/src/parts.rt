@@ -9,8 +9,8 @@ use ports::NoMemory;
 use std::alloc::Global;
 use words::Word;
 
-/// The rules that are kept and those that are gone, the place to which each has gone, and how many of those before a
-/// place are kept.
+/// The rules that are kept and those that are gone, the place to which each has gone, and how many
+/// of those before a place are kept.
 #[derive(Drop)]
 pub struct Parts {
     pub kept: Vec<(Word, Word)>,
@@ -39,7 +39,8 @@ fn put(parts: &mut Parts, rule: (Word, Word), left: &Word) -> Result<(), NoMemor
     Ok(())
 }
 
-// How many rules are kept, while no more than so many have been seen, and else the number that is given.
+// How many rules are kept, while no more than so many have been seen, and else the number that is
+// given.
 fn first_of(parts: &Parts, most: usize) -> usize
     ensures early { length parts.now.moved.items ≤ most → result ≡ length parts.now.kept.items }
     ensures late { most < length parts.now.moved.items → result ≡ parts.now.first }
@@ -51,8 +52,8 @@ fn first_of(parts: &Parts, most: usize) -> usize
     }
 }
 
-/// The rules in whose left sides the word stands are taken out. Of the first rules, so many, it is told how many are
-/// kept. Refused only where memory is wanting.
+/// The rules in whose left sides the word stands are taken out. Of the first rules, so many, it is
+/// told how many are kept. Refused only where memory is wanting.
 pub fn part(
     alloc: Global,
     rules: Vec<(Word, Word)>,

@@ -15,7 +15,8 @@ use ports::NoMemory;
 use std::alloc::Global;
 use words::{Letter, Word};
 
-// Where the next word leaves a word: behind so many letters, by a letter to a node, from which so many letters follow.
+// Where the next word leaves a word: behind so many letters, by a letter to a node, from which so
+// many letters follow.
 #[derive(Clone, Copy)]
 struct Rise {
     place: usize,
@@ -150,8 +151,8 @@ fn path_after(
     Ok(Some(next))
 }
 
-/// The least word in short-lex order with a path from the root that comes after the cursor, or the least at all; `None`
-/// exactly where there is none. Refused only where memory is wanting.
+/// The least word in short-lex order with a path from the root that comes after the cursor, or the
+/// least at all; `None` exactly where there is none. Refused only where memory is wanting.
 pub fn next_path(
     alloc: Global,
     graph: &Table,

@@ -9,7 +9,8 @@ use ports::NoMemory;
 use std::alloc::Global;
 use words::{Letter, Word};
 
-/// The letters that are read, the states of each front of them, and the letters that are left, the next one last.
+/// The letters that are read, the states of each front of them, and the letters that are left, the
+/// next one last.
 #[derive(Drop)]
 pub struct Reduction {
     pub done: Vec<Letter>,
@@ -57,8 +58,8 @@ pub fn push(reduction: &mut Reduction, letter: Letter, state: usize) -> Result<(
     Ok(())
 }
 
-/// A left side ends at the next letter: back to where it began, with the right side to be read. Refused only where
-/// memory is wanting.
+/// A left side ends at the next letter: back to where it began, with the right side to be read.
+/// Refused only where memory is wanting.
 pub fn go_back(reduction: &mut Reduction, rule: &(Word, Word)) -> Result<(), NoMemory>
     requires some { 0 < length rule.now.0 }
     requires within { length rule.now.0 ≤ length reduction.old.done.items + 1 }
@@ -121,9 +122,9 @@ impl Automaton {
         }
     }
 
-    /// A word to which the rules lead from the word, and to which none applies. The word is read once, letter by letter,
-    /// and where a left side ends, reading goes on where it began with the right side. Refused only where memory is
-    /// wanting.
+    /// A word to which the rules lead from the word, and to which none applies. The word is read
+    /// once, letter by letter, and where a left side ends, reading goes on where it began with the
+    /// right side. Refused only where memory is wanting.
     pub fn reduce(&self, word: &Word) -> Result<Word, NoMemory>
         ensures reached { IfOk result (λ w. Reduces (Listed self.now.rules) word.now w) }
         ensures reduced { IfOk result (λ w. IsReduced (Listed self.now.rules) w) }

@@ -26,7 +26,8 @@ pub(crate) fn word_of(alloc: Global, letters: &[Letter]) -> Result<Word, NoMemor
     Ok(word)
 }
 
-/// The word with so many letters from the place on replaced by others. Refused only where memory is wanting.
+/// The word with so many letters from the place on replaced by others. Refused only where memory is
+/// wanting.
 pub fn replaced(
     alloc: Global,
     word: &[Letter],

@@ -9,8 +9,8 @@ use std::alloc::Global;
 use std::marker::Model;
 use words::Word;
 
-/// A list of rewriting rules: pairs of words, the left side greater than the right in short-lex order (libsemigroups,
-/// `KnuthBendix`).
+/// A list of rewriting rules: pairs of words, the left side greater than the right in short-lex
+/// order (libsemigroups, `KnuthBendix`).
 #[derive(Drop)]
 pub struct Rules {
     pub(crate) alloc: Global,
@@ -54,7 +54,8 @@ impl Rules {
         }
     }
 
-    /// The list of these rules, in order, whose left sides are greater than their right sides. It takes no memory.
+    /// The list of these rules, in order, whose left sides are greater than their right sides. It
+    /// takes no memory.
     pub fn from_vec(alloc: Global, rules: Vec<(Word, Word)>) -> Rules
         requires { AreFalling rules.items }
         ensures { result ≡ rules.items }
@@ -73,8 +74,8 @@ impl Rules {
         self.items
     }
 
-    /// How many rules there are. What holds of every list of rules is told here: left sides are greater than right
-    /// sides.
+    /// How many rules there are. What holds of every list of rules is told here: left sides are
+    /// greater than right sides.
     pub fn len(&self) -> usize
         ensures len { result ≡ length self.now }
         ensures falling { AreFalling self.now }
@@ -89,8 +90,8 @@ impl Rules {
         self.items.is_empty()
     }
 
-    /// The rule at a place, from 0: its left side, and its right side. That left sides are greater than right sides is
-    /// told here too.
+    /// The rule at a place, from 0: its left side, and its right side. That left sides are greater
+    /// than right sides is told here too.
     pub fn rule(&self, place: usize) -> &(Word, Word)
         requires { place < length self.now }
         ensures rule { result.now ≡ slice_index_or self.now place result.now }
@@ -99,8 +100,8 @@ impl Rules {
         &self.items[place]
     }
 
-    /// Puts a rule at the end. Its left side is greater than its right side. Refused only where memory is wanting, and
-    /// then the list stays as it was.
+    /// Puts a rule at the end. Its left side is greater than its right side. Refused only where
+    /// memory is wanting, and then the list stays as it was.
     pub fn push(&mut self, left: Word, right: Word) -> Result<(), NoMemory>
         requires { right ≺ left }
         ensures ok { OnOk result (self.new ≡ self.old ++ (left, right) ∷ []) }

@@ -1,4 +1,5 @@
-// The table of the automaton: for each state and letter the state that follows, or the rule whose left side ends.
+// The table of the automaton: for each state and letter the state that follows, or the rule whose
+// left side ends.
 ghost use Rattle.std.specs.Prelude.{◌≡◌, ℕ, ◌+◌, ◌*◌, ◌<◌, ◌≤◌, List, length, slice_index_or, take, Option, None, IfOk};
 ghost use Rattle.theory.specs.Word.{Word as Letters};
 ghost use Rattle.theory.specs.Graph.{target as target_of, path as path_of, IsGraph};
@@ -15,8 +16,8 @@ use std::alloc::Global;
 use std::marker::Model;
 use words::{Letter, Word};
 
-/// For each state and letter the longest state at their end, and where a left side stands there the number of its rule:
-/// rows of so many letters in one vector.
+/// For each state and letter the longest state at their end, and where a left side stands there the
+/// number of its rule: rows of so many letters in one vector.
 #[derive(Drop)]
 pub struct Table {
     letters: usize,
@@ -73,8 +74,8 @@ impl Table {
         })
     }
 
-    /// How many letters there are. What holds of every table is told here: as a graph it has as many entries in a row,
-    /// and each edge leads to a node.
+    /// How many letters there are. What holds of every table is told here: as a graph it has as
+    /// many entries in a row, and each edge leads to a node.
     pub fn letters(&self) -> usize
         ensures letters { result ≡ self.now.letters }
         ensures graph { IsGraph result (edges self.now) }
@@ -92,7 +93,8 @@ impl Table {
         self.prefixes.len()
     }
 
-    /// The longest state at the end of the state and the letter, and the rule whose left side stands there.
+    /// The longest state at the end of the state and the letter, and the rule whose left side
+    /// stands there.
     pub fn entry(&self, node: usize, letter: usize) -> (usize, Option<usize>)
         requires node { node < length self.now.prefixes }
         requires letter { letter < self.now.letters }
@@ -105,7 +107,8 @@ impl Table {
         (self.targets[place], self.ends[place])
     }
 
-    /// The longest state at the end of the state and the letter, and a rule whose left side stands there.
+    /// The longest state at the end of the state and the letter, and a rule whose left side stands
+    /// there.
     pub fn read(&self, state: usize, letter: Letter) -> (usize, Option<usize>)
         requires { state < length self.now.prefixes }
         ensures { (k : ℕ) (rules : List (Letters × Letters)) → AreFalling rules
@@ -118,7 +121,8 @@ impl Table {
         self.entry(state, letter.number())
     }
 
-    /// Where the edge of the letter leads from the node. `None` exactly where there is no such edge.
+    /// Where the edge of the letter leads from the node. `None` exactly where there is no such
+    /// edge.
     pub fn target(&self, node: usize, letter: Letter) -> Option<usize>
         ensures { result ≡ target_of (edges self.now) node letter }
     {

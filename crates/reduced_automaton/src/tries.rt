@@ -1,4 +1,5 @@
-// The states as a tree: each is a left side's first letters, and a child is one letter longer (Aho and Corasick 1975).
+// The states as a tree: each is a left side's first letters, and a child is one letter longer (Aho
+// and Corasick 1975).
 ghost use Rattle.std.specs.Prelude.{◌≡◌, ℕ, ◌+◌, ◌*◌, ◌<◌, ◌≤◌, ◌⊎◌, [], ◌∷◌, ◌++◌, length, replicate, slice_set, Option, None, Some, IfOk, OnOk};
 ghost use Rattle.reduced_automaton.specs.Rules.{AreOver};
 ghost use Rattle.reduced_automaton.specs.Tries.{FindsChild, HasEntries, IsTreeOf, IsTreeTo};
@@ -14,8 +15,8 @@ pub struct Prefix {
     pub count: usize,
 }
 
-/// The states as prefixes of left sides; and for each state and letter the state that they make, and the rule whose left
-/// side they make.
+/// The states as prefixes of left sides; and for each state and letter the state that they make,
+/// and the rule whose left side they make.
 #[derive(Drop)]
 pub struct Trie {
     pub prefixes: Vec<Prefix>,
@@ -124,7 +125,8 @@ fn insert(trie: &mut Trie, letters: usize, rules: &Rules, rule: usize) -> Result
     Ok(())
 }
 
-/// The tree of the empty word and the proper prefixes of the left sides. Refused only where memory is wanting.
+/// The tree of the empty word and the proper prefixes of the left sides. Refused only where memory
+/// is wanting.
 pub fn trie_of(alloc: Global, letters: usize, rules: &Rules) -> Result<Trie, NoMemory>
     requires { AreOver letters rules.now }
     ensures { IfOk result (IsTreeOf letters rules.now) }

@@ -9,7 +9,8 @@ abbrev pub AreAtMost : Bool → ℕ → Graph → Type 0
 AreAtMost true n g = length g ≤ n
 AreAtMost false n g = (length g ≤ suc n) × ((node letter : ℕ) → target g node letter ≢ Some 0)
 
--- each letter has an edge at each node, both sides of each relation lead from each node to one, and there are at most n classes
+-- each letter has an edge at each node, both sides of each relation lead from each node to one, and
+-- there are at most n classes
 pub record StandsFor (p : Presentation) (n : ℕ) (g : Graph) : Type 0 where
   pub graph : IsGraph p.letters g
   pub complete : IsComplete p.letters g

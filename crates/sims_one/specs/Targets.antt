@@ -43,7 +43,8 @@ abbrev pub IsSound : Presentation → List ℕ → Type 0
 IsSound p targets = (node : ℕ) (r s : Word) → node < seen targets → Contains p.relations (r, s)
     → Agree p.letters targets node r s
 
--- the front part of the targets of a standard table: each at most one more than those before, and each in the row of a node seen before
+-- the front part of the targets of a standard table: each at most one more than those before, and
+-- each in the row of a node seen before
 pub record IsFront (k : ℕ) (targets : List ℕ) : Type 0 where
   pub numbered : IsNumberedFrom 0 targets
   pub goes_on : (j : ℕ) → j < length targets → j < k * seen (take j targets)

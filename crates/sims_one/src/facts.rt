@@ -5,8 +5,8 @@ ghost use Rattle.theory.specs.Graph.{Graph};
 ghost use Rattle.theory.specs.LowIndex.{Rows, graph_of, IsLowIndex};
 ghost use Rattle.sims_one.specs.Graphs.{HaveSamePaths, StandsFor};
 
-/// Each graph that meets the relations at each node and has at most so many classes has the equal paths of one table
-/// of the search, and of no other.
+/// Each graph that meets the relations at each node and has at most so many classes has the equal
+/// paths of one table of the search, and of no other.
 pub fn graph_has_one_table()
     ensures exists { (p : Relations) (n : ℕ) (g : Graph) → 0 < p.letters
         → AreElements p.is_monoid p.letters p.relations → StandsFor p n g

@@ -1,7 +1,7 @@
 //! Standard tables of right congruences of low index.
 //!
-//! The tables are found by a backtrack search, one after another, in the order of their rows (Sims, *Computation with
-//! finitely presented groups*, 1994, 5.6; libsemigroups, `Sims1`).
+//! The tables are found by a backtrack search, one after another, in the order of their rows (Sims,
+//! *Computation with finitely presented groups*, 1994, 5.6; libsemigroups, `Sims1`).
 #![tactic(auto)]
 
 pub mod facts;

@@ -22,7 +22,8 @@ pub fn greatest(targets: &[usize]) -> usize
     greatest
 }
 
-// Where the edge of the letter leads from the node, in tables of so many letters. `None` where its target is wanting.
+// Where the edge of the letter leads from the node, in tables of so many letters. `None` where its
+// target is wanting.
 fn target_at(letters: usize, targets: &[usize], node: usize, letter: Letter) -> Option<usize>
     requires node { node < MOST_NODES }
     requires letters { letters ≤ 26 }

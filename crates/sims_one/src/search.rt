@@ -52,8 +52,9 @@ fn is_full(presentation: &Presentation, targets: &[usize]) -> bool
     presentation.letters() * (greatest(targets) + 1) <= targets.len()
 }
 
-/// Makes of the targets those of the least table of at most so many classes that goes on behind them, and tells that
-/// there is one; else leaves them as they are. Refused only where memory is wanting, and then the targets are any.
+/// Makes of the targets those of the least table of at most so many classes that goes on behind
+/// them, and tells that there is one; else leaves them as they are. Refused only where memory is
+/// wanting, and then the targets are any.
 #[cycle(search)]
 pub fn search(
     presentation: &Presentation,
@@ -78,9 +79,10 @@ pub fn search(
     search_from(presentation, classes, targets, least_target(presentation))
 }
 
-/// Makes of the targets those of the least table of at most so many classes that goes on behind them with a target that
-/// is not below the first, and tells that there is one; else leaves them as they are. A target is wanting in the rows
-/// of the nodes seen. Refused only where memory is wanting, and then the targets are any.
+/// Makes of the targets those of the least table of at most so many classes that goes on behind
+/// them with a target that is not below the first, and tells that there is one; else leaves them as
+/// they are. A target is wanting in the rows of the nodes seen. Refused only where memory is
+/// wanting, and then the targets are any.
 #[cycle(search)]
 pub fn search_from(
     presentation: &Presentation,
@@ -112,8 +114,8 @@ pub fn search_from(
     Ok(false)
 }
 
-// Whether a table goes on behind the targets with a greater target than one; then they are made those of the least
-// such table, and else are left as they are.
+// Whether a table goes on behind the targets with a greater target than one; then they are made
+// those of the least such table, and else are left as they are.
 fn search_after(
     presentation: &Presentation,
     classes: usize,
@@ -138,8 +140,9 @@ fn search_after(
     search_from(presentation, classes, targets, target + 1)
 }
 
-/// The targets of the least table of at most so many classes after the cursor, or of the least table of all where the
-/// cursor has no target. `None` exactly where there is none. Refused only where memory is wanting.
+/// The targets of the least table of at most so many classes after the cursor, or of the least
+/// table of all where the cursor has no target. `None` exactly where there is none. Refused only
+/// where memory is wanting.
 pub fn find_next(
     alloc: Global,
     presentation: &Presentation,

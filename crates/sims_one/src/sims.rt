@@ -19,10 +19,12 @@ use word_graph::WordGraph;
 /// The most classes of the tables that are searched for.
 pub const MOST_CLASSES: usize = 16;
 
-/// A search for the standard tables of at most so many classes at which the relations of a presentation hold, in the
-/// order of their rows (libsemigroups, `Sims1`). In a semigroup the root is no class, and no edge leads to it.
+/// A search for the standard tables of at most so many classes at which the relations of a
+/// presentation hold, in the order of their rows (libsemigroups, `Sims1`). In a semigroup the root
+/// is no class, and no edge leads to it.
 ///
-/// Each call but `new` may find memory wanting. It then answers `NoMemory`, as does each later call.
+/// Each call but `new` may find memory wanting. It then answers `NoMemory`, as does each later
+/// call.
 #[derive(Drop)]
 pub struct Sims {
     alloc: Global,
@@ -73,8 +75,8 @@ impl Sims {
         })
     }
 
-    /// From now on the tables after this one, which is standard over the letters of the presentation, and need not be
-    /// a table of the search.
+    /// From now on the tables after this one, which is standard over the letters of the
+    /// presentation, and need not be a table of the search.
     pub fn resume(&mut self, table: &WordGraph) -> Result<(), NoMemory>
         requires { IsStandardGraph self.old.presentation.letters table.now }
         ensures ok { OnOk result ((rows : Rows) → table.now ≡ graph_of rows
@@ -120,8 +122,8 @@ impl Sims {
         Ok(Some((targets, graph)))
     }
 
-    /// The next table: the least of those after the last one, or after the table of `resume`. `None` exactly where
-    /// there is none, and then nothing changes.
+    /// The next table: the least of those after the last one, or after the table of `resume`.
+    /// `None` exactly where there is none, and then nothing changes.
     pub fn next(&mut self) -> Result<Option<WordGraph>, NoMemory>
         ensures some { IfOk result (λ found. (g : Graph) → found ≡ Some g
             → (rows : Rows)

@@ -15,8 +15,8 @@ pub record FelschTask : Type 0 where
   pub congruence : Congruence
   pub budget : ℕ
 
--- an enumeration: what it was made for, its budget, the definitions made, whether a turn was made, the graph of its
--- coset table, and what the last turn gave
+-- an enumeration: what it was made for, its budget, the definitions made, whether a turn was made,
+-- the graph of its coset table, and what the last turn gave
 pub record FelschRun : Type 0 where
   pub congruence : Congruence
   pub budget : ℕ
@@ -25,8 +25,8 @@ pub record FelschRun : Type 0 where
   pub graph : Graph
   pub said : Progress
 
--- the paths of the graph relate what the facts do once so many words are defined; of nodes that no word leads to, as
--- the table's graph may have them, nothing is said
+-- the paths of the graph relate what the facts do once so many words are defined; of nodes that no
+-- word leads to, as the table's graph may have them, nothing is said
 pub record IsAtStage (c : Congruence) (made : ℕ) (g : Graph) : Type 0 where
   pub words : List Word
   pub stage : FelschStage c made words
@@ -54,7 +54,8 @@ pub record IsFresh (t : CosetTable) (made : ℕ) (next : Option (ℕ × ℕ)) : 
   pub none_made : made ≡ 0
   pub none_due : next ≡ None
 
--- what the last turn left; by IsTable the live nodes of the graph are those that are reached, and only they have edges
+-- what the last turn left; by IsTable the live nodes of the graph are those that are reached, and
+-- only they have edges
 pub record IsRun (t : CosetTable) (budget made : ℕ) (begun : Bool) (next : Option (ℕ × ℕ))
     (said : Progress) : Type 0 where
   pub table : IsTable t

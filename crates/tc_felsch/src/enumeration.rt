@@ -17,8 +17,8 @@ use std::marker::Model;
 use word_graph::WordGraph;
 use words::Letter;
 
-/// A coset enumeration by Felsch's strategy with a budget of definitions: an engine that decides whether each word is
-/// defined after at most so many.
+/// A coset enumeration by Felsch's strategy with a budget of definitions: an engine that decides
+/// whether each word is defined after at most so many.
 #[derive(Drop)]
 pub struct Felsch {
     table: Table,
@@ -130,10 +130,10 @@ impl Racer for Felsch {
 
     ghost said = { λ f. f.said };
 
-    /// One definition with all that follows from it; at the first turn, what follows without a definition. After it
-    /// the paths of the table's graph relate what the facts of the stage with so many definitions do, and the graph has
-    /// at most one node more than definitions were made, nodes that no word leads to any more among them, unless
-    /// memory was wanting.
+    /// One definition with all that follows from it; at the first turn, what follows without a
+    /// definition. After it the paths of the table's graph relate what the facts of the stage with
+    /// so many definitions do, and the graph has at most one node more than definitions were made,
+    /// nodes that no word leads to any more among them, unless memory was wanting.
     fn advance(&mut self) -> Progress
         ensures task { (self.new.congruence ≡ self.old.congruence)
             × (self.new.budget ≡ self.old.budget) }
@@ -172,8 +172,8 @@ impl Racer for Felsch {
 }
 
 impl Felsch {
-    /// The enumeration of the congruence with a budget of so many definitions. No turn has been made. The congruence
-    /// has right pairs, or none. Refused only where memory is wanting.
+    /// The enumeration of the congruence with a budget of so many definitions. No turn has been
+    /// made. The congruence has right pairs, or none. Refused only where memory is wanting.
     pub fn new(alloc: Global, congruence: &Congruence, defs: usize) -> Result<Felsch, NoMemory>
         requires { IsRightSided congruence.now.congruence }
         ensures { IfOk result (λ f. f ≡ record {
@@ -203,9 +203,10 @@ impl Felsch {
         self.said == Progress::Decided
     }
 
-    /// The graph of an enumeration that is decided: the standard one with the equal paths of the table. Each of its
-    /// nodes is reached, its paths relate what the facts of the last stage do, at which each word is defined, and it
-    /// has at most one node more than definitions were made. Refused only where memory is wanting.
+    /// The graph of an enumeration that is decided: the standard one with the equal paths of the
+    /// table. Each of its nodes is reached, its paths relate what the facts of the last stage do,
+    /// at which each word is defined, and it has at most one node more than definitions were made.
+    /// Refused only where memory is wanting.
     pub fn graph(&self) -> Result<WordGraph, NoMemory>
         requires { self.now.said ≡ Progress.Decided }
         ensures standard { IfOk result (λ g. IsStandardGraph

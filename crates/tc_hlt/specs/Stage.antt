@@ -15,7 +15,8 @@ pub record HltTask : Type 0 where
   pub congruence : Congruence
   pub budget : ℕ
 
--- an enumeration: what it was made for, its budget, the rows made, whether a turn was made, its graph, and what the last turn gave
+-- an enumeration: what it was made for, its budget, the rows made, whether a turn was made, its
+-- graph, and what the last turn gave
 pub record HltRun : Type 0 where
   pub congruence : Congruence
   pub budget : ℕ
@@ -30,7 +31,8 @@ pub record IsAtStage (c : Congruence) (made : ℕ) (g : Graph) : Type 0 where
   pub stage : HltStage c made words
   pub shows : PathsRelate g (HltFacts c words)
 
--- the graph shows the facts of the last stage, at which every defined word is related to one with a row
+-- the graph shows the facts of the last stage, at which every defined word is related to one with a
+-- row
 pub record IsAtEnd (c : Congruence) (made : ℕ) (g : Graph) : Type 0 where
   pub words : List Word
   pub stage : HltStage c made words

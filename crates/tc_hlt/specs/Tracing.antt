@@ -15,8 +15,9 @@ IsWithin c U g = (u v : Word) → SameEnd g u v → HltFacts c U u v
 abbrev pub NoDrawing : Word → Word → Word → Type 0
 NoDrawing x u v = ⊥
 
--- new is old with edges to new nodes and edges between old ones. For each word x that leads to the node the words D x
--- have paths, and no fact is invented where these are defined and the pairs of words E x are facts
+-- new is old with edges to new nodes and edges between old ones. For each word x that leads to the
+-- node the words D x have paths, and no fact is invented where these are defined and the pairs of
+-- words E x are facts
 pub record IsGrown (D : Word → Word → Type 0) (E : Word → Word → Word → Type 0)
     (old new : CosetTable) (node : ℕ) : Type 0 where
   pub congruence : new.congruence ≡ old.congruence

@@ -16,8 +16,9 @@ use std::alloc::Global;
 use std::marker::Model;
 use word_graph::WordGraph;
 
-/// A coset enumeration by the strategy of Haselgrove, Leech and Trotter with a budget of rows: an engine that decides
-/// whether each defined word is related to one with a row after at most so many.
+/// A coset enumeration by the strategy of Haselgrove, Leech and Trotter with a budget of rows: an
+/// engine that decides whether each defined word is related to one with a row after at most so
+/// many.
 #[derive(Drop)]
 pub struct Hlt {
     congruence: Congruence,
@@ -162,8 +163,9 @@ impl Racer for Hlt {
 
     ghost said = { λ h. h.said };
 
-    /// One row with all that follows from it; at the first turn, before it, what the pairs give. Without a budget no
-    /// row is made. After it the graph shows the facts of the stage with so many rows, unless memory was wanting.
+    /// One row with all that follows from it; at the first turn, before it, what the pairs give.
+    /// Without a budget no row is made. After it the graph shows the facts of the stage with so
+    /// many rows, unless memory was wanting.
     fn advance(&mut self) -> Progress
         ensures task { (self.new.congruence ≡ self.old.congruence)
             × (self.new.budget ≡ self.old.budget) }
@@ -207,8 +209,8 @@ impl Racer for Hlt {
 }
 
 impl Hlt {
-    /// The enumeration of the congruence with a budget of so many rows. No turn has been made. The congruence has right
-    /// pairs, or none. Refused only where memory is wanting.
+    /// The enumeration of the congruence with a budget of so many rows. No turn has been made. The
+    /// congruence has right pairs, or none. Refused only where memory is wanting.
     pub fn new(alloc: Global, congruence: &Congruence, rows: usize) -> Result<Hlt, NoMemory>
         requires { IsRightSided congruence.now.congruence }
         ensures { IfOk result (λ h. h ≡ record {
@@ -239,9 +241,9 @@ impl Hlt {
         self.said == Progress::Decided
     }
 
-    /// The graph of an enumeration that is decided: the standard one with the equal paths of the table, which shows the
-    /// facts of the last stage, at which each word is defined and related to one with a row. Refused only where memory
-    /// is wanting.
+    /// The graph of an enumeration that is decided: the standard one with the equal paths of the
+    /// table, which shows the facts of the last stage, at which each word is defined and related to
+    /// one with a row. Refused only where memory is wanting.
     pub fn graph(&self) -> Result<WordGraph, NoMemory>
         requires { self.now.said ≡ Progress.Decided }
         ensures standard { IfOk result (λ g. IsStandardGraph

@@ -1,9 +1,9 @@
 //! Coset enumeration by the strategy of Haselgrove, Leech and Trotter.
 //!
-//! The least word in short-lex order that is defined and related to no word with a row has its row next: its extensions
-//! by a letter are defined, each side of each relation is traced behind it, and all is drawn that follows when relations
-//! are read at it (Sims, *Computation with finitely presented groups*, 1994, 5.2; libsemigroups, `ToddCoxeter` with the
-//! strategy `hlt`).
+//! The least word in short-lex order that is defined and related to no word with a row has its row
+//! next: its extensions by a letter are defined, each side of each relation is traced behind it,
+//! and all is drawn that follows when relations are read at it (Sims, *Computation with finitely
+//! presented groups*, 1994, 5.2; libsemigroups, `ToddCoxeter` with the strategy `hlt`).
 #![tactic(auto)]
 
 mod enumeration;

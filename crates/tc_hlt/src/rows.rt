@@ -29,8 +29,8 @@ fn step(table: &mut Table, node: usize, letter: Letter) -> Result<usize, NoMemor
     }
 }
 
-// Where so many letters of the word lead from the node. Edges that are missing on the way are made. Only want of memory
-// refuses it.
+// Where so many letters of the word lead from the node. Edges that are missing on the way are made.
+// Only want of memory refuses it.
 fn trace_front(table: &mut Table, node: usize, word: &Word, count: usize) -> Result<usize, NoMemory>
     requires table { IsTable table.old }
     requires failed { table.old.failed ≡ false }
@@ -51,7 +51,8 @@ fn trace_front(table: &mut Table, node: usize, word: &Word, count: usize) -> Res
     Ok(at)
 }
 
-/// Where the word leads from the node. Edges that are missing on the way are made. Only want of memory refuses it.
+/// Where the word leads from the node. Edges that are missing on the way are made. Only want of
+/// memory refuses it.
 pub fn trace(table: &mut Table, node: usize, word: &Word) -> Result<usize, NoMemory>
     requires table { IsTable table.old }
     requires failed { table.old.failed ≡ false }
@@ -72,7 +73,8 @@ fn before_last(side: &Word) -> usize
     side.len().saturating_sub(1)
 }
 
-// Where the side leads from a node from which all but its last letter lead here, if its last edge is there.
+// Where the side leads from a node from which all but its last letter lead here, if its last edge
+// is there.
 fn end_of(table: &Table, at: usize, side: &Word) -> Option<usize>
     requires { table.now.failed ≡ false }
     ensures { (node : ℕ)
@@ -85,7 +87,8 @@ fn end_of(table: &Table, at: usize, side: &Word) -> Option<usize>
     table.target(at, side.letter(before_last(side)))
 }
 
-// Where the side leads from a node from which all but its last letter lead here. Its last edge is made if it is missing.
+// Where the side leads from a node from which all but its last letter lead here. Its last edge is
+// made if it is missing.
 fn finish(table: &mut Table, at: usize, side: &Word) -> Result<usize, NoMemory>
     requires table { IsTable table.old }
     requires failed { table.old.failed ≡ false }
@@ -107,8 +110,8 @@ fn finish(table: &mut Table, at: usize, side: &Word) -> Result<usize, NoMemory>
     Ok(end)
 }
 
-// Draws the last edge of a side, if it is missing, from the node to which all its other letters lead to the end of the
-// other side.
+// Draws the last edge of a side, if it is missing, from the node to which all its other letters
+// lead to the end of the other side.
 fn meet(table: &mut Table, at: usize, side: &Word, end: usize) -> Result<(), NoMemory>
     requires table { IsTable table.old }
     requires failed { table.old.failed ≡ false }
@@ -132,8 +135,8 @@ fn meet(table: &mut Table, at: usize, side: &Word, end: usize) -> Result<(), NoM
     }
 }
 
-// Traces both sides of a relation from the node. Where one of them is there but for its last edge, this edge is drawn to
-// the end of the other.
+// Traces both sides of a relation from the node. Where one of them is there but for its last edge,
+// this edge is drawn to the end of the other.
 fn trace_both(table: &mut Table, node: usize, first: &Word, second: &Word) -> Result<(), NoMemory>
     requires table { IsTable table.old }
     requires failed { table.old.failed ≡ false }
@@ -208,7 +211,8 @@ fn trace_row(table: &mut Table, congruence: &Congruence, node: usize) -> Result<
     define_letters(table, node, presentation.letters())
 }
 
-/// Makes the row of the node, and draws what follows when relations are read there. Only want of memory refuses it.
+/// Makes the row of the node, and draws what follows when relations are read there. Only want of
+/// memory refuses it.
 pub fn make_row(table: &mut Table, congruence: &Congruence, node: usize) -> Result<(), NoMemory>
     requires table { IsTable table.old }
     requires failed { table.old.failed ≡ false }

@@ -1,4 +1,5 @@
--- Least words that are read backwards along a graph: the classes of a left congruence (Sims 1994, ch. 5; libsemigroups: Congruence).
+-- Least words that are read backwards along a graph: the classes of a left congruence (Sims 1994,
+-- ch. 5; libsemigroups: Congruence).
 use Rattle.std.specs.Prelude.{◌↔◌, ◌≡◌, ℕ, ◌<◌, [], ◌∷◌, ◌⊎◌, length, Some, reverse}
 use Rattle.theory.specs.Word.{Word, IsOver}
 use Rattle.theory.specs.ShortLex.{◌≺◌}
@@ -12,7 +13,8 @@ pub record IsLeastBackwards (k : ℕ) (g : Graph) (node : ℕ) (w : Word) : Type
   pub leads : path g 0 (reverse w) ≡ Some node
   pub least : (v : Word) → IsOver k v → path g 0 (reverse v) ≡ Some node → v ≺ w → ⊥
 
--- a word for each node, by which no edge leads to a node with a greater word: one letter is put in front
+-- a word for each node, by which no edge leads to a node with a greater word: one letter is put in
+-- front
 pub record AreWordsBackwards (k : ℕ) (g : Graph) (word : ℕ → Word) : Type 0 where
   pub root : word 0 ≡ []
   pub over : (node : ℕ) → node < length g → IsOver k (word node)

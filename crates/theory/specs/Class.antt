@@ -43,7 +43,8 @@ HasMoreThan R = HaveMoreThan (IsLeast R) ◌≺◌
 abbrev pub IsInfinite : (Word → Word → Type 0) → Type 0
 IsInfinite R = AreInfinite (IsLeast R) ◌≺◌
 
--- (u, v) is a reduced rule: u is not least, v is the least of its class, and each proper factor of u that is an element is least
+-- (u, v) is a reduced rule: u is not least, v is the least of its class, and each proper factor of
+-- u that is an element is least
 pub record IsReducedRule (R : Word → Word → Type 0) (u v : Word) : Type 0 where
   pub normal : IsNormal R u v
   pub falls : v ≺ u

@@ -13,7 +13,8 @@ module _ (p : Presentation) (L : ℕ) where
     pub over : IsOver p.letters u
     pub short : length u ≤ L
 
-  -- the least equivalence on the words that fit which has the relations that fit, and is kept in each context that fits
+  -- the least equivalence on the words that fit which has the relations that fit, and is kept in
+  -- each context that fits
   pub data Within : Word → Word → Type 0 where
     same : {u : Word} → Fits u → Within u u
     symmetric : {u v : Word} → Within u v → Within v u

@@ -1,4 +1,5 @@
--- Presentations, and congruences given by pairs (Sims 1994, ch. 1 and 2; libsemigroups: Presentation, Congruence).
+-- Presentations, and congruences given by pairs (Sims 1994, ch. 1 and 2; libsemigroups:
+-- Presentation, Congruence).
 use Rattle.std.specs.Prelude.{◌≡◌, ℕ, ◌==◌, Bool, true, List, [], ◌∷◌, ◌++◌, length, All, Contains, ◌⊎◌, reverse}
 use Rattle.theory.specs.Word.{Word, IsElement, reversed_pairs}
 use Rattle.theory.specs.declared.Kind.{Kind}

@@ -72,7 +72,8 @@ right_pair = record { presentation = dihedral; kind = Right; pairs = (a1, []) �
 abbrev pub left_pair : Congruence
 left_pair = record { presentation = dihedral; kind = Left; pairs = (a1, []) ∷ [] }
 
--- the monoid with two generators in which aa and bb are 1 and ab is ba: a group of order four, with the left pair 1, 1
+-- the monoid with two generators in which aa and bb are 1 and ab is ba: a group of order four, with
+-- the left pair 1, 1
 abbrev pub four_group : Presentation
 four_group = record {
   letters = 2;
@@ -101,7 +102,8 @@ three_maps zero = 1 ∷ 0 ∷ 2 ∷ []
 three_maps (suc zero) = 1 ∷ 2 ∷ 0 ∷ []
 three_maps (suc (suc n)) = 0 ∷ 0 ∷ 2 ∷ []
 
--- numbers below four as two bits: a product has the first bit of the one and the second of the other
+-- numbers below four as two bits: a product has the first bit of the one and the second of the
+-- other
 abbrev pub band : ℕ → ℕ → ℕ
 band x y = x / 2 * 2 + y % 2
 

@@ -1,4 +1,5 @@
--- What a partial coset table knows (Todd and Coxeter 1936; Sims 1994, ch. 5). A word is defined where it is related to itself.
+-- What a partial coset table knows (Todd and Coxeter 1936; Sims 1994, ch. 5). A word is defined
+-- where it is related to itself.
 use Rattle.std.specs.Prelude.{◌≡◌, ℕ, List, [], ◌∷◌, ◌++◌, ◌⊎◌}
 use Rattle.theory.specs.Word.{Word, IsOver}
 use Rattle.theory.specs.Congruence.{Congruence, EitherWay}

@@ -1,4 +1,5 @@
--- Felsch's strategy: relations hold at all words, and the least undefined word is defined next (Felsch 1961; Sims 1994, ch. 5).
+-- Felsch's strategy: relations hold at all words, and the least undefined word is defined next
+-- (Felsch 1961; Sims 1994, ch. 5).
 use Rattle.std.specs.Prelude.{ℕ, suc, ◌≤◌, List, [], ◌∷◌, Contains}
 use Rattle.theory.specs.Word.{Word, IsOver}
 use Rattle.theory.specs.ShortLex.{◌≺◌}

@@ -1,4 +1,5 @@
--- The congruence on elements that pairs generate, by products with generators alone (Howie 1995, ch. 1; Froidure and Pin 1997).
+-- The congruence on elements that pairs generate, by products with generators alone (Howie 1995,
+-- ch. 1; Froidure and Pin 1997).
 use Rattle.std.specs.Prelude.{◌≡◌, ℕ, ◌<◌, Bool, false, List, [], ◌∷◌, ◌++◌, ◌⊎◌, IsTrue, Contains}
 use Rattle.theory.specs.Word.{Word, IsElement}
 use Rattle.theory.specs.Class.{Among}
@@ -20,7 +21,8 @@ IsKeptOnLeft Left = Unit {0}
 
 -- `right x a` is x times the letter a, `left x a` the letter times x
 module _ {X : Type 0} (kind : Kind) (k : ℕ) (right left : X → ℕ → X) (Given : X → X → Type 0) where
-  -- the least equivalence that has what is given, and is kept under the k letters on the sides of its kind
+  -- the least equivalence that has what is given, and is kept under the k letters on the sides of
+  -- its kind
   pub data Generated : X → X → Type 0 where
     given : {x y : X} → Given x y → Generated x y
     symmetric : {x y : X} → Generated x y → Generated y x
@@ -54,7 +56,8 @@ module _ {V : Type 0} (HasShape : V → Type 0) (product : V → V → V) (equal
       Among HasShape (λ z w. IsTrue (equal z w)) x y
       ⊎ IsPairOf pairs (λ z u. z ≡ value product generator unused u) x y
 
-  -- the least equivalence on the values of the shape that has these, and is kept under the generators on the sides of its kind
+  -- the least equivalence on the values of the shape that has these, and is kept under the
+  -- generators on the sides of its kind
   abbrev pub GeneratedValue : V → V → Type 0
   GeneratedValue = Generated kind k (λ x a. product x (generator a))
       (λ x a. product (generator a) x) GivenValue
@@ -66,7 +69,8 @@ module _ {V : Type 0} (k : ℕ) (equal : V → V → Bool) (value_of : Word → 
   abbrev pub IsNumberOf : ℕ → Word → Type 0
   IsNumberOf i u = (i < n) × SameValue k equal value_of u (word i)
 
-  -- each value has one number, and the edges of the right and the left Cayley graph lead to its products with the letters
+  -- each value has one number, and the edges of the right and the left Cayley graph lead to its
+  -- products with the letters
   pub record AreNumbered (right left : ℕ → ℕ → ℕ) : Type 0 where
     pub elements : (i : ℕ) → i < n → IsElement false k (word i)
     pub all : (u : Word) → IsElement false k u → (i : ℕ) × IsNumberOf i u
@@ -78,12 +82,14 @@ module _ {V : Type 0} (k : ℕ) (equal : V → V → Bool) (value_of : Word → 
   abbrev pub GivenNumber : List (Word × Word) → ℕ → ℕ → Type 0
   GivenNumber pairs i j = ((i < n) × (i ≡ j)) ⊎ IsPairOf pairs IsNumberOf i j
 
-  -- the least equivalence on the numbers that has these, and is kept along the edges on the sides of its kind
+  -- the least equivalence on the numbers that has these, and is kept along the edges on the sides
+  -- of its kind
   abbrev pub GeneratedNumber : (ℕ → ℕ → ℕ) → (ℕ → ℕ → ℕ) → Kind → List (Word × Word) → ℕ → ℕ
       → Type 0
   GeneratedNumber right left kind pairs = Generated kind k right left (GivenNumber pairs)
 
-  -- merges that are generated, link the numbers of each pair, and link what the edges of each merge lead to
+  -- merges that are generated, link the numbers of each pair, and link what the edges of each merge
+  -- lead to
   pub record AreMerges (right left : ℕ → ℕ → ℕ) (kind : Kind) (pairs : List (Word × Word))
       (merges : List (ℕ × ℕ)) : Type 0 where
     pub sound : (i j : ℕ) → Contains merges (i, j) → GeneratedNumber right left kind pairs i j

@@ -46,13 +46,15 @@ pub record IsCompleteTable (k : ℕ) (g : Graph) : Type 0 where
   pub complete : IsComplete k g
   pub reached : (node : ℕ) → node < length g → (u : Word) × IsOver k u × (path g 0 u ≡ Some node)
 
--- where the first side and all but the last letter of the second have a path from the node, the last edge is there, and both sides lead to one node
+-- where the first side and all but the last letter of the second have a path from the node, the
+-- last edge is there, and both sides lead to one node
 abbrev pub IsClosedAt : List (Word × Word) → Graph → ℕ → Type 0
 IsClosedAt pairs g node = (r s : Word) (a m j : ℕ)
     → EitherWay pairs r (s ++ a ∷ []) → path g node r ≡ Some m → path g node s ≡ Some j
     → target g j a ≡ Some m
 
--- the words of D have a path; the relations are closed at the nodes to which words of U lead, and the pairs at the root
+-- the words of D have a path; the relations are closed at the nodes to which words of U lead, and
+-- the pairs at the root
 pub record IsModel (c : Congruence) (D U : Word → Type 0) (g : Graph) : Type 0 where
   pub defined : (w : Word) → D w → (node : ℕ) × (path g 0 w ≡ Some node)
   pub closed : (u : Word) (node : ℕ) → U u → path g 0 u ≡ Some node

@@ -1,4 +1,5 @@
--- Green's relations and idempotents of a semigroup of values (Howie 1995, ch. 2; libsemigroups: FroidurePin).
+-- Green's relations and idempotents of a semigroup of values (Howie 1995, ch. 2; libsemigroups:
+-- FroidurePin).
 use Rattle.std.specs.Prelude.{◌≡◌, ℕ, ◌<◌, Bool, false, List, [], ◌∷◌, ◌⊎◌, None, IsTrue}
 use Rattle.theory.specs.Word.{Word, IsElement}
 use Rattle.theory.specs.Listing.{IsListOf}

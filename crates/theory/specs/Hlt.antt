@@ -1,4 +1,5 @@
--- The strategy of Haselgrove, Leech and Trotter: the relations are traced at one word after another (Sims 1994, ch. 5).
+-- The strategy of Haselgrove, Leech and Trotter: the relations are traced at one word after another
+-- (Sims 1994, ch. 5).
 use Rattle.std.specs.Prelude.{◌≡◌, ℕ, suc, ◌<◌, ◌≤◌, List, [], ◌∷◌, ◌++◌, ◌⊎◌, Contains}
 use Rattle.theory.specs.Word.{Word, IsPrefix}
 use Rattle.theory.specs.ShortLex.{◌≺◌}

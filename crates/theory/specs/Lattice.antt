@@ -1,4 +1,5 @@
--- The lattice of right congruences, by their tables (Sims 1994, ch. 5; Howie 1995, ch. 1; libsemigroups: WordGraph).
+-- The lattice of right congruences, by their tables (Sims 1994, ch. 5; Howie 1995, ch. 1;
+-- libsemigroups: WordGraph).
 use Rattle.std.specs.Prelude.{◌≡◌, ◌≢◌, ℕ, ◌<◌, true, List, [], ◌∷◌, ◌++◌, ◌⊎◌, length, Some, Contains}
 use Rattle.theory.specs.Word.{Word, IsOver}
 use Rattle.theory.specs.Congruence.{Congruence}
@@ -28,7 +29,8 @@ Join k s t = Among (IsOver k) (Joined (λ u v. SameEnd s u v ⊎ SameEnd t u v))
 abbrev pub HasFreeRoot : Graph → Type 0
 HasFreeRoot g = (node letter : ℕ) → target g node letter ≢ Some 0
 
--- each node of g stands for one of s and one of t, no two for the same, and edges lead where both lead
+-- each node of g stands for one of s and one of t, no two for the same, and edges lead where both
+-- lead
 pub record IsProductOf (s t g : Graph) (left right : ℕ → ℕ) : Type 0 where
   pub left_root : left 0 ≡ 0
   pub right_root : right 0 ≡ 0
@@ -43,7 +45,8 @@ abbrev pub MergedAll : (Word → Word → Type 0) → List (Word × Word) → Wo
 MergedAll V [] = V
 MergedAll V (p ∷ ps) = MergedAll (Merged V p.0 p.1) ps
 
--- with a word for each node, pairs that the table relates, and among which is each edge: a node's word with a letter behind it, and the word of the node to which that leads
+-- with a word for each node, pairs that the table relates, and among which is each edge: a node's
+-- word with a letter behind it, and the word of the node to which that leads
 pub record AreEdgePairs (k : ℕ) (t : Graph) (word : ℕ → Word)
     (pairs : List (Word × Word)) : Type 0 where
   pub root : word 0 ≡ []
@@ -58,7 +61,8 @@ abbrev pub MergedAt : Graph → ℕ → ℕ → Word → Word → Type 0
 MergedAt g x y = Follows [] [] (λ u v. SameEnd g u v
     ⊎ ((path g 0 u ≡ Some x) × (path g 0 v ≡ Some y))) (λ w. ⊥)
 
--- g relates what s does, and where each edge of t leads: a node's word with a letter behind it, and the word of the node to which that leads
+-- g relates what s does, and where each edge of t leads: a node's word with a letter behind it, and
+-- the word of the node to which that leads
 pub record HasBoth (k : ℕ) (s t g : Graph) (word : ℕ → Word) : Type 0 where
   pub root : word 0 ≡ []
   pub has : (u v : Word) → SameEnd s u v → SameEnd g u v

@@ -1,4 +1,5 @@
--- One-sided congruences by a presentation with one letter more (Sims 1994, ch. 2; libsemigroups: KnuthBendix).
+-- One-sided congruences by a presentation with one letter more (Sims 1994, ch. 2; libsemigroups:
+-- KnuthBendix).
 use Rattle.std.specs.Prelude.{ℕ, suc, true, false, List, [], ◌∷◌, ◌++◌, map}
 use Rattle.theory.specs.Word.{Word, IsElement}
 use Rattle.theory.specs.Congruence.{Presentation, Congruence, with_relations, is_two_sided}
@@ -27,7 +28,8 @@ marker_behind Left m = m ∷ []
 abbrev pub marked_pairs : Kind → ℕ → List (Word × Word) → List (Word × Word)
 marked_pairs kind m = map (λ p. (marked_word kind m p.0, marked_word kind m p.1))
 
--- the presentation with one further last letter, the marker, in which the pairs with markers are relations
+-- the presentation with one further last letter, the marker, in which the pairs with markers are
+-- relations
 abbrev pub with_marker : Presentation → Presentation
 with_marker p = record { letters = suc p.letters; is_monoid = p.is_monoid; relations = p.relations }
 
@@ -46,7 +48,8 @@ marked c =
 abbrev pub as_marked_word : Congruence → Word → Word
 as_marked_word c u = marked_word c.kind c.presentation.letters u
 
--- the presentation that is completed for c: two-sided pairs are relations as they are, and where there are pairs of another kind they are marked
+-- the presentation that is completed for c: two-sided pairs are relations as they are, and where
+-- there are pairs of another kind they are marked
 abbrev pub completed : Congruence → Presentation
 completed c = elim (is_two_sided c)
     [ true ↦ with_relations c.presentation c.pairs | false ↦ marked c ]
@@ -55,7 +58,8 @@ completed c = elim (is_two_sided c)
 abbrev pub completed_word : Congruence → Word → Word
 completed_word c u = elim (is_two_sided c) [ true ↦ u | false ↦ as_marked_word c u ]
 
--- an element to which no rule applies, with the marker, once the marked presentation is completed within the bound
+-- an element to which no rule applies, with the marker, once the marked presentation is completed
+-- within the bound
 pub record IsMarkedReduced (c : Congruence) (L : ℕ) (u : Word) : Type 0 where
   pub element : IsElement c.presentation.is_monoid c.presentation.letters u
   pub reduced : IsReduced (Rule (marked c) L) (as_marked_word c u)

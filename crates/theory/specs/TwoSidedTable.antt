@@ -23,7 +23,8 @@ pub record AreNodeWords (g : Graph) (word : ℕ → Word) : Type 0 where
   pub root : word 0 ≡ []
   pub leads : (node : ℕ) → node < length g → path g 0 (word node) ≡ Some node
 
--- from each node to which a letter leads from the root, a node's word with a letter behind it leads where the word of its target leads
+-- from each node to which a letter leads from the root, a node's word with a letter behind it leads
+-- where the word of its target leads
 abbrev pub AgreesAtLetters : ℕ → Graph → (ℕ → Word) → Type 0
 AgreesAtLetters k g word = (first at node letter next : ℕ)
     → first < k → target g 0 first ≡ Some at

@@ -5,7 +5,8 @@ use Rattle.theory.specs.Chain.{StepBy, Joined}
 use Rattle.theory.specs.Class.{Among}
 use Rattle.theory.specs.declared.Kind.{Kind}
 
--- the product of a word's generators, from left to right; the empty word has no value, and `unused` stands for it
+-- the product of a word's generators, from left to right; the empty word has no value, and `unused`
+-- stands for it
 abbrev pub value : {V : Type 0} → (V → V → V) → (ℕ → V) → V → Word → V
 value product generator unused [] = unused
 value product generator unused (a ∷ u) = fold product (generator a) (map generator u)

@@ -10,7 +10,8 @@ ghost use Rattle.theory.specs.Listing.{IsAscending};
 ghost use Rattle.theory.specs.Graph.{Graph, target, path, SameEnd, IsGraph};
 ghost use Rattle.theory.specs.Backwards.{IsLeastBackwards, AreWordsBackwards, DecidesBackwards};
 
-/// Words of nodes are the least that, read backwards, lead there exactly where no edge leads to a node with a greater word. A least word without its first letter is least too.
+/// Words of nodes are the least that, read backwards, lead there exactly where no edge leads to a
+/// node with a greater word. A least word without its first letter is least too.
 pub fn words_backwards_are_least()
     ensures least { (k : ℕ) (g : Graph) (word : ℕ → Word) → IsGraph k g → AreWordsBackwards k g word
         → (node : ℕ) → node < length g → IsLeastBackwards k g node (word node) }
@@ -21,7 +22,8 @@ pub fn words_backwards_are_least()
         → (m : ℕ) × (target g m a ≡ Some node) × IsLeastBackwards k g m w }
 {}
 
-/// The normal forms of a left congruence that a graph decides are these words, and those of all nodes to which elements lead, in order, are its class list.
+/// The normal forms of a left congruence that a graph decides are these words, and those of all
+/// nodes to which elements lead, in order, are its class list.
 pub fn left_classes_are_read_backwards()
     ensures normal { (c : Congruence) → IsWellFormed c → (g : Graph) → DecidesBackwards g c
         → (u w : Word) (node : ℕ)

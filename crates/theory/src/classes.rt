@@ -50,7 +50,8 @@ pub fn class_list_is_one()
         → IsClassList (SameClass c) ys → xs ≡ ys }
 {}
 
-/// There is at most one index; it is greater than each number that the classes exceed, and where they exceed every number there is none.
+/// There is at most one index; it is greater than each number that the classes exceed, and where
+/// they exceed every number there is none.
 pub fn index_is_one()
     ensures one { (c : Congruence) (m n : ℕ) → HasIndex (SameClass c) m → HasIndex (SameClass c) n
         → m ≡ n }

@@ -8,7 +8,8 @@ ghost use Rattle.theory.specs.Class.{SameClass, IsLeast, IsReducedRule};
 ghost use Rattle.theory.specs.Decided.{CompletionDecides};
 ghost use Rattle.theory.specs.Completion.{Within, Rule, Reduces, IsReduced, Joinable, OverlapsJoin, CompletionEnds, HasLongSide, HasBadOverlap, Listed, AreRules};
 
-/// Each rule leads to a lesser word, a left side has one right side, and none stands inside another.
+/// Each rule leads to a lesser word, a left side has one right side, and none stands inside
+/// another.
 pub fn rules_are_reduced()
     ensures falls { (p : Presentation) (L : ℕ) (l r : Word) → Rule p L l r → r ≺ l }
     ensures one { (p : Presentation) (L : ℕ) (l r s : Word) → Rule p L l r → Rule p L l s → r ≡ s }
@@ -31,7 +32,8 @@ pub fn rewriting_is_confluent()
         → Joinable (Rule p L) v w }
 {}
 
-/// Where completion ends, its rules lead two words to one exactly where they are related, and are the reduced rules.
+/// Where completion ends, its rules lead two words to one exactly where they are related, and are
+/// the reduced rules.
 pub fn completion_is_complete()
     ensures joinable { (p : Presentation) (L : ℕ) → IsWellFormed (of_presentation p)
         → CompletionEnds p L
@@ -46,7 +48,8 @@ pub fn completion_is_complete()
         → Related (of_presentation p) u v ↔ (x ≡ y) }
 {}
 
-/// Where completion decides a congruence, its rules lead two words to one exactly where they are related.
+/// Where completion decides a congruence, its rules lead two words to one exactly where they are
+/// related.
 pub fn completion_decides()
     ensures { (c : Congruence) (L : ℕ) → IsWellFormed c → CompletionDecides c L
         → (u v : Word) → Related c u v ↔ Joinable
@@ -61,7 +64,8 @@ pub fn within_is_decided()
         → Within p L u v ⊎ (Within p L u v → ⊥) }
 {}
 
-/// Completion does not end where an overlap leads to two reduced words, or a side of a relation is too long.
+/// Completion does not end where an overlap leads to two reduced words, or a side of a relation is
+/// too long.
 pub fn completion_fails()
     ensures overlap { (p : Presentation) (L : ℕ) → HasBadOverlap p L → CompletionEnds p L → ⊥ }
     ensures length { (p : Presentation) (L : ℕ) → HasLongSide p L → CompletionEnds p L → ⊥ }
@@ -80,7 +84,8 @@ pub fn reduced_words_are_least()
         → IsLeast (SameClass (of_presentation p)) u ↔ IsReduced (Rule p L) u }
 {}
 
-/// A list of rules as completion leaves it has just its rules, and it is enough to test the overlaps of the list.
+/// A list of rules as completion leaves it has just its rules, and it is enough to test the
+/// overlaps of the list.
 pub fn kept_rules_are_the_rules()
     ensures rules { (p : Presentation) (L : ℕ) (rules : List (Word × Word)) → AreRules p L rules
         → (u v : Word) → Listed rules u v ↔ Rule p L u v }

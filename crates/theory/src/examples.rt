@@ -26,7 +26,8 @@ pub fn shortlex_of_words()
     ensures equal { shortlex (1 ∷ 0 ∷ []) (1 ∷ 0 ∷ []) ≡ Equal }
 {}
 
-/// With aaa related to 1, Felsch's strategy defines a and then aa. At the start 1 alone is defined, then 1 and a, and then all words, since aaa is related to 1.
+/// With aaa related to 1, Felsch's strategy defines a and then aa. At the start 1 alone is defined,
+/// then 1 and a, and then all words, since aaa is related to 1.
 pub fn felsch_stages()
     ensures first { FelschStage cyclic 1 (a1 ∷ []) }
     ensures second { FelschStage cyclic 2 (a2 ∷ a1 ∷ []) }
@@ -70,7 +71,8 @@ pub fn length_three()
     ensures rule { (u v : Word) → Rule order_three 3 u v → (u ≡ a3) × (v ≡ []) }
 {}
 
-/// With aa and a, bb and b, ab and ba related, completion ends at length two, with the rules aa to a, ba to ab and bb to b, and not at one.
+/// With aa and a, bb and b, ab and ba related, completion ends at length two, with the rules aa to
+/// a, ba to ab and bb to b, and not at one.
 pub fn length_two()
     ensures enough { CompletionEnds semilattice 2 }
     ensures needed { CompletionEnds semilattice 1 → ⊥ }
@@ -78,13 +80,15 @@ pub fn length_two()
         ↔ Rule semilattice 2 u v }
 {}
 
-/// With aba and bab related, the one rule at length three is bab to aba, and completion does not end: the overlap babab leads to two words.
+/// With aba and bab related, the one rule at length three is bab to aba, and completion does not
+/// end: the overlap babab leads to two words.
 pub fn braid_does_not_end()
     ensures rules { (u v : Word) → Listed ((bab, aba) ∷ []) u v ↔ Rule braid 3 u v }
     ensures fails { CompletionEnds braid 3 → ⊥ }
 {}
 
-/// In the group with aa, bbb and abab related to 1 and the right pair a, 1 the classes are those of 1, b and ba.
+/// In the group with aa, bbb and abab related to 1 and the right pair a, 1 the classes are those of
+/// 1, b and ba.
 pub fn classes_with_right_pair()
     ensures list { IsClassList (SameClass right_pair) ([] ∷ b1 ∷ ba ∷ []) }
     ensures index { HasIndex (SameClass right_pair) 3 }
@@ -96,7 +100,9 @@ pub fn classes_with_left_pair()
     ensures index { HasIndex (SameClass left_pair) 3 }
 {}
 
-/// The least words of a left congruence are not the least words of the right congruence that stands for it, read backwards: there ab is the least word for ab, which backwards is ba, and ba is not least.
+/// The least words of a left congruence are not the least words of the right congruence that stands
+/// for it, read backwards: there ab is the least word for ab, which backwards is ba, and ba is not
+/// least.
 pub fn least_words_are_not_reversed()
     ensures list { IsClassList (SameClass left_four) ([] ∷ a1 ∷ b1 ∷ ab ∷ []) }
     ensures there { IsNormal (SameClass (as_right left_four)) (as_right_word left_four ab) ab }
@@ -121,7 +127,8 @@ pub fn value_of_two_maps()
     ensures aaa { value composed three_maps [] (0 ∷ 0 ∷ 0 ∷ []) ≡ 1 ∷ 0 ∷ 2 ∷ [] }
 {}
 
-/// On a band of four elements the pair a, ab relates b and ba as a left pair and as a two-sided one, and not as a right pair; it never relates a and b.
+/// On a band of four elements the pair a, ab relates b and ba as a left pair and as a two-sided
+/// one, and not as a right pair; it never relates a and b.
 pub fn pairs_on_a_band()
     ensures left { SameElement 2 nat_eq band_value Left band_pair b1 ba }
     ensures two_sided { SameElement 2 nat_eq band_value TwoSided band_pair b1 ba }
@@ -129,7 +136,8 @@ pub fn pairs_on_a_band()
     ensures apart { SameElement 2 nat_eq band_value TwoSided band_pair a1 b1 → ⊥ }
 {}
 
-/// In the free monoid with one generator the meet of a swap and a tail is a swap behind a tail, and their join relates all words.
+/// In the free monoid with one generator the meet of a swap and a tail is a swap behind a tail, and
+/// their join relates all words.
 pub fn meet_and_join_of_two_tables()
     ensures meet { PathsRelate (graph_of tail_swap_rows)
         (Meet (graph_of swap_rows) (graph_of tail_rows)) }
@@ -137,12 +145,14 @@ pub fn meet_and_join_of_two_tables()
         (Join 1 (graph_of swap_rows) (graph_of tail_rows)) }
 {}
 
-/// The table of a right pair that is not two-sided: 1 and a lead from the root to one node, and not from that of b.
+/// The table of a right pair that is not two-sided: 1 and a lead from the root to one node, and not
+/// from that of b.
 pub fn right_pair_is_not_two_sided()
     ensures { IsTwoSidedTable (graph_of right_pair_rows) → ⊥ }
 {}
 
-/// Where bc is 1 and c is related to 1 on the right, the marked presentation is completed at length two, and not at one. The least words are the powers of b, so there are infinitely many classes.
+/// Where bc is 1 and c is related to 1 on the right, the marked presentation is completed at length
+/// two, and not at one. The least words are the powers of b, so there are infinitely many classes.
 pub fn right_pair_completed()
     ensures enough { CompletionEnds (marked bicyclic_right) 2 }
     ensures needed { CompletionEnds (marked bicyclic_right) 1 → ⊥ }

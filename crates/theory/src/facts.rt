@@ -51,7 +51,9 @@ pub fn stages_are_related()
         → HltFacts c U u v → Related c u v }
 {}
 
-/// Each stage of Felsch's strategy is determined, and a larger budget suffices where a smaller one does. That a budget does not suffice is shown by one stage more, or by a word that is undefined at the last.
+/// Each stage of Felsch's strategy is determined, and a larger budget suffices where a smaller one
+/// does. That a budget does not suffice is shown by one stage more, or by a word that is undefined
+/// at the last.
 pub fn felsch_stage_is_one()
     ensures one { (c : Congruence) (i : ℕ) (D D' : List Word) → FelschStage c i D
         → FelschStage c i D' → D ≡ D' }
@@ -63,7 +65,8 @@ pub fn felsch_stage_is_one()
         → (FelschFacts c D w w → ⊥) → FelschEnds c n → ⊥ }
 {}
 
-/// Where all words are defined, the facts are exactly the congruence, and the finitely many words that were defined cover its classes.
+/// Where all words are defined, the facts are exactly the congruence, and the finitely many words
+/// that were defined cover its classes.
 pub fn felsch_is_complete()
     ensures related { (c : Congruence) (D : List Word) → IsWellFormed c → IsRightSided c
         → AllDefined c.presentation.letters (FelschFacts c D)
@@ -74,7 +77,9 @@ pub fn felsch_is_complete()
         → (w : Word) × Contains ([] ∷ D) w × Related c u w }
 {}
 
-/// Each stage of the strategy of rows is determined, and a larger budget suffices where a smaller one does; no rows never suffice. That a budget does not suffice is shown by one stage more, or by a defined word that is related to none that had its row.
+/// Each stage of the strategy of rows is determined, and a larger budget suffices where a smaller
+/// one does; no rows never suffice. That a budget does not suffice is shown by one stage more, or
+/// by a defined word that is related to none that had its row.
 pub fn hlt_stage_is_one()
     ensures one { (c : Congruence) (i : ℕ) (U U' : List Word) → HltStage c i U → HltStage c i U'
         → U ≡ U' }
@@ -87,7 +92,8 @@ pub fn hlt_stage_is_one()
     ensures none { (c : Congruence) → HltEnds c 0 → ⊥ }
 {}
 
-/// Where every defined word is related to one that had its row, all words are defined, the facts are exactly the congruence, and the finitely many words with a row cover its classes.
+/// Where every defined word is related to one that had its row, all words are defined, the facts
+/// are exactly the congruence, and the finitely many words with a row cover its classes.
 pub fn hlt_is_complete()
     ensures defined { (c : Congruence) (U : List Word) → AllMet c U
         → AllDefined c.presentation.letters (HltFacts c U) }
@@ -120,7 +126,8 @@ pub fn hlt_row_closes()
         → (u v : Word) → ClosedAt c (SameEnd g) w u v ↔ HltFacts c (w ∷ U) u v }
 {}
 
-/// A graph whose paths are the facts where a strategy ends decides the congruence, whatever its kind.
+/// A graph whose paths are the facts where a strategy ends decides the congruence, whatever its
+/// kind.
 pub fn graphs_decide()
     ensures felsch { (c : Congruence) (D : List Word) (g : Graph) → IsWellFormed c
         → AllDefined (as_right c).presentation.letters (FelschFacts (as_right c) D)

@@ -8,7 +8,8 @@ ghost use Rattle.theory.specs.Green.{IsGreenR, IsGreenL, IsGreenH, IsGreenJ, IsI
 use crate::predicates::Numbers;
 use crate::values::Values;
 
-/// Two elements are related by R exactly where their numbers are connected in the right Cayley graph, by L in the left one, by H in each of them, and by J in both together.
+/// Two elements are related by R exactly where their numbers are connected in the right Cayley
+/// graph, by L in the left one, by H in each of them, and by J in both together.
 pub fn green_by_cayley_graphs<V: Values>()
     ensures r { (k : ℕ) (generator : ℕ → V) (unused : V) (one : ℕ × ℕ)
         → ((a : ℕ) → a < k → V.shape (generator a) ≡ one)
@@ -52,7 +53,8 @@ pub fn green_by_cayley_graphs<V: Values>()
         ↔ AreConnected (IsEdgeOfEither k right left) i j }
 {}
 
-/// An element is idempotent exactly where its own word leads in the right Cayley graph from its number back to it.
+/// An element is idempotent exactly where its own word leads in the right Cayley graph from its
+/// number back to it.
 pub fn idempotents_by_cayley_graphs<V: Values>()
     ensures { (k : ℕ) (generator : ℕ → V) (unused : V) (one : ℕ × ℕ)
         → ((a : ℕ) → a < k → V.shape (generator a) ≡ one)
@@ -63,7 +65,9 @@ pub fn idempotents_by_cayley_graphs<V: Values>()
         ↔ (follow right i (word i) ≡ i) }
 {}
 
-/// The classes of numbers are listed in at most one way. Of a symmetric and transitive relation two numbers of one class are related, and related numbers stand in one class where each has a first one.
+/// The classes of numbers are listed in at most one way. Of a symmetric and transitive relation two
+/// numbers of one class are related, and related numbers stand in one class where each has a first
+/// one.
 pub fn classes_are_one<R: Numbers>()
     ensures one { (n : ℕ) (cs ds : List (List ℕ)) → AreClasses n R.relates cs
         → AreClasses n R.relates ds → cs ≡ ds }

@@ -13,14 +13,16 @@ pub fn pairs_are_relations()
         → IsWellFormed (of_presentation (with_relations c.presentation c.pairs)) }
 {}
 
-/// A left congruence is the right congruence of the reversed presentation and the reversed pairs, on reversed words.
+/// A left congruence is the right congruence of the reversed presentation and the reversed pairs,
+/// on reversed words.
 pub fn left_is_right_reversed()
     ensures { (p : Presentation) (pairs : List (Word × Word)) (u v : Word)
         → let c : Congruence = record { presentation = p; kind = Left; pairs = pairs } in
         Related c u v ↔ Related (read_backwards c) (reverse u) (reverse v) }
 {}
 
-/// A congruence relates two words exactly where the right congruence that stands for it relates the words that stand for them.
+/// A congruence relates two words exactly where the right congruence that stands for it relates the
+/// words that stand for them.
 pub fn each_kind_is_right()
     ensures related { (c : Congruence) (u v : Word)
         → Related c u v ↔ Related (as_right c) (as_right_word c u) (as_right_word c v) }

@@ -29,7 +29,9 @@ pub fn join_is_least<R: Relation>()
         → R.relates u v }
 {}
 
-/// Where both tables meet a relation at each node, so does the table of the meet; where one does, so does that of the join. No edge leads into the root of the meet where none leads into that of one, and none into that of the join where none leads into those of both.
+/// Where both tables meet a relation at each node, so does the table of the meet; where one does,
+/// so does that of the join. No edge leads into the root of the meet where none leads into that of
+/// one, and none into that of the join where none leads into those of both.
 pub fn meet_and_join_keep_relations()
     ensures meet { (p : Presentation) → AreElements p.is_monoid p.letters p.relations
         → (s t rows : Rows) → IsStandard p.letters s
@@ -47,7 +49,8 @@ pub fn meet_and_join_keep_relations()
         → HasFreeRoot s → HasFreeRoot t → HasFreeRoot g }
 {}
 
-/// A complete product of two tables shows their meet, and merging the edges of one into the other shows their join.
+/// A complete product of two tables shows their meet, and merging the edges of one into the other
+/// shows their join.
 pub fn products_meet_and_merges_join()
     ensures meet { (k : ℕ) (s t g : Graph) (left right : ℕ → ℕ) → IsGraph k g
         → IsProductOf s t g left right → IsComplete k g → IsCompleteTable k s
@@ -58,7 +61,8 @@ pub fn products_meet_and_merges_join()
         → MergedAll (SameEnd s) pairs u v ↔ Join k s t u v }
 {}
 
-/// A graph that has both tables shows their join as long as it has no more; this stays so when nodes are merged to which related words lead, and what was related stays related.
+/// A graph that has both tables shows their join as long as it has no more; this stays so when
+/// nodes are merged to which related words lead, and what was related stays related.
 pub fn merging_keeps_the_join()
     ensures shows { (k : ℕ) (s t g : Graph) (word : ℕ → Word) → IsCompleteTable k s
         → IsCompleteTable k t → IsGraph k g → HasBoth k s t g word

@@ -1,4 +1,5 @@
-// Words, congruences and their classes, the strategies that decide them, and the laws that tie these together.
+// Words, congruences and their classes, the strategies that decide them, and the laws that tie
+// these together.
 #![tactic(auto)]
 
 pub mod backwards;

@@ -9,7 +9,8 @@ ghost use Rattle.theory.specs.Listing.{IsNext, IsLast, IsListOf, AreInfinite};
 ghost use Rattle.theory.specs.Completion.{Rule, Reduces, IsReduced, CompletionEnds};
 ghost use Rattle.theory.specs.Marked.{marker_before, marker_behind, marked, as_marked_word, completed, completed_word, IsMarkedReduced};
 
-/// A congruence relates two words exactly where the relations of the marked presentation relate the marked words.
+/// A congruence relates two words exactly where the relations of the marked presentation relate the
+/// marked words.
 pub fn marked_words_are_related()
     ensures related { (c : Congruence) → IsWellFormed c → (u v : Word)
         → IsOver c.presentation.letters u
@@ -22,7 +23,8 @@ pub fn marked_words_are_related()
         ++ (u ++ marker_behind c.kind c.presentation.letters) }
 {}
 
-/// Where completion of the marked presentation ends, two words are related exactly where their marked words have one normal form, and that is the marked normal form.
+/// Where completion of the marked presentation ends, two words are related exactly where their
+/// marked words have one normal form, and that is the marked normal form.
 pub fn marked_words_decide()
     ensures related { (c : Congruence) (L : ℕ) → IsWellFormed c → CompletionEnds (marked c) L
         → (u v x y : Word) → IsOver c.presentation.letters u
@@ -36,7 +38,8 @@ pub fn marked_words_decide()
         → (w : Word) × (x ≡ as_marked_word c w) × IsNormal (SameClass c) u w }
 {}
 
-/// An element is least exactly where its marked word is; where completion ends, exactly where no rule applies to that.
+/// An element is least exactly where its marked word is; where completion ends, exactly where no
+/// rule applies to that.
 pub fn marked_words_are_least()
     ensures least { (c : Congruence) → IsWellFormed c → (u : Word)
         → IsElement c.presentation.is_monoid c.presentation.letters u
@@ -48,7 +51,8 @@ pub fn marked_words_are_least()
         → IsLeast (SameClass c) u ↔ IsReduced (Rule (marked c) L) (as_marked_word c u) }
 {}
 
-/// So the classes are listed by these elements, one after another and in one list, and are infinitely many exactly where these are.
+/// So the classes are listed by these elements, one after another and in one list, and are
+/// infinitely many exactly where these are.
 pub fn marked_words_list_classes()
     ensures next { (c : Congruence) (L : ℕ) → IsWellFormed c → CompletionEnds (marked c) L
         → (cursor : Option Word) (u : Word)
@@ -63,7 +67,9 @@ pub fn marked_words_list_classes()
         → IsInfinite (SameClass c) ↔ AreInfinite (IsMarkedReduced c L) ◌≺◌ }
 {}
 
-/// For each kind of congruence there is one presentation to complete. Where completion ends, it decides the congruence, and an element is least exactly where no rule applies to the word that stands for it.
+/// For each kind of congruence there is one presentation to complete. Where completion ends, it
+/// decides the congruence, and an element is least exactly where no rule applies to the word that
+/// stands for it.
 pub fn completion_decides_each_kind()
     ensures words { (c : Congruence) → IsWellFormed c → (u v : Word)
         → IsOver c.presentation.letters u

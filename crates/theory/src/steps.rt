@@ -5,7 +5,8 @@ ghost use Rattle.theory.specs.Congruence.{Presentation, Congruence, IsTwoSided, 
 ghost use Rattle.theory.specs.Chain.{Related};
 ghost use Rattle.theory.specs.PlacedStep.{PlacedStep, Gives, AllGive, LeadTo, last_word, turned_step, shifted_step, AreDifferent};
 
-/// A two-sided congruence, its pairs taken as relations, relates two words exactly where steps lead from one to the other.
+/// A two-sided congruence, its pairs taken as relations, relates two words exactly where steps lead
+/// from one to the other.
 pub fn placed_steps_decide()
     ensures { (c : Congruence) → IsTwoSided c → (u v : Word)
         → Related c u v ↔ ((steps : List PlacedStep)

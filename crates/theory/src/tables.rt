@@ -44,7 +44,8 @@ pub fn table_page_is_full()
         ⊎ IsAfter TableLess (last_of cursor xs) y }
 {}
 
-/// The path equality of a table is a right congruence, and holds wherever the relations relate words.
+/// The path equality of a table is a right congruence, and holds wherever the relations relate
+/// words.
 pub fn table_is_right_congruence()
     ensures kept { (g : Graph) (node : ℕ) (u v y : Word) → path g node u ≡ path g node v
         → path g node (u ++ y) ≡ path g node (v ++ y) }
@@ -59,7 +60,8 @@ pub fn standard_table_is_one()
         → ((u v : Word) → SameEnd (graph_of s) u v ↔ SameEnd (graph_of t) u v) → s ≡ t }
 {}
 
-/// In a complete graph each word has a path, and a reached graph where each word has one is complete.
+/// In a complete graph each word has a path, and a reached graph where each word has one is
+/// complete.
 pub fn complete_graphs_define_all()
     ensures defined { (k : ℕ) (g : Graph) → IsGraph k g → IsComplete k g
         → AllDefined k (SameEnd g) }

@@ -10,7 +10,9 @@ ghost use Rattle.theory.specs.declared.Kind.TheVariants.{TwoSided, Right};
 ghost use Rattle.theory.specs.LowIndex.{Rows, TableLess};
 ghost use Rattle.theory.specs.TwoSidedTable.{IsTwoSidedTable, IsKeptInFront, AreNodeWords, AgreesAtLetters, IsTwoSidedLowIndex};
 
-/// A table is two-sided exactly where its path equality is kept under multiplication on the left, and for this it is enough to follow its edges from each node to which a letter leads from the root.
+/// A table is two-sided exactly where its path equality is kept under multiplication on the left,
+/// and for this it is enough to follow its edges from each node to which a letter leads from the
+/// root.
 pub fn two_sided_tables_are_congruences()
     ensures kept { (k : ℕ) (g : Graph) → IsCompleteTable k g
         → IsTwoSidedTable g ↔ IsKeptInFront k g }
@@ -18,7 +20,8 @@ pub fn two_sided_tables_are_congruences()
         → AreNodeWords g word → IsTwoSidedTable g ↔ AgreesAtLetters k g word }
 {}
 
-/// A table is the right congruence that its edges generate, and is two-sided exactly where it is the two-sided congruence that they generate.
+/// A table is the right congruence that its edges generate, and is two-sided exactly where it is
+/// the two-sided congruence that they generate.
 pub fn tables_are_generated_by_edges()
     ensures right { (k : ℕ) (g : Graph) (word : ℕ → Word) (pairs : List (Word × Word))
         → IsCompleteTable k g → AreEdgePairs k g word pairs
@@ -29,7 +32,8 @@ pub fn tables_are_generated_by_edges()
         → Related (free_with k TwoSided pairs) u v ↔ SameEnd g u v) }
 {}
 
-/// After a cursor there is at most one page of two-sided tables of each size; pages join, and leave no table out.
+/// After a cursor there is at most one page of two-sided tables of each size; pages join, and leave
+/// no table out.
 pub fn two_sided_page_is_one()
     ensures one { (p : Presentation) (n : ℕ) → 0 < p.letters
         → (cursor : Option Rows) (count : ℕ) (xs ys : List Rows) (m m' : Bool)

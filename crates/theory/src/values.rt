@@ -7,7 +7,8 @@ ghost use Rattle.theory.specs.Class.{IsNormal, IsClassList};
 ghost use Rattle.theory.specs.Generated.{GeneratedValue, AreNumbered, IsNumberOf, GeneratedNumber, Linked, AreMerges};
 ghost use Rattle.theory.specs.Value.{value, IsProduct, SameValue, SameElement, HasAtMostValues, HasMoreValues};
 
-/// What values are: those of one shape have an associative product, which keeps their shape and what is equal. Equality is that of `Eq`.
+/// What values are: those of one shape have an associative product, which keeps their shape and
+/// what is equal. Equality is that of `Eq`.
 pub trait Values: Eq {
     /// Values of one shape can be multiplied.
     ghost shape: { Self → ℕ × ℕ };
@@ -19,7 +20,8 @@ pub trait Values: Eq {
     fn same_shape(&self, other: &Self) -> bool
         ensures { IsTrue result ↔ (shape self.now ≡ shape other.now) };
 
-    /// The values of one shape have an associative product, which keeps their shape and what is equal.
+    /// The values of one shape have an associative product, which keeps their shape and what is
+    /// equal.
     ghost products: { (one : ℕ × ℕ) → IsProduct (λ x. shape x ≡ one) product Self.eq };
 }
 
@@ -40,10 +42,13 @@ pub fn related_by_value<V: Values>()
         ↔ SameValue k V.eq (value V.product generator unused) u v }
 {}
 
-/// With pairs two elements are related exactly where their values are, by the least equivalence that has the values of the pairs and is kept under multiplication by generators on the sides of its kind.
+/// With pairs two elements are related exactly where their values are, by the least equivalence
+/// that has the values of the pairs and is kept under multiplication by generators on the sides of
+/// its kind.
 pub fn related_by_values<V: Values>()
     ensures { (k : ℕ) (generator : ℕ → V) (unused : V) (one : ℕ × ℕ)
-        → ((a : ℕ) → a < k → V.shape (generator a) ≡ one) → (kind : Kind) (pairs : List (Word × Word))
+        → ((a : ℕ) → a < k → V.shape (generator a) ≡ one)
+        → (kind : Kind) (pairs : List (Word × Word))
         → AreElements false k pairs
         → (u v : Word) → IsElement false k u → IsElement false k v
         → SameElement k V.eq (value V.product generator unused) kind pairs u v
@@ -51,10 +56,12 @@ pub fn related_by_values<V: Values>()
         (value V.product generator unused u) (value V.product generator unused v) }
 {}
 
-/// The same on numbers of values: by the least equivalence that has the numbers of the pairs and is kept along the edges of the right, the left, or both Cayley graphs.
+/// The same on numbers of values: by the least equivalence that has the numbers of the pairs and is
+/// kept along the edges of the right, the left, or both Cayley graphs.
 pub fn related_by_numbers<V: Values>()
     ensures { (k : ℕ) (generator : ℕ → V) (unused : V) (one : ℕ × ℕ)
-        → ((a : ℕ) → a < k → V.shape (generator a) ≡ one) → (kind : Kind) (pairs : List (Word × Word))
+        → ((a : ℕ) → a < k → V.shape (generator a) ≡ one)
+        → (kind : Kind) (pairs : List (Word × Word))
         → AreElements false k pairs
         → (n : ℕ) (word : ℕ → Word) (right left : ℕ → ℕ → ℕ)
         → AreNumbered k V.eq (value V.product generator unused) n word right left
@@ -66,10 +73,12 @@ pub fn related_by_numbers<V: Values>()
         i j }
 {}
 
-/// So it is enough to merge numbers: those of the pairs, and for each merge those to which its edges lead. Two elements are related exactly where the merges link their numbers.
+/// So it is enough to merge numbers: those of the pairs, and for each merge those to which its
+/// edges lead. Two elements are related exactly where the merges link their numbers.
 pub fn related_by_merges<V: Values>()
     ensures { (k : ℕ) (generator : ℕ → V) (unused : V) (one : ℕ × ℕ)
-        → ((a : ℕ) → a < k → V.shape (generator a) ≡ one) → (kind : Kind) (pairs : List (Word × Word))
+        → ((a : ℕ) → a < k → V.shape (generator a) ≡ one)
+        → (kind : Kind) (pairs : List (Word × Word))
         → AreElements false k pairs
         → (n : ℕ) (word : ℕ → Word) (right left : ℕ → ℕ → ℕ)
         → AreNumbered k V.eq (value V.product generator unused) n word right left
@@ -82,22 +91,26 @@ pub fn related_by_merges<V: Values>()
         ↔ Linked n merges i j }
 {}
 
-/// An element has one normal form, by which relatedness is decided, and the classes of elements one list.
+/// An element has one normal form, by which relatedness is decided, and the classes of elements one
+/// list.
 pub fn element_classes_are_determined<V: Values>()
     ensures normal { (k : ℕ) (generator : ℕ → V) (unused : V) (one : ℕ × ℕ)
-        → ((a : ℕ) → a < k → V.shape (generator a) ≡ one) → (kind : Kind) (pairs : List (Word × Word))
+        → ((a : ℕ) → a < k → V.shape (generator a) ≡ one)
+        → (kind : Kind) (pairs : List (Word × Word))
         → AreElements false k pairs → (u v w : Word)
         → IsNormal (SameElement k V.eq (value V.product generator unused) kind pairs) u v
         → IsNormal (SameElement k V.eq (value V.product generator unused) kind pairs) u w
         → v ≡ w }
     ensures decide { (k : ℕ) (generator : ℕ → V) (unused : V) (one : ℕ × ℕ)
-        → ((a : ℕ) → a < k → V.shape (generator a) ≡ one) → (kind : Kind) (pairs : List (Word × Word))
+        → ((a : ℕ) → a < k → V.shape (generator a) ≡ one)
+        → (kind : Kind) (pairs : List (Word × Word))
         → AreElements false k pairs → (u v x y : Word)
         → IsNormal (SameElement k V.eq (value V.product generator unused) kind pairs) u x
         → IsNormal (SameElement k V.eq (value V.product generator unused) kind pairs) v y
         → SameElement k V.eq (value V.product generator unused) kind pairs u v ↔ (x ≡ y) }
     ensures list { (k : ℕ) (generator : ℕ → V) (unused : V) (one : ℕ × ℕ)
-        → ((a : ℕ) → a < k → V.shape (generator a) ≡ one) → (kind : Kind) (pairs : List (Word × Word))
+        → ((a : ℕ) → a < k → V.shape (generator a) ≡ one)
+        → (kind : Kind) (pairs : List (Word × Word))
         → AreElements false k pairs → (xs ys : List Word)
         → IsClassList (SameElement k V.eq (value V.product generator unused) kind pairs) xs
         → IsClassList (SameElement k V.eq (value V.product generator unused) kind pairs) ys

@@ -13,7 +13,8 @@ abbrev pub seen_at : Option ℕ → ℕ → Option ℕ
 seen_at None seen = Some seen
 seen_at (Some n) seen = cond (nat_lt (suc seen) n) None (Some (max seen n))
 
--- the rows before the node are numbered by first appearance, the greatest node seen in them, and each node before appears before its row
+-- the rows before the node are numbered by first appearance, the greatest node seen in them, and
+-- each node before appears before its row
 pub record IsSeenTo (rows : Rows) (node seen : ℕ) : Type 0 where
   pub numbered : IsNumberedFrom 0 (entries (take node rows))
   pub seen_is : seen ≡ max_from 0 (entries (take node rows))

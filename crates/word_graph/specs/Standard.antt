@@ -5,7 +5,8 @@ use Rattle.theory.specs.LowIndex.{Rows, graph_of, IsStandard}
 use Rattle.word_graph.specs.Renumber.{renumber}
 use Rattle.word_graph.specs.declared.walks.Step.{Step}
 
--- the graph is complete, and its nodes are numbered by first appearance when the rows are read in order
+-- the graph is complete, and its nodes are numbered by first appearance when the rows are read in
+-- order
 pub record IsStandardGraph (k : ℕ) (g : Graph) : Type 0 where
   pub rows : Rows
   pub is : g ≡ graph_of rows

@@ -1,4 +1,5 @@
--- Walks over the nodes of a graph in the order of their least words, and the least word without a path.
+-- Walks over the nodes of a graph in the order of their least words, and the least word without a
+-- path.
 use Rattle.std.specs.Prelude.{◌≡◌, ℕ, ◌+◌, ◌<◌, ◌≤◌, List, [], ◌∷◌, ◌++◌, ◌⊎◌, length, slice_index_or, All, Option, Some, None, option_and_then}
 use Rattle.theory.specs.Word.{Word, IsOver}
 use Rattle.theory.specs.ShortLex.{◌≺◌}
@@ -13,7 +14,8 @@ NoLater u v = (u ≺ v) ⊎ (u ≡ v)
 abbrev pub IsBefore : ℕ → ℕ → ℕ → ℕ → Type 0
 IsBefore p b i a = (p < i) ⊎ ((p ≡ i) × (b < a))
 
--- what a walk has found: at each place a node, the place and letter by which it was found, and a word that leads to it; and each node's place
+-- what a walk has found: at each place a node, the place and letter by which it was found, and a
+-- word that leads to it; and each node's place
 pub record Walked : Type 0 where
   pub count : ℕ
   pub node : ℕ → ℕ
@@ -22,7 +24,8 @@ pub record Walked : Type 0 where
   pub word : ℕ → Word
   pub place : ℕ → Option ℕ
 
--- all is found that edges lead to from the rows of places before i, and in the row of i by letters before a
+-- all is found that edges lead to from the rows of places before i, and in the row of i by letters
+-- before a
 pub record IsWalkTo (k : ℕ) (g : Graph) (w : Walked) (i a : ℕ) : Type 0 where
   pub some : 0 < w.count
   pub root : w.word 0 ≡ []

@@ -9,7 +9,8 @@ use thiserror::Error;
 /// Why a text is no table.
 #[derive(Clone, Copy, Debug, PartialEq, Eq, Error)]
 pub enum TableFault {
-    /// The least place at which something is wrong. Row i has the places from i times the number of letters on.
+    /// The least place at which something is wrong. Row i has the places from i times the number of
+    /// letters on.
     #[error("bad table at place {0}")]
     BadTable(usize),
     /// Memory ran out.

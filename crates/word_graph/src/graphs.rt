@@ -17,8 +17,9 @@ use words::{Letter, Word};
 /// The most letters of a word graph: as many as there are [`Letter`]s.
 pub const MOST_LETTERS: usize = 256;
 
-/// A rooted word graph, complete or not: nodes 0, 1, .. with root 0, and for each node and letter at most one edge
-/// (libsemigroups, `WordGraph`). It has at least one node and at most [`MOST_LETTERS`] letters.
+/// A rooted word graph, complete or not: nodes 0, 1, .. with root 0, and for each node and letter
+/// at most one edge (libsemigroups, `WordGraph`). It has at least one node and at most
+/// [`MOST_LETTERS`] letters.
 #[derive(Drop)]
 pub struct WordGraph {
     alloc: Global,
@@ -103,8 +104,8 @@ impl WordGraph {
         self.rows.len()
     }
 
-    /// How many letters there are. What holds of every word graph is told here: each row has as many entries, and
-    /// each edge leads to a node.
+    /// How many letters there are. What holds of every word graph is told here: each row has as
+    /// many entries, and each edge leads to a node.
     pub fn letters(&self) -> usize
         ensures graph { IsGraph result self.now }
         ensures few { result ≤ MOST_LETTERS }
@@ -112,7 +113,8 @@ impl WordGraph {
         self.letters
     }
 
-    /// Where the edge of the letter leads from the node. `None` exactly where there is no such edge.
+    /// Where the edge of the letter leads from the node. `None` exactly where there is no such
+    /// edge.
     pub fn target(&self, node: usize, letter: Letter) -> Option<usize>
         ensures { result ≡ target_of self.now node letter }
     {
@@ -130,8 +132,8 @@ impl WordGraph {
         self.prefix_path(node, word, word.len())
     }
 
-    /// Where the first `count` letters of the word lead from the node. `None` exactly where an edge is missing on
-    /// the way.
+    /// Where the first `count` letters of the word lead from the node. `None` exactly where an edge
+    /// is missing on the way.
     pub fn prefix_path(&self, node: usize, word: &Word, count: usize) -> Option<usize>
         requires { count ≤ length word.now }
         ensures { result ≡ path_of self.now node (take count word.now) }
@@ -146,8 +148,8 @@ impl WordGraph {
         Some(at)
     }
 
-    /// Adds a node without edges, and tells its number. Refused only where memory is wanting, and then the graph
-    /// stays as it was.
+    /// Adds a node without edges, and tells its number. Refused only where memory is wanting, and
+    /// then the graph stays as it was.
     pub fn add_node(&mut self) -> Result<usize, NoMemory>
         ensures ok { IfOk result (λ node. (node ≡ length self.old)
             × ((k : ℕ) → IsGraph k self.old → self.new ≡ with_node k self.old)) }
@@ -159,7 +161,8 @@ impl WordGraph {
         Ok(node)
     }
 
-    /// Makes the edge of the letter lead from the one node to the other, in the place of the edge that was there.
+    /// Makes the edge of the letter lead from the one node to the other, in the place of the edge
+    /// that was there.
     pub fn set_target(&mut self, node: usize, letter: Letter, to: usize)
         requires node { node < length self.old }
         requires letter { letter < length (slice_index_or self.old node []) }
@@ -201,8 +204,8 @@ impl WordGraph {
         true
     }
 
-    /// Whether the graph is standard: complete, and its nodes numbered by first appearance when the rows are read in
-    /// order (Sims 1994, 4.7; libsemigroups, `is_standardized`).
+    /// Whether the graph is standard: complete, and its nodes numbered by first appearance when the
+    /// rows are read in order (Sims 1994, 4.7; libsemigroups, `is_standardized`).
     pub fn is_standard(&self) -> bool
         ensures { (k : ℕ) → IsGraph k self.now → IsTrue result ↔ IsStandardGraph k self.now }
     {
@@ -228,7 +231,8 @@ impl WordGraph {
         true
     }
 
-    // The greatest node seen after the row of a node; none where an entry is more than one greater than all before.
+    // The greatest node seen after the row of a node; none where an entry is more than one greater
+    // than all before.
     fn seen_in(&self, node: usize, seen: usize) -> Option<usize>
         ensures { (rows : Rows) → self.now ≡ graph_of rows
             → MatchOption result (IsNumberedFrom seen (slice_index_or rows node []) → ⊥)
@@ -259,10 +263,10 @@ impl WordGraph {
         })
     }
 
-    /// The part of the graph that is reached from the root, its nodes numbered by first appearance when the rows are
-    /// read in order (Sims 1994, 4.7; libsemigroups, `standardize`): each of its nodes is reached, and its equal paths
-    /// are those of this graph. It is standard where this graph is complete, or has a path for each word. Refused only
-    /// where memory is wanting.
+    /// The part of the graph that is reached from the root, its nodes numbered by first appearance
+    /// when the rows are read in order (Sims 1994, 4.7; libsemigroups, `standardize`): each of its
+    /// nodes is reached, and its equal paths are those of this graph. It is standard where this
+    /// graph is complete, or has a path for each word. Refused only where memory is wanting.
     pub fn standardise(&self, alloc: Global) -> Result<WordGraph, NoMemory>
         ensures shows { IfOk result (λ g. Shows g (SameEnd self.now)) }
         ensures graph { IfOk result (λ g. (k : ℕ) → IsGraph k self.now → IsGraph k g) }

@@ -76,7 +76,8 @@ impl Row {
         }
     }
 
-    /// The row whose edges lead to these nodes, letter by letter. Refused only where memory is wanting.
+    /// The row whose edges lead to these nodes, letter by letter. Refused only where memory is
+    /// wanting.
     pub fn of_targets(alloc: Global, targets: &[usize]) -> Result<Row, NoMemory>
         ensures { IfOk result (λ r. r ≡ map Some targets.now) }
     {
@@ -100,7 +101,8 @@ impl Row {
         Ok(())
     }
 
-    /// How the targets compare in the order of dictionaries, where each letter has an edge in both rows.
+    /// How the targets compare in the order of dictionaries, where each letter has an edge in both
+    /// rows.
     pub fn compare(&self, other: &Row) -> Ordering
         ensures { (s t : List ℕ) → self.now ≡ map Some s → other.now ≡ map Some t
             → result ≡ slice_cmp nat_cmp s t }

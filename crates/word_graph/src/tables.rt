@@ -16,8 +16,8 @@ use std::alloc::Global;
 use std::cmp::Ordering;
 
 impl WordGraph {
-    /// The order of complete graphs of one number of letters, at least one: that of dictionaries, of their targets
-    /// written row after row.
+    /// The order of complete graphs of one number of letters, at least one: that of dictionaries,
+    /// of their targets written row after row.
     pub fn compare(&self, other: &WordGraph) -> Ordering
         ensures { (k : ℕ) (s t : Rows) → 0 < k → HasWidth k s → HasWidth k t → self.now ≡ graph_of s
             → other.now ≡ graph_of t → result ≡ slice_cmp nat_cmp (entries s) (entries t) }
@@ -32,7 +32,8 @@ impl WordGraph {
         rows.len().cmp(&others.len())
     }
 
-    /// The nodes that edges lead to, row after row, letter by letter. Refused only where memory is wanting.
+    /// The nodes that edges lead to, row after row, letter by letter. Refused only where memory is
+    /// wanting.
     pub fn targets(&self, alloc: Global) -> Result<Vec<usize>, NoMemory>
         ensures { IfOk result (λ targets. targets.items ≡ targets_of self.now) }
     {
@@ -43,8 +44,8 @@ impl WordGraph {
         Ok(targets)
     }
 
-    /// The complete graph of so many nodes whose edges lead to these nodes, row after row, letter by letter. Refused
-    /// only where memory is wanting.
+    /// The complete graph of so many nodes whose edges lead to these nodes, row after row, letter
+    /// by letter. Refused only where memory is wanting.
     pub fn of_targets(
         alloc: Global,
         letters: usize,
@@ -65,8 +66,8 @@ impl WordGraph {
         Ok(WordGraph::of_rows(alloc, letters, rows))
     }
 
-    /// The targets in decimal, with a comma between each two of a row, and a slash between each two rows. Refused only
-    /// where memory is wanting.
+    /// The targets in decimal, with a comma between each two of a row, and a slash between each two
+    /// rows. Refused only where memory is wanting.
     pub fn print_table(&self, alloc: Global) -> Result<Vec<u8>, NoMemory>
         ensures { IfOk result (λ text. text.items ≡ table_text self.now) }
     {
@@ -81,8 +82,9 @@ impl WordGraph {
         Ok(text)
     }
 
-    /// The complete graph of so many letters that a text prints. Refused with `BadTable` exactly where something is
-    /// wrong in the text, with the least place at which something is; else only where memory is wanting.
+    /// The complete graph of so many letters that a text prints. Refused with `BadTable` exactly
+    /// where something is wrong in the text, with the least place at which something is; else only
+    /// where memory is wanting.
     pub fn read_table(alloc: Global, letters: usize, text: &[u8]) -> Result<WordGraph, TableFault>
         requires { letters ≤ MOST_LETTERS }
         ensures ok { IfOk result (λ g. g ≡ table_read text.now) }

@@ -20,7 +20,8 @@ fn push_target(text: &mut Vec<u8>, target: Option<usize>) -> Result<(), NoMemory
     Ok(())
 }
 
-/// The targets of a row in decimal, with a comma between each two. Refused only where memory is wanting.
+/// The targets of a row in decimal, with a comma between each two. Refused only where memory is
+/// wanting.
 pub fn print_row(alloc: Global, entries: &[Option<usize>]) -> Result<Vec<u8>, NoMemory>
     ensures { IfOk result (λ text. text.items ≡ row_text entries.now) }
 {
@@ -79,8 +80,8 @@ pub fn rows_of(alloc: Global, text: &[u8]) -> Result<Vec<&[u8]>, AllocError>
     text.split(|byte| *byte == b'/').collect(alloc)
 }
 
-// The targets that fields name, in a table of so many rows and letters, or the first place at which something is
-// wrong; places count from a start.
+// The targets that fields name, in a table of so many rows and letters, or the first place at which
+// something is wrong; places count from a start.
 fn read_fields(
     alloc: Global,
     letters: usize,
@@ -111,8 +112,8 @@ fn read_fields(
     Ok(row)
 }
 
-// The targets that the fields of a row name, in a table of so many rows and letters, or the first place at which
-// something is wrong; places count from a start.
+// The targets that the fields of a row name, in a table of so many rows and letters, or the first
+// place at which something is wrong; places count from a start.
 fn read_row(
     alloc: Global,
     letters: usize,
@@ -136,7 +137,8 @@ fn read_row(
 /// The most rows of a table that is read.
 pub const MOST_ROWS: usize = 1024;
 
-/// The rows that texts name, in a table of so many letters, or the least place at which something is wrong.
+/// The rows that texts name, in a table of so many letters, or the least place at which something
+/// is wrong.
 pub fn read_rows(alloc: Global, letters: usize, pieces: &[&[u8]]) -> Result<Vec<Row>, TableFault>
     requires { letters ≤ 256 }
     ensures ok { IfOk result (λ rows. rows.items

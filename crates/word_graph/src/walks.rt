@@ -36,7 +36,8 @@ fn no_places(alloc: Global, nodes: usize) -> Result<Vec<Option<usize>>, NoMemory
     Ok(places)
 }
 
-// The word of a step behind the words of the steps before it. The root, which is first, has no word before it.
+// The word of a step behind the words of the steps before it. The root, which is first, has no word
+// before it.
 fn next_word(alloc: Global, words: &[Word], step: &Step) -> Result<Word, NoMemory>
     ensures { IfOk result (λ w. w ≡ next_word words.now step.now) }
 {
@@ -155,8 +156,9 @@ impl Walk {
 }
 
 impl WordGraph {
-    /// The least word in short-lex order that has no path from the root, as the node that all but its last letter
-    /// lead to, and that letter. `None` exactly where each word has a path. Refused only where memory is wanting.
+    /// The least word in short-lex order that has no path from the root, as the node that all but
+    /// its last letter lead to, and that letter. `None` exactly where each word has a path. Refused
+    /// only where memory is wanting.
     pub fn first_missing(&self, alloc: Global) -> Result<Option<(usize, Letter)>, NoMemory>
         ensures { IfOk result (λ found. (k : ℕ) → IsGraph k self.now
             → MatchOption found (AllDefined k (SameEnd self.now))
@@ -171,8 +173,8 @@ impl WordGraph {
         Ok(None)
     }
 
-    /// For each node that is reached, in ascending order, the least word in short-lex order that leads to it. Refused
-    /// only where memory is wanting.
+    /// For each node that is reached, in ascending order, the least word in short-lex order that
+    /// leads to it. Refused only where memory is wanting.
     pub fn least_words(&self, alloc: Global) -> Result<Vec<(usize, Word)>, NoMemory>
         ensures { IfOk result (λ v. AreLeastWords self.now v.items) }
     {

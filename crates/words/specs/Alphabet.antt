@@ -57,7 +57,8 @@ pub record IsFirstWrong (text : List ℕ) (place : ℕ) (Wrong : List ℕ → �
   pub sound : IsSound before
   pub wrong : Wrong before byte
 
--- what each fault means: no byte at all, or the first byte that is no letter or stands among those before it
+-- what each fault means: no byte at all, or the first byte that is no letter or stands among those
+-- before it
 abbrev pub IsFirstFault : List ℕ → AlphabetFault → Type 0
 IsFirstFault text Empty = text ≡ []
 IsFirstFault text (NotALetter place) = IsFirstWrong text place (λ before b. ¬ IsLetterByte b)

@@ -13,8 +13,8 @@ use std::marker::Model;
 // The most letters of a word that is read.
 const MOST_LETTERS: usize = 4096;
 
-/// An alphabet: one or more letters, each a byte from `a` to `z`, no two alike, in order (libsemigroups, the
-/// alphabet of a `Presentation`). There are at most 26.
+/// An alphabet: one or more letters, each a byte from `a` to `z`, no two alike, in order
+/// (libsemigroups, the alphabet of a `Presentation`). There are at most 26.
 #[derive(Drop)]
 pub struct Alphabet {
     bytes: Vec<u8>,
@@ -79,9 +79,9 @@ fn is_empty_text(text: &[u8]) -> bool
 }
 
 impl Alphabet {
-    /// The alphabet of these bytes. Refused with `Empty` exactly where there is no byte, and else with
-    /// `NotALetter` or `Repeated` exactly at the first byte from the left that is none of `a` to `z` or
-    /// stands at an earlier place too; with `NoMemory` only where there is no such fault.
+    /// The alphabet of these bytes. Refused with `Empty` exactly where there is no byte, and else
+    /// with `NotALetter` or `Repeated` exactly at the first byte from the left that is none of `a`
+    /// to `z` or stands at an earlier place too; with `NoMemory` only where there is no such fault.
     pub fn new(alloc: Global, text: &[u8]) -> Result<Alphabet, AlphabetFault>
         ensures ok { IfOk result (λ alphabet. alphabet ≡ text.now) }
         ensures faultless { IfOk result (λ _. alphabet_fault text.now ≡ None) }
@@ -163,10 +163,11 @@ impl Alphabet {
         Ok(word)
     }
 
-    /// The word of a text: the letters of its bytes, and the empty word where it is `1` or has no byte.
-    /// Refused with `EmptyWord` exactly where it is the empty word's and that is not allowed; else with
-    /// `NotInAlphabet` exactly at the first byte among the first 4,096 that is no letter of the alphabet; else with
-    /// `TooLong` exactly where there are more than 4,096 bytes; with `NoMemory` only where nothing else refuses it.
+    /// The word of a text: the letters of its bytes, and the empty word where it is `1` or has no
+    /// byte. Refused with `EmptyWord` exactly where it is the empty word's and that is not allowed;
+    /// else with `NotInAlphabet` exactly at the first byte among the first 4,096 that is no letter
+    /// of the alphabet; else with `TooLong` exactly where there are more than 4,096 bytes; with
+    /// `NoMemory` only where nothing else refuses it.
     pub fn read_word(
         &self,
         alloc: Global,
@@ -195,7 +196,8 @@ impl Alphabet {
         Ok(word)
     }
 
-    /// The bytes of a word's letters, and `1` for the empty word. Refused only where memory is wanting.
+    /// The bytes of a word's letters, and `1` for the empty word. Refused only where memory is
+    /// wanting.
     pub fn print_word(&self, alloc: Global, word: &Word) -> Result<Vec<u8>, NoMemory>
         requires { IsOver (length self.now) word.now }
         ensures text { IfOk result (λ text. text.items ≡ text_of self.now word.now) }

@@ -83,7 +83,8 @@ impl Word {
         self.letters[place]
     }
 
-    /// Puts a letter at the end. Refused only where memory is wanting, and then the word stays as it was.
+    /// Puts a letter at the end. Refused only where memory is wanting, and then the word stays as
+    /// it was.
     pub fn push(&mut self, letter: Letter) -> Result<(), NoMemory>
         ensures ok { OnOk result (self.new ≡ self.old ++ letter ∷ []) }
         ensures err { OnErr result (self.new ≡ self.old) }
@@ -107,7 +108,8 @@ impl Word {
         Ok(Word { letters })
     }
 
-    /// The word read from right to left (libsemigroups, `reverse`). Refused only where memory is wanting.
+    /// The word read from right to left (libsemigroups, `reverse`). Refused only where memory is
+    /// wanting.
     pub fn reversed(&self, alloc: Global) -> Result<Word, NoMemory>
         ensures { IfOk result (λ w. w ≡ reverse self.now) }
     {
@@ -116,8 +118,8 @@ impl Word {
         Ok(Word { letters })
     }
 
-    /// The letters of this word and then those of the other: their product in the free monoid. Refused only where
-    /// memory is wanting.
+    /// The letters of this word and then those of the other: their product in the free monoid.
+    /// Refused only where memory is wanting.
     pub fn concat(&self, alloc: Global, other: &Word) -> Result<Word, NoMemory>
         ensures { IfOk result (λ w. w ≡ self.now ++ other.now) }
     {
