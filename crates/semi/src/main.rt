@@ -7,6 +7,8 @@ ghost use Rattle.std.specs.Prelude.{◌≡◌, ◌≤◌, []};
 ghost use Rattle.std.specs.Io.Buffered.{writer_buffer};
 
 mod adapters;
+#[cfg(test)]
+mod failing_tests;
 mod fault;
 #[cfg(test)]
 mod tests;

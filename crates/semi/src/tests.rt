@@ -10,7 +10,7 @@ use std::test::Fail;
 use std::thread::Threads;
 
 // All maps of three points to themselves, which are 27.
-const MAPS: &str = "trans 3\na = 1 0 2\nb = 1 2 0\nc = 0 0 2\nindex\nindex\n";
+pub(crate) const MAPS: &str = "trans 3\na = 1 0 2\nb = 1 2 0\nc = 0 0 2\nindex\nindex\n";
 
 // What a run came to.
 #[derive(Drop)]
@@ -23,9 +23,9 @@ pub(crate) struct Outcome {
 // The calls of the outside that fail, each by its number from 1; 0 for none.
 #[derive(Clone, Copy)]
 pub(crate) struct Failing {
-    read: u64,
-    write: u64,
-    tell: u64,
+    pub(crate) read: u64,
+    pub(crate) write: u64,
+    pub(crate) tell: u64,
 }
 
 pub(crate) const NONE: Failing = Failing {
@@ -355,7 +355,7 @@ fn completion_decides_presentations(rt: HostRuntime) -> Result<(), Fail> {
             "index 3\n",
         ),
         (
-            &["semi", "--defs", "30", "--rows", "9", "--length", "3"],
+            &["semi", "--length", "3"],
             "monoid ab\nrel aba bab\nindex\n",
             1,
             "undecided\n",
@@ -485,64 +485,6 @@ fn examples_of_presentations_give_their_output(rt: HostRuntime) -> Result<(), Fa
         let ended = run(&rt, &["semi"], script.as_bytes(), NONE)?;
         assert_eq!(rt; ended.status, 0u8, "{script}");
         assert_eq!(rt; ended.out.as_slice(), out.as_bytes(), "{script}");
-    }
-    Ok(())
-}
-
-#[test]
-fn failures_of_the_outside_are_told(rt: HostRuntime) -> Result<(), Fail> {
-    // the script is read by seven calls and one that finds its end, and each line is written by two
-    const NAME: &[&str] = &["semi"];
-    for (words, read, write, tell, status, out, err) in [
-        (
-            &[] as &[&str],
-            0u64,
-            0u64,
-            0u64,
-            0u8,
-            "index 27\nindex 27\n",
-            "",
-        ),
-        (NAME, 9, 5, 1, 0, "index 27\nindex 27\n", ""),
-        (&["semi", "x"], 1, 1, 0, 3, "", "semi: arguments refused\n"),
-        (NAME, 1, 1, 0, 4, "", "semi: cannot read input\n"),
-        (NAME, 2, 0, 0, 4, "", "semi: cannot read input\n"),
-        (NAME, 8, 0, 0, 4, "", "semi: cannot read input\n"),
-        (NAME, 0, 1, 0, 5, "", "semi: cannot write output\n"),
-        (NAME, 0, 2, 0, 5, "index", "semi: cannot write output\n"),
-        (
-            NAME,
-            0,
-            3,
-            0,
-            5,
-            "index 27\n",
-            "semi: cannot write output\n",
-        ),
-        (
-            NAME,
-            0,
-            4,
-            0,
-            5,
-            "index 27\nindex",
-            "semi: cannot write output\n",
-        ),
-        (NAME, 2, 0, 1, 4, "", ""),
-        (NAME, 0, 3, 2, 5, "index 27\n", "semi:"),
-    ] {
-        let ended = run(&rt, words, MAPS.as_bytes(), Failing { read, write, tell })?;
-        assert_eq!(rt; ended.status, status, "{read} {write} {tell}");
-        assert_eq!(rt;
-            ended.out.as_slice(),
-            out.as_bytes(),
-            "{read} {write} {tell}"
-        );
-        assert_eq!(rt;
-            ended.err.as_slice(),
-            err.as_bytes(),
-            "{read} {write} {tell}"
-        );
     }
     Ok(())
 }

@@ -5,9 +5,10 @@ use std::test::Fail;
 use std::thread::Threads;
 
 // The symmetric group of degree 3.
-const GROUP: &str = "monoid ab\nrel aa 1\nrel bbb 1\nrel abab 1\nindex\nclasses 9\nrules\n";
+pub(crate) const GROUP: &str =
+    "monoid ab\nrel aa 1\nrel bbb 1\nrel abab 1\nindex\nclasses 9\nrules\n";
 
-const GROUP_REPORT: &str = "index 6\n1\na\nb\nab\nba\nbb\nend\n\
+pub(crate) const GROUP_REPORT: &str = "index 6\n1\na\nb\nab\nba\nbb\nend\n\
                             aa 1\naba bb\nabb ba\nbab a\nbba ab\nbbb 1\nend\n";
 
 // Whether each number of workers gives this report and status.
