@@ -139,13 +139,3 @@ fn outcome(
         Err(SettingsFault::NoMemory) => Err(SettingsFault::NoMemory),
     }
 }
-
-#[test]
-fn tells_the_usage(rt: HostRuntime) -> Result<(), Fail> {
-    let text = format!(in rt.alloc(); "{}", SettingsFault::Refused)?;
-    assert!(rt;
-        text.as_str()
-            == "usage: semi [--rows M] [--defs D] [--length L] [--elements N] [--classes C] [--workers W]"
-    );
-    Ok(())
-}
