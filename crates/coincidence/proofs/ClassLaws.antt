@@ -1,14 +1,13 @@
 -- Classes of nodes that become one.
-use Rattle.std.proofs.Common.{◌≡◌, ◌≢◌, ℕ, zero, suc, ◌+◌, ◌<◌, ◌≤◌, List, [], ◌∷◌, ◌++◌, refl, sym, ◌∙◌, ap, arith, ◌⊎◌, inl, inr, Option, Some, None, length, subst, slice_index, map, min, max, option_and_then}
+use Rattle.std.proofs.Common.{◌≡◌, ◌≢◌, ℕ, zero, suc, ◌+◌, ◌<◌, ◌≤◌, List, [], ◌∷◌, ◌++◌, refl, sym, ◌∙◌, ap, arith, ◌⊎◌, inl, inr, Some, length, slice_index, map, min, max}
 use Rattle.std.proofs.lemmas.Bool.{cases_eq, cases_lt}
 use Rattle.std.proofs.lemmas.List.{length-map, get_or_past}
 use Rattle.theory.specs.Word.{Word}
-use Rattle.theory.specs.Graph.{Graph, target, path, IsGraph}
+use Rattle.theory.specs.Graph.{Graph, path, IsGraph}
 use Rattle.theory.specs.Facts.{given, symmetric}
 use Rattle.coincidence.specs.Merged.{MergedNodes}
 use Rattle.coincidence.specs.Merging.{IsReached, EdgesReached, IsClassing, IsClash, relabel, joined}
 use Rattle.word_graph.proofs.StandardLaws.{path_in}
-use Rattle.word_graph.proofs.WalkLaws.{some_same}
 use Rattle.coincidence.proofs.FollowsLaws.{path_more}
 use Rattle.coincidence.proofs.MergeLaws.{clash_related}
 
