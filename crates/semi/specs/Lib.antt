@@ -2,3 +2,4 @@ pub mod Limits
 pub mod Settings
 pub mod Report
 pub mod Status
+pub mod Taken

@@ -1,9 +1,10 @@
 // The whole program, over words, a source and two sinks.
-ghost use Rattle.std.specs.Prelude.{◌≡◌, ◌≤◌, ◌⊎◌, true, false, IfErr, IfOk, IfSome, IsErrOf, OnOk, map, string_bytes};
+ghost use Rattle.std.specs.Prelude.{◌≡◌, ◌≤◌, ◌⊎◌, true, false, IfErr, IfOk, IfSome, IsErrOf, MatchResult, OnOk, map, string_bytes};
 ghost use Rattle.ports.specs.Bytes.{Rose};
 ghost use Rattle.semi.specs.Report.{GainsBeginning, GainsLineOf, GainsReport, IsRefusal, IsRefused, IsScript};
 ghost use Rattle.query_lang.specs.Script.{ScriptOf};
 ghost use Rattle.semi.specs.Settings.{Under};
+ghost use Rattle.semi.specs.Taken.{IsTakenAt, IsTakenWhole};
 ghost use Rattle.settings.specs.Settings.{AreAccepted, AreRefused};
 ghost use Rattle.semi.specs.Status.{status_of};
 ghost use Rattle.semi.specs.declared.fault.Fault.{Fault};
@@ -45,6 +46,9 @@ fn run<R: Threads + Sync, S: Source, O: Sink, G: Gate + Sync>(
         (λ input. GainsBeginning settings input (O.taken out.old) (O.taken out.new))) }
     ensures out_untouched { IfErr result (λ fault. status_of fault ≤ 4 → out.new ≡ out.old) }
     ensures source_untouched { IsErrOf result Fault.Arguments → source.new ≡ source.old }
+    ensures taken { MatchResult result
+        (λ undecided. IsTakenWhole (S.left source.old) (S.left source.new))
+        (λ fault. IsTakenAt fault (S.left source.old) (S.left source.new)) }
     ensures quiet { OnOk result ((S.faults source.new ≡ S.faults source.old)
         × (O.faults out.new ≡ O.faults out.old)) }
     ensures quiet_refused { IfErr result
@@ -95,6 +99,7 @@ pub fn semi<R: Threads + Sync, S: Source, O: Sink, E: Sink, G: Gate + Sync>(
 
     // what the source and the sinks are left with
     ensures source_untouched { result ≡ 3 → source.new ≡ source.old }
+    ensures source_taken { result ≤ 1 → IsTakenWhole (S.left source.old) (S.left source.new) }
     ensures out_untouched { 2 ≤ result → result ≤ 4 → out.new ≡ out.old }
     ensures beginning { result ≡ 5 → Under (map string_bytes words.now.items)
         (λ settings. IfSome (S.left source.old)
@@ -105,6 +110,7 @@ pub fn semi<R: Threads + Sync, S: Source, O: Sink, E: Sink, G: Gate + Sync>(
         (λ input. GainsBeginning settings input (O.taken out.old) (O.taken out.new))) }
     ensures told { 2 ≤ result → (fault : Fault) × (result ≡ status_of fault)
         × (result ≡ 2 → IfSome (S.left source.old) (λ input. IsRefusal input fault))
+        × IsTakenAt fault (S.left source.old) (S.left source.new)
         × GainsLineOf fault (E.taken err.old) (E.taken err.new) (E.faults err.old)
         (E.faults err.new) (E.refusals err.old) (E.refusals err.new) }
     ensures err_untouched { result ≤ 1 → err.new ≡ err.old }

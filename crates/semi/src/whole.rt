@@ -1,10 +1,11 @@
 // The report of a script.
-ghost use Rattle.std.specs.Prelude.{◌≡◌, ℕ, ◌≤◌, Bool, List, Option, [], ◌∷◌, IfErr, IfOk, IfSome, IsErrOf, OnErr, OnOk};
+ghost use Rattle.std.specs.Prelude.{◌≡◌, ℕ, ◌≤◌, Bool, List, Option, [], ◌∷◌, IfErr, IfOk, IfSome, IsErrOf, MatchResult, OnErr, OnOk};
 ghost use Rattle.ports.specs.Bytes.{Rose, TakesPrefix};
 ghost use Rattle.query_lang.specs.Query.{IsQueryOf};
 ghost use Rattle.report.specs.Gains.{is_undecided};
 ghost use Rattle.settings.specs.declared.Settings.{Settings};
 ghost use Rattle.semi.specs.Report.{GainsBeginning, GainsLines, GainsPart, IsRefusal, IsReport, IsScript, IsStateOf, budgets_of};
+ghost use Rattle.semi.specs.Taken.{IsTakenAt, IsTakenWhole};
 ghost use Rattle.semi.specs.Status.{status_of};
 
 use crate::fault::Fault;
@@ -26,6 +27,9 @@ pub fn take_script<S: Source>(alloc: Global, source: &mut S) -> Result<Script, F
         (λ input. IsScript input script)) }
     ensures refused { IfErr result (λ fault. status_of fault ≡ 2
         → IfSome (S.left source.old) (λ input. IsRefusal input fault)) }
+    ensures taken { MatchResult result
+        (λ script. IsTakenWhole (S.left source.old) (S.left source.new))
+        (λ fault. IsTakenAt fault (S.left source.old) (S.left source.new)) }
     ensures read { IsErrOf result Fault.Read → Rose (S.faults source.old) (S.faults source.new) }
     ensures only { (IsErrOf result Fault.Arguments → ⊥) × (IsErrOf result Fault.Write → ⊥) }
     ensures kept { S.faults source.old ≤ S.faults source.new }
