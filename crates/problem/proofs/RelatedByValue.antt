@@ -1,5 +1,5 @@
 -- Elements of generators of one shape, without pairs.
-use Rattle.std.proofs.Common.{◌≡◌, ℕ, ◌<◌, ◌↔◌, Bool, List, [], length, get_or, arith}
+use Rattle.std.proofs.Common.{◌≡◌, ℕ, ◌↔◌, Bool, List, [], length, get_or, arith}
 use Rattle.theory.specs.Word.{Word}
 use Rattle.theory.specs.Value.{IsProduct, SameValue, SameElement}
 use Rattle.theory.specs.declared.Kind.{Kind}

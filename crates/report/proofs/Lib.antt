@@ -1,3 +1,4 @@
+pub mod Alike
 pub mod ClosureLemmas
 pub mod GainLemmas
 pub mod ListingLemmas

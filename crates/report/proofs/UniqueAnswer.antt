@@ -10,6 +10,7 @@ use Rattle.theory.specs.ShortLex.{◌≺◌}
 use Rattle.theory.specs.Listing.{IsListOf, IsStartOf}
 use Rattle.theory.specs.Class.{IsLeast, HasIndex, IsClassList, IsInfinite, IsReducedRule, RuleBefore}
 use Rattle.theory.specs.Value.{IsProduct, HasAtMostValues, HasMoreValues}
+use Rattle.theory.specs.declared.Kind.TheVariants.{TwoSided}
 use Rattle.theory.proofs.Words.{before_irrefl}
 use Rattle.theory.proofs.Listings.{list_unique, page_unique, start_no_longer}
 use Rattle.theory.proofs.Completeness.{normal_unique}
@@ -30,7 +31,7 @@ use Rattle.query_lang.specs.declared.script.Query.TheVariants.{Index, Equal, Nor
 use Rattle.report.specs.Graph.{IsNumbered, AreCayleyGraphs}
 use Rattle.report.specs.Lines.{index_line, end_line, normal_line, word_line, rule_line, numbers_text, cayley_line}
 use Rattle.report.specs.Answer.{cayley_lines, AreLines, IsAnswer}
-use Rattle.report.proofs.ClosureLemmas.{value_equivalence}
+use Rattle.report.proofs.ClosureLemmas.{element_equivalence}
 
 list_start : (P : Word → Type 0) (cursor : Option Word) (words : List Word) → IsListOf P ◌≺◌ cursor words → IsStartOf P ◌≺◌ cursor words
 list_start P cursor [] h = tt
@@ -93,10 +94,10 @@ module _ {V : Type 0} {product : V → V → V} {equal : V → V → Bool} (gene
 
 problem_equivalence : (p : Problem) → IsPartialEquivalence (SameClassOf p)
 problem_equivalence (problem.Presented p) = same_class_equivalence p.congruence
-problem_equivalence (problem.Transf p) = value_equivalence p.generators [] (composed_products (0, 0))
-problem_equivalence (problem.PPerm p) = value_equivalence p.generators [] (partial_products (0, 0))
-problem_equivalence (problem.BMat p) = value_equivalence p.generators no_matrix (boolean_products (0, 0))
-problem_equivalence (problem.MaxPlus p) = value_equivalence p.generators no_truncated_matrix (truncated_products (0, 0))
+problem_equivalence (problem.Transf p) = element_equivalence p.generators [] (composed_products (0, 0)) TwoSided []
+problem_equivalence (problem.PPerm p) = element_equivalence p.generators [] (partial_products (0, 0)) TwoSided []
+problem_equivalence (problem.BMat p) = element_equivalence p.generators no_matrix (boolean_products (0, 0)) TwoSided []
+problem_equivalence (problem.MaxPlus p) = element_equivalence p.generators no_truncated_matrix (truncated_products (0, 0)) TwoSided []
 
 not_both : (p : Problem) (budgets : Budgets) → IsDecided p budgets → IsUndecided p budgets → ⊥
 not_both (problem.Presented p) budgets ends never = never ends
