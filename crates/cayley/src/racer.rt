@@ -173,8 +173,9 @@ impl<E: Element> Racer for PairsRacer<E> {
 
     ghost said = { λ r. r.said };
 
-    /// The first turn lists the elements, and gives `Spent` where they are more than the bound. The
-    /// second one finds their classes.
+    /// The first turn lists the elements (`FroidurePin::run`), and gives `Spent` exactly where they
+    /// are more than the bound. The second one finds their classes (`by_pairs`), and gives
+    /// `Decided`. Either gives `NoMemory` where memory is wanting, and so does each turn after it.
     fn advance(&mut self) -> Progress
         ensures task { self.new.task ≡ self.old.task }
         ensures said { self.new.said ≡ result }
