@@ -1,0 +1,4 @@
+pub mod LabelLaws
+pub mod ClosingLaws
+pub mod WholeLaws
+pub mod RunLaws

@@ -1,0 +1,5 @@
+pub mod Tables
+pub mod Labels
+pub mod Closing
+pub mod Whole
+pub mod Run

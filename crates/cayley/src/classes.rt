@@ -1,0 +1,67 @@
+// The classes of elements.
+ghost use Rattle.std.specs.Prelude.{◌≡◌, ◌<◌, false, length, slice_index, IfOk};
+ghost use Rattle.theory.specs.Congruence.{AreElements};
+ghost use Rattle.cayley.specs.Tables.{FitTogether, AreClasses};
+
+use crate::closing::{close, numbered};
+use crate::parents::{flatten, singletons};
+use froidure_pin::CayleyTables;
+use ports::NoMemory;
+use presentation::{Kind, Pairs};
+use std::alloc::Global;
+use std::marker::Model;
+
+/// For each element of a semigroup, by its number, the least number of its class. Contracts see the
+/// list of these numbers.
+#[derive(Drop)]
+pub struct Classes {
+    numbers: Vec<usize>,
+}
+
+impl Model for Classes {
+    ghost use Rattle.std.specs.Prelude.{List, ℕ};
+
+    ghost Value = { List ℕ };
+
+    ghost view = { λ c. c.numbers.items };
+}
+
+impl Classes {
+    /// How many elements there are.
+    pub fn len(&self) -> usize
+        ensures { result ≡ length self.now }
+    {
+        self.numbers.len()
+    }
+
+    /// The least number of the class of an element, by the element's own number.
+    pub fn class_of(&self, number: usize) -> usize
+        requires { number < length self.now }
+        ensures { result ≡ slice_index self.now number }
+    {
+        self.numbers[number]
+    }
+}
+
+/// The classes of the elements of a semigroup under the least congruence of a kind that has the
+/// pairs (Froidure and Pin 1997): two elements are of one class exactly where the least equivalence
+/// relates their numbers that has the numbers of each pair, and is kept along the edges of the
+/// right, the left, or both Cayley graphs. The tables are those of a whole run, or at least fit
+/// together, and the sides of the pairs are elements. There are fewer
+/// merges than elements, and each follows the edges of two numbers. Only want of memory refuses it.
+pub fn by_pairs(
+    alloc: Global,
+    tables: &CayleyTables,
+    kind: Kind,
+    pairs: &Pairs,
+) -> Result<Classes, NoMemory>
+    requires fit { FitTogether tables.now }
+    requires elements { AreElements false (length tables.now.letters) pairs.now }
+    ensures { IfOk result (AreClasses tables.now kind pairs.now) }
+{
+    let waiting = numbered(alloc, tables, pairs)?;
+    let mut numbers = singletons(alloc, tables.words.as_slice().len())?;
+    close(tables, kind, &mut numbers, waiting)?;
+    flatten(&mut numbers);
+    Ok(Classes { numbers })
+}
