@@ -14,3 +14,5 @@ pub mod Query
 pub mod QueryLines
 pub mod Asked
 pub mod Script
+pub mod Grammar
+pub mod LineCauses

@@ -1,7 +1,7 @@
 use Rattle.std.proofs.Common.{◌≡◌, Bool, true, false, not, ◌||◌, All, length, sym, ap, ◌∙◌, subst, subst₂}
 use Rattle.std.proofs.lemmas.List.Elements.{All-push}
 use Rattle.problem.specs.Problem.{allows_rules, has_empty_word, is_presented, letters_of}
-use Rattle.query_lang.specs.Query.{IsQueryOf, IsQueryOver, is_allowed, is_rule_list, needs_generators}
+use Rattle.query_lang.specs.Query.{IsQueryOf, IsQueryOver, is_rule_list, needs_generators}
 use Rattle.query_lang.proofs.script.Script.with_query.Goals as goal
 use Rattle.query_lang.proofs.script.Script.with_query.Goals.{else-is_presented-via-then-is_presented+else-needs_generators, else-is_presented-via-else-is_presented}
 
