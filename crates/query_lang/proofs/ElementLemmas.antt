@@ -91,8 +91,8 @@ named-query : (r : Reader) (p : Partial) (first : Token) (tokens : List Token) �
     → cause_in (query_line r first tokens) ≡ first_of (named_causes p (form_among (forms_of false) first) tokens)
 named-query r p first tokens h k l =
     pick-seven (λ x. cause_in (and_then (λ name. and_then (λ script. and_then (λ s. Ok (Asking s)) (asked script name tokens)) (finished r)) x)) (λ form. first_of (named_causes p form tokens)) refl
-      (λ name. each-query r p name tokens h k l)
-      (is_word (codes "index") first) (is_word (codes "equal") first) (is_word (codes "normal") first) (is_word (codes "classes") first) (is_word (codes "rules") first) (is_word (codes "element") first) (is_word (codes "cayley") first)
+    (λ name. each-query r p name tokens h k l)
+    (is_word (codes "index") first) (is_word (codes "equal") first) (is_word (codes "normal") first) (is_word (codes "classes") first) (is_word (codes "rules") first) (is_word (codes "element") first) (is_word (codes "cayley") first)
 
 either : (sign : Bool) (G Q : Result Reader Cause) (gs qs : List (Option Cause)) → cause_in G ≡ first_of gs → cause_in Q ≡ first_of qs → cause_in (if sign then G else Q) ≡ first_of (if sign then gs else qs)
 either true G Q gs qs g q = g
@@ -120,22 +120,22 @@ pub transf_line : (sizes : ℕ × ℕ) (g : PosedOf (List ℕ)) (first : Token) 
     → cause_in (element_line (opened sizes (problem.Transf g)) (first ∷ tokens)) ≡ first_of (line_causes (posing sizes (problem.Transf g)) (first ∷ tokens))
 transf_line sizes g first tokens =
     elements_cause (opened sizes (problem.Transf g)) (posing sizes (problem.Transf g)) first tokens refl refl
-      (ready-by (λ p. problem.Transf p) sizes g (length g.letters == 0) _ refl (and-true (length g.letters == 0))) (transf_cause sizes g)
+    (ready-by (λ p. problem.Transf p) sizes g (length g.letters == 0) _ refl (and-true (length g.letters == 0))) (transf_cause sizes g)
 
 pub pperm_line : (sizes : ℕ × ℕ) (g : PosedOf (List (Option ℕ))) (first : Token) (tokens : List Token)
     → cause_in (element_line (opened sizes (problem.PPerm g)) (first ∷ tokens)) ≡ first_of (line_causes (posing sizes (problem.PPerm g)) (first ∷ tokens))
 pperm_line sizes g first tokens =
     elements_cause (opened sizes (problem.PPerm g)) (posing sizes (problem.PPerm g)) first tokens refl refl
-      (ready-by (λ p. problem.PPerm p) sizes g (length g.letters == 0) _ refl (and-true (length g.letters == 0))) (pperm_cause sizes g)
+    (ready-by (λ p. problem.PPerm p) sizes g (length g.letters == 0) _ refl (and-true (length g.letters == 0))) (pperm_cause sizes g)
 
 pub bmat_line : (sizes : ℕ × ℕ) (g : PosedOf BooleanMatrix) (first : Token) (tokens : List Token)
     → cause_in (element_line (opened sizes (problem.BMat g)) (first ∷ tokens)) ≡ first_of (line_causes (posing sizes (problem.BMat g)) (first ∷ tokens))
 bmat_line sizes g first tokens =
     elements_cause (opened sizes (problem.BMat g)) (posing sizes (problem.BMat g)) first tokens refl refl
-      (ready-by (λ p. problem.BMat p) sizes g (length g.letters == 0) _ refl (and-true (length g.letters == 0))) (bmat_cause sizes g)
+    (ready-by (λ p. problem.BMat p) sizes g (length g.letters == 0) _ refl (and-true (length g.letters == 0))) (bmat_cause sizes g)
 
 pub mpt_line : (sizes : ℕ × ℕ) (g : PosedOf TruncatedMatrix) (first : Token) (tokens : List Token)
     → cause_in (element_line (opened sizes (problem.MaxPlus g)) (first ∷ tokens)) ≡ first_of (line_causes (posing sizes (problem.MaxPlus g)) (first ∷ tokens))
 mpt_line sizes g first tokens =
     elements_cause (opened sizes (problem.MaxPlus g)) (posing sizes (problem.MaxPlus g)) first tokens refl refl
-      (ready-by (λ p. problem.MaxPlus p) sizes g (length g.letters == 0) _ refl (and-true (length g.letters == 0))) (mpt_cause sizes g)
+    (ready-by (λ p. problem.MaxPlus p) sizes g (length g.letters == 0) _ refl (and-true (length g.letters == 0))) (mpt_cause sizes g)

@@ -50,7 +50,7 @@ relation_cause sizes o [] = relation-count (length o.congruence.pairs == 0) _
 relation_cause sizes o (s ∷ []) = relation-count (length o.congruence.pairs == 0) _
 relation_cause sizes o (s ∷ t ∷ []) =
     relation-sides (length o.congruence.pairs == 0) (length o.congruence.presentation.relations == most_relations)
-      (element_of o.alphabet o.congruence.presentation.is_monoid s) (element_of o.alphabet o.congruence.presentation.is_monoid t) (add_relation o)
+    (element_of o.alphabet o.congruence.presentation.is_monoid s) (element_of o.alphabet o.congruence.presentation.is_monoid t) (add_relation o)
 relation_cause sizes o (s ∷ t ∷ u ∷ tokens) = relation-count (length o.congruence.pairs == 0) _
 
 pair-sides : (first full same : Bool) (u v : Result Word Cause) (f : Word × Word → Posed)
@@ -76,7 +76,7 @@ pair_cause sizes o kind [] = pair-few (length o.congruence.pairs == 0) _
 pair_cause sizes o kind (s ∷ []) = pair-few (length o.congruence.pairs == 0) _
 pair_cause sizes o kind (s ∷ t ∷ []) =
     pair-sides (length o.congruence.pairs == 0) (length o.congruence.pairs == most_pairs) (is_same_kind o.congruence.kind kind)
-      (element_of o.alphabet o.congruence.presentation.is_monoid s) (element_of o.alphabet o.congruence.presentation.is_monoid t) (add_pair o kind)
+    (element_of o.alphabet o.congruence.presentation.is_monoid s) (element_of o.alphabet o.congruence.presentation.is_monoid t) (add_pair o kind)
 pair_cause sizes o kind (s ∷ t ∷ u ∷ tokens) = pair-few (length o.congruence.pairs == 0) _
 
 -- the causes of a query from the number of its tokens on
@@ -224,19 +224,19 @@ query-by-name : (r : Reader) (sizes : ℕ × ℕ) (o : Posed) (queries : List Qu
     → cause_in (query_line r first tokens) ≡ first_of (named_causes (presented sizes o queries) (form_among (Index ∷ Equal ∷ Normal ∷ Classes ∷ Rules ∷ []) first) tokens)
 query-by-name r sizes o queries first tokens h =
     pick-query (λ x. cause_in (and_then (λ name. and_then (λ script. and_then (λ s. Ok (Asking s)) (asked script name tokens)) (finished r)) x)) (λ form. first_of (named_causes (presented sizes o queries) form tokens)) refl
-      (λ name. ap (λ x. cause_in (and_then (λ script. and_then (λ s. Ok (Asking s)) (asked script name tokens)) x)) h ∙ same-cause (λ s. Asking s) (asked (script_in (presented sizes o queries)) name tokens) ∙ query_in_presentation sizes o queries name tokens)
-      (is_word (codes "index") first) (is_word (codes "equal") first) (is_word (codes "normal") first) (is_word (codes "classes") first) (is_word (codes "rules") first) (is_word (codes "element") first) (is_word (codes "cayley") first)
+    (λ name. ap (λ x. cause_in (and_then (λ script. and_then (λ s. Ok (Asking s)) (asked script name tokens)) x)) h ∙ same-cause (λ s. Asking s) (asked (script_in (presented sizes o queries)) name tokens) ∙ query_in_presentation sizes o queries name tokens)
+    (is_word (codes "index") first) (is_word (codes "equal") first) (is_word (codes "normal") first) (is_word (codes "classes") first) (is_word (codes "rules") first) (is_word (codes "element") first) (is_word (codes "cayley") first)
 
 -- a line of a presentation before its first query has the cause that is said
 pub presenting_cause : (sizes : ℕ × ℕ) (o : Posed) (first : Token) (tokens : List Token)
     → cause_in (with_line (Relating o) (first ∷ tokens)) ≡ first_of (named_causes (presented sizes o []) (form_among (forms_of true) first) tokens)
 presenting_cause sizes o first tokens =
     pick-line (is_word (codes "rel") first) (is_word (codes "twosided") first) (is_word (codes "right") first) _ _ _ _ (λ form. first_of (named_causes (presented sizes o []) form tokens)) _
-      (relation_cause sizes o tokens) (pair_cause sizes o TwoSided tokens) (pair_cause sizes o Right tokens) (query-by-name (Relating o) sizes o [] first tokens refl)
+    (relation_cause sizes o tokens) (pair_cause sizes o TwoSided tokens) (pair_cause sizes o Right tokens) (query-by-name (Relating o) sizes o [] first tokens refl)
 
 -- a line of a presentation behind a query has the cause that is said
 pub asking_cause : (sizes : ℕ × ℕ) (o : Posed) (q : Query) (queries : List Query) (first : Token) (tokens : List Token)
     → cause_in (with_line (Asking (script_in (presented sizes o (q ∷ queries)))) (first ∷ tokens)) ≡ first_of (named_causes (presented sizes o (q ∷ queries)) (form_among (forms_of true) first) tokens)
 asking_cause sizes o q queries first tokens =
     pick-line (is_word (codes "rel") first) (is_word (codes "twosided") first) (is_word (codes "right") first) _ _ _ _ (λ form. first_of (named_causes (presented sizes o (q ∷ queries)) form tokens)) _
-      refl refl refl (query-by-name (Asking (script_in (presented sizes o (q ∷ queries)))) sizes o (q ∷ queries) first tokens refl)
+    refl refl refl (query-by-name (Asking (script_in (presented sizes o (q ∷ queries)))) sizes o (q ∷ queries) first tokens refl)

@@ -71,22 +71,22 @@ pub transf_cause : (sizes : ℕ × ℕ) (g : PosedOf (List ℕ)) (name : Token) 
     → cause_in (generator_line (opened sizes (problem.Transf g)) name entries) ≡ first_of (generator_causes (posing sizes (problem.Transf g)) name (map field_of entries))
 transf_cause sizes g name entries =
     twice _ _ _ ∙ named (posing sizes (problem.Transf g)) (letter_of name) _ _ _
-      (plain (length (map field_of entries) == sizes.0) (all_of (below sizes.0) (map field_of entries)) _ (some-bad (below sizes.0) (map field_of entries)))
+    (plain (length (map field_of entries) == sizes.0) (all_of (below sizes.0) (map field_of entries)) _ (some-bad (below sizes.0) (map field_of entries)))
 
 pub pperm_cause : (sizes : ℕ × ℕ) (g : PosedOf (List (Option ℕ))) (name : Token) (entries : List Token)
     → cause_in (generator_line (opened sizes (problem.PPerm g)) name entries) ≡ first_of (generator_causes (posing sizes (problem.PPerm g)) name (map field_of entries))
 pperm_cause sizes g name entries =
     twice _ _ _ ∙ named (posing sizes (problem.PPerm g)) (letter_of name) _ _ _
-      (injective-too (length (map field_of entries) == sizes.0) (all_of (below_or_dash sizes.0) (map field_of entries)) _ (some-bad (below_or_dash sizes.0) (map field_of entries)))
+    (injective-too (length (map field_of entries) == sizes.0) (all_of (below_or_dash sizes.0) (map field_of entries)) _ (some-bad (below_or_dash sizes.0) (map field_of entries)))
 
 pub bmat_cause : (sizes : ℕ × ℕ) (g : PosedOf BooleanMatrix) (name : Token) (entries : List Token)
     → cause_in (generator_line (opened sizes (problem.BMat g)) name entries) ≡ first_of (generator_causes (posing sizes (problem.BMat g)) name (map field_of entries))
 bmat_cause sizes g name entries =
     twice _ _ _ ∙ named (posing sizes (problem.BMat g)) (letter_of name) _ _ _
-      (same-cause _ _ ∙ plain (length (map field_of entries) == sizes.0 * sizes.0) (all_of bit (map field_of entries)) _ (some-bad bit (map field_of entries)))
+    (same-cause _ _ ∙ plain (length (map field_of entries) == sizes.0 * sizes.0) (all_of bit (map field_of entries)) _ (some-bad bit (map field_of entries)))
 
 pub mpt_cause : (sizes : ℕ × ℕ) (g : PosedOf TruncatedMatrix) (name : Token) (entries : List Token)
     → cause_in (generator_line (opened sizes (problem.MaxPlus g)) name entries) ≡ first_of (generator_causes (posing sizes (problem.MaxPlus g)) name (map field_of entries))
 mpt_cause sizes g name entries =
     twice _ _ _ ∙ named (posing sizes (problem.MaxPlus g)) (letter_of name) _ _ _
-      (same-cause _ _ ∙ plain (length (map field_of entries) == sizes.0 * sizes.0) (all_of (below_or_dash (sizes.1 + 1)) (map field_of entries)) _ (some-bad (below_or_dash (sizes.1 + 1)) (map field_of entries)))
+    (same-cause _ _ ∙ plain (length (map field_of entries) == sizes.0 * sizes.0) (all_of (below_or_dash (sizes.1 + 1)) (map field_of entries)) _ (some-bad (below_or_dash (sizes.1 + 1)) (map field_of entries)))

@@ -59,5 +59,5 @@ pick false false false false false false M S T P B X said hm hs ht hp hb hx none
 pub header_cause : (name : Token) (tokens : List Token) → cause_in (header_line (name ∷ tokens)) ≡ first_of (header_causes (name ∷ tokens))
 header_cause name tokens =
     pick (is_word (codes "monoid") name) (is_word (codes "semigroup") name) (is_word (codes "trans") name) (is_word (codes "pperm") name) (is_word (codes "bmat") name) (is_word (codes "mpt") name) _ _ _ _ _ _
-      (λ form. first_of (header_form_causes form tokens))
-      (outline_cause true tokens) (outline_cause false tokens) (same-cause _ _ ∙ size_cause 64 tokens) (same-cause _ _ ∙ size_cause 64 tokens) (same-cause _ _ ∙ size_cause 16 tokens) (same-cause _ _ ∙ sizes_cause tokens) refl
+    (λ form. first_of (header_form_causes form tokens))
+    (outline_cause true tokens) (outline_cause false tokens) (same-cause _ _ ∙ size_cause 64 tokens) (same-cause _ _ ∙ size_cause 64 tokens) (same-cause _ _ ∙ size_cause 16 tokens) (same-cause _ _ ∙ sizes_cause tokens) refl

@@ -10,3 +10,5 @@ pub mod GeneratorLemmas
 pub mod HeaderLemmas
 pub mod ElementLemmas
 pub mod CauseLaw
+pub mod SoundLaw
+pub mod StepLaw
