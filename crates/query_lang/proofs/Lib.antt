@@ -12,3 +12,5 @@ pub mod ElementLemmas
 pub mod CauseLaw
 pub mod SoundLaw
 pub mod StepLaw
+pub mod TotalForms
+pub mod TotalLaw
