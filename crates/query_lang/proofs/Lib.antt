@@ -14,3 +14,4 @@ pub mod SoundLaw
 pub mod StepLaw
 pub mod TotalForms
 pub mod TotalLaw
+pub mod ScriptLaw
