@@ -2,8 +2,10 @@
 ghost use Rattle.std.specs.Prelude.{◌≡◌, [], IfOk, IfErr, Ok, All};
 ghost use Rattle.problem.specs.Problem.{IsPosable};
 ghost use Rattle.query_lang.specs.Faults.{IsLineFault, IsScriptFault};
+ghost use Rattle.query_lang.specs.Grammar.{lines_of};
+ghost use Rattle.query_lang.specs.LineCauses.{AreScript};
 ghost use Rattle.query_lang.specs.Query.{IsQueryOf, is_allowed};
-ghost use Rattle.query_lang.specs.Script.{asked, script_of};
+ghost use Rattle.query_lang.specs.Script.{asked};
 ghost use Rattle.query_lang.specs.Texts.{texts};
 
 use crate::cause::Cause;
@@ -129,8 +131,8 @@ impl Script {
 /// the first such line, or where the header is missing at the end, or every generator of a script
 /// that is no presentation, at the last line; with `NoMemory` only where memory is wanting.
 pub fn read_script(alloc: Global, bytes: &[u8]) -> Result<Script, ScriptFault>
-    ensures ok { IfOk result (λ script. script_of bytes.now ≡ Ok script) }
-    ensures err { IfErr result (IsScriptFault (script_of bytes.now)) }
+    ensures ok { IfOk result (λ script. AreScript (lines_of bytes.now) script) }
+    ensures err { IfErr result (IsScriptFault bytes.now) }
 {
     let mut reader = None;
     let mut number = 0;
