@@ -4,7 +4,7 @@ use Rattle.std.specs.Option.{ok_or}
 use Rattle.problem.specs.Posed.{PosedOf}
 use Rattle.elements.specs.BMat.{BooleanMatrix}
 use Rattle.elements.specs.MaxPlus.{TruncatedMatrix}
-use Rattle.problem.specs.Problem.{has_empty_word, is_presented, letters_of}
+use Rattle.problem.specs.Problem.{allows_rules, has_empty_word, is_presented, letters_of}
 use Rattle.problem.specs.declared.kinds.Problem.{Problem}
 use Rattle.problem.specs.declared.kinds.Problem.TheVariants as problem
 use Rattle.query_lang.specs.declared.cause.Cause.{Cause}
@@ -16,7 +16,7 @@ use Rattle.query_lang.specs.declared.reader.Reader.TheVariants.{Asking}
 use Rattle.query_lang.specs.Outcome.{and_then}
 use Rattle.query_lang.specs.Fields.{field_of}
 use Rattle.query_lang.specs.Token.{Token, is_word}
-use Rattle.query_lang.specs.QueryLines.{query_of, name_needs_generators}
+use Rattle.query_lang.specs.QueryLines.{query_of, name_asks_rules, name_needs_generators, name_takes}
 use Rattle.query_lang.specs.Script.{asked, with_asked, element_line, finished, generator_line, query_line}
 use Rattle.query_lang.specs.Grammar.{Partial, lacks_generator, Form, Index, Equal, Normal, Classes, Rules, Element, Cayley, forms_of, is_empty, pairs_of, script_in}
 use Rattle.query_lang.specs.LineCauses.{when, first_of, cause_in, form_among, form_causes, generator_causes, line_causes, named_causes}
@@ -35,7 +35,9 @@ form_of name.Cayley = Cayley
 
 known : (p : Partial) (name : QueryName) (tokens : List Token) → is_presented p.problem ≡ false → cause_in (asked (script_in p) name tokens) ≡ query_cause p name tokens
 known p name tokens h =
-    ap (λ b. cause_in (if b && name_needs_generators name then Err cause.UnknownLine else and_then (with_asked (script_in p)) (query_of (letters_of p.problem) (has_empty_word p.problem) name tokens))) h
+    ap (λ b. cause_in
+    (if b && name_needs_generators name then Err cause.UnknownLine else if not (name_takes name tokens) then Err cause.WrongNumberOfWords else if name_asks_rules name && not (allows_rules p.problem) then Err cause.QueryNotAllowed
+    else and_then (λ q. Ok (with_asked (script_in p) q)) (query_of (letters_of p.problem) (has_empty_word p.problem) name tokens))) h
 
 -- a query behind a generator has the cause that is said
 pub query_in_elements : (p : Partial) (name : QueryName) (tokens : List Token) → is_presented p.problem ≡ false → (length (pairs_of p.problem) == 0) ≡ true → lacks_generator p ≡ false

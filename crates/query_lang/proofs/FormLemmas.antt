@@ -17,7 +17,7 @@ use Rattle.query_lang.specs.declared.query_line.QueryName.TheVariants as name
 use Rattle.query_lang.specs.declared.script.Query.{Query}
 use Rattle.query_lang.specs.declared.script.Query.TheVariants as query
 use Rattle.query_lang.specs.Asked.{ScriptOf}
-use Rattle.query_lang.specs.QueryLines.{query_of}
+use Rattle.query_lang.specs.QueryLines.{name_asks_rules, name_takes, query_of}
 use Rattle.query_lang.specs.Token.{Token, is_word, number_within}
 use Rattle.query_lang.specs.LineWords.{element_of}
 use Rattle.query_lang.specs.Outline.{add_pair, add_relation, is_same_kind, most_pairs, most_relations}
@@ -86,13 +86,16 @@ query_causes p form tokens =
 
 -- the cause of a query that this kind of script has
 abbrev pub query_cause : Partial → QueryName → List Token → Option Cause
-query_cause p name tokens = cause_in (and_then (with_asked (script_in p)) (query_of (letters_of p.problem) (has_empty_word p.problem) name tokens))
+query_cause p name tokens =
+    cause_in
+    (if not (name_takes name tokens) then Err cause.WrongNumberOfWords else if name_asks_rules name && not (allows_rules p.problem) then Err cause.QueryNotAllowed
+    else and_then (λ q. Ok (with_asked (script_in p) q)) (query_of (letters_of p.problem) (has_empty_word p.problem) name tokens))
 
 pub index_cause : (p : Partial) (tokens : List Token) → query_cause p name.Index tokens ≡ first_of (query_causes p Index tokens)
 index_cause p [] = refl
 index_cause p (t ∷ tokens) = refl
 
-rules-allowed : (s : ScriptOf) (allows : Bool) → cause_in (if allows then Ok s else Err cause.QueryNotAllowed) ≡ first_of (when cause.QueryNotAllowed (not allows) ∷ [])
+rules-allowed : (s : ScriptOf) (allows : Bool) → cause_in (if not allows then Err cause.QueryNotAllowed else Ok s) ≡ first_of (when cause.QueryNotAllowed (not allows) ∷ [])
 rules-allowed s true = refl
 rules-allowed s false = refl
 
@@ -100,7 +103,7 @@ pub rules_cause : (p : Partial) (tokens : List Token) → query_cause p name.Rul
 rules_cause p [] = rules-allowed _ (allows_rules p.problem)
 rules_cause p (t ∷ tokens) = refl
 
-one-side : (p : Partial) (u : Result Word Cause) → cause_in (and_then (with_asked (script_in p)) (and_then (λ x. Ok (query.Normal x)) u)) ≡ first_of (cause_in u ∷ [])
+one-side : (p : Partial) (u : Result Word Cause) → cause_in (and_then (λ q. Ok (with_asked (script_in p) q)) (and_then (λ x. Ok (query.Normal x)) u)) ≡ first_of (cause_in u ∷ [])
 one-side p (Ok x) = refl
 one-side p (Err c) = refl
 
@@ -109,7 +112,7 @@ normal_cause p [] = refl
 normal_cause p (s ∷ []) = one-side p (element_of (letters_of p.problem) (has_empty_word p.problem) s)
 normal_cause p (s ∷ t ∷ tokens) = refl
 
-one-value : (p : Partial) (u : Result Word Cause) → cause_in (and_then (with_asked (script_in p)) (and_then (λ x. Ok (query.ElementOf x)) u)) ≡ first_of (cause_in u ∷ [])
+one-value : (p : Partial) (u : Result Word Cause) → cause_in (and_then (λ q. Ok (with_asked (script_in p) q)) (and_then (λ x. Ok (query.ElementOf x)) u)) ≡ first_of (cause_in u ∷ [])
 one-value p (Ok x) = refl
 one-value p (Err c) = refl
 
@@ -118,7 +121,7 @@ element_cause p [] = refl
 element_cause p (s ∷ []) = one-value p (element_of (letters_of p.problem) (has_empty_word p.problem) s)
 element_cause p (s ∷ t ∷ tokens) = refl
 
-two-sides : (p : Partial) (u v : Result Word Cause) → cause_in (and_then (with_asked (script_in p)) (and_then (λ (x : Word × Word). Ok (query.Equal x.0 x.1)) (and_then (λ x. and_then (λ y. Ok (x, y)) v) u))) ≡ first_of (cause_in u ∷ cause_in v ∷ [])
+two-sides : (p : Partial) (u v : Result Word Cause) → cause_in (and_then (λ q. Ok (with_asked (script_in p) q)) (and_then (λ (x : Word × Word). Ok (query.Equal x.0 x.1)) (and_then (λ x. and_then (λ y. Ok (x, y)) v) u))) ≡ first_of (cause_in u ∷ cause_in v ∷ [])
 two-sides p (Err c) v = refl
 two-sides p (Ok x) (Err c) = refl
 two-sides p (Ok x) (Ok y) = refl
@@ -129,12 +132,12 @@ equal_cause p (s ∷ []) = refl
 equal_cause p (s ∷ t ∷ []) = two-sides p (element_of (letters_of p.problem) (has_empty_word p.problem) s) (element_of (letters_of p.problem) (has_empty_word p.problem) t)
 equal_cause p (s ∷ t ∷ u ∷ tokens) = refl
 
-page-number : (p : Partial) (n : Option ℕ) → cause_in (and_then (with_asked (script_in p)) (and_then (λ m. Ok (query.Classes m None)) (ok_or n cause.BadNumber))) ≡ first_of (when cause.BadNumber (is_none n) ∷ [])
+page-number : (p : Partial) (n : Option ℕ) → cause_in (and_then (λ q. Ok (with_asked (script_in p) q)) (and_then (λ m. Ok (query.Classes m None)) (ok_or n cause.BadNumber))) ≡ first_of (when cause.BadNumber (is_none n) ∷ [])
 page-number p None = refl
 page-number p (Some n) = refl
 
 page-behind : (p : Partial) (n : Option ℕ) (after : Bool) (u : Result Word Cause)
-    → cause_in (and_then (with_asked (script_in p)) (and_then (λ m. and_then (λ x. Ok (query.Classes m (Some x))) (if after then u else Err cause.AfterExpected)) (ok_or n cause.BadNumber)))
+    → cause_in (and_then (λ q. Ok (with_asked (script_in p) q)) (and_then (λ m. and_then (λ x. Ok (query.Classes m (Some x))) (if after then u else Err cause.AfterExpected)) (ok_or n cause.BadNumber)))
     ≡ first_of (when cause.BadNumber (is_none n) ∷ when cause.AfterExpected (not after) ∷ cause_in u ∷ [])
 page-behind p None after u = refl
 page-behind p (Some n) false u = refl

@@ -13,7 +13,7 @@ use Rattle.words.specs.declared.fault.AlphabetFault.{AlphabetFault}
 use Rattle.presentation.specs.Presented.{Posed}
 use Rattle.problem.specs.declared.kinds.Problem.{Problem}
 use Rattle.problem.specs.declared.kinds.Problem.TheVariants.{Presented, Transf, PPerm, BMat, MaxPlus}
-use Rattle.problem.specs.Problem.{has_empty_word, is_presented, letters_of}
+use Rattle.problem.specs.Problem.{allows_rules, has_empty_word, is_presented, letters_of}
 use Rattle.query_lang.specs.declared.cause.Cause.{Cause}
 use Rattle.query_lang.specs.declared.cause.Cause.TheVariants as cause
 use Rattle.query_lang.specs.declared.draft.Draft.TheVariants as draft
@@ -31,8 +31,7 @@ use Rattle.query_lang.specs.Header.{size_of, sizes_of, outline_of}
 use Rattle.query_lang.specs.LineWords.{both_elements, element_of, with_cause}
 use Rattle.query_lang.specs.Outcome.{and_then}
 use Rattle.query_lang.specs.Outline.{add_pair, add_relation, free_over, is_same_kind, most_pairs, most_relations, paired, related, takes_kind, unless_fault}
-use Rattle.query_lang.specs.Query.{is_allowed}
-use Rattle.query_lang.specs.QueryLines.{cursor_of, name_needs_generators, query_name_of, query_of}
+use Rattle.query_lang.specs.QueryLines.{cursor_of, name_asks_rules, name_needs_generators, name_takes, query_name_of, query_of}
 use Rattle.query_lang.specs.Script.{asked, element_line, finished, generator_line, header_line, is_presentation, pair_line, presentation_line, query_line, read_line, relation_line, with_asked, with_line}
 use Rattle.query_lang.specs.Token.{Token, Line, is_word, letter_of, number_within}
 use Rattle.query_lang.specs.Grammar.{Form, Relation, Pair, HasGenerator, HeaderReads, IsQuery, LineReads, Partial, Step, begin_with, forms_of, has_sign, is_generator_line, lacks_generator, pairs_of, script_in, section_reached}
@@ -204,12 +203,15 @@ query_line_read r false first (second ∷ tokens) is sign other =
     ∙ ap (λ b. if b then generator_line r first tokens else query_line r first (second ∷ tokens)) sign
 
 asked_read : (s : ScriptOf) (name : QueryName) (tokens : List Token) (q : Query) → (is_presented s.problem && name_needs_generators name) ≡ false
-    → query_of (letters_of s.problem) (has_empty_word s.problem) name tokens ≡ Ok q → is_allowed s.problem q ≡ true
-    → asked s name tokens ≡ Ok (record s { queries = s.queries ++ q ∷ [] })
-asked_read s name tokens q there is allowed =
-    ap (λ b. if b then Err cause.UnknownLine else and_then (with_asked s) (query_of (letters_of s.problem) (has_empty_word s.problem) name tokens)) there
-    ∙ ap (and_then (with_asked s)) is
-    ∙ ap (λ b. if b then Ok (record s { queries = s.queries ++ q ∷ [] }) else Err cause.QueryNotAllowed) allowed
+    → name_takes name tokens ≡ true → (name_asks_rules name && not (allows_rules s.problem)) ≡ false
+    → query_of (letters_of s.problem) (has_empty_word s.problem) name tokens ≡ Ok q → asked s name tokens ≡ Ok (with_asked s q)
+asked_read s name tokens q there taken allowed is =
+    ap (λ b. if b then Err cause.UnknownLine else if not (name_takes name tokens) then Err cause.WrongNumberOfWords else if name_asks_rules name && not (allows_rules s.problem) then Err cause.QueryNotAllowed
+    else and_then (λ q. Ok (with_asked s q)) (query_of (letters_of s.problem) (has_empty_word s.problem) name tokens)) there
+    ∙ ap (λ b. if not b then Err cause.WrongNumberOfWords else if name_asks_rules name && not (allows_rules s.problem) then Err cause.QueryNotAllowed
+    else and_then (λ q. Ok (with_asked s q)) (query_of (letters_of s.problem) (has_empty_word s.problem) name tokens)) taken
+    ∙ ap (λ b. if b then Err cause.QueryNotAllowed else and_then (λ q. Ok (with_asked s q)) (query_of (letters_of s.problem) (has_empty_word s.problem) name tokens)) allowed
+    ∙ ap (and_then (λ q. Ok (with_asked s q))) is
 
 and_false : (b : Bool) → (b && false) ≡ false
 and_false true = refl
@@ -219,15 +221,15 @@ and_false false = refl
 asked_line : (sizes : ℕ × ℕ) (problem : Problem) (queries : List Query) (name : QueryName) (line : Line) (first : Token) (tokens : List Token) (q : Query)
     → lacks_generator (partial sizes problem queries) ≡ false → is_generator_line (partial sizes problem queries) line ≡ false
     → line ≡ first ∷ tokens → IsOtherName first → query_name_of first ≡ Some name → (is_presented problem && name_needs_generators name) ≡ false
-    → query_of (letters_of problem) (has_empty_word problem) name tokens ≡ Ok q → is_allowed problem q ≡ true
+    → name_takes name tokens ≡ true → (name_asks_rules name && not (allows_rules problem)) ≡ false → query_of (letters_of problem) (has_empty_word problem) name tokens ≡ Ok q
     → with_line (reader_of (partial sizes problem queries)) line ≡ Ok (reader_of (more_asked (partial sizes problem queries) q))
-asked_line sizes problem queries name line first tokens q some sign is other named there read allowed =
+asked_line sizes problem queries name line first tokens q some sign is other named there taken allowed read =
     let p : Partial = partial sizes problem queries in
     ap (with_line (reader_of p)) is
     ∙ query_line_read (reader_of p) (is_presented problem) first tokens (presentation_kept sizes problem queries) (sym (ap (is_generator_line p) is) ∙ sign) other
     ∙ ap (λ o. and_then (λ name. and_then (λ script. and_then (λ s. Ok (Asking s)) (asked script name tokens)) (finished (reader_of p))) (ok_or o cause.UnknownLine)) named
     ∙ ap (and_then (λ script. and_then (λ s. Ok (Asking s)) (asked script name tokens))) (finished_read sizes problem queries some)
-    ∙ ap (and_then (λ s. Ok (Asking s))) (asked_read (script_in p) name tokens q there read allowed)
+    ∙ ap (and_then (λ s. Ok (Asking s))) (asked_read (script_in p) name tokens q there taken allowed read)
     ∙ ap (λ r. Ok r) (asking_kept sizes problem queries q)
 
 other : (first : Token) → is_word (codes "rel") first ≡ false → is_word (codes "twosided") first ≡ false → is_word (codes "right") first ≡ false → IsOtherName first
@@ -238,27 +240,27 @@ query_read : (sizes : ℕ × ℕ) (problem : Problem) (queries : List Query) (li
     → is_generator_line (partial sizes problem queries) line ≡ false → IsQuery (partial sizes problem queries) line q
     → with_line (reader_of (partial sizes problem queries)) line ≡ Ok (reader_of (more_asked (partial sizes problem queries) q))
 query_read sizes problem queries line q some sign (grammar.index is) =
-    asked_line sizes problem queries name.Index line (codes "index") [] q some sign is (other (codes "index") refl refl refl) refl (and_false (is_presented problem)) refl refl
+    asked_line sizes problem queries name.Index line (codes "index") [] q some sign is (other (codes "index") refl refl refl) refl (and_false (is_presented problem)) refl refl refl
 query_read sizes problem queries line q some sign (grammar.equal {U} {V} {u} {v} is h k) =
-    asked_line sizes problem queries name.Equal line (codes "equal") (U ∷ V ∷ []) q some sign is (other (codes "equal") refl refl refl) refl (and_false (is_presented problem))
-    (ap (and_then (λ (p : Word × Word). Ok (query.Equal p.0 p.1))) (both_read (letters_of problem) (has_empty_word problem) U V u v h k)) refl
+    asked_line sizes problem queries name.Equal line (codes "equal") (U ∷ V ∷ []) q some sign is (other (codes "equal") refl refl refl) refl (and_false (is_presented problem)) refl refl
+    (ap (and_then (λ (p : Word × Word). Ok (query.Equal p.0 p.1))) (both_read (letters_of problem) (has_empty_word problem) U V u v h k))
 query_read sizes problem queries line q some sign (grammar.normal {U} {u} is h) =
-    asked_line sizes problem queries name.Normal line (codes "normal") (U ∷ []) q some sign is (other (codes "normal") refl refl refl) refl (and_false (is_presented problem))
-    (ap (and_then (λ u. Ok (query.Normal u))) (element_read (letters_of problem) (has_empty_word problem) U u h)) refl
+    asked_line sizes problem queries name.Normal line (codes "normal") (U ∷ []) q some sign is (other (codes "normal") refl refl refl) refl (and_false (is_presented problem)) refl refl
+    (ap (and_then (λ u. Ok (query.Normal u))) (element_read (letters_of problem) (has_empty_word problem) U u h))
 query_read sizes problem queries line q some sign (grammar.classes {N} {n} is h) =
-    asked_line sizes problem queries name.Classes line (codes "classes") (N ∷ []) q some sign is (other (codes "classes") refl refl refl) refl (and_false (is_presented problem))
-    (ap (λ o. and_then (λ n. Ok (query.Classes n None)) (ok_or o cause.BadNumber)) h) refl
+    asked_line sizes problem queries name.Classes line (codes "classes") (N ∷ []) q some sign is (other (codes "classes") refl refl refl) refl (and_false (is_presented problem)) refl refl
+    (ap (λ o. and_then (λ n. Ok (query.Classes n None)) (ok_or o cause.BadNumber)) h)
 query_read sizes problem queries line q some sign (grammar.classes_after {N} {U} {n} {u} is h k) =
-    asked_line sizes problem queries name.Classes line (codes "classes") (N ∷ codes "after" ∷ U ∷ []) q some sign is (other (codes "classes") refl refl refl) refl (and_false (is_presented problem))
+    asked_line sizes problem queries name.Classes line (codes "classes") (N ∷ codes "after" ∷ U ∷ []) q some sign is (other (codes "classes") refl refl refl) refl (and_false (is_presented problem)) refl refl
     (ap (λ o. and_then (λ n. and_then (λ u. Ok (query.Classes n (Some u))) (cursor_of (letters_of problem) (has_empty_word problem) (codes "after") U)) (ok_or o cause.BadNumber)) h
-    ∙ ap (and_then (λ u. Ok (query.Classes n (Some u)))) (element_read (letters_of problem) (has_empty_word problem) U u k)) refl
+    ∙ ap (and_then (λ u. Ok (query.Classes n (Some u)))) (element_read (letters_of problem) (has_empty_word problem) U u k))
 query_read sizes problem queries line q some sign (grammar.rules is h) =
-    asked_line sizes problem queries name.Rules line (codes "rules") [] q some sign is (other (codes "rules") refl refl refl) refl (and_false (is_presented problem)) refl h
+    asked_line sizes problem queries name.Rules line (codes "rules") [] q some sign is (other (codes "rules") refl refl refl) refl (and_false (is_presented problem)) refl (ap not h) refl
 query_read sizes problem queries line q some sign (grammar.element {U} {u} is h k) =
-    asked_line sizes problem queries name.Element line (codes "element") (U ∷ []) q some sign is (other (codes "element") refl refl refl) refl (ap (λ b. b && true) h)
-    (ap (and_then (λ u. Ok (query.ElementOf u))) (element_read (letters_of problem) (has_empty_word problem) U u k)) refl
+    asked_line sizes problem queries name.Element line (codes "element") (U ∷ []) q some sign is (other (codes "element") refl refl refl) refl (ap (λ b. b && true) h) refl refl
+    (ap (and_then (λ u. Ok (query.ElementOf u))) (element_read (letters_of problem) (has_empty_word problem) U u k))
 query_read sizes problem queries line q some sign (grammar.cayley is h) =
-    asked_line sizes problem queries name.Cayley line (codes "cayley") [] q some sign is (other (codes "cayley") refl refl refl) refl (ap (λ b. b && true) h) refl refl
+    asked_line sizes problem queries name.Cayley line (codes "cayley") [] q some sign is (other (codes "cayley") refl refl refl) refl (ap (λ b. b && true) h) refl refl refl
 
 -- a line behind the header
 line_read : (sizes : ℕ × ℕ) (problem : Problem) (queries : List Query) (line : Line) (q : Partial) → LineReads (partial sizes problem queries) line q

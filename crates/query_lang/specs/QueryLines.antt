@@ -34,6 +34,44 @@ name_needs_generators name.Rules = false
 name_needs_generators name.Element = true
 name_needs_generators name.Cayley = true
 
+-- whether a query of this name asks for the rules
+abbrev pub name_asks_rules : QueryName → Bool
+name_asks_rules name.Index = false
+name_asks_rules name.Equal = false
+name_asks_rules name.Normal = false
+name_asks_rules name.Classes = false
+name_asks_rules name.Rules = true
+name_asks_rules name.Element = false
+name_asks_rules name.Cayley = false
+
+-- no token, one, two, or one or three
+abbrev pub are_none : List Token → Bool
+are_none [] = true
+are_none (s ∷ tokens) = false
+
+abbrev pub are_one : List Token → Bool
+are_one (s ∷ []) = true
+are_one tokens = false
+
+abbrev pub are_two : List Token → Bool
+are_two (s ∷ t ∷ []) = true
+are_two tokens = false
+
+abbrev pub are_one_or_three : List Token → Bool
+are_one_or_three (s ∷ []) = true
+are_one_or_three (s ∷ t ∷ u ∷ []) = true
+are_one_or_three tokens = false
+
+-- whether there are as many tokens as stand behind the name
+abbrev pub name_takes : QueryName → List Token → Bool
+name_takes name.Index tokens = are_none tokens
+name_takes name.Equal tokens = are_two tokens
+name_takes name.Normal tokens = are_one tokens
+name_takes name.Classes tokens = are_one_or_three tokens
+name_takes name.Rules tokens = are_none tokens
+name_takes name.Element tokens = are_one tokens
+name_takes name.Cayley tokens = are_none tokens
+
 -- a query without words
 abbrev pub bare : Query → List Token → Result Query Cause
 bare query [] = Ok query

@@ -2,8 +2,8 @@
 ghost use Rattle.std.specs.Prelude.{◌≡◌, false, IfOk, IfErr, Ok, length};
 ghost use Rattle.theory.specs.Word.{IsElement};
 ghost use Rattle.query_lang.specs.Faults.{IsLineFault};
-ghost use Rattle.query_lang.specs.Query.{IsQueryOver, needs_generators};
-ghost use Rattle.query_lang.specs.QueryLines.{bare, count_of, cursor_of, name_needs_generators, page_of, query_name_of, query_of};
+ghost use Rattle.query_lang.specs.Query.{IsQueryOver, is_rule_list, needs_generators};
+ghost use Rattle.query_lang.specs.QueryLines.{bare, count_of, cursor_of, name_asks_rules, name_needs_generators, name_takes, page_of, query_name_of, query_of};
 ghost use Rattle.query_lang.specs.Texts.{texts};
 
 use crate::cause::Cause;
@@ -45,6 +45,25 @@ impl QueryName {
             | QueryName::Classes
             | QueryName::Rules => false,
             QueryName::Element | QueryName::Cayley => true,
+        }
+    }
+
+    /// Whether a query of this name asks for the rules.
+    pub fn asks_rules(self) -> bool
+        ensures { result ≡ name_asks_rules self }
+    {
+        self == QueryName::Rules
+    }
+
+    /// Whether there are as many tokens as stand behind this name.
+    pub fn takes(self, tokens: &[&[u8]]) -> bool
+        ensures { result ≡ name_takes self (texts tokens.now) }
+    {
+        match self {
+            QueryName::Index | QueryName::Rules | QueryName::Cayley => tokens.is_empty(),
+            QueryName::Normal | QueryName::Element => matches!(tokens, [_]),
+            QueryName::Equal => matches!(tokens, [_, _]),
+            QueryName::Classes => matches!(tokens, [_] | [_, _, _]),
         }
     }
 }
@@ -115,6 +134,7 @@ fn page_of(
         ≡ Ok query) }
     ensures over { IfOk result (IsQueryOver allow_empty (length alphabet.now)) }
     ensures needs { IfOk result (λ query. needs_generators query ≡ false) }
+    ensures rules { IfOk result (λ query. is_rule_list query ≡ false) }
     ensures err { IfErr result (IsLineFault (page_of alphabet.now allow_empty (texts tokens.now))) }
 {
     match tokens {
@@ -147,6 +167,7 @@ pub fn query_of(
         ≡ Ok query) }
     ensures over { IfOk result (IsQueryOver allow_empty (length alphabet.now)) }
     ensures needs { IfOk result (λ query. needs_generators query ≡ name_needs_generators name) }
+    ensures rules { IfOk result (λ query. is_rule_list query ≡ name_asks_rules name) }
     ensures err { IfErr result (IsLineFault
         (query_of alphabet.now allow_empty name (texts tokens.now))) }
 {
