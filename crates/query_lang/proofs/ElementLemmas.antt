@@ -18,7 +18,8 @@ use Rattle.query_lang.specs.Fields.{field_of}
 use Rattle.query_lang.specs.Token.{Token, is_word}
 use Rattle.query_lang.specs.QueryLines.{query_of, name_asks_rules, name_needs_generators, name_takes}
 use Rattle.query_lang.specs.Script.{asked, with_asked, element_line, finished, generator_line, query_line}
-use Rattle.query_lang.specs.Grammar.{Partial, lacks_generator, Form, Index, Equal, Normal, Classes, Rules, Element, Cayley, forms_of, is_empty, pairs_of, script_in}
+use Rattle.query_lang.specs.Grammar.{Partial, lacks_generator, is_empty, pairs_of, script_in}
+use Rattle.query_lang.specs.Forms.{Form, Index, Equal, Normal, Classes, Rules, Element, Cayley, forms_of}
 use Rattle.query_lang.specs.LineCauses.{when, first_of, cause_in, form_among, form_causes, generator_causes, line_causes, named_causes}
 use Rattle.query_lang.proofs.FormLemmas.{lift, never-late, same-cause, query_cause, index_cause, equal_cause, normal_cause, classes_cause, rules_cause, element_cause, cayley_cause}
 use Rattle.query_lang.proofs.GeneratorLemmas.{posing, transf_cause, pperm_cause, bmat_cause, mpt_cause}

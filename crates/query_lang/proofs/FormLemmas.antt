@@ -20,9 +20,11 @@ use Rattle.query_lang.specs.Asked.{ScriptOf}
 use Rattle.query_lang.specs.QueryLines.{name_asks_rules, name_takes, query_of}
 use Rattle.query_lang.specs.Token.{Token, is_word, number_within}
 use Rattle.query_lang.specs.LineWords.{element_of}
-use Rattle.query_lang.specs.Outline.{add_pair, add_relation, is_same_kind, most_pairs, most_relations}
+use Rattle.query_lang.specs.Relations.{add_pair, add_relation, most_pairs, most_relations}
+use Rattle.query_lang.specs.Outline.{is_same_kind}
 use Rattle.query_lang.specs.Script.{asked, finished, pair_line, query_line, relation_line, with_asked, with_line}
-use Rattle.query_lang.specs.Grammar.{Partial, is_empty, Form, Relation, Pair, Index, Equal, Normal, Classes, Rules, Element, Cayley, pairs_of, forms_of, shapes_of, script_in}
+use Rattle.query_lang.specs.Grammar.{Partial, is_empty, pairs_of, script_in}
+use Rattle.query_lang.specs.Forms.{Form, Relation, Pair, Index, Equal, Normal, Classes, Rules, Element, Cayley, forms_of, shapes_of}
 use Rattle.query_lang.specs.LineCauses.{when, first_of, cause_in, form_among, form_causes, named_causes, is_barred, shape_for, shape_causes}
 
 -- a presentation before its first query

@@ -8,7 +8,8 @@ use Rattle.query_lang.specs.declared.reader.Reader.{Reader}
 use Rattle.query_lang.specs.declared.reader.Reader.TheVariants.{Posing, Relating}
 use Rattle.query_lang.specs.Outcome.{and_then}
 use Rattle.query_lang.specs.Header.{size_of, sizes_of, outline_of}
-use Rattle.query_lang.specs.Outline.{alphabet_of, free_over}
+use Rattle.query_lang.specs.Outline.{alphabet_of}
+use Rattle.query_lang.specs.Relations.{free_over}
 use Rattle.query_lang.specs.Script.{header_line}
 use Rattle.query_lang.specs.Token.{Token, is_word, number_within}
 use Rattle.query_lang.specs.LineCauses.{HeaderForm, Numbers, Letters, when, first_of, cause_in, header_form_causes, header_causes}

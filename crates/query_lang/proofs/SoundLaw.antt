@@ -1,5 +1,5 @@
 -- The reader reads each line that the grammar reads, and to the same.
-use Rattle.std.proofs.Common.{◌≡◌, ◌≢◌, ℕ, ◌==◌, ◌≤◌, Bool, true, false, not, ◌&&◌, ◌||◌, ◌⊎◌, inl, inr, if◌then◌else◌, List, [], ◌∷◌, ◌++◌, length, map, codes, All, Contains, Option, Some, None, Result, Ok, Err, refl, sym, ap, ◌∙◌, subst, arith, ne_eqb}
+use Rattle.std.proofs.Common.{◌≡◌, ◌≢◌, ℕ, ◌+◌, ◌*◌, ◌==◌, ◌≤◌, Bool, true, false, not, ◌&&◌, ◌||◌, ◌⊎◌, inl, inr, if◌then◌else◌, List, [], ◌∷◌, ◌++◌, length, map, codes, All, Contains, Option, Some, None, Result, Ok, Err, refl, sym, ap, ◌∙◌, subst, arith, eq-eqb, ne_eqb}
 use Rattle.std.specs.List.{list_any}
 use Rattle.std.specs.Option.{ok_or}
 use Rattle.std.proofs.lemmas.List.Elements.{All-contains, All-from_recursion}
@@ -25,16 +25,19 @@ use Rattle.query_lang.specs.declared.script.Query.{Query}
 use Rattle.query_lang.specs.declared.script.Query.TheVariants as query
 use Rattle.query_lang.specs.Asked.{ScriptOf}
 use Rattle.query_lang.specs.Draft.{DraftOf, add_generator, start_of, with_generator}
-use Rattle.query_lang.specs.Entries.{boolean_matrix_of, partial_permutation_of, transformation_of, truncated_matrix_of}
+use Rattle.query_lang.specs.Elements.{boolean_matrix_of, entries_of, partial_permutation_of, transformation_of, truncated_matrix_of}
+use Rattle.query_lang.specs.Entries.{all_of, below, below_or_dash, bit, is_injective}
 use Rattle.query_lang.specs.Fields.{field_of}
 use Rattle.query_lang.specs.Header.{size_of, sizes_of, outline_of}
 use Rattle.query_lang.specs.LineWords.{both_elements, element_of, with_cause}
 use Rattle.query_lang.specs.Outcome.{and_then}
-use Rattle.query_lang.specs.Outline.{add_pair, add_relation, free_over, is_same_kind, most_pairs, most_relations, paired, related, takes_kind, unless_fault}
+use Rattle.query_lang.specs.Relations.{add_pair, add_relation, free_over, most_pairs, most_relations}
+use Rattle.query_lang.specs.Outline.{is_same_kind, paired, related, takes_kind, unless_fault}
 use Rattle.query_lang.specs.QueryLines.{cursor_of, name_asks_rules, name_needs_generators, name_takes, query_name_of, query_of}
 use Rattle.query_lang.specs.Script.{asked, element_line, finished, generator_line, header_line, is_presentation, pair_line, presentation_line, query_line, read_line, relation_line, with_asked, with_line}
 use Rattle.query_lang.specs.Token.{Token, Line, is_word, letter_of, number_within}
-use Rattle.query_lang.specs.Grammar.{Form, Relation, Pair, HasGenerator, HeaderReads, IsQuery, LineReads, Partial, Step, begin_with, forms_of, has_sign, is_generator_line, lacks_generator, pairs_of, script_in, section_reached}
+use Rattle.query_lang.specs.Forms.{name_of, Form, Pair, forms_of}
+use Rattle.query_lang.specs.Grammar.{AreEntries, HasGenerator, HeaderReads, IsQuery, LineReads, Partial, Step, begin_with, has_sign, is_generator_line, lacks_generator, pairs_of, script_in, section_reached}
 use Rattle.query_lang.specs.Grammar as grammar
 use Rattle.query_lang.proofs.FoldLemmas.{Sound, reader_of, readers}
 use Rattle.query_lang.proofs.CauseLaw.{partial}
@@ -69,19 +72,41 @@ generator_read of d name fields x g named new made =
     ∙ ap (λ b. and_then (λ x. and_then (λ g. Ok (add_generator d x g)) (of d.sizes fields)) (if b then Err cause.RepeatedLetter else Ok x)) new
     ∙ ap (and_then (λ g. Ok (add_generator d x g))) made
 
+-- entries that are read
+entries_read : {A : Type 0} (count : ℕ) (entry : Field → Option A) (fields : List Field) (xs : List A) → AreEntries count entry fields xs → entries_of count entry fields ≡ Ok xs
+entries_read count entry fields xs are =
+    ap (λ b. if b then ok_or (all_of entry fields) cause.BadEntry else Err cause.WrongNumberOfEntries) (eq-eqb (length fields) count are.0)
+    ∙ ap (λ o. ok_or o cause.BadEntry) are.1
+
+images_read : (sizes : ℕ × ℕ) (fields : List Field) (images : List (Option ℕ)) → AreEntries sizes.0 (below_or_dash sizes.0) fields images → is_injective images ≡ true
+    → partial_permutation_of sizes fields ≡ Ok images
+images_read sizes fields images are once =
+    ap (and_then (λ images. if is_injective images then Ok images else Err cause.NotInjective)) (entries_read sizes.0 (below_or_dash sizes.0) fields images are)
+    ∙ ap (λ b. if b then Ok images else Err cause.NotInjective) once
+
 -- a generator line
 generator_line_read : (sizes : ℕ × ℕ) (problem next : Problem) (queries : List Query) (name : Token) (x : ℕ) (entries : List Token)
-    → section_reached (partial sizes problem queries) ≤ 2 → letter_of name ≡ Some x → list_any (λ y. y == x) (letters_of problem) ≡ false → HasGenerator sizes x entries problem next
+    → section_reached (partial sizes problem queries) ≤ 2 → letter_of name ≡ Some x → list_any (λ y. y == x) (letters_of problem) ≡ false → HasGenerator sizes x (map field_of entries) problem next
     → with_line (reader_of (partial sizes problem queries)) (name ∷ codes "=" ∷ entries) ≡ Ok (reader_of (partial sizes next queries))
 generator_line_read sizes problem next (q ∷ queries) name x entries early named new made = absurd (omega arith)
-generator_line_read sizes problem next [] name x entries early named new (grammar.transf {p} {g} made) =
-    ap (λ r. and_then (λ d. Ok (Posing d)) (and_then (λ e. Ok (draft.Transf e)) r)) (generator_read transformation_of (record { sizes = sizes; letters = p.letters; generators = p.generators }) name (map field_of entries) x g named new made)
-generator_line_read sizes problem next [] name x entries early named new (grammar.pperm {p} {g} made) =
-    ap (λ r. and_then (λ d. Ok (Posing d)) (and_then (λ e. Ok (draft.PPerm e)) r)) (generator_read partial_permutation_of (record { sizes = sizes; letters = p.letters; generators = p.generators }) name (map field_of entries) x g named new made)
-generator_line_read sizes problem next [] name x entries early named new (grammar.bmat {p} {g} made) =
-    ap (λ r. and_then (λ d. Ok (Posing d)) (and_then (λ e. Ok (draft.BMat e)) r)) (generator_read boolean_matrix_of (record { sizes = sizes; letters = p.letters; generators = p.generators }) name (map field_of entries) x g named new made)
-generator_line_read sizes problem next [] name x entries early named new (grammar.mpt {p} {g} made) =
-    ap (λ r. and_then (λ d. Ok (Posing d)) (and_then (λ e. Ok (draft.MaxPlus e)) r)) (generator_read truncated_matrix_of (record { sizes = sizes; letters = p.letters; generators = p.generators }) name (map field_of entries) x g named new made)
+generator_line_read sizes problem next [] name x entries early named new (grammar.transf {p} {images} are) =
+    ap (λ r. and_then (λ d. Ok (Posing d)) (and_then (λ e. Ok (draft.Transf e)) r))
+    (generator_read transformation_of (record { sizes = sizes; letters = p.letters; generators = p.generators }) name (map field_of entries) x images named new
+    (entries_read sizes.0 (below sizes.0) (map field_of entries) images are))
+generator_line_read sizes problem next [] name x entries early named new (grammar.pperm {p} {images} are once) =
+    ap (λ r. and_then (λ d. Ok (Posing d)) (and_then (λ e. Ok (draft.PPerm e)) r))
+    (generator_read partial_permutation_of (record { sizes = sizes; letters = p.letters; generators = p.generators }) name (map field_of entries) x images named new
+    (images_read sizes (map field_of entries) images are once))
+generator_line_read sizes problem next [] name x entries early named new (grammar.bmat {p} {entries = bits} are) =
+    ap (λ r. and_then (λ d. Ok (Posing d)) (and_then (λ e. Ok (draft.BMat e)) r))
+    (generator_read boolean_matrix_of (record { sizes = sizes; letters = p.letters; generators = p.generators }) name (map field_of entries) x (record { dimension = sizes.0; entries = bits }) named new
+    (ap (and_then (λ bits. Ok (record { dimension = sizes.0; entries = bits }))) (entries_read (sizes.0 * sizes.0) bit (map field_of entries) bits are)))
+generator_line_read sizes problem next [] name x entries early named new (grammar.mpt {p} {entries = values} are) =
+    ap (λ r. and_then (λ d. Ok (Posing d)) (and_then (λ e. Ok (draft.MaxPlus e)) r))
+    (generator_read truncated_matrix_of (record { sizes = sizes; letters = p.letters; generators = p.generators }) name (map field_of entries) x
+    (record { dimension = sizes.0; bound = sizes.1; entries = values }) named new
+    (ap (and_then (λ values. Ok (record { dimension = sizes.0; bound = sizes.1; entries = values })))
+    (entries_read (sizes.0 * sizes.0) (below_or_dash (sizes.1 + 1)) (map field_of entries) values are)))
 
 -- words
 
@@ -143,7 +168,7 @@ none_left there = let e : is_left (Pair Left) ≡ false = All-contains (λ form.
 
 pair_read : (sizes : ℕ × ℕ) (o : Posed) (queries : List Query) (kind : Kind) (U V : Token) (u v : Word) → Contains (forms_of true) (Pair kind)
     → section_reached (partial sizes (Presented o) queries) ≤ 3 → paired o kind U V ≡ Ok (add_pair o kind (u, v))
-    → with_line (reader_of (partial sizes (Presented o) queries)) (grammar.name_of (Pair kind) ∷ U ∷ V ∷ []) ≡ Ok (reader_of (partial sizes (Presented (add_pair o kind (u, v))) queries))
+    → with_line (reader_of (partial sizes (Presented o) queries)) (name_of (Pair kind) ∷ U ∷ V ∷ []) ≡ Ok (reader_of (partial sizes (Presented (add_pair o kind (u, v))) queries))
 pair_read sizes o (q ∷ queries) kind U V u v there early h = absurd (omega arith)
 pair_read sizes o [] TwoSided U V u v there early h = ap (and_then (λ o. Ok (Relating o))) h
 pair_read sizes o [] Right U V u v there early h = ap (and_then (λ o. Ok (Relating o))) h
@@ -259,7 +284,7 @@ query_read sizes problem queries line q some sign (grammar.rules is h) =
 query_read sizes problem queries line q some sign (grammar.element {U} {u} is h k) =
     asked_line sizes problem queries name.Element line (codes "element") (U ∷ []) q some sign is (other (codes "element") refl refl refl) refl (ap (λ b. b && true) h) refl refl
     (ap (and_then (λ u. Ok (query.ElementOf u))) (element_read (letters_of problem) (has_empty_word problem) U u k))
-query_read sizes problem queries line q some sign (grammar.cayley is h) =
+query_read sizes problem queries line q some sign (grammar.cayley is h none) =
     asked_line sizes problem queries name.Cayley line (codes "cayley") [] q some sign is (other (codes "cayley") refl refl refl) refl (ap (λ b. b && true) h) refl refl refl
 
 -- a line behind the header
@@ -277,7 +302,7 @@ line_read sizes problem queries line q (grammar.pair {U} {V} {u} {v} {o} kind is
     ap (with_line (reader_of (partial sizes problem queries))) is
     ∙ subst (λ (problem : Problem). section_reached (partial sizes problem queries) ≤ 3 → length (pairs_of problem) ≢ most_pairs → (pairs_of problem ≡ []) ⊎ (grammar.kind_of problem ≡ kind)
     → word_of (letters_of problem) (has_empty_word problem) U ≡ Ok u → word_of (letters_of problem) (has_empty_word problem) V ≡ Ok v
-    → with_line (reader_of (partial sizes problem queries)) (grammar.name_of (Pair kind) ∷ U ∷ V ∷ []) ≡ Ok (reader_of (partial sizes (Presented (add_pair o kind (u, v))) queries)))
+    → with_line (reader_of (partial sizes problem queries)) (name_of (Pair kind) ∷ U ∷ V ∷ []) ≡ Ok (reader_of (partial sizes (Presented (add_pair o kind (u, v))) queries)))
     (sym poses) (λ early few kinds h k. pair_read sizes o queries kind U V u v there early (paired_read o kind U V u v few kinds h k)) early few kinds h k
 line_read sizes problem queries line q (grammar.query {q = one} some sign is) = query_read sizes problem queries line one some sign is
 

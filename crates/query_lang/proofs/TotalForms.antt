@@ -15,7 +15,8 @@ use Rattle.query_lang.specs.Token.{Token, Line, is_word}
 use Rattle.query_lang.specs.LineWords.{with_cause}
 use Rattle.query_lang.specs.Outline.{is_same_kind}
 use Rattle.query_lang.specs.Grammar as grammar
-use Rattle.query_lang.specs.Grammar.{Partial, Form, Relation, Pair, Index, Equal, Normal, Classes, Rules, Element, Cayley, name_of, shapes_of, section_of, forms_of, section_reached, LineReads, is_generator_line, lacks_generator}
+use Rattle.query_lang.specs.Grammar.{Partial, section_reached, LineReads, is_generator_line, lacks_generator}
+use Rattle.query_lang.specs.Forms.{Form, Relation, Pair, Index, Equal, Normal, Classes, Rules, Element, Cayley, name_of, shapes_of, section_of, forms_of}
 use Rattle.query_lang.specs.LineCauses.{when, first_of, cause_in, shape_for, shape_causes, is_relation_too_many, is_pair_too_many, mixes_kinds, is_barred, form_causes, form_among, named_causes}
 
 -- the line is read after what the lines before it say
@@ -201,7 +202,7 @@ element-read p first (s ∷ []) k g e c =
 element-read p first (s ∷ t ∷ tokens) k g e c = absurd (true≢false c.shaped)
 
 cayley-read : (p : Partial) (first : Token) (tokens : List Token) → is_presented p.problem ≡ false → is_generator_line p (first ∷ tokens) ≡ false → FormReads p first tokens Cayley
-cayley-read p first [] k g e c = (_, grammar.query c.has_generator g (grammar.cayley (ap (λ n. n ∷ []) e) k))
+cayley-read p first [] k g e c = (_, grammar.query c.has_generator g (grammar.cayley (ap (λ n. n ∷ []) e) k (no-elements _ (not-applies _ c.allowed))))
 cayley-read p first (s ∷ tokens) k g e c = absurd (true≢false c.shaped)
 
 -- a line of a presentation

@@ -1,8 +1,7 @@
 -- A line that has no cause is read, after whatever the lines before it say.
-use Rattle.std.proofs.Common.{◌≡◌, ℕ, ◌*◌, ◌+◌, ◌==◌, nat_lt, Bool, true, false, not, ◌&&◌, if◌then◌else◌, List, [], ◌∷◌, length, map, codes, Option, Some, None, option_and_then, Ok, Err, is_none, refl, sym, ap, ◌∙◌, true≢false}
-use Rattle.std.proofs.lemmas.Bool.{ltb-false, or_parts}
+use Rattle.std.proofs.Common.{◌≡◌, ℕ, ◌*◌, ◌+◌, ◌==◌, nat_lt, Bool, true, false, not, ◌&&◌, if◌then◌else◌, List, [], ◌∷◌, length, map, codes, Option, Some, None, option_and_then, is_none, refl, sym, ap, ◌∙◌, true≢false}
+use Rattle.std.proofs.lemmas.Bool.{ltb-false, eqb-true, or_parts}
 use Rattle.std.specs.Cmp.Lexicographic.{same_text}
-use Rattle.std.specs.Option.{ok_or}
 use Rattle.std.specs.List.{list_any}
 use Rattle.elements.specs.declared.field.Field.{Field}
 use Rattle.problem.specs.Problem.{is_presented}
@@ -10,15 +9,14 @@ use Rattle.problem.specs.declared.kinds.Problem.{Problem}
 use Rattle.problem.specs.declared.kinds.Problem.TheVariants as problem
 use Rattle.words.specs.declared.fault.AlphabetFault.{AlphabetFault}
 use Rattle.words.specs.Alphabet.{alphabet_fault}
-use Rattle.query_lang.specs.declared.cause.Cause.TheVariants as cause
 use Rattle.query_lang.specs.declared.script.Query.{Query}
-use Rattle.query_lang.specs.Outcome.{and_then}
 use Rattle.query_lang.specs.Token.{Token, Line, is_kept, is_word, letter_of}
 use Rattle.query_lang.specs.Fields.{field_of}
 use Rattle.query_lang.specs.Outline.{unless_fault}
-use Rattle.query_lang.specs.Entries.{all_of, below, below_or_dash, bit, is_injective, entries_of}
+use Rattle.query_lang.specs.Entries.{all_of, below, below_or_dash, bit}
 use Rattle.query_lang.specs.Grammar as grammar
-use Rattle.query_lang.specs.Grammar.{Partial, forms_of, section_reached, IsNumber, HasGenerator, HeaderReads, Step, is_generator_line}
+use Rattle.query_lang.specs.Grammar.{AreEntries, Partial, section_reached, IsNumber, HasGenerator, HeaderReads, Step, is_generator_line}
+use Rattle.query_lang.specs.Forms.{forms_of}
 use Rattle.query_lang.specs.LineCauses.{first_of, cause_in, form_among, named_causes, entry_count, is_bad_entry, has_image_twice, repeats_image, is_taken, generator_causes, line_causes, HeaderForm, Numbers, Letters, header_form_causes, header_causes, causes_after, cause_of_line}
 use Rattle.query_lang.proofs.TotalForms.{IsRead, some-is-none, passed, not-applies, is-some, branch, presented-read, asked-read}
 
@@ -56,44 +54,29 @@ all-read entry (f ∷ fields) h =
     )
 
 -- as many entries as there should be, none of which is bad
-entries-read : {A : Type 0} (count : ℕ) (entry : Field → Option A) (fields : List Field) (xs : List A) → not (length fields == count) ≡ false → all_of entry fields ≡ Some xs → entries_of count entry fields ≡ Ok xs
-entries-read count entry fields xs n e =
-    ap (λ b. if b then ok_or (all_of entry fields) cause.BadEntry else Err cause.WrongNumberOfEntries) (not-applies _ n)
-    ∙ ap (λ o. ok_or o cause.BadEntry) e
-
-partial-read : (n : ℕ) (fields : List Field) (xs : List (Option ℕ)) → entries_of n (below_or_dash n) fields ≡ Ok xs → is_injective xs ≡ true
-    → and_then (λ images. if is_injective images then Ok images else Err cause.NotInjective) (entries_of n (below_or_dash n) fields) ≡ Ok xs
-partial-read n fields xs e i =
-    ap (λ r. and_then (λ images. if is_injective images then Ok images else Err cause.NotInjective) r) e
-    ∙ ap (λ b. if b then Ok xs else Err cause.NotInjective) i
+entries-read : {A : Type 0} (count : ℕ) (entry : Field → Option A) (fields : List Field) → not (length fields == count) ≡ false → list_any (λ f. is_none (entry f)) fields ≡ false
+    → (xs : List A) × AreEntries count entry fields xs
+entries-read count entry fields n h =
+    let xs = all-read entry fields h in
+    (xs.0, (eqb-true _ _ (not-applies _ n), xs.1))
 
 -- the problem has the generator
-has-generator : (sizes : ℕ × ℕ) (p : Problem) (x : ℕ) (entries : List Token) → is_presented p ≡ false → not (length (map field_of entries) == entry_count sizes p) ≡ false
-    → list_any (is_bad_entry sizes p) (map field_of entries) ≡ false → repeats_image sizes p (map field_of entries) ≡ false → (q : Problem) × HasGenerator sizes x entries p q
-has-generator sizes (problem.Presented o) x entries k n h i = absurd (true≢false k)
-has-generator sizes (problem.Transf g) x entries k n h i =
-    let xs = all-read (below sizes.0) (map field_of entries) h in
-    (_, grammar.transf (entries-read sizes.0 (below sizes.0) (map field_of entries) xs.0 n xs.1))
-has-generator sizes (problem.PPerm g) x entries k n h i =
-    let xs = all-read (below_or_dash sizes.0) (map field_of entries) h in
-    let once : is_injective xs.0 ≡ true = not-applies _ (ap has_image_twice (sym xs.1) ∙ i) in
-    (_, grammar.pperm (partial-read sizes.0 (map field_of entries) xs.0 (entries-read sizes.0 (below_or_dash sizes.0) (map field_of entries) xs.0 n xs.1) once))
-has-generator sizes (problem.BMat g) x entries k n h i =
-    let xs = all-read bit (map field_of entries) h in
-    (_, grammar.bmat (ap (λ r. and_then (λ e. Ok (record { dimension = sizes.0; entries = e })) r) (entries-read (sizes.0 * sizes.0) bit (map field_of entries) xs.0 n xs.1)))
-has-generator sizes (problem.MaxPlus g) x entries k n h i =
-    let xs = all-read (below_or_dash (sizes.1 + 1)) (map field_of entries) h in (
-      _,
-      grammar.mpt (ap (λ r. and_then (λ e. Ok (record { dimension = sizes.0; bound = sizes.1; entries = e })) r)
-          (entries-read (sizes.0 * sizes.0) (below_or_dash (sizes.1 + 1)) (map field_of entries) xs.0 n xs.1)),
-    )
+has-generator : (sizes : ℕ × ℕ) (p : Problem) (x : ℕ) (fields : List Field) → is_presented p ≡ false → not (length fields == entry_count sizes p) ≡ false
+    → list_any (is_bad_entry sizes p) fields ≡ false → repeats_image sizes p fields ≡ false → (q : Problem) × HasGenerator sizes x fields p q
+has-generator sizes (problem.Presented o) x fields k n h i = absurd (true≢false k)
+has-generator sizes (problem.Transf g) x fields k n h i = (_, grammar.transf (entries-read sizes.0 (below sizes.0) fields n h).1)
+has-generator sizes (problem.PPerm g) x fields k n h i =
+    let xs = entries-read sizes.0 (below_or_dash sizes.0) fields n h in
+    (_, grammar.pperm xs.1 (not-applies _ (ap has_image_twice (sym xs.1.1) ∙ i)))
+has-generator sizes (problem.BMat g) x fields k n h i = (_, grammar.bmat (entries-read (sizes.0 * sizes.0) bit fields n h).1)
+has-generator sizes (problem.MaxPlus g) x fields k n h i = (_, grammar.mpt (entries-read (sizes.0 * sizes.0) (below_or_dash (sizes.1 + 1)) fields n h).1)
 
 generator-read : (p : Partial) (name sign : Token) (entries : List Token) → is_presented p.problem ≡ false → sign ≡ codes "="
     → first_of (generator_causes p name (map field_of entries)) ≡ None → IsRead p (name ∷ sign ∷ entries)
 generator-read p name sign entries k e h =
     let c = generates p name (map field_of entries) h in
     let x = is-some (letter_of name) c.named in
-    let g = has-generator p.sizes p.problem x.0 entries k c.counted c.good c.injective in
+    let g = has-generator p.sizes p.problem x.0 (map field_of entries) k c.counted c.good c.injective in
     (_, grammar.generator (ap (λ s. name ∷ s ∷ entries) e) (ltb-false _ _ c.in_order) x.1 (ap (is_taken p) (sym x.1) ∙ c.new) g.1)
 
 -- a line of an element script

@@ -11,9 +11,11 @@ use Rattle.query_lang.specs.Asked.{ScriptOf}
 use Rattle.query_lang.specs.Entries.{all_of, below, below_or_dash, bit, is_injective}
 use Rattle.query_lang.specs.Fields.{field_of}
 use Rattle.query_lang.specs.LineWords.{element_of}
-use Rattle.query_lang.specs.Outline.{alphabet_of, is_same_kind, most_pairs, most_relations}
+use Rattle.query_lang.specs.Forms.{Form, Relation, Pair, Rules, Cayley, Place, AWord, ANumber, After, name_of, shapes_of, section_of, forms_of}
+use Rattle.query_lang.specs.Outline.{alphabet_of, is_same_kind}
+use Rattle.query_lang.specs.Relations.{most_pairs, most_relations}
 use Rattle.query_lang.specs.Token.{Token, Line, is_kept, is_word, letter_of, number_within}
-use Rattle.query_lang.specs.Grammar.{Partial, lacks_generator, Place, AWord, ANumber, After, Form, Relation, Pair, Rules, Cayley, name_of, shapes_of, section_of, forms_of, section_reached, pairs_of, relations_of, kind_of, is_generator_line, Reads, script_in}
+use Rattle.query_lang.specs.Grammar.{Partial, lacks_generator, section_reached, pairs_of, relations_of, kind_of, is_generator_line, Reads, script_in}
 
 -- the cause, where it applies
 abbrev pub when : Cause → Bool → Option Cause
@@ -32,15 +34,18 @@ cause_in (Err cause) = Some cause
 
 -- the cause of a token in its place
 abbrev pub cause_of_token : Partial → Place → Token → Option Cause
-cause_of_token p AWord t = cause_in (element_of (letters_of p.problem) (has_empty_word p.problem) t)
-cause_of_token p (ANumber low high) t = when cause.BadNumber (is_none (number_within low high t))
+cause_of_token p AWord t =
+    cause_in (element_of (letters_of p.problem) (has_empty_word p.problem) t)
+cause_of_token p (ANumber low high) t =
+    when cause.BadNumber (is_none (number_within low high t))
 cause_of_token p After t = when cause.AfterExpected (not (is_word (codes "after") t))
 
 -- the causes of the tokens, from the left
 abbrev pub token_causes : Partial → List Place → List Token → List (Option Cause)
 token_causes p [] tokens = []
 token_causes p (place ∷ places) [] = []
-token_causes p (place ∷ places) (t ∷ tokens) = cause_of_token p place t ∷ token_causes p places tokens
+token_causes p (place ∷ places) (t ∷ tokens) =
+    cause_of_token p place t ∷ token_causes p places tokens
 
 -- as many of these as of those
 abbrev pub as_many : {A B : Type 0} → List A → List B → Bool
@@ -52,8 +57,10 @@ as_many (x ∷ xs) (y ∷ ys) = as_many xs ys
 -- the shape that has as many places as there are tokens
 abbrev pub shape_for : List Token → List (List Place) → Option (List Place)
 shape_for tokens [] = None
-shape_for tokens (shape ∷ shapes) = if as_many shape tokens then Some shape else shape_for tokens shapes
+shape_for tokens (shape ∷ shapes) =
+    if as_many shape tokens then Some shape else shape_for tokens shapes
 
+-- the causes of the tokens of this shape
 abbrev pub shape_causes : Partial → Option (List Place) → List Token → List (Option Cause)
 shape_causes p None tokens = []
 shape_causes p (Some places) tokens = token_causes p places tokens
@@ -70,7 +77,8 @@ is_pair_too_many p form = false
 
 -- a pair of another kind than the first pair
 abbrev pub mixes_kinds : Partial → Form → Bool
-mixes_kinds p (Pair kind) = not (length (pairs_of p.problem) == 0) && not (is_same_kind (kind_of p.problem) kind)
+mixes_kinds p (Pair kind) = not (length (pairs_of p.problem) == 0)
+    && not (is_same_kind (kind_of p.problem) kind)
 mixes_kinds p form = false
 
 -- the query is not there for these pairs
@@ -94,7 +102,8 @@ form_causes p form tokens =
 -- the form of this name, among those
 abbrev pub form_among : List Form → Token → Option Form
 form_among [] t = None
-form_among (form ∷ forms) t = if is_word (name_of form) t then Some form else form_among forms t
+form_among (form ∷ forms) t =
+    if is_word (name_of form) t then Some form else form_among forms t
 
 -- a line with a name: 7, then as its form asks
 abbrev pub named_causes : Partial → Option Form → List Token → List (Option Cause)
@@ -148,12 +157,15 @@ generator_causes p name fields =
 -- a line behind the header
 abbrev pub line_causes : Partial → Line → List (Option Cause)
 line_causes p [] = Some cause.UnknownLine ∷ []
-line_causes p (first ∷ []) = named_causes p (form_among (forms_of (is_presented p.problem)) first) []
+line_causes p (first ∷ []) =
+    named_causes p (form_among (forms_of (is_presented p.problem)) first) []
 line_causes p (first ∷ second ∷ tokens) =
-    if is_generator_line p (first ∷ second ∷ tokens) then generator_causes p first (map field_of tokens)
-    else named_causes p (form_among (forms_of (is_presented p.problem)) first) (second ∷ tokens)
+    if is_generator_line p (first ∷ second ∷ tokens)
+    then generator_causes p first (map field_of tokens)
+    else named_causes p (form_among (forms_of (is_presented p.problem)) first)
+    (second ∷ tokens)
 
--- the six names of headers, each with what stands behind it; letters are one token of their own kind
+-- what stands behind the name of a header: numbers in their ranges, or one token of letters
 pub data HeaderForm : Type 0 where
   Numbers : List (ℕ × ℕ) → HeaderForm
   Letters : HeaderForm
@@ -172,7 +184,9 @@ header_named t =
 abbrev pub number_causes : List (ℕ × ℕ) → List Token → List (Option Cause)
 number_causes [] tokens = []
 number_causes (range ∷ ranges) [] = []
-number_causes (range ∷ ranges) (t ∷ tokens) = when cause.BadNumber (is_none (number_within range.0 range.1 t)) ∷ number_causes ranges tokens
+number_causes (range ∷ ranges) (t ∷ tokens) =
+    when cause.BadNumber (is_none (number_within range.0 range.1 t))
+    ∷ number_causes ranges tokens
 
 abbrev pub is_one : List Token → Bool
 is_one [] = false
@@ -187,8 +201,10 @@ letters_causes (t ∷ tokens) = cause_in (alphabet_of t) ∷ []
 -- the header: 2, 3, then its tokens from the left
 abbrev pub header_form_causes : Option HeaderForm → List Token → List (Option Cause)
 header_form_causes None tokens = Some cause.UnknownHeader ∷ []
-header_form_causes (Some (Numbers ranges)) tokens = when cause.WrongNumberOfWords (not (as_many ranges tokens)) ∷ number_causes ranges tokens
-header_form_causes (Some Letters) tokens = when cause.WrongNumberOfWords (not (is_one tokens)) ∷ letters_causes tokens
+header_form_causes (Some (Numbers ranges)) tokens =
+    when cause.WrongNumberOfWords (not (as_many ranges tokens)) ∷ number_causes ranges tokens
+header_form_causes (Some Letters) tokens =
+    when cause.WrongNumberOfWords (not (is_one tokens)) ∷ letters_causes tokens
 
 abbrev pub header_causes : Line → List (Option Cause)
 header_causes [] = Some cause.UnknownHeader ∷ []
@@ -208,7 +224,8 @@ abbrev pub cause_at_end : Option Partial → Option Cause
 cause_at_end None = Some cause.HeaderMissing
 cause_at_end (Some p) = when cause.NoGenerator (lacks_generator p)
 
--- the line after these has the cause, and they are read; it is the first line with a cause, since a line that is read has none
+-- the lines before this one are read, and it has the cause; so it is the first line with one, since
+-- a line that is read has none
 pub record IsFaultOfLine (lines : List Line) (n : ℕ) (cause : Cause) : Type 0 where
   pub before : List Line
   pub line : Line

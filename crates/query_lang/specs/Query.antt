@@ -37,7 +37,8 @@ is_rule_list RuleList = true
 is_rule_list (ElementOf u) = false
 is_rule_list Cayley = false
 
--- the query is one of this problem: it is there for it, rules are allowed where it asks for them, and each of its words is an element
+-- the query is one of this problem: it is there for it, rules are allowed where it asks for them,
+-- and each of its words is an element
 pub record IsQueryOf (p : Problem) (query : Query) : Type 0 where
   pub there : is_presented p ≡ true → needs_generators query ≡ false
   pub allowed : is_rule_list query ≡ true → allows_rules p ≡ true

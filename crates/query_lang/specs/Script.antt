@@ -132,7 +132,8 @@ abbrev pub whole_of : Option Reader → Result ScriptOf Cause
 whole_of None = Err HeaderMissing
 whole_of (Some r) = finished r
 
--- the script that the bytes are, or their first fault; what is missing at the end is a fault of the last line
+-- the script that the bytes are, or their first fault; what is missing at the end is a fault of
+-- the last line
 abbrev pub script_of : List ℕ → Result ScriptOf (ℕ × Cause)
 script_of bytes = and_then (λ s. at_line (length (cut_lines bytes)) (whole_of s))
     (read_lines 1 None (cut_lines bytes))
