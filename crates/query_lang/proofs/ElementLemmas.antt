@@ -9,14 +9,13 @@ use Rattle.problem.specs.declared.kinds.Problem.{Problem}
 use Rattle.problem.specs.declared.kinds.Problem.TheVariants as problem
 use Rattle.query_lang.specs.declared.cause.Cause.{Cause}
 use Rattle.query_lang.specs.declared.cause.Cause.TheVariants as cause
-use Rattle.query_lang.specs.declared.query_line.QueryName.{QueryName}
-use Rattle.query_lang.specs.declared.query_line.QueryName.TheVariants as name
+use Rattle.query_lang.specs.QueryLines as name
 use Rattle.query_lang.specs.declared.reader.Reader.{Reader}
 use Rattle.query_lang.specs.declared.reader.Reader.TheVariants.{Asking}
 use Rattle.query_lang.specs.Outcome.{and_then}
 use Rattle.query_lang.specs.Fields.{field_of}
 use Rattle.query_lang.specs.Token.{Token, is_word}
-use Rattle.query_lang.specs.QueryLines.{query_of, name_asks_rules, name_needs_generators, name_takes}
+use Rattle.query_lang.specs.QueryLines.{NameOf, query_of, name_asks_rules, name_needs_generators, name_takes}
 use Rattle.query_lang.specs.Script.{asked, with_asked, element_line, finished, generator_line, query_line}
 use Rattle.query_lang.specs.Grammar.{Partial, lacks_generator, is_empty, pairs_of, script_in}
 use Rattle.query_lang.specs.Forms.{Form, Index, Equal, Normal, Classes, Rules, Element, Cayley, forms_of}
@@ -25,7 +24,7 @@ use Rattle.query_lang.proofs.FormLemmas.{lift, never-late, same-cause, query_cau
 use Rattle.query_lang.proofs.GeneratorLemmas.{posing, transf_cause, pperm_cause, bmat_cause, mpt_cause}
 use Rattle.query_lang.proofs.FoldLemmas.{opened}
 
-abbrev pub form_of : QueryName → Form
+abbrev pub form_of : NameOf → Form
 form_of name.Index = Index
 form_of name.Equal = Equal
 form_of name.Normal = Normal
@@ -34,14 +33,14 @@ form_of name.Rules = Rules
 form_of name.Element = Element
 form_of name.Cayley = Cayley
 
-known : (p : Partial) (name : QueryName) (tokens : List Token) → is_presented p.problem ≡ false → cause_in (asked (script_in p) name tokens) ≡ query_cause p name tokens
+known : (p : Partial) (name : NameOf) (tokens : List Token) → is_presented p.problem ≡ false → cause_in (asked (script_in p) name tokens) ≡ query_cause p name tokens
 known p name tokens h =
     ap (λ b. cause_in
     (if b && name_needs_generators name then Err cause.UnknownLine else if not (name_takes name tokens) then Err cause.WrongNumberOfWords else if name_asks_rules name && not (allows_rules p.problem) then Err cause.QueryNotAllowed
     else and_then (λ q. Ok (with_asked (script_in p) q)) (query_of (letters_of p.problem) (has_empty_word p.problem) name tokens))) h
 
 -- a query behind a generator has the cause that is said
-pub query_in_elements : (p : Partial) (name : QueryName) (tokens : List Token) → is_presented p.problem ≡ false → (length (pairs_of p.problem) == 0) ≡ true → lacks_generator p ≡ false
+pub query_in_elements : (p : Partial) (name : NameOf) (tokens : List Token) → is_presented p.problem ≡ false → (length (pairs_of p.problem) == 0) ≡ true → lacks_generator p ≡ false
     → cause_in (asked (script_in p) name tokens) ≡ first_of (form_causes p (form_of name) tokens)
 query_in_elements p name.Index tokens h k l = known p name.Index tokens h ∙ index_cause p tokens ∙ lift _ _ _ _ (never-late (is_empty p.queries) (length (pairs_of p.problem) == 0)) l
 query_in_elements p name.Equal tokens h k l = known p name.Equal tokens h ∙ equal_cause p tokens ∙ lift _ _ _ _ (never-late (is_empty p.queries) (length (pairs_of p.problem) == 0)) l
@@ -60,7 +59,7 @@ pub data Ready (r : Reader) (p : Partial) : Type 0 where
   ready : finished r ≡ Ok (script_in p) → lacks_generator p ≡ false → Ready r p
   lacking : finished r ≡ Err cause.NoGenerator → lacks_generator p ≡ true → Ready r p
 
-lacking-of : (p : Partial) (name : QueryName) (tokens : List Token) → lacks_generator p ≡ true → Some cause.NoGenerator ≡ first_of (form_causes p (form_of name) tokens)
+lacking-of : (p : Partial) (name : NameOf) (tokens : List Token) → lacks_generator p ≡ true → Some cause.NoGenerator ≡ first_of (form_causes p (form_of name) tokens)
 lacking-of p name.Index tokens l = lacking-cause _ _ _ (sym (never-late (is_empty p.queries) (length (pairs_of p.problem) == 0))) (sym l)
 lacking-of p name.Equal tokens l = lacking-cause _ _ _ (sym (never-late (is_empty p.queries) (length (pairs_of p.problem) == 0))) (sym l)
 lacking-of p name.Normal tokens l = lacking-cause _ _ _ (sym (never-late (is_empty p.queries) (length (pairs_of p.problem) == 0))) (sym l)
@@ -69,7 +68,7 @@ lacking-of p name.Rules tokens l = lacking-cause _ _ _ (sym (never-late (is_empt
 lacking-of p name.Element tokens l = lacking-cause _ _ _ (sym (never-late (is_empty p.queries) (length (pairs_of p.problem) == 0))) (sym l)
 lacking-of p name.Cayley tokens l = lacking-cause _ _ _ (sym (never-late (is_empty p.queries) (length (pairs_of p.problem) == 0))) (sym l)
 
-each-query : (r : Reader) (p : Partial) (name : QueryName) (tokens : List Token) → is_presented p.problem ≡ false → (length (pairs_of p.problem) == 0) ≡ true → Ready r p
+each-query : (r : Reader) (p : Partial) (name : NameOf) (tokens : List Token) → is_presented p.problem ≡ false → (length (pairs_of p.problem) == 0) ≡ true → Ready r p
     → cause_in (and_then (λ script. and_then (λ s. Ok (Asking s)) (asked script name tokens)) (finished r)) ≡ first_of (form_causes p (form_of name) tokens)
 each-query r p name tokens h k (ready f l) =
     ap (λ x. cause_in (and_then (λ script. and_then (λ s. Ok (Asking s)) (asked script name tokens)) x)) f ∙ same-cause (λ s. Asking s) (asked (script_in p) name tokens) ∙ query_in_elements p name tokens h k l
@@ -77,8 +76,8 @@ each-query r p name tokens h k (lacking f l) =
     ap (λ x. cause_in (and_then (λ script. and_then (λ s. Ok (Asking s)) (asked script name tokens)) x)) f
     ∙ lacking-of p name tokens l
 
-pick-seven : (given : Result QueryName Cause → Option Cause) (said : Option Form → Option Cause) → given (Err cause.UnknownLine) ≡ said None
-    → ((name : QueryName) → given (Ok name) ≡ said (Some (form_of name))) → (i e n c r l y : Bool)
+pick-seven : (given : Result NameOf Cause → Option Cause) (said : Option Form → Option Cause) → given (Err cause.UnknownLine) ≡ said None
+    → ((name : NameOf) → given (Ok name) ≡ said (Some (form_of name))) → (i e n c r l y : Bool)
     → given (ok_or (if i then Some name.Index else if e then Some name.Equal else if n then Some name.Normal else if c then Some name.Classes else if r then Some name.Rules else if l then Some name.Element else if y then Some name.Cayley else None) cause.UnknownLine)
     ≡ said (if i then Some Index else if e then Some Equal else if n then Some Normal else if c then Some Classes else if r then Some Rules else if l then Some Element else if y then Some Cayley else None)
 pick-seven given said none each true e n c r l y = each name.Index

@@ -12,12 +12,11 @@ use Rattle.std.specs.Option.{ok_or}
 use Rattle.theory.specs.declared.Kind.{Kind}
 use Rattle.theory.specs.declared.Kind.TheVariants.{TwoSided, Right}
 use Rattle.problem.specs.Problem.{allows_rules, has_empty_word, letters_of}
-use Rattle.query_lang.specs.declared.query_line.QueryName.{QueryName}
-use Rattle.query_lang.specs.declared.query_line.QueryName.TheVariants as name
+use Rattle.query_lang.specs.QueryLines as name
 use Rattle.query_lang.specs.declared.script.Query.{Query}
 use Rattle.query_lang.specs.declared.script.Query.TheVariants as query
 use Rattle.query_lang.specs.Asked.{ScriptOf}
-use Rattle.query_lang.specs.QueryLines.{name_asks_rules, name_takes, query_of}
+use Rattle.query_lang.specs.QueryLines.{NameOf, name_asks_rules, name_takes, query_of}
 use Rattle.query_lang.specs.Token.{Token, is_word, number_within}
 use Rattle.query_lang.specs.LineWords.{element_of}
 use Rattle.query_lang.specs.Relations.{add_pair, add_relation, most_pairs, most_relations}
@@ -87,7 +86,7 @@ query_causes p form tokens =
     when cause.WrongNumberOfWords (is_none (shape_for tokens (shapes_of form))) ∷ when cause.QueryNotAllowed (is_barred p form) ∷ shape_causes p (shape_for tokens (shapes_of form)) tokens
 
 -- the cause of a query that this kind of script has
-abbrev pub query_cause : Partial → QueryName → List Token → Option Cause
+abbrev pub query_cause : Partial → NameOf → List Token → Option Cause
 query_cause p name tokens =
     cause_in
     (if not (name_takes name tokens) then Err cause.WrongNumberOfWords else if name_asks_rules name && not (allows_rules p.problem) then Err cause.QueryNotAllowed
@@ -179,7 +178,7 @@ abbrev pub presented : ℕ × ℕ → Posed → List Query → Partial
 presented sizes o queries = record { sizes = sizes; problem = Presented o; queries = queries }
 
 -- the forms of queries in a presentation
-abbrev pub form_in_presentation : QueryName → Option Form
+abbrev pub form_in_presentation : NameOf → Option Form
 form_in_presentation name.Index = Some Index
 form_in_presentation name.Equal = Some Equal
 form_in_presentation name.Normal = Some Normal
@@ -189,7 +188,7 @@ form_in_presentation name.Element = None
 form_in_presentation name.Cayley = None
 
 -- a query in a presentation has the cause that is said
-pub query_in_presentation : (sizes : ℕ × ℕ) (o : Posed) (queries : List Query) (name : QueryName) (tokens : List Token)
+pub query_in_presentation : (sizes : ℕ × ℕ) (o : Posed) (queries : List Query) (name : NameOf) (tokens : List Token)
     → cause_in (asked (script_in (presented sizes o queries)) name tokens) ≡ first_of (named_causes (presented sizes o queries) (form_in_presentation name) tokens)
 query_in_presentation sizes o queries name.Index tokens = index_cause (presented sizes o queries) tokens ∙ lift _ _ _ _ (never-late (is_empty queries) (length o.congruence.pairs == 0)) refl
 query_in_presentation sizes o queries name.Equal tokens = equal_cause (presented sizes o queries) tokens ∙ lift _ _ _ _ (never-late (is_empty queries) (length o.congruence.pairs == 0)) refl
@@ -204,8 +203,8 @@ same-cause f (Ok x) = refl
 same-cause f (Err c) = refl
 
 -- the query by its name
-pick-query : (given : Result QueryName Cause → Option Cause) (said : Option Form → Option Cause) → given (Err cause.UnknownLine) ≡ said None
-    → ((name : QueryName) → given (Ok name) ≡ said (form_in_presentation name)) → (i e n c r l y : Bool)
+pick-query : (given : Result NameOf Cause → Option Cause) (said : Option Form → Option Cause) → given (Err cause.UnknownLine) ≡ said None
+    → ((name : NameOf) → given (Ok name) ≡ said (form_in_presentation name)) → (i e n c r l y : Bool)
     → given (ok_or (if i then Some name.Index else if e then Some name.Equal else if n then Some name.Normal else if c then Some name.Classes else if r then Some name.Rules else if l then Some name.Element else if y then Some name.Cayley else None) cause.UnknownLine)
     ≡ said (if i then Some Index else if e then Some Equal else if n then Some Normal else if c then Some Classes else if r then Some Rules else None)
 pick-query given said none each true e n c r l y = each name.Index

@@ -17,8 +17,7 @@ use Rattle.problem.specs.Problem.{allows_rules, has_empty_word, is_presented, le
 use Rattle.query_lang.specs.declared.cause.Cause.{Cause}
 use Rattle.query_lang.specs.declared.cause.Cause.TheVariants as cause
 use Rattle.query_lang.specs.declared.draft.Draft.TheVariants as draft
-use Rattle.query_lang.specs.declared.query_line.QueryName.{QueryName}
-use Rattle.query_lang.specs.declared.query_line.QueryName.TheVariants as name
+use Rattle.query_lang.specs.QueryLines as name
 use Rattle.query_lang.specs.declared.reader.Reader.{Reader}
 use Rattle.query_lang.specs.declared.reader.Reader.TheVariants.{Posing, Relating, Asking}
 use Rattle.query_lang.specs.declared.script.Query.{Query}
@@ -33,7 +32,7 @@ use Rattle.query_lang.specs.LineWords.{both_elements, element_of, with_cause}
 use Rattle.query_lang.specs.Outcome.{and_then}
 use Rattle.query_lang.specs.Relations.{add_pair, add_relation, free_over, most_pairs, most_relations}
 use Rattle.query_lang.specs.Outline.{is_same_kind, paired, related, takes_kind, unless_fault}
-use Rattle.query_lang.specs.QueryLines.{cursor_of, name_asks_rules, name_needs_generators, name_takes, query_name_of, query_of}
+use Rattle.query_lang.specs.QueryLines.{NameOf, cursor_of, name_asks_rules, name_needs_generators, name_takes, query_name_of, query_of}
 use Rattle.query_lang.specs.Script.{asked, element_line, finished, generator_line, header_line, is_presentation, pair_line, presentation_line, query_line, read_line, relation_line, with_asked, with_line}
 use Rattle.query_lang.specs.Token.{Token, Line, is_word, letter_of, number_within}
 use Rattle.query_lang.specs.Forms.{name_of, Form, Pair, forms_of}
@@ -227,7 +226,7 @@ query_line_read r false first (second ∷ tokens) is sign other =
     ap (λ b. if b then presentation_line r (first ∷ second ∷ tokens) else element_line r (first ∷ second ∷ tokens)) is
     ∙ ap (λ b. if b then generator_line r first tokens else query_line r first (second ∷ tokens)) sign
 
-asked_read : (s : ScriptOf) (name : QueryName) (tokens : List Token) (q : Query) → (is_presented s.problem && name_needs_generators name) ≡ false
+asked_read : (s : ScriptOf) (name : NameOf) (tokens : List Token) (q : Query) → (is_presented s.problem && name_needs_generators name) ≡ false
     → name_takes name tokens ≡ true → (name_asks_rules name && not (allows_rules s.problem)) ≡ false
     → query_of (letters_of s.problem) (has_empty_word s.problem) name tokens ≡ Ok q → asked s name tokens ≡ Ok (with_asked s q)
 asked_read s name tokens q there taken allowed is =
@@ -243,7 +242,7 @@ and_false true = refl
 and_false false = refl
 
 -- a line that is a query of this name
-asked_line : (sizes : ℕ × ℕ) (problem : Problem) (queries : List Query) (name : QueryName) (line : Line) (first : Token) (tokens : List Token) (q : Query)
+asked_line : (sizes : ℕ × ℕ) (problem : Problem) (queries : List Query) (name : NameOf) (line : Line) (first : Token) (tokens : List Token) (q : Query)
     → lacks_generator (partial sizes problem queries) ≡ false → is_generator_line (partial sizes problem queries) line ≡ false
     → line ≡ first ∷ tokens → IsOtherName first → query_name_of first ≡ Some name → (is_presented problem && name_needs_generators name) ≡ false
     → name_takes name tokens ≡ true → (name_asks_rules name && not (allows_rules problem)) ≡ false → query_of (letters_of problem) (has_empty_word problem) name tokens ≡ Ok q

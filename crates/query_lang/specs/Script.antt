@@ -9,7 +9,6 @@ use Rattle.problem.specs.declared.kinds.Problem.TheVariants.{Presented}
 use Rattle.problem.specs.Problem.{allows_rules, has_empty_word, is_presented, letters_of}
 use Rattle.query_lang.specs.declared.cause.Cause.{Cause}
 use Rattle.query_lang.specs.declared.cause.Cause.TheVariants.{HeaderMissing, UnknownHeader, UnknownLine, LineOutOfOrder, QueryNotAllowed, WrongNumberOfWords}
-use Rattle.query_lang.specs.declared.query_line.QueryName.{QueryName}
 use Rattle.query_lang.specs.declared.reader.Reader.{Reader}
 use Rattle.query_lang.specs.declared.reader.Reader.TheVariants.{Posing, Relating, Asking}
 use Rattle.query_lang.specs.declared.script.Query.{Query}
@@ -19,14 +18,14 @@ use Rattle.query_lang.specs.Fields.{field_of}
 use Rattle.query_lang.specs.Generators.{draft_with, problem_of}
 use Rattle.query_lang.specs.Header.{header_of, outline_of}
 use Rattle.query_lang.specs.Outline.{with_pair, with_relation}
-use Rattle.query_lang.specs.QueryLines.{name_asks_rules, name_needs_generators, name_takes, query_name_of, query_of}
+use Rattle.query_lang.specs.QueryLines.{NameOf, name_asks_rules, name_needs_generators, name_takes, query_name_of, query_of}
 
 -- the query behind the others
 abbrev pub with_asked : ScriptOf → Query → ScriptOf
 with_asked s query = record s { queries = s.queries ++ query ∷ [] }
 
 -- one query more; one that needs generators is unknown in a presentation
-abbrev pub asked : ScriptOf → QueryName → List Token → Result ScriptOf Cause
+abbrev pub asked : ScriptOf → NameOf → List Token → Result ScriptOf Cause
 asked s name tokens =
     if is_presented s.problem && name_needs_generators name then Err UnknownLine
     else if not (name_takes name tokens) then Err WrongNumberOfWords
