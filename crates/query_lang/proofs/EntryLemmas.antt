@@ -9,7 +9,8 @@ use Rattle.elements.specs.declared.field.Field.TheVariants.{Number, Dash, Bad}
 use Rattle.elements.specs.Fields.{IsImage, IsBelow, IsBelowOrDash, field_of}
 use Rattle.elements.specs.BMat.{IsBit, field_of_bit}
 use Rattle.query_lang.specs.declared.cause.Cause.TheVariants.{WrongNumberOfEntries, BadEntry}
-use Rattle.query_lang.specs.Entries.{below, below_or_dash, bit, all_of, entries_of}
+use Rattle.query_lang.specs.Entries.{below, below_or_dash, bit, all_of}
+use Rattle.query_lang.specs.Elements.{entries_of}
 
 -- a way to read entries: each good field has its entry, and no other field has one
 pub record ReadsEntries {A : Type 0} (IsGood : Field → Type 0) (to : A → Field) (entry : Field → Option A) : Type 0 where

@@ -16,7 +16,8 @@ use Rattle.query_lang.specs.declared.fault.LineFault.{LineFault}
 use Rattle.query_lang.specs.declared.fault.LineFault.TheVariants as line
 use Rattle.query_lang.specs.Outcome.{and_then}
 use Rattle.query_lang.specs.Faults.{IsLineFault, fault_of_element}
-use Rattle.query_lang.specs.Entries.{below, below_or_dash, bit, entries_of, is_injective, transformation_of, partial_permutation_of, boolean_matrix_of, truncated_matrix_of}
+use Rattle.query_lang.specs.Entries.{below, below_or_dash, bit, is_injective}
+use Rattle.query_lang.specs.Elements.{entries_of, transformation_of, partial_permutation_of, boolean_matrix_of, truncated_matrix_of}
 use Rattle.query_lang.proofs.EntryLemmas.{ReadsEntries, reads_images, reads_partial, reads_bits, good_below, named, entries-some, entries-bad, entries-count}
 use Rattle.query_lang.proofs.InjectiveLemmas.{injective, not_injective}
 

@@ -4,3 +4,14 @@ pub mod KindLemmas
 pub mod DraftLemmas
 pub mod LineLemmas
 pub mod ReadLemmas
+pub mod FoldLemmas
+pub mod FormLemmas
+pub mod GeneratorLemmas
+pub mod HeaderLemmas
+pub mod ElementLemmas
+pub mod CauseLaw
+pub mod SoundLaw
+pub mod StepLaw
+pub mod TotalForms
+pub mod TotalLaw
+pub mod ScriptLaw

@@ -12,9 +12,12 @@ use Rattle.query_lang.specs.declared.fault.LineFault.{LineFault}
 use Rattle.query_lang.specs.declared.fault.LineFault.TheVariants.{Refused, NoMemory}
 use Rattle.query_lang.specs.Outcome.{and_then}
 use Rattle.query_lang.specs.Faults.{IsLineFault, IsScriptFault, fault_at_line}
+use Rattle.query_lang.specs.Grammar.{lines_of}
+use Rattle.query_lang.specs.LineCauses.{AreScript}
 use Rattle.query_lang.specs.Token.{cut_lines}
 use Rattle.query_lang.specs.declared.reader.Reader.{Reader}
 use Rattle.query_lang.specs.Script.{ScriptOf, take_line, at_line, read_lines, whole_of, script_of}
+use Rattle.query_lang.proofs.ScriptLaw.{fault_is_told, script_is_read}
 
 -- the first fault of the lines, or what they give
 abbrev pub Reading : Type 0 → Type 0
@@ -52,23 +55,26 @@ read_refused before after x s cause read e =
 
 -- the fault of a line is the first fault of the script
 pub line_fault : (bytes : List ℕ) (before after : List (List ℕ)) (x : List ℕ) (s : Option Reader) (fault : LineFault) (n : ℕ) → cut_lines bytes ≡ before ++ x ∷ after → read_lines 1 None before ≡ Ok s → n ≡ length before + 1
-    → IsLineFault (take_line s x) fault → IsScriptFault (script_of bytes) (fault_at_line n fault)
+    → IsLineFault (take_line s x) fault → IsScriptFault bytes (fault_at_line n fault)
 line_fault bytes before after x s (Refused cause) n whole read count e =
     let refused : read_lines 1 None (cut_lines bytes) ≡ Err (n, cause) = ap (read_lines 1 None) whole ∙ read_refused before after x s cause read e ∙ ap (λ m. Err (m, cause)) (sym count) in
-    (cause, ap (and_then (λ t. at_line (length (cut_lines bytes)) (whole_of t))) refused, refl)
+    (cause, fault_is_told bytes n cause (ap (and_then (λ t. at_line (length (cut_lines bytes)) (whole_of t))) refused), refl)
 line_fault bytes before after x s NoMemory n whole read count e = tt
 
 -- what is missing at the end is the fault of the script
 pub end_fault : (bytes : List ℕ) (lines : List (List ℕ)) (s : Option Reader) (fault : LineFault) (n : ℕ) → lines ≡ cut_lines bytes → read_lines 1 None lines ≡ Ok s → n ≡ length lines
-    → IsLineFault (whole_of s) fault → IsScriptFault (script_of bytes) (fault_at_line n fault)
+    → IsLineFault (whole_of s) fault → IsScriptFault bytes (fault_at_line n fault)
 end_fault bytes lines s (Refused cause) n whole read count e =
-    (cause, ap (λ ls. and_then (λ t. at_line (length ls) (whole_of t)) (read_lines 1 None ls)) (sym whole) ∙ ap (and_then (λ t. at_line (length lines) (whole_of t))) read ∙ ap (at_line (length lines)) e ∙ ap (λ m. Err (m, cause)) (sym count), refl)
+    let told : script_of bytes ≡ Err (n, cause) =
+    ap (λ ls. and_then (λ t. at_line (length ls) (whole_of t)) (read_lines 1 None ls)) (sym whole) ∙ ap (and_then (λ t. at_line (length lines) (whole_of t))) read ∙ ap (at_line (length lines)) e ∙ ap (λ m. Err (m, cause)) (sym count) in
+    (cause, fault_is_told bytes n cause told, refl)
 end_fault bytes lines s NoMemory n whole read count e = tt
 
 -- the script of lines that were all read
-pub whole_script : (bytes : List ℕ) (lines : List (List ℕ)) (s : Option Reader) (p : ScriptOf) → lines ≡ cut_lines bytes → read_lines 1 None lines ≡ Ok s → whole_of s ≡ Ok p → script_of bytes ≡ Ok p
+pub whole_script : (bytes : List ℕ) (lines : List (List ℕ)) (s : Option Reader) (p : ScriptOf) → lines ≡ cut_lines bytes → read_lines 1 None lines ≡ Ok s → whole_of s ≡ Ok p → AreScript (lines_of bytes) p
 whole_script bytes lines s p whole read e =
-    ap (λ ls. and_then (λ t. at_line (length ls) (whole_of t)) (read_lines 1 None ls)) (sym whole) ∙ ap (and_then (λ t. at_line (length lines) (whole_of t))) read ∙ ap (at_line (length lines)) e
+    script_is_read bytes p
+    (ap (λ ls. and_then (λ t. at_line (length ls) (whole_of t)) (read_lines 1 None ls)) (sym whole) ∙ ap (and_then (λ t. at_line (length lines) (whole_of t))) read ∙ ap (at_line (length lines)) e)
 
 -- a `for` at one of the items of a list: those before it, and those behind it
 pub items_around : {S A B : Type 0} {steps : S → Option A → S → Type 0} (s t : S) (v : A → B) (xs : List A) (yielded : Yields steps s xs t) (r : Option A) (u : S) (x : A) → r ≡ Some x → steps t r u → (all : List B) → YieldsList steps v s all

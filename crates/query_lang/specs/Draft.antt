@@ -24,7 +24,8 @@ draft_code {V} code =
     (λ d. (d.sizes, (d.letters, d.generators)))
     (λ p. record { sizes = p.0; letters = p.1.0; generators = p.1.1 }) (λ _. refl)
 
--- each generator has a letter and is of the one shape, and the letters are different ones from `a` to `z`
+-- each generator has a letter and is of the one shape, and the letters are different ones from
+-- `a` to `z`
 pub record IsDraft {V : Type 0} (shape_of : V → ℕ × ℕ) (shape : ℕ × ℕ) (letters : List ℕ)
     (generators : List V) : Type 0 where
   pub one_each : length generators ≡ length letters

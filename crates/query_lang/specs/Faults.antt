@@ -1,5 +1,5 @@
 -- What the faults of the reader mean.
-use Rattle.std.specs.Prelude.{◌≡◌, ℕ, Result, Err}
+use Rattle.std.specs.Prelude.{◌≡◌, ℕ, List, Result, Err}
 use Rattle.elements.specs.declared.field.ElementFault.{ElementFault}
 use Rattle.elements.specs.declared.field.ElementFault.TheVariants as element
 use Rattle.words.specs.declared.fault.AlphabetFault.{AlphabetFault}
@@ -13,6 +13,8 @@ use Rattle.query_lang.specs.declared.fault.LineFault.TheVariants as line
 use Rattle.query_lang.specs.declared.fault.ScriptFault.{ScriptFault}
 use Rattle.query_lang.specs.declared.fault.ScriptFault.TheVariants as script
 use Rattle.query_lang.specs.Causes.{number_of_cause}
+use Rattle.query_lang.specs.Grammar.{lines_of}
+use Rattle.query_lang.specs.LineCauses.{IsFirstFault}
 
 -- a line is refused for its cause; want of memory says nothing of it
 abbrev pub IsLineFault : {A : Type 0} → Result A Cause → LineFault → Type 0
@@ -45,8 +47,8 @@ abbrev pub fault_at_line : ℕ → LineFault → ScriptFault
 fault_at_line n (line.Refused cause) = script.Bad n (number_of_cause cause)
 fault_at_line n line.NoMemory = script.NoMemory
 
--- the first fault of the lines, by its cause's number; want of memory says nothing of them
-abbrev pub IsScriptFault : {A : Type 0} → Result A (ℕ × Cause) → ScriptFault → Type 0
-IsScriptFault outcome (script.Bad line number) = (cause : Cause) × (outcome ≡ Err (line, cause))
-    × (number ≡ number_of_cause cause)
-IsScriptFault outcome script.NoMemory = Unit {0}
+-- the first fault of the bytes, by its cause's number; want of memory says nothing of them
+abbrev pub IsScriptFault : List ℕ → ScriptFault → Type 0
+IsScriptFault bytes (script.Bad line number) = (cause : Cause)
+    × IsFirstFault (lines_of bytes) line cause × (number ≡ number_of_cause cause)
+IsScriptFault bytes script.NoMemory = Unit {0}

@@ -9,7 +9,7 @@ use Rattle.query_lang.specs.declared.draft.Draft.TheVariants.{Transf, PPerm, BMa
 use Rattle.query_lang.specs.Outcome.{and_then}
 use Rattle.query_lang.specs.Token.{Token}
 use Rattle.query_lang.specs.Draft.{with_generator, posed_of}
-use Rattle.query_lang.specs.Entries.{transformation_of, partial_permutation_of, boolean_matrix_of, truncated_matrix_of}
+use Rattle.query_lang.specs.Elements.{transformation_of, partial_permutation_of, boolean_matrix_of, truncated_matrix_of}
 
 -- the generator of the draft's kind with this name and these entries
 abbrev pub draft_with : Draft → Token → List Field → Result Draft Cause

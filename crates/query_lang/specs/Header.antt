@@ -10,7 +10,8 @@ use Rattle.query_lang.specs.Outcome.{and_then}
 use Rattle.query_lang.specs.Token.{Token, Line, is_word, number_within}
 use Rattle.query_lang.specs.Draft.{start_of}
 use Rattle.query_lang.specs.LineWords.{one_token}
-use Rattle.query_lang.specs.Outline.{alphabet_of, free_over}
+use Rattle.query_lang.specs.Outline.{alphabet_of}
+use Rattle.query_lang.specs.Relations.{free_over}
 
 -- one number, from 1 to the greatest one
 abbrev pub size_of : ℕ → List Token → Result ℕ Cause

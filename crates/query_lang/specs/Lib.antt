@@ -5,12 +5,17 @@ pub mod Fields
 pub mod Causes
 pub mod Faults
 pub mod Entries
+pub mod Elements
 pub mod Draft
 pub mod Generators
 pub mod LineWords
+pub mod Relations
 pub mod Outline
 pub mod Header
 pub mod Query
 pub mod QueryLines
 pub mod Asked
 pub mod Script
+pub mod Forms
+pub mod Grammar
+pub mod LineCauses

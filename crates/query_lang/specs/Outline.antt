@@ -1,10 +1,9 @@
--- Relations and pairs that lines give, one after another.
-use Rattle.std.specs.Prelude.{◌≡◌, ℕ, ◌≤◌, Bool, true, false, ◌||◌, List, [], ◌∷◌, ◌++◌, ◌==◌, ◌⊎◌, length, if◌then◌else◌, Option, Some, None, Result, Ok, Err}
+-- Relations and pairs that lines give, one after another, or why a line is refused.
+use Rattle.std.specs.Prelude.{ℕ, Bool, true, false, ◌||◌, List, ◌==◌, length, if◌then◌else◌, Option, Some, None, Result, Ok, Err}
 use Rattle.theory.specs.declared.Kind.{Kind}
 use Rattle.theory.specs.declared.Kind.TheVariants.{TwoSided, Right, Left}
-use Rattle.theory.specs.Word.{Word, IsElement}
-use Rattle.theory.specs.Congruence.{AreElements, of_presentation, with_relations}
-use Rattle.presentation.specs.Presented.{Presented, Posed}
+use Rattle.theory.specs.Word.{Word}
+use Rattle.presentation.specs.Presented.{Posed}
 use Rattle.words.specs.Alphabet.{alphabet_fault}
 use Rattle.words.specs.declared.fault.AlphabetFault.{AlphabetFault}
 use Rattle.words.specs.declared.fault.AlphabetFault.TheVariants as fault
@@ -13,28 +12,7 @@ use Rattle.query_lang.specs.declared.cause.Cause.TheVariants as cause
 use Rattle.query_lang.specs.Outcome.{and_then}
 use Rattle.query_lang.specs.Token.{Token}
 use Rattle.query_lang.specs.LineWords.{both_elements, two_tokens}
-
--- the most relations, and the most pairs
-abbrev pub most_relations : ℕ
-most_relations = 4096
-
-abbrev pub most_pairs : ℕ
-most_pairs = 4096
-
--- pairs of a kind on a presentation
-abbrev pub outlined : Presented → Kind → List (Word × Word) → Posed
-outlined p kind pairs = record {
-  alphabet = p.alphabet;
-  congruence = record { presentation = p.presentation; kind = kind; pairs = pairs };
-}
-
--- the relations and the pairs are not too many; the pairs are two-sided or right ones, and their sides elements
-pub record IsOutline (o : Posed) : Type 0 where
-  pub few_relations : length o.congruence.presentation.relations ≤ most_relations
-  pub few_pairs : length o.congruence.pairs ≤ most_pairs
-  pub sided : (o.congruence.kind ≡ TwoSided) ⊎ (o.congruence.kind ≡ Right)
-  pub elements : AreElements o.congruence.presentation.is_monoid o.congruence.presentation.letters
-      o.congruence.pairs
+use Rattle.query_lang.specs.Relations.{add_pair, add_relation, most_pairs, most_relations}
 
 -- why letters are refused; a token is never empty, and `alphabet_fault` never tells want of memory
 abbrev pub cause_of_alphabet : AlphabetFault → Cause
@@ -51,38 +29,9 @@ unless_fault (Some fault) t = Err (cause_of_alphabet fault)
 abbrev pub alphabet_of : Token → Result (List ℕ) Cause
 alphabet_of t = unless_fault (alphabet_fault t) t
 
--- no relation and no pair yet: a two-sided congruence on the free monoid or semigroup
-abbrev pub free_over : Bool → List ℕ → Posed
-free_over is_monoid alphabet =
-    record {
-      alphabet = alphabet;
-      congruence = of_presentation
-          (record { letters = length alphabet; is_monoid = is_monoid; relations = [] });
-    }
-
--- the word is an element, as a side of a relation or a pair is
-abbrev pub IsSide : Posed → Word → Type 0
-IsSide o = IsElement o.congruence.presentation.is_monoid (length o.alphabet)
-
 -- two elements
 abbrev pub sides_of : Posed → Token → Token → Result (Word × Word) Cause
 sides_of o = both_elements o.alphabet o.congruence.presentation.is_monoid
-
--- one relation more
-abbrev pub add_relation : Posed → Word × Word → Posed
-add_relation o p =
-    record o {
-      congruence = record o.congruence
-          { presentation = with_relations o.congruence.presentation (p ∷ []) };
-    }
-
--- one pair more; the pairs are of this kind
-abbrev pub add_pair : Posed → Kind → Word × Word → Posed
-add_pair o kind p =
-    record o {
-      congruence = record o.congruence
-          { kind = kind; pairs = o.congruence.pairs ++ p ∷ [] };
-    }
 
 -- the relation with these sides, if there may be one more
 abbrev pub related : Posed → Token → Token → Result Posed Cause

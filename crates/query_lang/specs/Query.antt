@@ -1,5 +1,5 @@
 -- Queries, and the words in them.
-use Rattle.std.specs.Prelude.{◌≡◌, ℕ, Bool, true, false, not, ◌||◌, length, Some, None}
+use Rattle.std.specs.Prelude.{◌≡◌, ℕ, Bool, true, false, length, Some, None}
 use Rattle.theory.specs.Word.{IsElement}
 use Rattle.problem.specs.declared.kinds.Problem.{Problem}
 use Rattle.problem.specs.Problem.{allows_rules, has_empty_word, is_presented, letters_of}
@@ -37,11 +37,8 @@ is_rule_list RuleList = true
 is_rule_list (ElementOf u) = false
 is_rule_list Cayley = false
 
--- whether the problem has what the query asks for: rules are allowed, or it asks for none
-abbrev pub is_allowed : Problem → Query → Bool
-is_allowed p query = not (is_rule_list query) || allows_rules p
-
--- the query is one of this problem: it is there for it, rules are allowed where it asks for them, and each of its words is an element
+-- the query is one of this problem: it is there for it, rules are allowed where it asks for them,
+-- and each of its words is an element
 pub record IsQueryOf (p : Problem) (query : Query) : Type 0 where
   pub there : is_presented p ≡ true → needs_generators query ≡ false
   pub allowed : is_rule_list query ≡ true → allows_rules p ≡ true

@@ -1,15 +1,14 @@
 -- Scripts: what each line gives after the lines before it, or its cause of refusal.
 pub use Rattle.query_lang.specs.Asked.{ScriptOf}
-use Rattle.std.specs.Prelude.{ℕ, suc, Bool, true, false, ◌&&◌, List, [], ◌∷◌, ◌++◌, length, map, codes, if◌then◌else◌, Option, Some, None, Result, Ok, Err}
+use Rattle.std.specs.Prelude.{ℕ, suc, Bool, true, false, not, ◌&&◌, List, [], ◌∷◌, ◌++◌, length, map, codes, if◌then◌else◌, Option, Some, None, Result, Ok, Err}
 use Rattle.std.specs.Option.{ok_or}
 use Rattle.theory.specs.declared.Kind.{Kind}
 use Rattle.theory.specs.declared.Kind.TheVariants.{TwoSided, Right}
 use Rattle.presentation.specs.Presented.{Posed}
 use Rattle.problem.specs.declared.kinds.Problem.TheVariants.{Presented}
-use Rattle.problem.specs.Problem.{has_empty_word, is_presented, letters_of}
+use Rattle.problem.specs.Problem.{allows_rules, has_empty_word, is_presented, letters_of}
 use Rattle.query_lang.specs.declared.cause.Cause.{Cause}
-use Rattle.query_lang.specs.declared.cause.Cause.TheVariants.{HeaderMissing, UnknownHeader, UnknownLine, LineOutOfOrder, QueryNotAllowed}
-use Rattle.query_lang.specs.declared.query_line.QueryName.{QueryName}
+use Rattle.query_lang.specs.declared.cause.Cause.TheVariants.{HeaderMissing, UnknownHeader, UnknownLine, LineOutOfOrder, QueryNotAllowed, WrongNumberOfWords}
 use Rattle.query_lang.specs.declared.reader.Reader.{Reader}
 use Rattle.query_lang.specs.declared.reader.Reader.TheVariants.{Posing, Relating, Asking}
 use Rattle.query_lang.specs.declared.script.Query.{Query}
@@ -19,21 +18,20 @@ use Rattle.query_lang.specs.Fields.{field_of}
 use Rattle.query_lang.specs.Generators.{draft_with, problem_of}
 use Rattle.query_lang.specs.Header.{header_of, outline_of}
 use Rattle.query_lang.specs.Outline.{with_pair, with_relation}
-use Rattle.query_lang.specs.Query.{is_allowed}
-use Rattle.query_lang.specs.QueryLines.{name_needs_generators, query_name_of, query_of}
+use Rattle.query_lang.specs.QueryLines.{NameOf, name_asks_rules, name_needs_generators, name_takes, query_name_of, query_of}
 
--- the query behind the others, if the problem allows it
-abbrev pub with_asked : ScriptOf → Query → Result ScriptOf Cause
-with_asked s query =
-    if is_allowed s.problem query then Ok
-    (record s { queries = s.queries ++ query ∷ [] }) else Err QueryNotAllowed
+-- the query behind the others
+abbrev pub with_asked : ScriptOf → Query → ScriptOf
+with_asked s query = record s { queries = s.queries ++ query ∷ [] }
 
 -- one query more; one that needs generators is unknown in a presentation
-abbrev pub asked : ScriptOf → QueryName → List Token → Result ScriptOf Cause
+abbrev pub asked : ScriptOf → NameOf → List Token → Result ScriptOf Cause
 asked s name tokens =
     if is_presented s.problem && name_needs_generators name then Err UnknownLine
-    else and_then (with_asked s) (query_of (letters_of s.problem)
-    (has_empty_word s.problem) name tokens)
+    else if not (name_takes name tokens) then Err WrongNumberOfWords
+    else if name_asks_rules name && not (allows_rules s.problem) then Err QueryNotAllowed
+    else and_then (λ query. Ok (with_asked s query))
+    (query_of (letters_of s.problem) (has_empty_word s.problem) name tokens)
 
 -- whether the script is a presentation
 abbrev pub is_presentation : Reader → Bool
@@ -133,7 +131,8 @@ abbrev pub whole_of : Option Reader → Result ScriptOf Cause
 whole_of None = Err HeaderMissing
 whole_of (Some r) = finished r
 
--- the script that the bytes are, or their first fault; what is missing at the end is a fault of the last line
+-- the script that the bytes are, or their first fault; what is missing at the end is a fault of
+-- the last line
 abbrev pub script_of : List ℕ → Result ScriptOf (ℕ × Cause)
 script_of bytes = and_then (λ s. at_line (length (cut_lines bytes)) (whole_of s))
     (read_lines 1 None (cut_lines bytes))

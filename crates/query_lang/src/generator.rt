@@ -2,7 +2,7 @@
 ghost use Rattle.std.specs.Prelude.{◌≡◌, ℕ, List, Result, IfOk, IfErr, Ok, map};
 ghost use Rattle.elements.specs.declared.field.Field.{Field};
 ghost use Rattle.query_lang.specs.declared.cause.Cause.{Cause};
-ghost use Rattle.query_lang.specs.Entries.{transformation_of, partial_permutation_of, boolean_matrix_of, truncated_matrix_of};
+ghost use Rattle.query_lang.specs.Elements.{transformation_of, partial_permutation_of, boolean_matrix_of, truncated_matrix_of};
 ghost use Rattle.query_lang.specs.Faults.{IsLineFault};
 ghost use Rattle.query_lang.specs.Fields.{field_of};
 ghost use Rattle.query_lang.specs.Texts.{texts};

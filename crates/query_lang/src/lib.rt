@@ -5,6 +5,7 @@
 
 mod cause;
 mod draft;
+pub mod facts;
 mod fault;
 mod generator;
 mod header;

@@ -2,7 +2,8 @@
 ghost use Rattle.std.specs.Prelude.{◌≡◌, ◌≢◌, ◌⊎◌, IfOk, IfErr, Ok, length};
 ghost use Rattle.problem.specs.Problem.{IsPosable};
 ghost use Rattle.query_lang.specs.Faults.{IsLineFault};
-ghost use Rattle.query_lang.specs.Outline.{IsSide, add_pair, add_relation, free_over, is_same_kind, most_pairs, most_relations, paired, related, sides_of, takes_kind, with_pair, with_relation};
+ghost use Rattle.query_lang.specs.Relations.{IsSide, add_pair, add_relation, free_over, most_pairs, most_relations};
+ghost use Rattle.query_lang.specs.Outline.{is_same_kind, paired, related, sides_of, takes_kind, with_pair, with_relation};
 ghost use Rattle.query_lang.specs.Texts.{texts};
 
 use crate::cause::Cause;
@@ -32,7 +33,7 @@ pub struct Outline {
 
 impl Model for Outline {
     ghost use Rattle.presentation.specs.Presented.{Posed};
-    ghost use Rattle.query_lang.specs.Outline.{IsOutline, outlined};
+    ghost use Rattle.query_lang.specs.Relations.{IsOutline, outlined};
 
     ghost Value = { Posed };
 

@@ -2,8 +2,8 @@
 ghost use Rattle.std.specs.Prelude.{◌≡◌, false, IfOk, IfErr, Ok, length};
 ghost use Rattle.theory.specs.Word.{IsElement};
 ghost use Rattle.query_lang.specs.Faults.{IsLineFault};
-ghost use Rattle.query_lang.specs.Query.{IsQueryOver, needs_generators};
-ghost use Rattle.query_lang.specs.QueryLines.{bare, count_of, cursor_of, name_needs_generators, page_of, query_name_of, query_of};
+ghost use Rattle.query_lang.specs.Query.{IsQueryOver, is_rule_list, needs_generators};
+ghost use Rattle.query_lang.specs.QueryLines.{bare, count_of, cursor_of, name_asks_rules, name_needs_generators, name_takes, page_of, query_name_of, query_of};
 ghost use Rattle.query_lang.specs.Texts.{texts};
 
 use crate::cause::Cause;
@@ -12,11 +12,12 @@ use crate::line_words::{element_of, one_word, two_words};
 use crate::script::Query;
 use crate::tokens::{is_word, number_within};
 use std::alloc::Global;
+use std::marker::Model;
 use words::{Alphabet, Word};
 
-/// What a query line begins with.
-#[derive(Clone, Copy, Debug, PartialEq, Eq)]
-pub enum QueryName {
+// The names of queries.
+#[derive(Drop)]
+enum Name {
     /// `index`
     Index,
     /// `equal`
@@ -33,18 +34,57 @@ pub enum QueryName {
     Cayley,
 }
 
+/// What a query line begins with. Contracts see which name it is.
+#[derive(Drop)]
+pub struct QueryName {
+    name: Name,
+}
+
+impl Model for QueryName {
+    ghost use Rattle.query_lang.specs.QueryLines.{NameOf};
+    ghost use Rattle.query_lang.specs.QueryLines as said;
+    ghost use Rattle.query_lang.specs.declared.query_line.Name.TheVariants as kept;
+
+    ghost Value = { NameOf };
+
+    ghost view = { λ q. elim q.name [
+      | kept.Index ↦ said.Index
+      | kept.Equal ↦ said.Equal
+      | kept.Normal ↦ said.Normal
+      | kept.Classes ↦ said.Classes
+      | kept.Rules ↦ said.Rules
+      | kept.Element ↦ said.Element
+      | kept.Cayley ↦ said.Cayley
+    ] };
+}
+
 impl QueryName {
     /// Whether a query of this name is there only where generators are given.
-    pub fn needs_generators(self) -> bool
-        ensures { result ≡ name_needs_generators self }
+    pub fn needs_generators(&self) -> bool
+        ensures { result ≡ name_needs_generators self.now }
     {
-        match self {
-            QueryName::Index
-            | QueryName::Equal
-            | QueryName::Normal
-            | QueryName::Classes
-            | QueryName::Rules => false,
-            QueryName::Element | QueryName::Cayley => true,
+        match self.name {
+            Name::Index | Name::Equal | Name::Normal | Name::Classes | Name::Rules => false,
+            Name::Element | Name::Cayley => true,
+        }
+    }
+
+    /// Whether a query of this name asks for the rules.
+    pub fn asks_rules(&self) -> bool
+        ensures { result ≡ name_asks_rules self.now }
+    {
+        matches!(self.name, Name::Rules)
+    }
+
+    /// Whether there are as many tokens as stand behind this name.
+    pub fn takes(&self, tokens: &[&[u8]]) -> bool
+        ensures { result ≡ name_takes self.now (texts tokens.now) }
+    {
+        match self.name {
+            Name::Index | Name::Rules | Name::Cayley => tokens.is_empty(),
+            Name::Normal | Name::Element => matches!(tokens, [_]),
+            Name::Equal => matches!(tokens, [_, _]),
+            Name::Classes => matches!(tokens, [_] | [_, _, _]),
         }
     }
 }
@@ -53,16 +93,17 @@ impl QueryName {
 pub fn query_name_of(first: &[u8]) -> Option<QueryName>
     ensures { result ≡ query_name_of first.now }
 {
-    match first {
-        name if is_word(b"index", name) => Some(QueryName::Index),
-        name if is_word(b"equal", name) => Some(QueryName::Equal),
-        name if is_word(b"normal", name) => Some(QueryName::Normal),
-        name if is_word(b"classes", name) => Some(QueryName::Classes),
-        name if is_word(b"rules", name) => Some(QueryName::Rules),
-        name if is_word(b"element", name) => Some(QueryName::Element),
-        name if is_word(b"cayley", name) => Some(QueryName::Cayley),
-        _ => None,
-    }
+    let name = match first {
+        text if is_word(b"index", text) => Name::Index,
+        text if is_word(b"equal", text) => Name::Equal,
+        text if is_word(b"normal", text) => Name::Normal,
+        text if is_word(b"classes", text) => Name::Classes,
+        text if is_word(b"rules", text) => Name::Rules,
+        text if is_word(b"element", text) => Name::Element,
+        text if is_word(b"cayley", text) => Name::Cayley,
+        _ => return None,
+    };
+    Some(QueryName { name })
 }
 
 // The query, which has no words.
@@ -115,6 +156,7 @@ fn page_of(
         ≡ Ok query) }
     ensures over { IfOk result (IsQueryOver allow_empty (length alphabet.now)) }
     ensures needs { IfOk result (λ query. needs_generators query ≡ false) }
+    ensures rules { IfOk result (λ query. is_rule_list query ≡ false) }
     ensures err { IfErr result (IsLineFault (page_of alphabet.now allow_empty (texts tokens.now))) }
 {
     match tokens {
@@ -147,19 +189,20 @@ pub fn query_of(
         ≡ Ok query) }
     ensures over { IfOk result (IsQueryOver allow_empty (length alphabet.now)) }
     ensures needs { IfOk result (λ query. needs_generators query ≡ name_needs_generators name) }
+    ensures rules { IfOk result (λ query. is_rule_list query ≡ name_asks_rules name) }
     ensures err { IfErr result (IsLineFault
         (query_of alphabet.now allow_empty name (texts tokens.now))) }
 {
-    match name {
-        QueryName::Index => Ok(bare(Query::Index, tokens)?),
-        QueryName::Equal => {
+    match name.name {
+        Name::Index => Ok(bare(Query::Index, tokens)?),
+        Name::Equal => {
             let (left, right) = two_words(alloc, alphabet, allow_empty, tokens)?;
             Ok(Query::Equal(left, right))
         }
-        QueryName::Normal => Ok(Query::Normal(one_word(alloc, alphabet, allow_empty, tokens)?)),
-        QueryName::Classes => page_of(alloc, alphabet, allow_empty, tokens),
-        QueryName::Rules => Ok(bare(Query::RuleList, tokens)?),
-        QueryName::Element => Ok(Query::ElementOf(one_word(alloc, alphabet, allow_empty, tokens)?)),
-        QueryName::Cayley => Ok(bare(Query::Cayley, tokens)?),
+        Name::Normal => Ok(Query::Normal(one_word(alloc, alphabet, allow_empty, tokens)?)),
+        Name::Classes => page_of(alloc, alphabet, allow_empty, tokens),
+        Name::Rules => Ok(bare(Query::RuleList, tokens)?),
+        Name::Element => Ok(Query::ElementOf(one_word(alloc, alphabet, allow_empty, tokens)?)),
+        Name::Cayley => Ok(bare(Query::Cayley, tokens)?),
     }
 }

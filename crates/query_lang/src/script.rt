@@ -2,8 +2,10 @@
 ghost use Rattle.std.specs.Prelude.{◌≡◌, [], IfOk, IfErr, Ok, All};
 ghost use Rattle.problem.specs.Problem.{IsPosable};
 ghost use Rattle.query_lang.specs.Faults.{IsLineFault, IsScriptFault};
-ghost use Rattle.query_lang.specs.Query.{IsQueryOf, is_allowed};
-ghost use Rattle.query_lang.specs.Script.{asked, script_of};
+ghost use Rattle.query_lang.specs.Grammar.{lines_of};
+ghost use Rattle.query_lang.specs.LineCauses.{AreScript};
+ghost use Rattle.query_lang.specs.Query.{IsQueryOf};
+ghost use Rattle.query_lang.specs.Script.{asked};
 ghost use Rattle.query_lang.specs.Texts.{texts};
 
 use crate::cause::Cause;
@@ -34,18 +36,6 @@ pub enum Query {
     ElementOf(Word),
     /// The Cayley graphs, where generators are given.
     Cayley,
-}
-
-impl Query {
-    // Whether the problem has what it asks for: rules are not there with right pairs.
-    fn is_allowed(&self, problem: &Problem) -> bool
-        ensures { result ≡ is_allowed problem.now self.now }
-    {
-        match self {
-            Query::RuleList => problem.allows_rules(),
-            _ => true,
-        }
-    }
 }
 
 /// A script: what it poses, and the queries. Contracts see both. The problem is one that scripts
@@ -99,11 +89,14 @@ impl Script {
         if problem.is_presented() && name.needs_generators() {
             return Err(LineFault::Refused(Cause::UnknownLine));
         }
-        let allow_empty = problem.has_empty_word();
-        let query = query_of(alloc, problem.alphabet(), allow_empty, name, tokens)?;
-        if !query.is_allowed(&problem) {
+        if !name.takes(tokens) {
+            return Err(LineFault::Refused(Cause::WrongNumberOfWords));
+        }
+        if name.asks_rules() && !problem.allows_rules() {
             return Err(LineFault::Refused(Cause::QueryNotAllowed));
         }
+        let allow_empty = problem.has_empty_word();
+        let query = query_of(alloc, problem.alphabet(), allow_empty, name, tokens)?;
         queries.push(query)?;
         Ok(Script { problem, queries })
     }
@@ -129,8 +122,8 @@ impl Script {
 /// the first such line, or where the header is missing at the end, or every generator of a script
 /// that is no presentation, at the last line; with `NoMemory` only where memory is wanting.
 pub fn read_script(alloc: Global, bytes: &[u8]) -> Result<Script, ScriptFault>
-    ensures ok { IfOk result (λ script. script_of bytes.now ≡ Ok script) }
-    ensures err { IfErr result (IsScriptFault (script_of bytes.now)) }
+    ensures ok { IfOk result (λ script. AreScript (lines_of bytes.now) script) }
+    ensures err { IfErr result (IsScriptFault bytes.now) }
 {
     let mut reader = None;
     let mut number = 0;

@@ -5,7 +5,7 @@ use Rattle.std.proofs.lemmas.Iterator.Splits.{YieldsList-from_slice_split}
 use Rattle.query_lang.specs.Faults.{IsScriptFault}
 use Rattle.query_lang.specs.Token.{cut_lines}
 use Rattle.query_lang.specs.Texts.{texts}
-use Rattle.query_lang.specs.Script.{script_of, read_lines}
+use Rattle.query_lang.specs.Script.{read_lines}
 use Rattle.query_lang.proofs.ReadLemmas.{line_fault, end_fault, whole_script, read_more, items_around, items_all, few_lines}
 use Rattle.query_lang.proofs.script.read_script.Goals as goal
 
@@ -34,7 +34,7 @@ returns-in-Err-clause-err c =
     let around = items_around _ _ (λ (t : Bor (List ℕ)). t.now) c.loop-line.yielded c.loop-line.yielded_by _ _ c.in-Some.line c.in-Some.is c.next.ensures.steps (cut_lines bytes)
     (YieldsList-at c.into_iter-line-iterator.ensures.into_iter_gives (YieldsList-from_slice_split _ (λ b. b == 10) bytes split.rest split.done split.closure (λ x b q k. search rules))) in
     let before : length (texts c.loop-line.yielded) ≡ length c.loop-line.yielded = length-map c.loop-line.yielded (λ (t : Bor (List ℕ)). t.now) in
-    subst (IsScriptFault (script_of bytes)) (sym c.at_line.ensures)
+    subst (IsScriptFault bytes) (sym c.at_line.ensures)
     (line_fault bytes (texts c.loop-line.yielded) _ c.in-Some.line.now c.loop-line.reader c.in-Err.fault (c.loop-line.number + 1) around c.loop-line.invariant.read (ap (λ n. n + 1) (c.loop-line.invariant.counted ∙ sym before)) c.in-Err.ensures.err)
 
 pub returns-in-Ok-whole_of-clause-ok : goal.returns-in-Ok-whole_of-clause-ok
@@ -52,5 +52,5 @@ returns-in-Err-whole_of-clause-err c =
     let all = items_all _ _ (λ (t : Bor (List ℕ)). t.now) c.loop-line.yielded c.loop-line.yielded_by _ _ c.in-None.is c.next.ensures.steps (cut_lines bytes)
     (YieldsList-at c.into_iter-line-iterator.ensures.into_iter_gives (YieldsList-from_slice_split _ (λ b. b == 10) bytes split.rest split.done split.closure (λ x b q k. search rules))) in
     let before : length (texts c.loop-line.yielded) ≡ length c.loop-line.yielded = length-map c.loop-line.yielded (λ (t : Bor (List ℕ)). t.now) in
-    subst (IsScriptFault (script_of bytes)) (sym c.at_line-in-Err-whole_of.ensures)
+    subst (IsScriptFault bytes) (sym c.at_line-in-Err-whole_of.ensures)
     (end_fault bytes (texts c.loop-line.yielded) c.loop-line.reader c.in-Err-whole_of.fault c.loop-line.number all c.loop-line.invariant.read (c.loop-line.invariant.counted ∙ sym before) c.in-Err-whole_of.ensures.err)

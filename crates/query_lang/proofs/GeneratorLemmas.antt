@@ -1,0 +1,92 @@
+-- The causes of generator lines as the reader gives them.
+use Rattle.std.proofs.Common.{◌≡◌, ℕ, ◌*◌, ◌+◌, ◌==◌, Bool, true, false, not, ◌||◌, if◌then◌else◌, List, [], ◌∷◌, length, map, Option, Some, None, option_and_then, Result, Ok, Err, is_none, refl, ap, ◌∙◌}
+use Rattle.std.specs.Option.{ok_or}
+use Rattle.std.specs.List.{list_any}
+use Rattle.elements.specs.declared.field.Field.{Field}
+use Rattle.problem.specs.Posed.{PosedOf}
+use Rattle.problem.specs.Problem.{letters_of}
+use Rattle.problem.specs.declared.kinds.Problem.{Problem}
+use Rattle.problem.specs.declared.kinds.Problem.TheVariants as problem
+use Rattle.elements.specs.BMat.{BooleanMatrix}
+use Rattle.elements.specs.MaxPlus.{TruncatedMatrix}
+use Rattle.query_lang.specs.declared.cause.Cause.{Cause}
+use Rattle.query_lang.specs.declared.cause.Cause.TheVariants as cause
+use Rattle.query_lang.specs.Outcome.{and_then}
+use Rattle.query_lang.specs.Token.{Token, letter_of}
+use Rattle.query_lang.specs.Fields.{field_of}
+use Rattle.query_lang.specs.Entries.{all_of, below, below_or_dash, bit, is_injective}
+use Rattle.query_lang.specs.Script.{generator_line}
+use Rattle.query_lang.specs.Grammar.{Partial}
+use Rattle.query_lang.specs.LineCauses.{when, first_of, cause_in, is_taken, has_image_twice, generator_causes}
+use Rattle.query_lang.proofs.FoldLemmas.{opened}
+use Rattle.query_lang.proofs.FormLemmas.{same-cause}
+
+one-bad : {A : Type 0} (x : Option A) (xs : Option (List A)) (bad : Bool) → is_none xs ≡ bad
+    → is_none (option_and_then (λ y. option_and_then (λ ys. Some (y ∷ ys)) xs) x) ≡ (is_none x || bad)
+one-bad None xs bad h = refl
+one-bad (Some y) None bad h = h
+one-bad (Some y) (Some ys) bad h = h
+
+-- entries are missing exactly where one is bad
+some-bad : {A : Type 0} (entry : Field → Option A) (fields : List Field) → is_none (all_of entry fields) ≡ list_any (λ f. is_none (entry f)) fields
+some-bad entry [] = refl
+some-bad entry (f ∷ fields) = one-bad (entry f) (all_of entry fields) _ (some-bad entry fields)
+
+plain : {A : Type 0} (fits : Bool) (o : Option (List A)) (bad : Bool) → is_none o ≡ bad
+    → cause_in (if fits then ok_or o cause.BadEntry else Err cause.WrongNumberOfEntries) ≡ first_of (when cause.WrongNumberOfEntries (not fits) ∷ when cause.BadEntry bad ∷ None ∷ [])
+plain false o bad h = refl
+plain true None bad h = ap (λ b. first_of (None ∷ when cause.BadEntry b ∷ None ∷ [])) h
+plain true (Some xs) bad h = ap (λ b. first_of (None ∷ when cause.BadEntry b ∷ None ∷ [])) h
+
+distinct : (xs : List (Option ℕ)) (injective : Bool) → cause_in (if injective then Ok xs else Err cause.NotInjective) ≡ first_of (when cause.NotInjective (not injective) ∷ [])
+distinct xs true = refl
+distinct xs false = refl
+
+injective-too : (fits : Bool) (o : Option (List (Option ℕ))) (bad : Bool) → is_none o ≡ bad
+    → cause_in (and_then (λ images. if is_injective images then Ok images else Err cause.NotInjective) (if fits then ok_or o cause.BadEntry else Err cause.WrongNumberOfEntries))
+    ≡ first_of (when cause.WrongNumberOfEntries (not fits) ∷ when cause.BadEntry bad ∷ when cause.NotInjective (has_image_twice o) ∷ [])
+injective-too false o bad h = refl
+injective-too true None bad h = ap (λ b. first_of (None ∷ when cause.BadEntry b ∷ None ∷ [])) h
+injective-too true (Some xs) bad h = distinct xs (is_injective xs) ∙ ap (λ b. first_of (None ∷ when cause.BadEntry b ∷ when cause.NotInjective (not (is_injective xs)) ∷ [])) h
+
+new-letter : {V D : Type 0} (x : ℕ) (taken : Bool) (g : Result V Cause) (f : ℕ → V → D) (cs : List (Option Cause)) → cause_in g ≡ first_of cs
+    → cause_in (and_then (λ y. and_then (λ v. Ok (f y v)) g) (if taken then Err cause.RepeatedLetter else Ok x)) ≡ first_of (when cause.RepeatedLetter taken ∷ cs)
+new-letter x true g f cs h = refl
+new-letter x false g f cs h = same-cause (f x) g ∙ h
+
+named : {V D : Type 0} (p : Partial) (l : Option ℕ) (g : Result V Cause) (f : ℕ → V → D) (cs : List (Option Cause)) → cause_in g ≡ first_of cs
+    → cause_in (and_then (λ y. and_then (λ v. Ok (f y v)) g) (and_then (λ x. if list_any (λ y. y == x) (letters_of p.problem) then Err cause.RepeatedLetter else Ok x) (ok_or l cause.NotALetter)))
+    ≡ first_of (when cause.NotALetter (is_none l) ∷ when cause.RepeatedLetter (is_taken p l) ∷ cs)
+named p None g f cs h = refl
+named p (Some x) g f cs h = new-letter x (list_any (λ y. y == x) (letters_of p.problem)) g f cs h
+
+twice : {A B C : Type 0} (f : A → B) (g : B → C) (r : Result A Cause) → cause_in (and_then (λ x. Ok (g x)) (and_then (λ x. Ok (f x)) r)) ≡ cause_in r
+twice f g r = same-cause g (and_then (λ x. Ok (f x)) r) ∙ same-cause f r
+
+abbrev pub posing : ℕ × ℕ → Problem → Partial
+posing sizes p = record { sizes = sizes; problem = p; queries = [] }
+
+-- a generator line has the cause that is said
+pub transf_cause : (sizes : ℕ × ℕ) (g : PosedOf (List ℕ)) (name : Token) (entries : List Token)
+    → cause_in (generator_line (opened sizes (problem.Transf g)) name entries) ≡ first_of (generator_causes (posing sizes (problem.Transf g)) name (map field_of entries))
+transf_cause sizes g name entries =
+    twice _ _ _ ∙ named (posing sizes (problem.Transf g)) (letter_of name) _ _ _
+    (plain (length (map field_of entries) == sizes.0) (all_of (below sizes.0) (map field_of entries)) _ (some-bad (below sizes.0) (map field_of entries)))
+
+pub pperm_cause : (sizes : ℕ × ℕ) (g : PosedOf (List (Option ℕ))) (name : Token) (entries : List Token)
+    → cause_in (generator_line (opened sizes (problem.PPerm g)) name entries) ≡ first_of (generator_causes (posing sizes (problem.PPerm g)) name (map field_of entries))
+pperm_cause sizes g name entries =
+    twice _ _ _ ∙ named (posing sizes (problem.PPerm g)) (letter_of name) _ _ _
+    (injective-too (length (map field_of entries) == sizes.0) (all_of (below_or_dash sizes.0) (map field_of entries)) _ (some-bad (below_or_dash sizes.0) (map field_of entries)))
+
+pub bmat_cause : (sizes : ℕ × ℕ) (g : PosedOf BooleanMatrix) (name : Token) (entries : List Token)
+    → cause_in (generator_line (opened sizes (problem.BMat g)) name entries) ≡ first_of (generator_causes (posing sizes (problem.BMat g)) name (map field_of entries))
+bmat_cause sizes g name entries =
+    twice _ _ _ ∙ named (posing sizes (problem.BMat g)) (letter_of name) _ _ _
+    (same-cause _ _ ∙ plain (length (map field_of entries) == sizes.0 * sizes.0) (all_of bit (map field_of entries)) _ (some-bad bit (map field_of entries)))
+
+pub mpt_cause : (sizes : ℕ × ℕ) (g : PosedOf TruncatedMatrix) (name : Token) (entries : List Token)
+    → cause_in (generator_line (opened sizes (problem.MaxPlus g)) name entries) ≡ first_of (generator_causes (posing sizes (problem.MaxPlus g)) name (map field_of entries))
+mpt_cause sizes g name entries =
+    twice _ _ _ ∙ named (posing sizes (problem.MaxPlus g)) (letter_of name) _ _ _
+    (same-cause _ _ ∙ plain (length (map field_of entries) == sizes.0 * sizes.0) (all_of (below_or_dash (sizes.1 + 1)) (map field_of entries)) _ (some-bad (below_or_dash (sizes.1 + 1)) (map field_of entries)))

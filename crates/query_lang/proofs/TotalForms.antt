@@ -1,0 +1,243 @@
+-- A line behind the header that begins with a name is read, where it has no cause.
+use Rattle.std.proofs.Common.{◌≡◌, ℕ, ◌==◌, nat_lt, Bool, true, false, not, ◌&&◌, ◌⊎◌, inl, inr, if◌then◌else◌, List, [], ◌∷◌, length, codes, Option, Some, None, Result, Ok, Err, is_none, Contains, refl, sym, ap, ◌∙◌, subst, arith, true≢false}
+use Rattle.std.proofs.lemmas.Bool.{ltb-false, eqb-true, eqb-false}
+use Rattle.std.specs.Cmp.Lexicographic.{same_text}
+use Rattle.theory.specs.Word.{Word}
+use Rattle.theory.specs.declared.Kind.{Kind}
+use Rattle.theory.specs.declared.Kind.TheVariants.{TwoSided, Right, Left}
+use Rattle.presentation.specs.Presented.{Posed}
+use Rattle.problem.specs.Problem.{is_presented}
+use Rattle.problem.specs.declared.kinds.Problem.TheVariants as problem
+use Rattle.words.specs.declared.fault.WordFault.{WordFault}
+use Rattle.query_lang.specs.declared.cause.Cause.{Cause}
+use Rattle.query_lang.specs.declared.script.Query.{Query}
+use Rattle.query_lang.specs.Token.{Token, Line, is_word}
+use Rattle.query_lang.specs.LineWords.{with_cause}
+use Rattle.query_lang.specs.Outline.{is_same_kind}
+use Rattle.query_lang.specs.Grammar as grammar
+use Rattle.query_lang.specs.Grammar.{Partial, section_reached, LineReads, is_generator_line, lacks_generator}
+use Rattle.query_lang.specs.Forms.{Form, Relation, Pair, Index, Equal, Normal, Classes, Rules, Element, Cayley, name_of, shapes_of, section_of, forms_of}
+use Rattle.query_lang.specs.LineCauses.{when, first_of, cause_in, shape_for, shape_causes, is_relation_too_many, is_pair_too_many, mixes_kinds, is_barred, form_causes, form_among, named_causes}
+
+-- the line is read after what the lines before it say
+abbrev pub IsRead : Partial → Line → Type 0
+IsRead p line = (q : Partial) × LineReads p line q
+
+pub some-is-none : {A : Type 0} {x : A} → Some x ≡ None → ⊥
+some-is-none h = subst {0, 0} (λ o. elim o [ None ↦ ⊥ | Some x ↦ Unit {0} ]) h tt
+
+-- causes that do not apply
+
+-- a cause that does not apply, and those behind it
+pub passed : (c : Cause) (b : Bool) (cs : List (Option Cause)) → first_of (when c b ∷ cs) ≡ None → (b ≡ false) × (first_of cs ≡ None)
+passed c true cs h = absurd (some-is-none h)
+passed c false cs h = (refl, h)
+
+pub not-applies : (b : Bool) → not b ≡ false → b ≡ true
+not-applies true h = refl
+not-applies false h = absurd (true≢false h)
+
+pub is-some : {A : Type 0} (o : Option A) → is_none o ≡ false → (x : A) × (o ≡ Some x)
+is-some None h = absurd (true≢false h)
+is-some (Some x) h = (x, refl)
+
+-- a word is read where its cause does not apply
+word-read : (r : Result Word WordFault) (cs : List (Option Cause)) → first_of (cause_in (with_cause r) ∷ cs) ≡ None → (u : Word) × (r ≡ Ok u) × (first_of cs ≡ None)
+word-read (Ok u) cs h = (u, refl, h)
+word-read (Err fault) cs h = absurd (some-is-none h)
+
+-- a name picks one of two, and the line has the name or has it not
+pub branch : {A : Type 0} (P : A → Type 0) (G : Type 0) (text name : Token) (x y : A) → (name ≡ text → P x → G) → (P y → G) → P (if is_word text name then x else y) → G
+branch P G text name x y same otherwise = split (is_word text name) refl
+  where
+    split : (b : Bool) → is_word text name ≡ b → P (if b then x else y) → G
+    split true e h = same (same_text name text (sym e)) h
+    split false e h = otherwise h
+
+-- a form of line
+
+-- no cause of the form applies
+record Passes (p : Partial) (form : Form) (tokens : List Token) : Type 0 where
+  in_order : nat_lt (section_of form) (section_reached p) ≡ false
+  has_generator : lacks_generator p ≡ false
+  shaped : is_none (shape_for tokens (shapes_of form)) ≡ false
+  few_relations : is_relation_too_many p form ≡ false
+  few_pairs : is_pair_too_many p form ≡ false
+  one_kind : mixes_kinds p form ≡ false
+  allowed : is_barred p form ≡ false
+  tokens_read : first_of (shape_causes p (shape_for tokens (shapes_of form)) tokens) ≡ None
+
+passes : (p : Partial) (form : Form) (tokens : List Token) → first_of (form_causes p form tokens) ≡ None → Passes p form tokens
+passes p form tokens h =
+    let a = passed _ _ _ h in
+    let b = passed _ _ _ a.1 in
+    let c = passed _ _ _ b.1 in
+    let d = passed _ _ _ c.1 in
+    let e = passed _ _ _ d.1 in
+    let f = passed _ _ _ e.1 in
+    let g = passed _ _ _ f.1 in
+    record {
+      in_order = a.0;
+      has_generator = b.0;
+      shaped = c.0;
+      few_relations = d.0;
+      few_pairs = e.0;
+      one_kind = f.0;
+      allowed = g.0;
+      tokens_read = g.1;
+    }
+
+-- what a form of line has to give
+abbrev FormReads : Partial → Token → List Token → Form → Type 0
+FormReads p first tokens form = first ≡ name_of form → Passes p form tokens → IsRead p (first ∷ tokens)
+
+-- each of the forms gives it
+data EachReads (p : Partial) (first : Token) (tokens : List Token) : List Form → Type 0 where
+  every : EachReads p first tokens []
+  also : {forms : List Form} (form : Form) → FormReads p first tokens form → EachReads p first tokens forms → EachReads p first tokens (form ∷ forms)
+
+-- a line with the name of one of the forms is read
+by-form : (p : Partial) (first : Token) (tokens : List Token) (forms : List Form) → EachReads p first tokens forms → first_of (named_causes p (form_among forms first) tokens) ≡ None → IsRead p (first ∷ tokens)
+by-form p first tokens forms every = λ h. absurd (some-is-none h)
+by-form p first tokens forms (also {forms = others} form reads each) =
+    branch (λ f. first_of (named_causes p f tokens) ≡ None) (IsRead p (first ∷ tokens)) (name_of form) first (Some form) (form_among others first)
+    (λ e h. reads e (passes p form tokens h)) (by-form p first tokens others each)
+
+-- a relation and a pair
+
+relation-read : (sizes : ℕ × ℕ) (o : Posed) (queries : List Query) (first : Token) (tokens : List Token) →
+    let p : Partial = record { sizes = sizes; problem = problem.Presented o; queries = queries } in FormReads p first tokens Relation
+relation-read sizes o queries first [] e c = absurd (true≢false c.shaped)
+relation-read sizes o queries first (s ∷ []) e c = absurd (true≢false c.shaped)
+relation-read sizes o queries first (s ∷ t ∷ []) e c =
+    let u = word-read _ _ c.tokens_read in
+    let v = word-read _ _ u.2 in
+    (_, grammar.relation (ap (λ n. n ∷ s ∷ t ∷ []) e) refl (ltb-false _ _ c.in_order) (eqb-false _ _ c.few_relations) u.1 v.1)
+relation-read sizes o queries first (s ∷ t ∷ w ∷ tokens) e c = absurd (true≢false c.shaped)
+
+no-elements : {A : Type 0} (xs : List A) → (length xs == 0) ≡ true → xs ≡ []
+no-elements [] h = refl
+no-elements (x ∷ xs) h = let e : length (x ∷ xs) ≡ 0 = eqb-true _ _ h in absurd (omega arith)
+
+same-kind : (j k : Kind) → is_same_kind j k ≡ true → j ≡ k
+same-kind TwoSided TwoSided h = refl
+same-kind Right Right h = refl
+same-kind Left Left h = refl
+same-kind TwoSided Right h = absurd (true≢false (sym h))
+same-kind TwoSided Left h = absurd (true≢false (sym h))
+same-kind Right TwoSided h = absurd (true≢false (sym h))
+same-kind Right Left h = absurd (true≢false (sym h))
+same-kind Left TwoSided h = absurd (true≢false (sym h))
+same-kind Left Right h = absurd (true≢false (sym h))
+
+-- a first pair, or one of the kind of the first
+one-kind : {A : Type 0} (pairs : List A) (j k : Kind) → (not (length pairs == 0) && not (is_same_kind j k)) ≡ false → (pairs ≡ []) ⊎ (j ≡ k)
+one-kind pairs j k = split (length pairs == 0) (is_same_kind j k) refl refl
+  where
+    split : (none same : Bool) → (length pairs == 0) ≡ none → is_same_kind j k ≡ same → (not none && not same) ≡ false → (pairs ≡ []) ⊎ (j ≡ k)
+    split true same n s h = inl (no-elements pairs n)
+    split false true n s h = inr (same-kind j k s)
+    split false false n s h = absurd (true≢false h)
+
+pair-read : (sizes : ℕ × ℕ) (o : Posed) (queries : List Query) (first : Token) (tokens : List Token) (kind : Kind) → Contains (forms_of true) (Pair kind) →
+    let p : Partial = record { sizes = sizes; problem = problem.Presented o; queries = queries } in FormReads p first tokens (Pair kind)
+pair-read sizes o queries first [] kind there e c = absurd (true≢false c.shaped)
+pair-read sizes o queries first (s ∷ []) kind there e c = absurd (true≢false c.shaped)
+pair-read sizes o queries first (s ∷ t ∷ []) kind there e c =
+    let u = word-read _ _ c.tokens_read in
+    let v = word-read _ _ u.2 in (
+      _,
+      grammar.pair kind (ap (λ n. n ∷ s ∷ t ∷ []) e) there refl (ltb-false _ _ c.in_order) (eqb-false _ _ c.few_pairs)
+          (one-kind _ _ _ c.one_kind) u.1 v.1,
+    )
+pair-read sizes o queries first (s ∷ t ∷ w ∷ tokens) kind there e c = absurd (true≢false c.shaped)
+
+-- the queries
+
+index-read : (p : Partial) (first : Token) (tokens : List Token) → is_generator_line p (first ∷ tokens) ≡ false → FormReads p first tokens Index
+index-read p first [] g e c = (_, grammar.query c.has_generator g (grammar.index (ap (λ n. n ∷ []) e)))
+index-read p first (s ∷ tokens) g e c = absurd (true≢false c.shaped)
+
+equal-read : (p : Partial) (first : Token) (tokens : List Token) → is_generator_line p (first ∷ tokens) ≡ false → FormReads p first tokens Equal
+equal-read p first [] g e c = absurd (true≢false c.shaped)
+equal-read p first (s ∷ []) g e c = absurd (true≢false c.shaped)
+equal-read p first (s ∷ t ∷ []) g e c =
+    let u = word-read _ _ c.tokens_read in
+    let v = word-read _ _ u.2 in
+    (_, grammar.query c.has_generator g (grammar.equal (ap (λ n. n ∷ s ∷ t ∷ []) e) u.1 v.1))
+equal-read p first (s ∷ t ∷ w ∷ tokens) g e c = absurd (true≢false c.shaped)
+
+normal-read : (p : Partial) (first : Token) (tokens : List Token) → is_generator_line p (first ∷ tokens) ≡ false → FormReads p first tokens Normal
+normal-read p first [] g e c = absurd (true≢false c.shaped)
+normal-read p first (s ∷ []) g e c =
+    let u = word-read _ _ c.tokens_read in
+    (_, grammar.query c.has_generator g (grammar.normal (ap (λ n. n ∷ s ∷ []) e) u.1))
+normal-read p first (s ∷ t ∷ tokens) g e c = absurd (true≢false c.shaped)
+
+classes-read : (p : Partial) (first : Token) (tokens : List Token) → is_generator_line p (first ∷ tokens) ≡ false → FormReads p first tokens Classes
+classes-read p first [] g e c = absurd (true≢false c.shaped)
+classes-read p first (s ∷ []) g e c =
+    let n = passed _ _ _ c.tokens_read in
+    let m = is-some _ n.0 in
+    (_, grammar.query c.has_generator g (grammar.classes (ap (λ n. n ∷ s ∷ []) e) m.1))
+classes-read p first (s ∷ t ∷ []) g e c = absurd (true≢false c.shaped)
+classes-read p first (s ∷ t ∷ w ∷ []) g e c =
+    let n = passed _ _ _ c.tokens_read in
+    let m = is-some _ n.0 in
+    let a = passed _ _ _ n.1 in
+    let u = word-read _ _ a.1 in
+    let after : t ≡ codes "after" = same_text t (codes "after") (sym (not-applies _ a.0)) in
+    (_, grammar.query c.has_generator g (grammar.classes_after (ap (λ n. n ∷ s ∷ t ∷ w ∷ []) e ∙ ap (λ t. codes "classes" ∷ s ∷ t ∷ w ∷ []) after) m.1 u.1))
+classes-read p first (s ∷ t ∷ w ∷ x ∷ tokens) g e c = absurd (true≢false c.shaped)
+
+rules-read : (p : Partial) (first : Token) (tokens : List Token) → is_generator_line p (first ∷ tokens) ≡ false → FormReads p first tokens Rules
+rules-read p first [] g e c = (_, grammar.query c.has_generator g (grammar.rules (ap (λ n. n ∷ []) e) (not-applies _ c.allowed)))
+rules-read p first (s ∷ tokens) g e c = absurd (true≢false c.shaped)
+
+element-read : (p : Partial) (first : Token) (tokens : List Token) → is_presented p.problem ≡ false → is_generator_line p (first ∷ tokens) ≡ false → FormReads p first tokens Element
+element-read p first [] k g e c = absurd (true≢false c.shaped)
+element-read p first (s ∷ []) k g e c =
+    let u = word-read _ _ c.tokens_read in
+    (_, grammar.query c.has_generator g (grammar.element (ap (λ n. n ∷ s ∷ []) e) k u.1))
+element-read p first (s ∷ t ∷ tokens) k g e c = absurd (true≢false c.shaped)
+
+cayley-read : (p : Partial) (first : Token) (tokens : List Token) → is_presented p.problem ≡ false → is_generator_line p (first ∷ tokens) ≡ false → FormReads p first tokens Cayley
+cayley-read p first [] k g e c = (_, grammar.query c.has_generator g (grammar.cayley (ap (λ n. n ∷ []) e) k (no-elements _ (not-applies _ c.allowed))))
+cayley-read p first (s ∷ tokens) k g e c = absurd (true≢false c.shaped)
+
+-- a line of a presentation
+
+two-sided-there : Contains (forms_of true) (Pair TwoSided)
+two-sided-there = (1, omega arith, refl)
+
+right-there : Contains (forms_of true) (Pair Right)
+right-there = (2, omega arith, refl)
+
+pub presented-read : (sizes : ℕ × ℕ) (o : Posed) (queries : List Query) (first : Token) (tokens : List Token) →
+    let p : Partial = record { sizes = sizes; problem = problem.Presented o; queries = queries } in
+    first_of (named_causes p (form_among (forms_of true) first) tokens) ≡ None → IsRead p (first ∷ tokens)
+presented-read sizes o queries first tokens =
+    let p : Partial = record { sizes = sizes; problem = problem.Presented o; queries = queries } in
+    by-form p first tokens (forms_of true)
+    (also Relation (relation-read sizes o queries first tokens)
+    (also (Pair TwoSided) (pair-read sizes o queries first tokens TwoSided two-sided-there)
+    (also (Pair Right) (pair-read sizes o queries first tokens Right right-there)
+    (also Index (index-read p first tokens refl)
+    (also Equal (equal-read p first tokens refl)
+    (also Normal (normal-read p first tokens refl)
+    (also Classes (classes-read p first tokens refl)
+    (also Rules (rules-read p first tokens refl) every))))))))
+
+-- a query of an element script
+pub asked-read : (p : Partial) (first : Token) (tokens : List Token) → is_presented p.problem ≡ false → is_generator_line p (first ∷ tokens) ≡ false
+    → first_of (named_causes p (form_among (forms_of (is_presented p.problem)) first) tokens) ≡ None → IsRead p (first ∷ tokens)
+asked-read p first tokens k g h =
+    by-form p first tokens (forms_of false)
+    (also Index (index-read p first tokens g)
+    (also Equal (equal-read p first tokens g)
+    (also Normal (normal-read p first tokens g)
+    (also Classes (classes-read p first tokens g)
+    (also Rules (rules-read p first tokens g)
+    (also Element (element-read p first tokens k g)
+    (also Cayley (cayley-read p first tokens k g) every)))))))
+    (subst (λ b. first_of (named_causes p (form_among (forms_of b) first) tokens) ≡ None) k h)

@@ -1,0 +1,200 @@
+-- The grammar: what a script may have, line by line, and what each line adds to what the lines
+-- before it say.
+use Rattle.std.specs.Prelude.{◌≡◌, ◌≢◌, ℕ, ◌+◌, ◌*◌, ◌≤◌, Bool, true, false, not, ◌&&◌, ◌==◌, ◌⊎◌, Contains, List, [], ◌∷◌, ◌++◌, length, map, codes, if◌then◌else◌, Option, Some, None, Ok}
+use Rattle.std.specs.List.{list_any}
+use Rattle.elements.specs.BMat.{BooleanMatrix}
+use Rattle.elements.specs.MaxPlus.{TruncatedMatrix}
+use Rattle.elements.specs.declared.field.Field.{Field}
+use Rattle.theory.specs.declared.Kind.{Kind}
+use Rattle.theory.specs.declared.Kind.TheVariants.{TwoSided}
+use Rattle.theory.specs.Word.{Word}
+use Rattle.words.specs.Alphabet.{alphabet_fault}
+use Rattle.words.specs.WordText.{word_of}
+use Rattle.presentation.specs.Presented.{Posed}
+use Rattle.problem.specs.Posed.{PosedOf}
+use Rattle.problem.specs.declared.kinds.Problem.{Problem}
+use Rattle.problem.specs.declared.kinds.Problem.TheVariants.{Presented, Transf, PPerm, BMat, MaxPlus}
+use Rattle.problem.specs.Problem.{allows_rules, has_empty_word, is_presented, letters_of}
+use Rattle.query_lang.specs.declared.script.Query.{Query}
+use Rattle.query_lang.specs.declared.script.Query.TheVariants as ask
+use Rattle.query_lang.specs.Asked.{ScriptOf}
+use Rattle.query_lang.specs.Fields.{field_of}
+use Rattle.query_lang.specs.Entries.{all_of, below, below_or_dash, bit, is_injective}
+use Rattle.query_lang.specs.Forms.{Pair, forms_of, name_of}
+use Rattle.query_lang.specs.Relations.{add_pair, add_relation, free_over, most_pairs, most_relations}
+use Rattle.query_lang.specs.Token.{Token, Line, cut_lines, is_kept, is_word, letter_of, number_within, tokens_of}
+
+-- what the lines so far say: the numbers of the header, 0 in the place of one that it has not;
+-- what is posed so far; and the queries
+pub record Partial : Type 0 where
+  pub sizes : ℕ × ℕ
+  pub problem : Problem
+  pub queries : List Query
+
+-- the pairs so far
+abbrev pub pairs_of : Problem → List (Word × Word)
+pairs_of (Presented p) = p.congruence.pairs
+pairs_of (Transf p) = []
+pairs_of (PPerm p) = []
+pairs_of (BMat p) = []
+pairs_of (MaxPlus p) = []
+
+-- the relations so far
+abbrev pub relations_of : Problem → List (Word × Word)
+relations_of (Presented p) = p.congruence.presentation.relations
+relations_of (Transf p) = []
+relations_of (PPerm p) = []
+relations_of (BMat p) = []
+relations_of (MaxPlus p) = []
+
+-- the kind of the pairs; two-sided where there is none
+abbrev pub kind_of : Problem → Kind
+kind_of (Presented p) = p.congruence.kind
+kind_of (Transf p) = TwoSided
+kind_of (PPerm p) = TwoSided
+kind_of (BMat p) = TwoSided
+kind_of (MaxPlus p) = TwoSided
+
+abbrev pub is_empty : {A : Type 0} → List A → Bool
+is_empty [] = true
+is_empty (x ∷ xs) = false
+
+-- the section that the lines have reached: 2 generators and relations, 3 pairs, 4 queries
+abbrev pub section_reached : Partial → ℕ
+section_reached p =
+    if is_empty p.queries then (if length (pairs_of p.problem) == 0 then 2 else 3) else 4
+
+-- whether the second token is `=`
+abbrev pub has_sign : Line → Bool
+has_sign [] = false
+has_sign (first ∷ []) = false
+has_sign (first ∷ second ∷ tokens) = is_word (codes "=") second
+
+-- a line of an element script is a generator line exactly where its second token is `=`
+abbrev pub is_generator_line : Partial → Line → Bool
+is_generator_line p line = not (is_presented p.problem) && has_sign line
+
+-- an element script that has no generator yet, and so no query
+abbrev pub lacks_generator : Partial → Bool
+lacks_generator p = not (is_presented p.problem)
+    && ((length (letters_of p.problem) == 0) && is_empty p.queries)
+
+-- the token is this word of the script
+abbrev pub IsWordOf : Partial → Token → Word → Type 0
+IsWordOf p t u = word_of (letters_of p.problem) (has_empty_word p.problem) t ≡ Ok u
+
+-- the token is this number, which is in the range
+abbrev pub IsNumber : ℕ → ℕ → Token → ℕ → Type 0
+IsNumber low high t n = number_within low high t ≡ Some n
+
+-- the fields are so many entries, and these
+abbrev pub AreEntries : {A : Type 0} → ℕ → (Field → Option A) → List Field → List A → Type 0
+AreEntries count entry fields xs = (length fields ≡ count) × (all_of entry fields ≡ Some xs)
+
+-- one generator more
+abbrev pub one_more : {V : Type 0} → PosedOf V → ℕ → V → PosedOf V
+one_more p x g = record { letters = p.letters ++ x ∷ []; generators = p.generators ++ g ∷ [] }
+
+-- the problem has one generator more, whose entries these fields are
+pub data HasGenerator (sizes : ℕ × ℕ) (x : ℕ) (fields : List Field)
+    : Problem → Problem → Type 0 where
+  transf : {p : PosedOf (List ℕ)} {images : List ℕ}
+      → AreEntries sizes.0 (below sizes.0) fields images
+      → HasGenerator sizes x fields (Transf p) (Transf (one_more p x images))
+  pperm : {p : PosedOf (List (Option ℕ))} {images : List (Option ℕ)}
+      → AreEntries sizes.0 (below_or_dash sizes.0) fields images → is_injective images ≡ true
+      → HasGenerator sizes x fields (PPerm p) (PPerm (one_more p x images))
+  bmat : {p : PosedOf BooleanMatrix} {entries : List Bool}
+      → AreEntries (sizes.0 * sizes.0) bit fields entries
+      → HasGenerator sizes x fields (BMat p)
+      (BMat (one_more p x (record { dimension = sizes.0; entries = entries })))
+  mpt : {p : PosedOf TruncatedMatrix} {entries : List (Option ℕ)}
+      → AreEntries (sizes.0 * sizes.0) (below_or_dash (sizes.1 + 1)) fields entries
+      → HasGenerator sizes x fields (MaxPlus p)
+      (MaxPlus (one_more p x
+      (record { dimension = sizes.0; bound = sizes.1; entries = entries })))
+
+-- the query that the line is
+pub data IsQuery (p : Partial) (line : Line) : Query → Type 0 where
+  index : line ≡ codes "index" ∷ [] → IsQuery p line ask.Index
+  equal : {U V : Token} {u v : Word} → line ≡ codes "equal" ∷ U ∷ V ∷ []
+      → IsWordOf p U u → IsWordOf p V v → IsQuery p line (ask.Equal u v)
+  normal : {U : Token} {u : Word} → line ≡ codes "normal" ∷ U ∷ []
+      → IsWordOf p U u → IsQuery p line (ask.Normal u)
+  classes : {N : Token} {n : ℕ} → line ≡ codes "classes" ∷ N ∷ []
+      → IsNumber 0 1000000 N n → IsQuery p line (ask.Classes n None)
+  classes_after : {N U : Token} {n : ℕ} {u : Word}
+      → line ≡ codes "classes" ∷ N ∷ codes "after" ∷ U ∷ []
+      → IsNumber 0 1000000 N n → IsWordOf p U u → IsQuery p line (ask.Classes n (Some u))
+  rules : line ≡ codes "rules" ∷ [] → allows_rules p.problem ≡ true
+      → IsQuery p line ask.RuleList
+  element : {U : Token} {u : Word} → line ≡ codes "element" ∷ U ∷ []
+      → is_presented p.problem ≡ false → IsWordOf p U u → IsQuery p line (ask.ElementOf u)
+  cayley : line ≡ codes "cayley" ∷ [] → is_presented p.problem ≡ false
+      → pairs_of p.problem ≡ [] → IsQuery p line ask.Cayley
+
+-- a line behind the header, and what the lines say with it
+pub data LineReads (p : Partial) (line : Line) : Partial → Type 0 where
+  generator : {name : Token} {x : ℕ} {entries : List Token} {problem : Problem}
+      → line ≡ name ∷ codes "=" ∷ entries → section_reached p ≤ 2
+      → letter_of name ≡ Some x → list_any (λ y. y == x) (letters_of p.problem) ≡ false
+      → HasGenerator p.sizes x (map field_of entries) p.problem problem
+      → LineReads p line (record p { problem = problem })
+  relation : {U V : Token} {u v : Word} {o : Posed} → line ≡ codes "rel" ∷ U ∷ V ∷ []
+      → p.problem ≡ Presented o → section_reached p ≤ 2
+      → length (relations_of p.problem) ≢ most_relations → IsWordOf p U u → IsWordOf p V v
+      → LineReads p line (record p { problem = Presented (add_relation o (u, v)) })
+  pair : {U V : Token} {u v : Word} {o : Posed} (kind : Kind)
+      → line ≡ name_of (Pair kind) ∷ U ∷ V ∷ [] → Contains (forms_of true) (Pair kind)
+      → p.problem ≡ Presented o → section_reached p ≤ 3
+      → length (pairs_of p.problem) ≢ most_pairs
+      → (pairs_of p.problem ≡ []) ⊎ (kind_of p.problem ≡ kind) → IsWordOf p U u → IsWordOf p V v
+      → LineReads p line (record p { problem = Presented (add_pair o kind (u, v)) })
+  query : {q : Query} → lacks_generator p ≡ false → is_generator_line p line ≡ false
+      → IsQuery p line q
+      → LineReads p line (record p { queries = p.queries ++ q ∷ [] })
+
+-- no generator yet
+abbrev pub no_generators : {V : Type 0} → PosedOf V
+no_generators = record { letters = []; generators = [] }
+
+-- what the header says
+abbrev pub begin_with : ℕ × ℕ → Problem → Partial
+begin_with sizes problem = record { sizes = sizes; problem = problem; queries = [] }
+
+-- a header, and what it says
+pub data HeaderReads (line : Line) : Partial → Type 0 where
+  trans : {D : Token} {d : ℕ} → line ≡ codes "trans" ∷ D ∷ [] → IsNumber 1 64 D d
+      → HeaderReads line (begin_with (d, 0) (Transf no_generators))
+  pperm : {D : Token} {d : ℕ} → line ≡ codes "pperm" ∷ D ∷ [] → IsNumber 1 64 D d
+      → HeaderReads line (begin_with (d, 0) (PPerm no_generators))
+  bmat : {D : Token} {d : ℕ} → line ≡ codes "bmat" ∷ D ∷ [] → IsNumber 1 16 D d
+      → HeaderReads line (begin_with (d, 0) (BMat no_generators))
+  mpt : {D T : Token} {d t : ℕ} → line ≡ codes "mpt" ∷ D ∷ T ∷ [] → IsNumber 1 16 D d
+      → IsNumber 0 65535 T t → HeaderReads line (begin_with (d, t) (MaxPlus no_generators))
+  monoid : {L : Token} → line ≡ codes "monoid" ∷ L ∷ [] → alphabet_fault L ≡ None
+      → HeaderReads line (begin_with (0, 0) (Presented (free_over true L)))
+  semigroup : {L : Token} → line ≡ codes "semigroup" ∷ L ∷ [] → alphabet_fault L ≡ None
+      → HeaderReads line (begin_with (0, 0) (Presented (free_over false L)))
+
+-- one line after what the lines before it say: nothing, before the header
+pub data Step : Option Partial → Line → Option Partial → Type 0 where
+  skipped : {s : Option Partial} {line : Line} → is_kept line ≡ false → Step s line s
+  header : {line : Line} {q : Partial} → is_kept line ≡ true → HeaderReads line q
+      → Step None line (Some q)
+  further : {p q : Partial} {line : Line} → is_kept line ≡ true → LineReads p line q
+      → Step (Some p) line (Some q)
+
+-- lines, one after another
+pub data Reads : Option Partial → List Line → Option Partial → Type 0 where
+  none : {s : Option Partial} → Reads s [] s
+  more : {s t u : Option Partial} {line : Line} {lines : List Line} → Step s line t
+      → Reads t lines u → Reads s (line ∷ lines) u
+
+-- the lines of bytes, each as its tokens
+abbrev pub lines_of : List ℕ → List Line
+lines_of bytes = map tokens_of (cut_lines bytes)
+
+-- the script that a partial one is, where nothing is missing
+abbrev pub script_in : Partial → ScriptOf
+script_in p = record { problem = p.problem; queries = p.queries }
