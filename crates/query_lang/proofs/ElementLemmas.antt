@@ -10,8 +10,8 @@ use Rattle.problem.specs.declared.kinds.Problem.TheVariants as problem
 use Rattle.query_lang.specs.declared.cause.Cause.{Cause}
 use Rattle.query_lang.specs.declared.cause.Cause.TheVariants as cause
 use Rattle.query_lang.specs.QueryLines as name
-use Rattle.query_lang.specs.declared.reader.Reader.{Reader}
-use Rattle.query_lang.specs.declared.reader.Reader.TheVariants.{Asking}
+use Rattle.query_lang.specs.Script.{ReaderOf}
+use Rattle.query_lang.specs.Script.{Asking}
 use Rattle.query_lang.specs.Outcome.{and_then}
 use Rattle.query_lang.specs.Fields.{field_of}
 use Rattle.query_lang.specs.Token.{Token, is_word}
@@ -55,7 +55,7 @@ lacking-cause : (late lacks : Bool) (cs : List (Option Cause)) → false ≡ lat
 lacking-cause late lacks cs h k = ap (λ b. first_of (when cause.LineOutOfOrder b ∷ Some cause.NoGenerator ∷ cs)) h ∙ ap (λ b. first_of (when cause.LineOutOfOrder late ∷ when cause.NoGenerator b ∷ cs)) k
 
 -- the reader finishes where a generator is there
-pub data Ready (r : Reader) (p : Partial) : Type 0 where
+pub data Ready (r : ReaderOf) (p : Partial) : Type 0 where
   ready : finished r ≡ Ok (script_in p) → lacks_generator p ≡ false → Ready r p
   lacking : finished r ≡ Err cause.NoGenerator → lacks_generator p ≡ true → Ready r p
 
@@ -68,7 +68,7 @@ lacking-of p name.Rules tokens l = lacking-cause _ _ _ (sym (never-late (is_empt
 lacking-of p name.Element tokens l = lacking-cause _ _ _ (sym (never-late (is_empty p.queries) (length (pairs_of p.problem) == 0))) (sym l)
 lacking-of p name.Cayley tokens l = lacking-cause _ _ _ (sym (never-late (is_empty p.queries) (length (pairs_of p.problem) == 0))) (sym l)
 
-each-query : (r : Reader) (p : Partial) (name : NameOf) (tokens : List Token) → is_presented p.problem ≡ false → (length (pairs_of p.problem) == 0) ≡ true → Ready r p
+each-query : (r : ReaderOf) (p : Partial) (name : NameOf) (tokens : List Token) → is_presented p.problem ≡ false → (length (pairs_of p.problem) == 0) ≡ true → Ready r p
     → cause_in (and_then (λ script. and_then (λ s. Ok (Asking s)) (asked script name tokens)) (finished r)) ≡ first_of (form_causes p (form_of name) tokens)
 each-query r p name tokens h k (ready f l) =
     ap (λ x. cause_in (and_then (λ script. and_then (λ s. Ok (Asking s)) (asked script name tokens)) x)) f ∙ same-cause (λ s. Asking s) (asked (script_in p) name tokens) ∙ query_in_elements p name tokens h k l
@@ -89,19 +89,19 @@ pick-seven given said none each false false false false false true y = each name
 pick-seven given said none each false false false false false false true = each name.Cayley
 pick-seven given said none each false false false false false false false = none
 
-named-query : (r : Reader) (p : Partial) (first : Token) (tokens : List Token) → is_presented p.problem ≡ false → (length (pairs_of p.problem) == 0) ≡ true → Ready r p
+named-query : (r : ReaderOf) (p : Partial) (first : Token) (tokens : List Token) → is_presented p.problem ≡ false → (length (pairs_of p.problem) == 0) ≡ true → Ready r p
     → cause_in (query_line r first tokens) ≡ first_of (named_causes p (form_among (forms_of false) first) tokens)
 named-query r p first tokens h k l =
     pick-seven (λ x. cause_in (and_then (λ name. and_then (λ script. and_then (λ s. Ok (Asking s)) (asked script name tokens)) (finished r)) x)) (λ form. first_of (named_causes p form tokens)) refl
     (λ name. each-query r p name tokens h k l)
     (is_word (codes "index") first) (is_word (codes "equal") first) (is_word (codes "normal") first) (is_word (codes "classes") first) (is_word (codes "rules") first) (is_word (codes "element") first) (is_word (codes "cayley") first)
 
-either : (sign : Bool) (G Q : Result Reader Cause) (gs qs : List (Option Cause)) → cause_in G ≡ first_of gs → cause_in Q ≡ first_of qs → cause_in (if sign then G else Q) ≡ first_of (if sign then gs else qs)
+either : (sign : Bool) (G Q : Result ReaderOf Cause) (gs qs : List (Option Cause)) → cause_in G ≡ first_of gs → cause_in Q ≡ first_of qs → cause_in (if sign then G else Q) ≡ first_of (if sign then gs else qs)
 either true G Q gs qs g q = g
 either false G Q gs qs g q = q
 
 -- a line of an element script has the cause that is said
-pub elements_cause : (r : Reader) (p : Partial) (first : Token) (tokens : List Token) → is_presented p.problem ≡ false → (length (pairs_of p.problem) == 0) ≡ true → Ready r p
+pub elements_cause : (r : ReaderOf) (p : Partial) (first : Token) (tokens : List Token) → is_presented p.problem ≡ false → (length (pairs_of p.problem) == 0) ≡ true → Ready r p
     → ((name : Token) (entries : List Token) → cause_in (generator_line r name entries) ≡ first_of (generator_causes p name (map field_of entries)))
     → cause_in (element_line r (first ∷ tokens)) ≡ first_of (line_causes p (first ∷ tokens))
 elements_cause r p first [] h k l g = named-query r p first [] h k l ∙ ap (λ b. first_of (named_causes p (form_among (forms_of b) first) [])) (sym h)
@@ -109,7 +109,7 @@ elements_cause r p first (second ∷ tokens) h k l g =
     either (is_word (codes "=") second) _ _ _ _ (g first tokens) (named-query r p first (second ∷ tokens) h k l)
     ∙ ap (λ b. first_of (if not b && is_word (codes "=") second then generator_causes p first (map field_of tokens) else named_causes p (form_among (forms_of b) first) (second ∷ tokens))) (sym h)
 
-ready-by : {V : Type 0} (inj : PosedOf V → Problem) (sizes : ℕ × ℕ) (g : PosedOf V) (none : Bool) (r : Reader) → (finished r ≡ and_then (λ p. Ok (record { problem = p; queries = [] })) (and_then (λ p. Ok (inj p)) (if none then Err cause.NoGenerator else Ok g)))
+ready-by : {V : Type 0} (inj : PosedOf V → Problem) (sizes : ℕ × ℕ) (g : PosedOf V) (none : Bool) (r : ReaderOf) → (finished r ≡ and_then (λ p. Ok (record { problem = p; queries = [] })) (and_then (λ p. Ok (inj p)) (if none then Err cause.NoGenerator else Ok g)))
     → lacks_generator (posing sizes (inj g)) ≡ none → Ready r (posing sizes (inj g))
 ready-by inj sizes g true r h l = lacking h l
 ready-by inj sizes g false r h l = ready h l

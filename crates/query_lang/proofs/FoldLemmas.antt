@@ -1,9 +1,9 @@
 -- What the reader keeps of a partial script, and how it takes lines by their tokens.
 use Rattle.std.proofs.Common.{◌≡◌, ℕ, suc, if◌then◌else◌, List, [], ◌∷◌, map, Option, Some, None, Result, Ok, Err, refl}
 use Rattle.query_lang.specs.declared.cause.Cause.{Cause}
-use Rattle.query_lang.specs.declared.draft.Draft.TheVariants as draft
-use Rattle.query_lang.specs.declared.reader.Reader.{Reader}
-use Rattle.query_lang.specs.declared.reader.Reader.TheVariants.{Posing, Relating, Asking}
+use Rattle.query_lang.specs.Draft as draft
+use Rattle.query_lang.specs.Script.{ReaderOf}
+use Rattle.query_lang.specs.Script.{Posing, Relating, Asking}
 use Rattle.problem.specs.declared.kinds.Problem.{Problem}
 use Rattle.problem.specs.declared.kinds.Problem.TheVariants.{Presented, Transf, PPerm, BMat, MaxPlus}
 use Rattle.query_lang.specs.Outcome.{and_then}
@@ -12,7 +12,7 @@ use Rattle.query_lang.specs.Script.{read_line, take_line, at_line, read_lines}
 use Rattle.query_lang.specs.Grammar.{Partial, is_empty, Step, script_in}
 
 -- what the reader keeps before the first query
-abbrev pub opened : ℕ × ℕ → Problem → Reader
+abbrev pub opened : ℕ × ℕ → Problem → ReaderOf
 opened sizes (Presented o) = Relating o
 opened sizes (Transf g) = Posing (draft.Transf (record { sizes = sizes; letters = g.letters; generators = g.generators }))
 opened sizes (PPerm g) = Posing (draft.PPerm (record { sizes = sizes; letters = g.letters; generators = g.generators }))
@@ -20,18 +20,18 @@ opened sizes (BMat g) = Posing (draft.BMat (record { sizes = sizes; letters = g.
 opened sizes (MaxPlus g) = Posing (draft.MaxPlus (record { sizes = sizes; letters = g.letters; generators = g.generators }))
 
 -- what the reader keeps of a partial script
-abbrev pub reader_of : Partial → Reader
+abbrev pub reader_of : Partial → ReaderOf
 reader_of p = if is_empty p.queries then opened p.sizes p.problem else Asking (script_in p)
 
-abbrev pub readers : Option Partial → Option Reader
+abbrev pub readers : Option Partial → Option ReaderOf
 readers None = None
 readers (Some p) = Some (reader_of p)
 
 -- a line by its tokens
-abbrev pub take_tokens : Option Reader → Line → Result (Option Reader) Cause
+abbrev pub take_tokens : Option ReaderOf → Line → Result (Option ReaderOf) Cause
 take_tokens s line = if is_kept line then and_then (λ r. Ok (Some r)) (read_line s line) else Ok s
 
-abbrev pub read_tokens : ℕ → Option Reader → List Line → Result (Option Reader) (ℕ × Cause)
+abbrev pub read_tokens : ℕ → Option ReaderOf → List Line → Result (Option ReaderOf) (ℕ × Cause)
 read_tokens n s [] = Ok s
 read_tokens n s (line ∷ lines) = and_then (λ t. read_tokens (suc n) t lines) (at_line n (take_tokens s line))
 
@@ -43,7 +43,7 @@ same-then : {A B E : Type 0} (f g : A → Result B E) → ((x : A) → f x ≡ g
 same-then f g h (Ok x) = h x
 same-then f g h (Err e) = refl
 
-pub by_tokens : (n : ℕ) (s : Option Reader) (xs : List (List ℕ)) → read_lines n s xs ≡ read_tokens n s (map tokens_of xs)
+pub by_tokens : (n : ℕ) (s : Option ReaderOf) (xs : List (List ℕ)) → read_lines n s xs ≡ read_tokens n s (map tokens_of xs)
 by_tokens n s [] = refl
 by_tokens n s (x ∷ xs) =
     same-then (λ t. read_lines (suc n) t xs) (λ t. read_tokens (suc n) t (map tokens_of xs)) (λ t. by_tokens (suc n) t xs) (at_line n (take_line s x))

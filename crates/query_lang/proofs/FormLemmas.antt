@@ -5,8 +5,8 @@ use Rattle.presentation.specs.Presented.{Posed}
 use Rattle.problem.specs.declared.kinds.Problem.TheVariants.{Presented}
 use Rattle.query_lang.specs.declared.cause.Cause.{Cause}
 use Rattle.query_lang.specs.declared.cause.Cause.TheVariants as cause
-use Rattle.query_lang.specs.declared.reader.Reader.{Reader}
-use Rattle.query_lang.specs.declared.reader.Reader.TheVariants.{Relating, Asking}
+use Rattle.query_lang.specs.Script.{ReaderOf}
+use Rattle.query_lang.specs.Script.{Relating, Asking}
 use Rattle.query_lang.specs.Outcome.{and_then}
 use Rattle.std.specs.Option.{ok_or}
 use Rattle.theory.specs.declared.Kind.{Kind}
@@ -217,14 +217,14 @@ pick-query given said none each false false false false false false true = each 
 pick-query given said none each false false false false false false false = none
 
 -- the line by its name
-pick-line : (r t g : Bool) (R T G Q : Result Reader Cause) (said : Option Form → Option Cause) (f : Option Form) → cause_in R ≡ said (Some Relation) → cause_in T ≡ said (Some (Pair TwoSided)) → cause_in G ≡ said (Some (Pair Right)) → cause_in Q ≡ said f
+pick-line : (r t g : Bool) (R T G Q : Result ReaderOf Cause) (said : Option Form → Option Cause) (f : Option Form) → cause_in R ≡ said (Some Relation) → cause_in T ≡ said (Some (Pair TwoSided)) → cause_in G ≡ said (Some (Pair Right)) → cause_in Q ≡ said f
     → cause_in (if r then R else if t then T else if g then G else Q) ≡ said (if r then Some Relation else if t then Some (Pair TwoSided) else if g then Some (Pair Right) else f)
 pick-line true t g R T G Q said f hr ht hg hq = hr
 pick-line false true g R T G Q said f hr ht hg hq = ht
 pick-line false false true R T G Q said f hr ht hg hq = hg
 pick-line false false false R T G Q said f hr ht hg hq = hq
 
-query-by-name : (r : Reader) (sizes : ℕ × ℕ) (o : Posed) (queries : List Query) (first : Token) (tokens : List Token) → finished r ≡ Ok (script_in (presented sizes o queries))
+query-by-name : (r : ReaderOf) (sizes : ℕ × ℕ) (o : Posed) (queries : List Query) (first : Token) (tokens : List Token) → finished r ≡ Ok (script_in (presented sizes o queries))
     → cause_in (query_line r first tokens) ≡ first_of (named_causes (presented sizes o queries) (form_among (Index ∷ Equal ∷ Normal ∷ Classes ∷ Rules ∷ []) first) tokens)
 query-by-name r sizes o queries first tokens h =
     pick-query (λ x. cause_in (and_then (λ name. and_then (λ script. and_then (λ s. Ok (Asking s)) (asked script name tokens)) (finished r)) x)) (λ form. first_of (named_causes (presented sizes o queries) form tokens)) refl

@@ -3,9 +3,9 @@ use Rattle.std.proofs.Common.{◌≡◌, ℕ, Bool, true, false, if◌then◌els
 use Rattle.std.specs.Option.{ok_or}
 use Rattle.query_lang.specs.declared.cause.Cause.{Cause}
 use Rattle.query_lang.specs.declared.cause.Cause.TheVariants as cause
-use Rattle.query_lang.specs.declared.draft.Draft.{Draft}
-use Rattle.query_lang.specs.declared.reader.Reader.{Reader}
-use Rattle.query_lang.specs.declared.reader.Reader.TheVariants.{Posing, Relating}
+use Rattle.query_lang.specs.Draft.{AnyDraft}
+use Rattle.query_lang.specs.Script.{ReaderOf}
+use Rattle.query_lang.specs.Script.{Posing, Relating}
 use Rattle.query_lang.specs.Outcome.{and_then}
 use Rattle.query_lang.specs.Header.{size_of, sizes_of, outline_of}
 use Rattle.query_lang.specs.Outline.{alphabet_of}
@@ -44,7 +44,7 @@ outline_cause is_monoid [] = refl
 outline_cause is_monoid (s ∷ []) = letters (free_over is_monoid) (λ o. Relating o) (alphabet_of s)
 outline_cause is_monoid (s ∷ t ∷ tokens) = refl
 
-pick : (m s t p b x : Bool) (M S : Result Reader Cause) (T P B X : Result Draft Cause) (said : Option HeaderForm → Option Cause)
+pick : (m s t p b x : Bool) (M S : Result ReaderOf Cause) (T P B X : Result AnyDraft Cause) (said : Option HeaderForm → Option Cause)
     → cause_in M ≡ said (Some Letters) → cause_in S ≡ said (Some Letters) → cause_in T ≡ said (Some (Numbers ((1, 64) ∷ []))) → cause_in P ≡ said (Some (Numbers ((1, 64) ∷ []))) → cause_in B ≡ said (Some (Numbers ((1, 16) ∷ []))) → cause_in X ≡ said (Some (Numbers ((1, 16) ∷ (0, 65535) ∷ []))) → Some cause.UnknownHeader ≡ said None
     → cause_in (if m then M else if s then S else and_then (λ d. Ok (Posing d)) (if t then T else if p then P else if b then B else if x then X else Err cause.UnknownHeader))
     ≡ said (if m then Some Letters else if s then Some Letters else if t then Some (Numbers ((1, 64) ∷ [])) else if p then Some (Numbers ((1, 64) ∷ [])) else if b then Some (Numbers ((1, 16) ∷ [])) else if x then Some (Numbers ((1, 16) ∷ (0, 65535) ∷ [])) else None)

@@ -7,7 +7,7 @@ use Rattle.query_lang.specs.declared.script.Query.TheVariants.{Classes}
 use Rattle.query_lang.specs.Outcome.{and_then}
 use Rattle.query_lang.specs.Texts.{texts}
 use Rattle.query_lang.specs.Token.{is_word}
-use Rattle.query_lang.specs.declared.reader.Reader.{Reader}
+use Rattle.query_lang.specs.Script.{ReaderOf}
 use Rattle.query_lang.specs.Script.{generator_line, query_line, element_line}
 use Rattle.query_lang.specs.QueryLines.{count_of, cursor_of, page_of}
 
@@ -28,7 +28,7 @@ count_refused letters allow_empty (s ∷ t ∷ u ∷ []) none cause n h =
 count_refused letters allow_empty (s ∷ t ∷ u ∷ v ∷ ts) none cause n h = absurd (omega arith)
 
 -- a line that is no generator line
-pub is_query_line : (r : Reader) (line : List (Bor (List ℕ))) (none : Bor (List ℕ)) → 1 ≤ length line → (length line < 2) ⊎ (is_word (codes "=") (get_or line 1 none).now ≡ false)
+pub is_query_line : (r : ReaderOf) (line : List (Bor (List ℕ))) (none : Bor (List ℕ)) → 1 ≤ length line → (length line < 2) ⊎ (is_word (codes "=") (get_or line 1 none).now ≡ false)
     → query_line r (get_or line 0 none).now (texts (take (length line - 1) (drop 1 line))) ≡ element_line r (texts line)
 is_query_line r [] none h which = absurd (omega arith)
 is_query_line r (s ∷ []) none h which = refl

@@ -16,10 +16,10 @@ use Rattle.problem.specs.declared.kinds.Problem.TheVariants.{Presented, Transf, 
 use Rattle.problem.specs.Problem.{allows_rules, has_empty_word, is_presented, letters_of}
 use Rattle.query_lang.specs.declared.cause.Cause.{Cause}
 use Rattle.query_lang.specs.declared.cause.Cause.TheVariants as cause
-use Rattle.query_lang.specs.declared.draft.Draft.TheVariants as draft
+use Rattle.query_lang.specs.Draft as draft
 use Rattle.query_lang.specs.QueryLines as name
-use Rattle.query_lang.specs.declared.reader.Reader.{Reader}
-use Rattle.query_lang.specs.declared.reader.Reader.TheVariants.{Posing, Relating, Asking}
+use Rattle.query_lang.specs.Script.{ReaderOf}
+use Rattle.query_lang.specs.Script.{Posing, Relating, Asking}
 use Rattle.query_lang.specs.declared.script.Query.{Query}
 use Rattle.query_lang.specs.declared.script.Query.TheVariants as query
 use Rattle.query_lang.specs.Asked.{ScriptOf}
@@ -216,7 +216,7 @@ by_other_name : {A : Type 0} (x y z last : A) (r t g : Bool) → r ≡ false →
 by_other_name x y z last r t g a b c = ap (λ r. if r then x else if t then y else if g then z else last) a ∙ ap (λ t. if t then y else if g then z else last) b ∙ ap (λ g. if g then z else last) c
 
 -- a line that is no generator line, relation or pair
-query_line_read : (r : Reader) (presented : Bool) (first : Token) (tokens : List Token) → is_presentation r ≡ presented → (not presented && has_sign (first ∷ tokens)) ≡ false → IsOtherName first
+query_line_read : (r : ReaderOf) (presented : Bool) (first : Token) (tokens : List Token) → is_presentation r ≡ presented → (not presented && has_sign (first ∷ tokens)) ≡ false → IsOtherName first
     → with_line r (first ∷ tokens) ≡ query_line r first tokens
 query_line_read r true first tokens is sign other =
     ap (λ b. if b then presentation_line r (first ∷ tokens) else element_line r (first ∷ tokens)) is

@@ -3,10 +3,10 @@ use Rattle.std.proofs.Common.{◌≡◌, ℕ, List, [], ◌∷◌, Option, Some,
 use Rattle.problem.specs.declared.kinds.Problem.{Problem}
 use Rattle.problem.specs.declared.kinds.Problem.TheVariants.{Presented, Transf, PPerm, BMat, MaxPlus}
 use Rattle.query_lang.specs.declared.cause.Cause.{Cause}
-use Rattle.query_lang.specs.declared.draft.Draft.{Draft}
-use Rattle.query_lang.specs.declared.draft.Draft.TheVariants as draft
-use Rattle.query_lang.specs.declared.reader.Reader.{Reader}
-use Rattle.query_lang.specs.declared.reader.Reader.TheVariants.{Posing, Relating, Asking}
+use Rattle.query_lang.specs.Draft.{AnyDraft}
+use Rattle.query_lang.specs.Draft as draft
+use Rattle.query_lang.specs.Script.{ReaderOf}
+use Rattle.query_lang.specs.Script.{Posing, Relating, Asking}
 use Rattle.query_lang.specs.declared.script.Query.{Query}
 use Rattle.query_lang.specs.Token.{Line}
 use Rattle.query_lang.specs.Grammar.{HeaderReads, LineReads, Partial, Step}
@@ -22,29 +22,29 @@ step_has_no_cause s t line step = sym (causes_agree s line) ∙ ap cause_in (sou
 
 -- what a reader keeps of its partial script
 
-abbrev drafted : Draft → Problem
+abbrev drafted : AnyDraft → Problem
 drafted (draft.Transf d) = Transf (record { letters = d.letters; generators = d.generators })
 drafted (draft.PPerm d) = PPerm (record { letters = d.letters; generators = d.generators })
 drafted (draft.BMat d) = BMat (record { letters = d.letters; generators = d.generators })
 drafted (draft.MaxPlus d) = MaxPlus (record { letters = d.letters; generators = d.generators })
 
-abbrev sizes_drafted : Draft → ℕ × ℕ
+abbrev sizes_drafted : AnyDraft → ℕ × ℕ
 sizes_drafted (draft.Transf d) = d.sizes
 sizes_drafted (draft.PPerm d) = d.sizes
 sizes_drafted (draft.BMat d) = d.sizes
 sizes_drafted (draft.MaxPlus d) = d.sizes
 
-abbrev problem_kept : Reader → Problem
+abbrev problem_kept : ReaderOf → Problem
 problem_kept (Posing d) = drafted d
 problem_kept (Relating o) = Presented o
 problem_kept (Asking script) = script.problem
 
-abbrev queries_kept : Reader → List Query
+abbrev queries_kept : ReaderOf → List Query
 queries_kept (Posing d) = []
 queries_kept (Relating o) = []
 queries_kept (Asking script) = script.queries
 
-abbrev sizes_kept : Reader → ℕ × ℕ
+abbrev sizes_kept : ReaderOf → ℕ × ℕ
 sizes_kept (Posing d) = sizes_drafted d
 sizes_kept (Relating o) = (0, 0)
 sizes_kept (Asking script) = (0, 0)
@@ -86,7 +86,7 @@ header_sizes line q (grammar.mpt is h k) = refl
 header_sizes line q (grammar.monoid is h) = refl
 header_sizes line q (grammar.semigroup is h) = refl
 
-same_reader : (p q : Partial) → ◌≡◌ {A = Result (Option Reader) Cause} (Ok (Some (reader_of p))) (Ok (Some (reader_of q))) → reader_of p ≡ reader_of q
+same_reader : (p q : Partial) → ◌≡◌ {A = Result (Option ReaderOf) Cause} (Ok (Some (reader_of p))) (Ok (Some (reader_of q))) → reader_of p ≡ reader_of q
 same_reader p q e = cc
 
 -- a line is read to one partial script

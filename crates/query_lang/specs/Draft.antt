@@ -1,10 +1,12 @@
 -- Generators that lines give, one after another.
-use Rattle.std.specs.Prelude.{◌≡◌, ℕ, ◌==◌, List, [], ◌∷◌, ◌++◌, length, All, if◌then◌else◌, None, Result, Ok, Err, refl}
+use Rattle.std.specs.Prelude.{◌≡◌, ℕ, ◌==◌, List, [], ◌∷◌, ◌++◌, length, All, if◌then◌else◌, Option, None, Result, Ok, Err, refl}
 use Rattle.std.specs.Coded.{Coded, code_by, coded×, coded_list, coded_ℕ}
 use Rattle.std.specs.List.{list_any}
 use Rattle.std.specs.Option.{ok_or}
 use Rattle.words.specs.Alphabet.{first_fault}
 use Rattle.problem.specs.Posed.{PosedOf}
+use Rattle.elements.specs.BMat.{BooleanMatrix}
+use Rattle.elements.specs.MaxPlus.{TruncatedMatrix}
 use Rattle.elements.specs.declared.field.Field.{Field}
 use Rattle.query_lang.specs.declared.cause.Cause.{Cause}
 use Rattle.query_lang.specs.declared.cause.Cause.TheVariants.{NotALetter, RepeatedLetter, NoGenerator}
@@ -23,6 +25,13 @@ draft_code {V} code =
     (coded× (coded× coded_ℕ coded_ℕ) (coded× (coded_list coded_ℕ) (coded_list code)))
     (λ d. (d.sizes, (d.letters, d.generators)))
     (λ p. record { sizes = p.0; letters = p.1.0; generators = p.1.1 }) (λ _. refl)
+
+-- generators so far, of one of the kinds
+pub data AnyDraft : Type 0 where
+  Transf : DraftOf (List ℕ) → AnyDraft
+  PPerm : DraftOf (List (Option ℕ)) → AnyDraft
+  BMat : DraftOf BooleanMatrix → AnyDraft
+  MaxPlus : DraftOf TruncatedMatrix → AnyDraft
 
 -- each generator has a letter and is of the one shape, and the letters are different ones from
 -- `a` to `z`

@@ -4,11 +4,9 @@ use Rattle.std.specs.Option.{ok_or}
 use Rattle.presentation.specs.Presented.{Posed}
 use Rattle.query_lang.specs.declared.cause.Cause.{Cause}
 use Rattle.query_lang.specs.declared.cause.Cause.TheVariants.{UnknownHeader, WrongNumberOfWords, BadNumber}
-use Rattle.query_lang.specs.declared.draft.Draft.{Draft}
-use Rattle.query_lang.specs.declared.draft.Draft.TheVariants.{Transf, PPerm, BMat, MaxPlus}
 use Rattle.query_lang.specs.Outcome.{and_then}
 use Rattle.query_lang.specs.Token.{Token, Line, is_word, number_within}
-use Rattle.query_lang.specs.Draft.{start_of}
+use Rattle.query_lang.specs.Draft.{AnyDraft, Transf, PPerm, BMat, MaxPlus, start_of}
 use Rattle.query_lang.specs.LineWords.{one_token}
 use Rattle.query_lang.specs.Outline.{alphabet_of}
 use Rattle.query_lang.specs.Relations.{free_over}
@@ -31,7 +29,7 @@ outline_of is_monoid tokens = and_then (λ letters. Ok (free_over is_monoid lett
     (and_then alphabet_of (one_token tokens))
 
 -- `trans D`, `pperm D`, `bmat D` or `mpt D T`
-abbrev pub header_of : Line → Result Draft Cause
+abbrev pub header_of : Line → Result AnyDraft Cause
 header_of [] = Err UnknownHeader
 header_of (name ∷ tokens) =
     if is_word (codes "trans") name then and_then (λ d. Ok (Transf (start_of (d, 0))))

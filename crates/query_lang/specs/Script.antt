@@ -9,16 +9,22 @@ use Rattle.problem.specs.declared.kinds.Problem.TheVariants.{Presented}
 use Rattle.problem.specs.Problem.{allows_rules, has_empty_word, is_presented, letters_of}
 use Rattle.query_lang.specs.declared.cause.Cause.{Cause}
 use Rattle.query_lang.specs.declared.cause.Cause.TheVariants.{HeaderMissing, UnknownHeader, UnknownLine, LineOutOfOrder, QueryNotAllowed, WrongNumberOfWords}
-use Rattle.query_lang.specs.declared.reader.Reader.{Reader}
-use Rattle.query_lang.specs.declared.reader.Reader.TheVariants.{Posing, Relating, Asking}
 use Rattle.query_lang.specs.declared.script.Query.{Query}
 use Rattle.query_lang.specs.Outcome.{and_then}
 use Rattle.query_lang.specs.Token.{Token, Line, tokens_of, is_kept, cut_lines, is_word}
+use Rattle.query_lang.specs.Draft.{AnyDraft}
 use Rattle.query_lang.specs.Fields.{field_of}
 use Rattle.query_lang.specs.Generators.{draft_with, problem_of}
 use Rattle.query_lang.specs.Header.{header_of, outline_of}
 use Rattle.query_lang.specs.Outline.{with_pair, with_relation}
 use Rattle.query_lang.specs.QueryLines.{NameOf, name_asks_rules, name_needs_generators, name_takes, query_name_of, query_of}
+
+-- what the lines so far have given: before the first query generators, or a presentation and pairs,
+-- and from it on a script
+pub data ReaderOf : Type 0 where
+  Posing : AnyDraft → ReaderOf
+  Relating : Posed → ReaderOf
+  Asking : ScriptOf → ReaderOf
 
 -- the query behind the others
 abbrev pub with_asked : ScriptOf → Query → ScriptOf
@@ -34,49 +40,49 @@ asked s name tokens =
     (query_of (letters_of s.problem) (has_empty_word s.problem) name tokens)
 
 -- whether the script is a presentation
-abbrev pub is_presentation : Reader → Bool
+abbrev pub is_presentation : ReaderOf → Bool
 is_presentation (Posing draft) = false
 is_presentation (Relating outline) = true
 is_presentation (Asking script) = is_presented script.problem
 
 -- the script so far: a presentation, or what has a generator
-abbrev pub finished : Reader → Result ScriptOf Cause
+abbrev pub finished : ReaderOf → Result ScriptOf Cause
 finished (Posing draft) = and_then (λ p. Ok (record { problem = p; queries = [] }))
     (problem_of draft)
 finished (Relating outline) = Ok (record { problem = Presented outline; queries = [] })
 finished (Asking script) = Ok script
 
 -- the generator line `x = ENTRIES`, which may stand before the queries
-abbrev pub generator_line : Reader → Token → List Token → Result Reader Cause
+abbrev pub generator_line : ReaderOf → Token → List Token → Result ReaderOf Cause
 generator_line (Posing draft) name entries = and_then (λ d. Ok (Posing d))
     (draft_with draft name (map field_of entries))
 generator_line (Relating outline) name entries = Err UnknownLine
 generator_line (Asking script) name entries = Err LineOutOfOrder
 
 -- the relations and the pairs so far, which stand before the queries
-abbrev pub outline_so_far : Reader → Result Posed Cause
+abbrev pub outline_so_far : ReaderOf → Result Posed Cause
 outline_so_far (Posing draft) = Err UnknownLine
 outline_so_far (Relating outline) = Ok outline
 outline_so_far (Asking script) = Err LineOutOfOrder
 
 -- the relation `rel U V`
-abbrev pub relation_line : Reader → List Token → Result Reader Cause
+abbrev pub relation_line : ReaderOf → List Token → Result ReaderOf Cause
 relation_line r tokens = and_then
     (λ outline. and_then (λ o. Ok (Relating o)) (with_relation outline tokens)) (outline_so_far r)
 
 -- the pair `twosided U V` or `right U V`
-abbrev pub pair_line : Reader → Kind → List Token → Result Reader Cause
+abbrev pub pair_line : ReaderOf → Kind → List Token → Result ReaderOf Cause
 pair_line r kind tokens = and_then
     (λ outline. and_then (λ o. Ok (Relating o)) (with_pair outline kind tokens)) (outline_so_far r)
 
 -- a query, which may stand after the generators, or after the relations and the pairs
-abbrev pub query_line : Reader → Token → List Token → Result Reader Cause
+abbrev pub query_line : ReaderOf → Token → List Token → Result ReaderOf Cause
 query_line r first tokens =
     and_then (λ name. and_then (λ script. and_then (λ s. Ok (Asking s)) (asked script name tokens))
     (finished r)) (ok_or (query_name_of first) UnknownLine)
 
 -- a line after the header of a presentation
-abbrev pub presentation_line : Reader → Line → Result Reader Cause
+abbrev pub presentation_line : ReaderOf → Line → Result ReaderOf Cause
 presentation_line r [] = Err UnknownLine
 presentation_line r (first ∷ tokens) =
     if is_word (codes "rel") first then relation_line r tokens
@@ -85,7 +91,7 @@ presentation_line r (first ∷ tokens) =
     else query_line r first tokens
 
 -- a line after the header of generators; the second token of a generator line is `=`
-abbrev pub element_line : Reader → Line → Result Reader Cause
+abbrev pub element_line : ReaderOf → Line → Result ReaderOf Cause
 element_line r [] = Err UnknownLine
 element_line r (first ∷ []) = query_line r first []
 element_line r (first ∷ second ∷ tokens) =
@@ -93,11 +99,11 @@ element_line r (first ∷ second ∷ tokens) =
     (second ∷ tokens)
 
 -- a line after the header
-abbrev pub with_line : Reader → Line → Result Reader Cause
+abbrev pub with_line : ReaderOf → Line → Result ReaderOf Cause
 with_line r line = if is_presentation r then presentation_line r line else element_line r line
 
 -- `monoid LETTERS`, `semigroup LETTERS`, or a header of generators
-abbrev pub header_line : Line → Result Reader Cause
+abbrev pub header_line : Line → Result ReaderOf Cause
 header_line [] = Err UnknownHeader
 header_line (name ∷ tokens) =
     if is_word (codes "monoid") name then and_then (λ o. Ok (Relating o)) (outline_of true tokens)
@@ -106,12 +112,12 @@ header_line (name ∷ tokens) =
     else and_then (λ d. Ok (Posing d)) (header_of (name ∷ tokens))
 
 -- a line that is not skipped, after what the lines before it gave: nothing, before the header
-abbrev pub read_line : Option Reader → Line → Result Reader Cause
+abbrev pub read_line : Option ReaderOf → Line → Result ReaderOf Cause
 read_line None line = header_line line
 read_line (Some r) line = with_line r line
 
 -- a line, which may be skipped
-abbrev pub take_line : Option Reader → List ℕ → Result (Option Reader) Cause
+abbrev pub take_line : Option ReaderOf → List ℕ → Result (Option ReaderOf) Cause
 take_line s bytes = if is_kept (tokens_of bytes) then and_then (λ r. Ok (Some r))
     (read_line s (tokens_of bytes)) else Ok s
 
@@ -121,13 +127,13 @@ at_line n (Ok x) = Ok x
 at_line n (Err cause) = Err (n, cause)
 
 -- the lines from the number n on: what they give, or the first fault
-abbrev pub read_lines : ℕ → Option Reader → List (List ℕ) → Result (Option Reader) (ℕ × Cause)
+abbrev pub read_lines : ℕ → Option ReaderOf → List (List ℕ) → Result (Option ReaderOf) (ℕ × Cause)
 read_lines n s [] = Ok s
 read_lines n s (bytes ∷ lines) = and_then (λ t. read_lines (suc n) t lines)
     (at_line n (take_line s bytes))
 
 -- a script has a header, and a generator where it is no presentation
-abbrev pub whole_of : Option Reader → Result ScriptOf Cause
+abbrev pub whole_of : Option ReaderOf → Result ScriptOf Cause
 whole_of None = Err HeaderMissing
 whole_of (Some r) = finished r
 

@@ -2,6 +2,7 @@
 ghost use Rattle.std.specs.Prelude.{◌≡◌, ℕ, IfOk, IfErr, Ok, map};
 ghost use Rattle.problem.specs.Problem.{IsPosable};
 ghost use Rattle.query_lang.specs.Draft.{new_letter_of, posed_of, start_of, with_generator};
+ghost use Rattle.query_lang.specs.Draft as said;
 ghost use Rattle.query_lang.specs.Faults.{IsLineFault};
 ghost use Rattle.query_lang.specs.Fields.{field_of};
 ghost use Rattle.query_lang.specs.Generators.{draft_with, problem_of};
@@ -17,10 +18,10 @@ use std::alloc::Global;
 use std::marker::Model;
 use words::{Alphabet, AlphabetFault};
 
-/// Generators of one kind and shape, each with a letter. Contracts see the numbers of the header, the
-/// bytes of the letters, and the generators.
+// Generators of one kind and shape, each with a letter. Contracts see the numbers of the header, the
+// bytes of the letters, and the generators.
 #[derive(Drop)]
-pub struct Listed<E: Generator> {
+struct Listed<E: Generator> {
     sizes: (u32, u32),
     letters: Vec<u8>,
     generators: Vec<E>,
@@ -56,8 +57,8 @@ fn new_letter_of(letters: &[u8], name: &[u8]) -> Result<u8, Cause>
 }
 
 impl<E: Generator> Listed<E> {
-    /// No generator yet.
-    pub fn new(alloc: Global, sizes: (u32, u32)) -> Listed<E>
+    // No generator yet.
+    fn new(alloc: Global, sizes: (u32, u32)) -> Listed<E>
         ensures { result ≡ start_of sizes }
     {
         Listed {
@@ -109,20 +110,73 @@ impl<E: Generator> Listed<E> {
     }
 }
 
-/// The generators of a script, so far.
+// The generators of a script, so far, by their kind.
 #[derive(Drop)]
-pub enum Draft {
-    /// Transformations.
+enum AnyListed {
     Transf(Listed<Transf>),
-    /// Partial permutations.
     PPerm(Listed<PPerm>),
-    /// Boolean matrices.
     BMat(Listed<BMat>),
-    /// Truncated max-plus matrices.
     MaxPlus(Listed<MaxPlusTrunc>),
 }
 
+/// The generators of a script, so far. Contracts see them with their kind.
+#[derive(Drop)]
+pub struct Draft {
+    listed: AnyListed,
+}
+
+impl Model for Draft {
+    ghost use Rattle.query_lang.specs.Draft.{AnyDraft};
+    ghost use Rattle.query_lang.specs.Draft as said;
+    ghost use Rattle.query_lang.specs.declared.draft.AnyListed.TheVariants as kept;
+
+    ghost Value = { AnyDraft };
+
+    ghost view = { λ d. elim d.listed [
+      | kept.Transf e ↦ said.Transf e
+      | kept.PPerm e ↦ said.PPerm e
+      | kept.BMat e ↦ said.BMat e
+      | kept.MaxPlus e ↦ said.MaxPlus e
+    ] };
+}
+
 impl Draft {
+    /// No transformation yet, of this degree.
+    pub fn transf(alloc: Global, degree: u32) -> Draft
+        ensures { result ≡ said.Transf (start_of (degree, 0)) }
+    {
+        Draft {
+            listed: AnyListed::Transf(Listed::new(alloc, (degree, 0))),
+        }
+    }
+
+    /// No partial permutation yet, of this degree.
+    pub fn pperm(alloc: Global, degree: u32) -> Draft
+        ensures { result ≡ said.PPerm (start_of (degree, 0)) }
+    {
+        Draft {
+            listed: AnyListed::PPerm(Listed::new(alloc, (degree, 0))),
+        }
+    }
+
+    /// No Boolean matrix yet, of this dimension.
+    pub fn bmat(alloc: Global, dimension: u32) -> Draft
+        ensures { result ≡ said.BMat (start_of (dimension, 0)) }
+    {
+        Draft {
+            listed: AnyListed::BMat(Listed::new(alloc, (dimension, 0))),
+        }
+    }
+
+    /// No max-plus matrix yet, of this dimension and bound.
+    pub fn max_plus(alloc: Global, sizes: (u32, u32)) -> Draft
+        ensures { result ≡ said.MaxPlus (start_of sizes) }
+    {
+        Draft {
+            listed: AnyListed::MaxPlus(Listed::new(alloc, sizes)),
+        }
+    }
+
     /// The generator with this name and these entries behind the others. Refused with the cause of its
     /// line, or for want of memory.
     pub fn with_generator(
@@ -137,12 +191,22 @@ impl Draft {
             (draft_with self name.now (map field_of (texts entries.now)))) }
     {
         let fields = fields_of(alloc, entries)?;
-        match self {
-            Draft::Transf(draft) => Ok(Draft::Transf(draft.with_generator(alloc, name, &fields)?)),
-            Draft::PPerm(draft) => Ok(Draft::PPerm(draft.with_generator(alloc, name, &fields)?)),
-            Draft::BMat(draft) => Ok(Draft::BMat(draft.with_generator(alloc, name, &fields)?)),
-            Draft::MaxPlus(draft) => {
-                Ok(Draft::MaxPlus(draft.with_generator(alloc, name, &fields)?))
+        match self.listed {
+            AnyListed::Transf(draft) => {
+                let listed = AnyListed::Transf(draft.with_generator(alloc, name, &fields)?);
+                Ok(Draft { listed })
+            }
+            AnyListed::PPerm(draft) => {
+                let listed = AnyListed::PPerm(draft.with_generator(alloc, name, &fields)?);
+                Ok(Draft { listed })
+            }
+            AnyListed::BMat(draft) => {
+                let listed = AnyListed::BMat(draft.with_generator(alloc, name, &fields)?);
+                Ok(Draft { listed })
+            }
+            AnyListed::MaxPlus(draft) => {
+                let listed = AnyListed::MaxPlus(draft.with_generator(alloc, name, &fields)?);
+                Ok(Draft { listed })
             }
         }
     }
@@ -153,11 +217,11 @@ impl Draft {
         ensures posable { IfOk result IsPosable }
         ensures err { IfErr result (IsLineFault (problem_of self)) }
     {
-        match self {
-            Draft::Transf(draft) => Ok(Problem::Transf(draft.posed(alloc)?)),
-            Draft::PPerm(draft) => Ok(Problem::PPerm(draft.posed(alloc)?)),
-            Draft::BMat(draft) => Ok(Problem::BMat(draft.posed(alloc)?)),
-            Draft::MaxPlus(draft) => Ok(Problem::MaxPlus(draft.posed(alloc)?)),
+        match self.listed {
+            AnyListed::Transf(draft) => Ok(Problem::Transf(draft.posed(alloc)?)),
+            AnyListed::PPerm(draft) => Ok(Problem::PPerm(draft.posed(alloc)?)),
+            AnyListed::BMat(draft) => Ok(Problem::BMat(draft.posed(alloc)?)),
+            AnyListed::MaxPlus(draft) => Ok(Problem::MaxPlus(draft.posed(alloc)?)),
         }
     }
 }

@@ -1,4 +1,4 @@
-//! Laws of scripts.
+// Laws of scripts.
 ghost use Rattle.std.specs.Prelude.{◌≡◌, ℕ, ◌↔◌, ◌⊎◌, List, Option, None, Result, Ok, Err};
 ghost use Rattle.query_lang.specs.declared.cause.Cause.{Cause};
 ghost use Rattle.query_lang.specs.Asked.{ScriptOf};

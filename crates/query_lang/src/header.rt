@@ -5,7 +5,7 @@ ghost use Rattle.query_lang.specs.Header.{header_of, outline_of, size_of, sizes_
 ghost use Rattle.query_lang.specs.Texts.{texts};
 
 use crate::cause::Cause;
-use crate::draft::{Draft, Listed};
+use crate::draft::Draft;
 use crate::fault::LineFault;
 use crate::line_words::one_token;
 use crate::outline::Outline;
@@ -54,16 +54,16 @@ pub fn header_of(alloc: Global, header: &[&[u8]]) -> Result<Draft, Cause>
 {
     match header {
         [name, tokens @ ..] if is_word(b"trans", name) => {
-            Ok(Draft::Transf(Listed::new(alloc, (size_of(64, tokens)?, 0))))
+            Ok(Draft::transf(alloc, size_of(64, tokens)?))
         }
         [name, tokens @ ..] if is_word(b"pperm", name) => {
-            Ok(Draft::PPerm(Listed::new(alloc, (size_of(64, tokens)?, 0))))
+            Ok(Draft::pperm(alloc, size_of(64, tokens)?))
         }
         [name, tokens @ ..] if is_word(b"bmat", name) => {
-            Ok(Draft::BMat(Listed::new(alloc, (size_of(16, tokens)?, 0))))
+            Ok(Draft::bmat(alloc, size_of(16, tokens)?))
         }
         [name, tokens @ ..] if is_word(b"mpt", name) => {
-            Ok(Draft::MaxPlus(Listed::new(alloc, sizes_of(tokens)?)))
+            Ok(Draft::max_plus(alloc, sizes_of(tokens)?))
         }
         _ => Err(Cause::UnknownHeader),
     }

@@ -2,6 +2,7 @@
 ghost use Rattle.std.specs.Prelude.{◌≡◌, ◌⊎◌, IfOk, IfErr, Ok};
 ghost use Rattle.query_lang.specs.Faults.{IsLineFault};
 ghost use Rattle.query_lang.specs.Script.{element_line, finished, generator_line, header_line, is_presentation, outline_so_far, pair_line, presentation_line, query_line, read_line, relation_line, take_line, whole_of, with_line};
+ghost use Rattle.query_lang.specs.Script as said;
 ghost use Rattle.query_lang.specs.Texts.{texts};
 
 use crate::cause::Cause;
@@ -14,16 +15,65 @@ use crate::script::Script;
 use crate::tokens::{is_kept, is_word, tokens_of};
 use presentation::Kind;
 use std::alloc::Global;
+use std::marker::Model;
 
-/// What the lines so far have given, from the header on.
+// What the lines so far have given, by how far they have come.
 #[derive(Drop)]
-pub enum Reader {
-    /// Generators, before the first query.
+enum Stage {
+    // Generators, before the first query.
     Posing(Draft),
-    /// A presentation and pairs, before the first query.
+    // A presentation and pairs, before the first query.
     Relating(Outline),
-    /// A script, from the first query on.
+    // A script, from the first query on.
     Asking(Script),
+}
+
+/// What the lines so far have given, from the header on: generators, or a presentation and pairs,
+/// before the first query, and a script from it on.
+#[derive(Drop)]
+pub struct Reader {
+    stage: Stage,
+}
+
+impl Model for Reader {
+    ghost use Rattle.query_lang.specs.Script.{ReaderOf};
+    ghost use Rattle.query_lang.specs.Script as said;
+    ghost use Rattle.query_lang.specs.declared.reader.Stage.TheVariants as kept;
+
+    ghost Value = { ReaderOf };
+
+    ghost view = { λ r. elim r.stage [
+      | kept.Posing draft ↦ said.Posing draft
+      | kept.Relating outline ↦ said.Relating outline
+      | kept.Asking script ↦ said.Asking script
+    ] };
+}
+
+// Generators, before the first query.
+fn posing(draft: Draft) -> Reader
+    ensures { result ≡ said.Posing draft }
+{
+    Reader {
+        stage: Stage::Posing(draft),
+    }
+}
+
+// A presentation and pairs, before the first query.
+fn relating(outline: Outline) -> Reader
+    ensures { result ≡ said.Relating outline }
+{
+    Reader {
+        stage: Stage::Relating(outline),
+    }
+}
+
+// A script, from the first query on.
+fn asking(script: Script) -> Reader
+    ensures { result ≡ said.Asking script }
+{
+    Reader {
+        stage: Stage::Asking(script),
+    }
 }
 
 impl Reader {
@@ -31,10 +81,10 @@ impl Reader {
     fn is_presentation(&self) -> bool
         ensures { result ≡ is_presentation self.now }
     {
-        match self {
-            Reader::Posing(_) => false,
-            Reader::Relating(_) => true,
-            Reader::Asking(script) => script.problem().is_presented(),
+        match &self.stage {
+            Stage::Posing(_) => false,
+            Stage::Relating(_) => true,
+            Stage::Asking(script) => script.problem().is_presented(),
         }
     }
 
@@ -44,10 +94,10 @@ impl Reader {
         ensures ok { IfOk result (λ script. finished self ≡ Ok script) }
         ensures err { IfErr result (IsLineFault (finished self)) }
     {
-        match self {
-            Reader::Posing(draft) => Ok(Script::new(alloc, draft.problem(alloc)?)),
-            Reader::Relating(outline) => Ok(Script::new(alloc, outline.problem())),
-            Reader::Asking(script) => Ok(script),
+        match self.stage {
+            Stage::Posing(draft) => Ok(Script::new(alloc, draft.problem(alloc)?)),
+            Stage::Relating(outline) => Ok(Script::new(alloc, outline.problem())),
+            Stage::Asking(script) => Ok(script),
         }
     }
 
@@ -62,12 +112,10 @@ impl Reader {
         ensures err { IfErr result (IsLineFault
             (generator_line self name.now (texts entries.now))) }
     {
-        match self {
-            Reader::Posing(draft) => Ok(Reader::Posing(draft.with_generator(
-                alloc, name, entries,
-            )?)),
-            Reader::Relating(_) => Err(LineFault::Refused(Cause::UnknownLine)),
-            Reader::Asking(_) => Err(LineFault::Refused(Cause::LineOutOfOrder)),
+        match self.stage {
+            Stage::Posing(draft) => Ok(posing(draft.with_generator(alloc, name, entries)?)),
+            Stage::Relating(_) => Err(LineFault::Refused(Cause::UnknownLine)),
+            Stage::Asking(_) => Err(LineFault::Refused(Cause::LineOutOfOrder)),
         }
     }
 
@@ -75,10 +123,10 @@ impl Reader {
     fn into_outline(self) -> Result<Outline, Cause>
         ensures { result ≡ outline_so_far self }
     {
-        match self {
-            Reader::Posing(_) => Err(Cause::UnknownLine),
-            Reader::Relating(outline) => Ok(outline),
-            Reader::Asking(_) => Err(Cause::LineOutOfOrder),
+        match self.stage {
+            Stage::Posing(_) => Err(Cause::UnknownLine),
+            Stage::Relating(outline) => Ok(outline),
+            Stage::Asking(_) => Err(Cause::LineOutOfOrder),
         }
     }
 
@@ -87,7 +135,7 @@ impl Reader {
         ensures err { IfErr result (IsLineFault (relation_line self (texts tokens.now))) }
     {
         let outline = self.into_outline()?;
-        Ok(Reader::Relating(outline.with_relation(alloc, tokens)?))
+        Ok(relating(outline.with_relation(alloc, tokens)?))
     }
 
     // A pair of this kind, which is two-sided or right.
@@ -97,7 +145,7 @@ impl Reader {
         ensures err { IfErr result (IsLineFault (pair_line self kind (texts tokens.now))) }
     {
         let outline = self.into_outline()?;
-        Ok(Reader::Relating(outline.with_pair(alloc, kind, tokens)?))
+        Ok(relating(outline.with_pair(alloc, kind, tokens)?))
     }
 
     fn add_query(self, alloc: Global, first: &[u8], tokens: &[&[u8]]) -> Result<Reader, LineFault>
@@ -106,7 +154,7 @@ impl Reader {
     {
         let name = query_name_of(first).ok_or(Cause::UnknownLine)?;
         let script = self.finish(alloc)?;
-        Ok(Reader::Asking(script.with_query(alloc, name, tokens)?))
+        Ok(asking(script.with_query(alloc, name, tokens)?))
     }
 
     // A line after the header of a presentation.
@@ -161,12 +209,12 @@ fn header_line(alloc: Global, line: &[&[u8]]) -> Result<Reader, LineFault>
 {
     match line {
         [name, tokens @ ..] if is_word(b"monoid", name) => {
-            Ok(Reader::Relating(outline_of(alloc, true, tokens)?))
+            Ok(relating(outline_of(alloc, true, tokens)?))
         }
         [name, tokens @ ..] if is_word(b"semigroup", name) => {
-            Ok(Reader::Relating(outline_of(alloc, false, tokens)?))
+            Ok(relating(outline_of(alloc, false, tokens)?))
         }
-        _ => Ok(Reader::Posing(header_of(alloc, line)?)),
+        _ => Ok(posing(header_of(alloc, line)?)),
     }
 }
 

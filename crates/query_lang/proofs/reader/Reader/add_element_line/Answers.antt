@@ -1,7 +1,7 @@
 use Rattle.std.proofs.Common.{◌≤◌, inl, inr, [], length, IfErr, Result, subst, sym, ◌∙◌, arith}
 use borrow.Author.Tests.{ltb-true, ltb-false}
 use Rattle.query_lang.specs.declared.cause.Cause.{Cause}
-use Rattle.query_lang.specs.declared.reader.Reader.{Reader}
+use Rattle.query_lang.specs.Script.{ReaderOf}
 use Rattle.query_lang.specs.Faults.{IsLineFault}
 use Rattle.query_lang.proofs.LineLemmas.{is_query_line}
 use Rattle.query_lang.proofs.reader.Reader.add_element_line.Goals as goal
@@ -14,4 +14,4 @@ returns-in-len1-up-clause-err c =
       | then-line-lt2 w ↦ inl (omega (arith, ltb-true, ltb-false))
       | in-len2-up+else-is_word w ↦ inr (sym w.is_word.ensures ∙ w.if-is_word.false)
     ]) in
-    subst (λ (o : Result Reader Cause). IfErr c.add_query.result (IsLineFault o)) same c.add_query.ensures.err
+    subst (λ (o : Result ReaderOf Cause). IfErr c.add_query.result (IsLineFault o)) same c.add_query.ensures.err
