@@ -111,16 +111,17 @@ fn free_band(alloc: Global) -> Result<Vec<Transf>, NoMemory> {
     Ok(generators)
 }
 
-// The classes, once the search is decided.
+// The classes of a search that ends decided; memory is wanting where it does not.
 fn classes<E: Element>(alloc: Global, mut engine: PairsRacer<E>) -> Result<Vec<usize>, NoMemory> {
-    let mut numbers = Vec::new(alloc);
     let _first = engine.advance();
     let _second = engine.advance();
-    if engine.is_decided() {
-        let found = engine.classes();
-        for number in 0..found.len() {
-            numbers.push(found.class_of(number))?;
-        }
+    if !engine.is_decided() {
+        return Err(NoMemory);
+    }
+    let found = engine.classes();
+    let mut numbers = Vec::new(alloc);
+    for number in 0..found.len() {
+        numbers.push(found.class_of(number))?;
     }
     Ok(numbers)
 }
