@@ -81,8 +81,10 @@ fn hang_below(parents: &mut Vec<usize>, low: usize, high: usize)
 // The classes of two roots become one. Answers whether they were two.
 fn link(parents: &mut Vec<usize>, first: usize, second: usize) -> bool
     requires below { AreBelow parents.old.items }
-    requires first { (first < length parents.old.items) × (slice_index parents.old.items first ≡ first) }
-    requires second { (second < length parents.old.items) × (slice_index parents.old.items second ≡ second) }
+    requires first { (first < length parents.old.items)
+        × (slice_index parents.old.items first ≡ first) }
+    requires second { (second < length parents.old.items)
+        × (slice_index parents.old.items second ≡ second) }
     ensures count { length parents.new.items ≡ length parents.old.items }
     ensures below { AreBelow parents.new.items }
     ensures falls { result ≡ true → sum parents.new.items < sum parents.old.items }
