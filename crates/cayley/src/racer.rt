@@ -1,11 +1,11 @@
 // An engine that lists the elements of a semigroup, and then finds their classes.
-ghost use Rattle.std.specs.Prelude.{◌≡◌, ℕ, ◌<◌, ◌≤◌, ◌↔◌, List, false, length, IfOk, MatchOption, IsTrue, Option, None, Some};
+ghost use Rattle.std.specs.Prelude.{◌≡◌, ℕ, ◌<◌, ◌≤◌, ◌↔◌, false, length, IfOk, MatchOption, IsTrue, Option, None, Some};
 ghost use Rattle.theory.specs.Congruence.{AreElements};
 ghost use Rattle.theory.specs.Value.{HasAtMostValues, HasMoreValues};
 ghost use Rattle.elements.specs.Generators.{HaveOneShape, value_by};
 ghost use Rattle.froidure_pin.specs.Rules.{IsWholeTable};
 ghost use Rattle.cayley.specs.Whole.{AreTablesOf, AreClassesOf};
-ghost use Rattle.cayley.specs.Tables.{FitTogether, number_in};
+ghost use Rattle.cayley.specs.Tables.{FitTogether};
 ghost use Rattle.cayley.specs.Run.{AreListed, AreSought};
 
 use crate::classes::{Classes, by_pairs};

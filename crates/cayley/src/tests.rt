@@ -1,7 +1,6 @@
-ghost use Rattle.std.specs.Prelude.{◌≡◌, ℕ, ◌<◌, ◌≤◌, false, length, IfOk};
+ghost use Rattle.std.specs.Prelude.{◌≡◌, ◌<◌, false, length, IfOk};
 ghost use Rattle.theory.specs.Word.{IsElement};
 ghost use Rattle.theory.specs.Congruence.{AreElements};
-ghost use Rattle.elements.specs.Generators.{HaveOneShape};
 
 use super::*;
 use elements::{Element, Field, PPerm, Transf};
