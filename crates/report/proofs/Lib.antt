@@ -1,9 +1,9 @@
 pub mod ClosureLemmas
-pub mod GainLemmas
 pub mod ListingLemmas
 pub mod CayleyLemmas
 pub mod PageLemmas
 pub mod AnswerLemmas
+pub mod AnswerBytes
 pub mod UniqueAnswer
 pub mod SolvedPages
 pub mod SolvedLemmas
