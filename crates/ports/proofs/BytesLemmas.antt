@@ -1,8 +1,8 @@
-use Rattle.std.proofs.Common.{◌≡◌, ℕ, List, [], ◌∷◌, ◌++◌, ◌+◌, ◌-◌, ◌<◌, ◌≤◌, Option, Some, None, append_assoc, length, length-append, take, drop, sym, ap, ◌∙◌, refl, arith}
+use Rattle.std.proofs.Common.{◌≡◌, ℕ, List, [], ◌∷◌, ◌++◌, ◌+◌, ◌-◌, ◌<◌, ◌≤◌, Option, Some, None, append_assoc, append-nil, length, length-append, take, drop, sym, ap, ◌∙◌, refl, arith, subst}
 use Rattle.std.proofs.lemmas.Grind.{common_steps}
-use Rattle.std.proofs.lemmas.List.{take-append-drop, take_all, length-drop, length-take-le}
-use Rattle.std.proofs.Math.Seq.{take-add, take-append_seam}
-use Rattle.ports.specs.Bytes.{Gave, GaveOver, GaveUpTo, IsAtEnd, TakesAll}
+use Rattle.std.proofs.lemmas.List.{take-append-drop, take-append-le, take_all, length-drop, length-take-le}
+use Rattle.std.proofs.Math.Seq.{take-add, take-append-add, take-append_seam}
+use Rattle.ports.specs.Bytes.{Gave, GaveOver, GaveUpTo, IsAtEnd, TakesAll, TakesPrefix}
 
 -- two gifts, one after the other
 pub Gave-append : (old mid new : Option (List ℕ)) (xs ys : List ℕ) → Gave old mid xs → Gave mid new ys → Gave old new (xs ++ ys)
@@ -64,6 +64,27 @@ TakesAll-append None None c xs ys p q = takes_none c q
     takes_none : (c : Option (List ℕ)) → TakesAll None c ys → TakesAll None c (xs ++ ys)
     takes_none (Some c) q = q
     takes_none None q = q
+
+-- a sink that was not called took nothing
+pub takes_nothing : (old : Option (List ℕ)) → TakesAll old old []
+takes_nothing (Some bytes) = sym (append-nil bytes)
+takes_nothing None = tt
+
+-- all of some bytes, as a prefix of more
+pub all_before : (old new : Option (List ℕ)) (xs ys : List ℕ) → TakesAll old new xs → TakesPrefix old new (xs ++ ys)
+all_before old new xs ys taken = (length xs + 0, omega (arith, length-append xs ys), subst (TakesAll old new) (sym (take-append-add xs ys 0 ∙ append-nil xs)) taken)
+
+-- a prefix of some bytes, as a prefix of more
+pub prefix_more : (old new : Option (List ℕ)) (xs ys : List ℕ) → TakesPrefix old new xs → TakesPrefix old new (xs ++ ys)
+prefix_more old new xs ys p = (p.0, omega (arith, p.1, length-append xs ys), subst (TakesAll old new) (sym (take-append-le p.0 xs ys p.1)) p.2)
+
+-- all of some bytes, and a prefix of others
+pub prefix_after : (old mid new : Option (List ℕ)) (xs ys : List ℕ) → TakesAll old mid xs → TakesPrefix mid new ys → TakesPrefix old new (xs ++ ys)
+prefix_after old mid new xs ys all p = (
+  length xs + p.0,
+  omega (arith, p.1, length-append xs ys),
+  subst (TakesAll old new) (sym (take-append-add xs ys p.0)) (TakesAll-append old mid new xs (take p.0 ys) all p.2),
+)
 
 -- what is left, as the next n and what is left then
 pub drop-take_more : (xs : List ℕ) (i n : ℕ) → drop i xs ≡ take n (drop i xs) ++ drop (i + n) xs

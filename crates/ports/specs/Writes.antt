@@ -6,8 +6,9 @@ use Rattle.ports.specs.declared.fault.WriteFault.TheVariants.{Failed, NoMemory}
 use Rattle.ports.specs.Bytes.{Rose, TakesAll, TakesPrefix}
 
 module _ {A : Type 0} (sink : Ghosts A) where
-  -- Where the call is Ok, the sink took all of some whole bytes, and its count of faults stayed; else the
-  -- sink took a prefix of some begun bytes. The call failed only where the count rose; it never falls.
+  -- Where the call is Ok, the sink took all of some bytes that are whole, and its count of faults stayed;
+  -- else it took a prefix of some bytes that are begun. The call tells that it failed only where the count
+  -- rose, and the count never falls.
   pub record WritesOrBegins {T : Type 0} (IsWhole : T → List ℕ → Type 0) (IsBegun : List ℕ → Type 0)
       (old new : A) (result : Result T WriteFault) : Type 0 where
     pub all : IfOk result (λ value. (bytes : List ℕ) × IsWhole value bytes

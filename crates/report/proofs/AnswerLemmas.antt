@@ -1,5 +1,5 @@
 -- The answers that the table of a problem gives.
-use Rattle.std.proofs.Common.{◌≡◌, All, ℕ, ◌-◌, ◌==◌, Bool, true, false, true≢false, ◌⊎◌, inl, inr, List, [], ◌∷◌, ◌++◌, length, map, take, drop, get_or, slice_get, nat_lt, Option, Some, None, Result, OnOk, OnErr, refl, sym, ap, subst, ◌∙◌, arith, append-nil, min}
+use Rattle.std.proofs.Common.{◌≡◌, All, ℕ, ◌-◌, ◌==◌, Bool, true, false, true≢false, inl, inr, List, [], ◌∷◌, ◌++◌, length, map, take, drop, get_or, slice_get, nat_lt, Option, Some, None, Result, refl, sym, ap, subst, ◌∙◌, arith, append-nil, min}
 use Rattle.std.proofs.lemmas.Bool.{eq-eqb, eqb-true}
 use Rattle.std.proofs.lemmas.List.{take_min, length-drop}
 use Rattle.std.proofs.lemmas.Option.{slice_get_within, get_or_from_slice_get}
@@ -10,7 +10,10 @@ use Rattle.theory.specs.Listing.{IsListOf}
 use Rattle.theory.specs.Class.{IsLeast, IsReducedRule, RuleBefore, IsRuleList}
 use Rattle.theory.proofs.Counting.{IsIn}
 use Rattle.froidure_pin.proofs.Starts.{in_at}
-use Rattle.ports.specs.Bytes.{TakesAll, TakesPrefix}
+use Rattle.ports.specs.declared.sink.Sink.{Ghosts}
+use Rattle.ports.specs.declared.fault.WriteFault.{WriteFault}
+use Rattle.ports.specs.Writes.{Writes, WritesBytes}
+use Rattle.ports.proofs.WriteLemmas.{meant_bytes}
 use Rattle.problem.specs.declared.kinds.Problem.{Problem}
 use Rattle.problem.specs.Problem.{SameClassOf, has_empty_word, letters_of, count_of}
 use Rattle.query_lang.specs.Query.{IsQueryOf, IsQueryOver}
@@ -19,11 +22,10 @@ use Rattle.query_lang.specs.declared.script.Query.TheVariants as query
 use Rattle.report.specs.declared.closure.Closure.{Closure}
 use Rattle.report.specs.Closed.{IsClosureOf, count_in, words_of, right_of, left_of, number_in}
 use Rattle.report.specs.Answer.{AreLines, cayley_lines}
-use Rattle.report.specs.Gains.{GainsLines, GainsSome, bytes_of}
+use Rattle.report.specs.Gains.{AreBytesOf, bytes_of}
 use Rattle.report.specs.Lines.{index_line, equal_line, normal_line, word_line, rule_line, end_line}
 use Rattle.report.specs.Paging.{IsPageStart}
 use Rattle.report.proofs.ClosureLemmas.{closure_numbers, closure_count, closure_nonempty}
-use Rattle.report.proofs.GainLemmas.{on_ok_so, on_err_so}
 use Rattle.report.proofs.PageLemmas.{list_after, page_of_list}
 
 -- what is in a list has the property
@@ -92,13 +94,10 @@ known_query p c q r closed one_each e asked =
 pub lines_of : (p : Problem) (bound : ℕ) (lines : List (List ℕ)) (q r : Query) → q ≡ r → AreLines p bound r lines → AreLines p bound q lines
 lines_of p bound lines q r e = subst (λ s. AreLines p bound s lines) (sym e)
 
--- the lines of a query, all of them or a prefix
-module _ (p : Problem) (bound : ℕ) (q : Query) (lines : List (List ℕ)) (are_lines : AreLines p bound q lines) where
-  pub all_lines : {T E : Type 0} (r : Result T E) (bytes : List ℕ) (old new : Option (List ℕ)) → bytes ≡ bytes_of lines → OnOk r (TakesAll old new bytes) → OnOk r (GainsLines p bound q old new)
-  all_lines r bytes old new e = on_ok_so r _ _ (λ taken. record { lines = lines; are_lines = are_lines; gained = subst (TakesAll old new) e taken })
-
-  pub some_lines : {T E : Type 0} (r : Result T E) (bytes : List ℕ) (old new : Option (List ℕ)) → bytes ≡ bytes_of lines → OnErr r (TakesPrefix old new bytes) → OnErr r (TakesAll old new [] ⊎ GainsSome p bound q old new)
-  some_lines r bytes old new e = on_err_so r _ _ (λ taken. inr (record { lines = lines; are_lines = are_lines; gained = subst (TakesPrefix old new) e taken }))
+-- the bytes of lines of a query
+pub writes_lines : {K : Type 0} (sink : Ghosts K) (p : Problem) (bound : ℕ) (q : Query) (lines : List (List ℕ)) → AreLines p bound q lines → (bytes : List ℕ) (old new : K) (r : Result (Unit {0}) WriteFault)
+    → bytes ≡ bytes_of lines → WritesBytes sink bytes old new r → Writes sink (λ _. AreBytesOf (AreLines p bound q)) old new r
+writes_lines sink p bound q lines are_lines bytes old new r e = meant_bytes sink bytes old new r tt (λ _. record { lines = lines; are_such = are_lines; are_bytes = e })
 
 -- the bytes of one line
 pub one_line : (line : List ℕ) → line ≡ bytes_of (line ∷ [])

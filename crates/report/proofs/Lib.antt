@@ -1,10 +1,10 @@
 pub mod Alike
 pub mod ClosureLemmas
-pub mod GainLemmas
 pub mod ListingLemmas
 pub mod CayleyLemmas
 pub mod PageLemmas
 pub mod AnswerLemmas
+pub mod AnswerBytes
 pub mod UniqueAnswer
 pub mod SolvedPages
 pub mod SolvedLemmas

@@ -1,47 +1,49 @@
 -- Lists that are written line by line.
-use Rattle.std.proofs.Common.{◌≡◌, ℕ, zero, suc, ◌+◌, ◌<◌, ◌≤◌, List, [], ◌∷◌, ◌++◌, length, get_or, slice_get, take, drop, Option, Some, sym, ap, subst, ◌∙◌, arith, append-nil, codes, decimal, map}
+use Rattle.std.proofs.Common.{◌≡◌, ℕ, zero, suc, ◌+◌, ◌<◌, ◌≤◌, List, [], ◌∷◌, ◌++◌, length, get_or, take, drop, Result, Ok, Err, sym, ap, ◌∙◌, arith, append-nil, codes, decimal, map}
 use Rattle.std.specs.List.{flat_map, range_with_len}
 use Rattle.std.proofs.Math.Seq.{drop-cons}
 use Rattle.std.proofs.lemmas.List.{take_more, take_all, take-append-drop, append_assoc, get_or-take, get_or-drop}
-use Rattle.std.proofs.lemmas.Option.{get_or_from_slice_get}
 use Rattle.std.proofs.lemmas.Grind.{flat_map-append}
-use Rattle.ports.specs.Bytes.{TakesAll, TakesPrefix}
-use Rattle.ports.proofs.BytesLemmas.{TakesAll-append}
+use Rattle.ports.specs.declared.sink.Sink.{Ghosts}
+use Rattle.ports.specs.declared.fault.WriteFault.{WriteFault}
+use Rattle.ports.specs.declared.fault.WriteFault.TheVariants.{NoMemory}
+use Rattle.ports.specs.Writes.{WritesBytes}
+use Rattle.ports.proofs.WriteLemmas.{same_bytes, bytes_then, bytes_broken_off, bytes_out_of_memory}
 use Rattle.report.specs.Gains.{bytes_of}
 use Rattle.report.specs.Lines.{numbers_text}
-use Rattle.report.proofs.GainLemmas.{prefix_more, prefix_after, all_is_prefix}
 
 module _ {A : Type 0} (f : A → List ℕ) (xs : List A) where
   -- the lines of the first ones, and of the rest
   split_lines : (i : ℕ) → flat_map f xs ≡ flat_map f (take i xs) ++ flat_map f (drop i xs)
   split_lines i = ap (flat_map f) (sym (take-append-drop i xs)) ∙ flat_map-append f (take i xs) (drop i xs)
 
-  -- one line more
-  pub more_lines : (i : ℕ) (d : A) (old mid new : Option (List ℕ)) → i < length xs → TakesAll old mid (flat_map f (take i xs)) → TakesAll mid new (f (get_or xs i d)) → TakesAll old new (flat_map f (take (i + 1) xs))
-  more_lines i d old mid new within before line =
-      let lines : flat_map f (take (i + 1) xs) ≡ flat_map f (take i xs) ++ f (get_or xs i d) =
-      ap (flat_map f) (take_more xs i d within) ∙ flat_map-append f (take i xs) (get_or xs i d ∷ []) ∙ ap (λ t. flat_map f (take i xs) ++ t) (append-nil (f (get_or xs i d))) in
-      subst (TakesAll old new) (sym lines) (TakesAll-append old mid new (flat_map f (take i xs)) (f (get_or xs i d)) before line)
+  -- the lines up to a place, and the line there
+  next_line : (i : ℕ) (d : A) → i < length xs → flat_map f (take (i + 1) xs) ≡ flat_map f (take i xs) ++ f (get_or xs i d)
+  next_line i d within = ap (flat_map f) (take_more xs i d within) ∙ flat_map-append f (take i xs) (get_or xs i d ∷ []) ∙ ap (λ t. flat_map f (take i xs) ++ t) (append-nil (f (get_or xs i d)))
 
-  -- the first lines alone
-  pub lines_begun : (i : ℕ) (old new : Option (List ℕ)) → TakesAll old new (flat_map f (take i xs)) → TakesPrefix old new (flat_map f xs)
-  lines_begun i old new before = subst (TakesPrefix old new) (sym (split_lines i)) (prefix_more old new (flat_map f (take i xs)) (flat_map f (drop i xs)) (all_is_prefix old new (flat_map f (take i xs)) before))
+  -- the lines from a place on
+  later_lines : (i : ℕ) (d : A) → i < length xs → flat_map f (drop i xs) ≡ f (get_or xs i d) ++ flat_map f (drop (suc i) xs)
+  later_lines i d within = ap (flat_map f) (drop-cons xs i d within)
 
-  -- the first lines, and a prefix of the next
-  pub line_begun : (i : ℕ) (d : A) (old mid new : Option (List ℕ)) → i < length xs → TakesAll old mid (flat_map f (take i xs)) → TakesPrefix mid new (f (get_or xs i d)) → TakesPrefix old new (flat_map f xs)
-  line_begun i d old mid new within before line =
-      let rest : flat_map f (drop i xs) ≡ f (get_or xs i d) ++ flat_map f (drop (suc i) xs) = ap (flat_map f) (drop-cons xs i d within) in
-      subst (TakesPrefix old new) (sym (split_lines i))
-      (prefix_after old mid new (flat_map f (take i xs)) (flat_map f (drop i xs)) before
-      (subst (TakesPrefix mid new) (sym rest) (prefix_more mid new (f (get_or xs i d)) (flat_map f (drop (suc i) xs)) line)))
+  module _ {K : Type 0} (sink : Ghosts K) (i : ℕ) (old mid : K) (before : WritesBytes sink (flat_map f (take i xs)) old mid (Ok (tt {0}))) where
+    -- one line more
+    pub more_lines : (d : A) (new : K) → i < length xs → WritesBytes sink (f (get_or xs i d)) mid new (Ok (tt {0})) → WritesBytes sink (flat_map f (take (i + 1) xs)) old new (Ok (tt {0}))
+    more_lines d new within line = same_bytes sink _ _ old new _ (sym (next_line i d within)) (bytes_then sink _ _ old mid new _ _ before line)
 
-  -- all lines
-  pub lines_done : (i : ℕ) (old new : Option (List ℕ)) → length xs ≤ i → TakesAll old new (flat_map f (take i xs)) → TakesAll old new (flat_map f xs)
-  lines_done i old new all = subst (λ ys. TakesAll old new (flat_map f ys)) (take_all i xs all)
+    -- memory ran out after the first lines
+    pub lines_begun : WritesBytes sink {T = Unit {0}} (flat_map f xs) old mid (Err NoMemory)
+    lines_begun = same_bytes sink _ _ old mid _ (sym (split_lines i)) (bytes_out_of_memory sink (flat_map f (take i xs)) (flat_map f (drop i xs)) old mid _ before)
 
-  -- the line at a place
-  pub line_at : (i : ℕ) (x d : A) (P : List ℕ → Type 0) → slice_get xs i ≡ Some x → P (f x) → P (f (get_or xs i d))
-  line_at i x d P at = subst (λ y. P (f y)) (sym (get_or_from_slice_get xs i x d at))
+    -- a fault at the next line
+    pub line_begun : (d : A) (new : K) (fault : WriteFault) → i < length xs → WritesBytes sink {T = Unit {0}} (f (get_or xs i d)) mid new (Err fault) → WritesBytes sink {T = Unit {0}} (flat_map f xs) old new (Err fault)
+    line_begun d new fault within line =
+        same_bytes sink _ _ old new _ (sym (split_lines i))
+        (bytes_then sink _ _ old mid new _ _ before
+        (same_bytes sink _ _ mid new _ (sym (later_lines i d within)) (bytes_broken_off sink (f (get_or xs i d)) (flat_map f (drop (suc i) xs)) mid new fault line)))
+
+    -- all lines
+    pub lines_done : length xs ≤ i → WritesBytes sink (flat_map f xs) old mid (Ok (tt {0}))
+    lines_done all = same_bytes sink _ _ old mid _ (ap (flat_map f) (take_all i xs all)) before
 
 -- what stands at a place of a part of a list
 pub get_part : {A : Type 0} (xs : List A) (start count i : ℕ) (d : A) → i < count → get_or (take count (drop start xs)) i d ≡ get_or xs (start + i) d
@@ -86,12 +88,9 @@ bytes_of_map f [] last = append-nil last
 bytes_of_map f (x ∷ xs) last = ap (λ t. f x ++ t) (bytes_of_map f xs last) ∙ sym (append_assoc (f x) (flat_map f xs) last)
 
 -- a listing is the lines of its items, and a last line
-module _ {A : Type 0} (f : A → List ℕ) (xs : List A) (last : List ℕ) (old mid new : Option (List ℕ)) where
-  pub listing_begun : TakesPrefix old new (flat_map f xs) → TakesPrefix old new (bytes_of (map f xs ++ last ∷ []))
-  listing_begun begun = subst (TakesPrefix old new) (sym (bytes_of_map f xs last)) (prefix_more old new (flat_map f xs) last begun)
+module _ {A K : Type 0} (sink : Ghosts K) (f : A → List ℕ) (xs : List A) (last : List ℕ) (old : K) where
+  pub listing_begun : (new : K) (fault : WriteFault) → WritesBytes sink {T = Unit {0}} (flat_map f xs) old new (Err fault) → WritesBytes sink {T = Unit {0}} (bytes_of (map f xs ++ last ∷ [])) old new (Err fault)
+  listing_begun new fault begun = same_bytes sink _ _ old new _ (sym (bytes_of_map f xs last)) (bytes_broken_off sink (flat_map f xs) last old new fault begun)
 
-  pub listing_done : TakesAll old mid (flat_map f xs) → TakesAll mid new last → TakesAll old new (bytes_of (map f xs ++ last ∷ []))
-  listing_done lines end = subst (TakesAll old new) (sym (bytes_of_map f xs last)) (TakesAll-append old mid new (flat_map f xs) last lines end)
-
-  pub listing_ending : TakesAll old mid (flat_map f xs) → TakesPrefix mid new last → TakesPrefix old new (bytes_of (map f xs ++ last ∷ []))
-  listing_ending lines end = subst (TakesPrefix old new) (sym (bytes_of_map f xs last)) (prefix_after old mid new (flat_map f xs) last lines end)
+  pub listing_ended : (mid new : K) (r : Result (Unit {0}) WriteFault) → WritesBytes sink (flat_map f xs) old mid (Ok (tt {0})) → WritesBytes sink last mid new r → WritesBytes sink (bytes_of (map f xs ++ last ∷ [])) old new r
+  listing_ended mid new r lines end = same_bytes sink _ _ old new r (sym (bytes_of_map f xs last)) (bytes_then sink _ _ old mid new _ r lines end)

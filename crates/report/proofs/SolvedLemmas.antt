@@ -1,7 +1,10 @@
 -- The answers that a solved congruence gives.
-use Rattle.std.proofs.Common.{◌≡◌, ◌↔◌, All, ℕ, Bool, true, false, IsTrue, true≢false, ◌⊎◌, inl, inr, if◌then◌else◌, List, [], ◌∷◌, ◌++◌, map, length, Option, None, Some, Result, OnOk, OnErr, refl, sym, ap, subst, ◌∙◌, arith}
+use Rattle.std.proofs.Common.{◌≡◌, ◌↔◌, All, ℕ, Bool, true, false, IsTrue, true≢false, inl, inr, if◌then◌else◌, List, [], ◌∷◌, ◌++◌, map, length, Option, None, Some, Result, refl, sym, ap, subst, ◌∙◌, arith}
 use Rattle.std.proofs.lemmas.Bool.{le-leb, lt-leb}
-use Rattle.ports.specs.Bytes.{TakesAll, TakesPrefix}
+use Rattle.ports.specs.declared.sink.Sink.{Ghosts}
+use Rattle.ports.specs.declared.fault.WriteFault.{WriteFault}
+use Rattle.ports.specs.Writes.{Writes}
+use Rattle.ports.proofs.WriteLemmas.{meant_weaker}
 use Rattle.std.proofs.lemmas.List.Elements.{All-cons}
 use Rattle.theory.specs.Word.{Word, IsElement, IsOver}
 use Rattle.theory.specs.ShortLex.{◌≺◌}
@@ -22,9 +25,8 @@ use Rattle.congruence.specs.Verdicts.{IsCongruenceIn, IsVerdictOf}
 use Rattle.query_lang.specs.declared.script.Query.{Query}
 use Rattle.query_lang.specs.declared.script.Query.TheVariants as query
 use Rattle.report.specs.Answer.{AreLines}
-use Rattle.report.specs.Gains.{GainsLines, GainsPage, GainsSome, GainsSomePage, bytes_of}
+use Rattle.report.specs.Gains.{AreBytesOf, ArePageLines}
 use Rattle.report.specs.Lines.{count_line, over_line, infinite_line, equal_line, normal_line, page_lines, rule_line, end_line}
-use Rattle.report.proofs.GainLemmas.{on_ok_so, on_err_so}
 
 -- what holds of the congruence's classes holds of the problem's
 of_problem : (p : Problem) (c : Congruence) → IsCongruenceIn p c → (P : (Word → Word → Type 0) → Type 0) → P (SameClass c) → P (SameClassOf p)
@@ -95,26 +97,13 @@ module _ (p : Problem) (c : Congruence) (solved : IsCongruenceIn p c) (bound : �
   pub solved_normal : (u w : Word) → IsNormal (SameClass c) u w → AreLines p bound (query.Normal u) (normal_line (letters_of p) w ∷ [])
   solved_normal u w h = (w, of_problem p c solved (λ R. IsNormal R u w) h, refl)
 
-  page : (count : ℕ) (after : Option Word) (words : List Word) (more : Bool) → IsPage (IsLeast (SameClass c)) ◌≺◌ after count words more
-      → AreLines p bound (query.Classes count after) (page_lines (letters_of p) words more)
-  page count after words more h = (words, more, of_problem p c solved (λ R. IsPage (IsLeast R) ◌≺◌ after count words more) h, refl)
+  -- a page of the congruence's classes
+  page : (q : Query) (count : ℕ) (after asked : Option Word) (letters : List ℕ) → q ≡ query.Classes count after → asked ≡ after → letters ≡ letters_of p → (lines : List (List ℕ)) → ArePageLines (SameClass c) letters asked count lines → AreLines p bound q lines
+  page q count after asked letters is same over lines h =
+      let here = subst (λ cursor. IsPage (IsLeast (SameClass c)) ◌≺◌ cursor count h.words h.more) same h.is_page in
+      subst (λ s. AreLines p bound s lines) (sym is)
+      (h.words, h.more, of_problem p c solved (λ R. IsPage (IsLeast R) ◌≺◌ after count h.words h.more) here, h.are_lines ∙ ap (λ ls. page_lines ls h.words h.more) over)
 
-  module _ {T E : Type 0} (r : Result T E) (q : Query) (count : ℕ) (after asked : Option Word) (letters : List ℕ) (is : q ≡ query.Classes count after) (same : asked ≡ after) (over : letters ≡ letters_of p) (old new : Option (List ℕ)) where
-    pub solved_page : OnOk r (GainsPage (SameClass c) letters asked count old new) → OnOk r (GainsLines p bound q old new)
-    solved_page = on_ok_so r _ _ (λ h. record {
-      lines = page_lines (letters_of p) h.words h.more;
-      are_lines = subst (λ s. AreLines p bound s (page_lines (letters_of p) h.words h.more)) (sym is)
-          (page count after h.words h.more (subst (λ cursor. IsPage (IsLeast (SameClass c)) ◌≺◌ cursor count h.words h.more) same h.is_page));
-      gained = subst (λ ls. TakesAll old new (bytes_of (page_lines ls h.words h.more))) over h.gained;
-    })
-
-    pub solved_part : OnErr r (TakesAll old new [] ⊎ GainsSomePage (SameClass c) letters asked count old new) → OnErr r (TakesAll old new [] ⊎ GainsSome p bound q old new)
-    solved_part = on_err_so r _ _ (λ part. elim part [
-      | inl nothing ↦ inl nothing
-      | inr h ↦ inr (record {
-        lines = page_lines (letters_of p) h.words h.more;
-        are_lines = subst (λ s. AreLines p bound s (page_lines (letters_of p) h.words h.more)) (sym is)
-            (page count after h.words h.more (subst (λ cursor. IsPage (IsLeast (SameClass c)) ◌≺◌ cursor count h.words h.more) same h.is_page));
-        gained = subst (λ ls. TakesPrefix old new (bytes_of (page_lines ls h.words h.more))) over h.gained;
-      })
-    ])
+  module _ (q : Query) (count : ℕ) (after asked : Option Word) (letters : List ℕ) (is : q ≡ query.Classes count after) (same : asked ≡ after) (over : letters ≡ letters_of p) where
+    pub solved_page : {K : Type 0} (sink : Ghosts K) (old new : K) (r : Result (Unit {0}) WriteFault) → Writes sink (λ _. AreBytesOf (ArePageLines (SameClass c) letters asked count)) old new r → Writes sink (λ _. AreBytesOf (AreLines p bound q)) old new r
+    solved_page sink old new r = meant_weaker sink old new r (λ _ bytes h. record { lines = h.lines; are_such = page q count after asked letters is same over h.lines h.are_such; are_bytes = h.are_bytes })

@@ -1,27 +1,29 @@
 -- Pages of least words that are found one after another.
-use Rattle.std.proofs.Common.{◌≡◌, ℕ, zero, suc, ◌+◌, ◌-◌, ◌<◌, ◌≤◌, Bool, true, false, inl, inr, is_some, List, [], ◌∷◌, ◌++◌, length, MatchOption, Option, Some, None, sym, ap, subst, ◌∙◌, arith, append-nil, length-append, suc-add, zero-add}
+use Rattle.std.proofs.Common.{◌≡◌, ℕ, zero, suc, ◌+◌, ◌-◌, ◌<◌, ◌≤◌, Bool, true, false, inl, inr, is_some, List, [], ◌∷◌, ◌++◌, length, MatchOption, Option, Some, None, Result, Ok, Err, refl, sym, ap, subst, ◌∙◌, arith, append-nil, length-append, suc-add, zero-add}
 use Rattle.std.specs.List.{flat_map}
 use Rattle.std.proofs.lemmas.Grind.{flat_map-append}
-use Rattle.ports.specs.Bytes.{TakesAll, TakesPrefix}
-use Rattle.ports.proofs.BytesLemmas.{TakesAll-append}
+use Rattle.ports.specs.declared.sink.Sink.{Ghosts}
+use Rattle.ports.specs.declared.fault.WriteFault.{WriteFault}
+use Rattle.ports.specs.declared.fault.WriteFault.TheVariants.{NoMemory}
+use Rattle.ports.specs.Writes.{Writes, WritesBytes}
+use Rattle.ports.proofs.WriteLemmas.{meant_bytes, same_bytes, bytes_then, bytes_broken_off, bytes_refused}
 use Rattle.theory.specs.Word.{Word}
 use Rattle.theory.specs.ShortLex.{◌≺◌}
 use Rattle.theory.specs.Listing.{IsPage, IsLast, IsNext, IsStartOf, last_of, GoesOnOrEnds}
 use Rattle.theory.specs.Class.{IsLeast}
 use Rattle.theory.proofs.Listings.{start_push, last_of_push, page_from_next, page_from_last}
 use Rattle.theory.proofs.ClassLaws.{shortlex_strict}
-use Rattle.report.specs.Lines.{word_line, end_line}
-use Rattle.report.specs.Gains.{GainsPage, GainsSomePage}
-use Rattle.report.proofs.GainLemmas.{gains_nothing, prefix_more, prefix_after}
-use Rattle.report.proofs.ListingLemmas.{listing_begun, listing_done, listing_ending}
+use Rattle.report.specs.Lines.{word_line, end_line, page_lines}
+use Rattle.report.specs.Gains.{AreBytesOf, ArePageLines, bytes_of}
+use Rattle.report.proofs.ListingLemmas.{listing_begun, listing_ended}
 
--- the sink gained the lines of the first words after the first cursor, one for each turn, and the cursor is the last of them
-pub record IsBegun (R : Word → Word → Type 0) (letters : List ℕ) (after cursor : Option Word) (turns : ℕ) (old new : Option (List ℕ)) : Type 0 where
+-- the lines of the first words after the first cursor are written, one for each turn, and the cursor is the last of them
+pub record IsBegun {K : Type 0} (sink : Ghosts K) (R : Word → Word → Type 0) (letters : List ℕ) (after cursor : Option Word) (turns : ℕ) (old new : K) : Type 0 where
   pub words : List Word
   pub start : IsStartOf (IsLeast R) ◌≺◌ after words
   pub last : cursor ≡ last_of after words
   pub count : length words ≡ turns
-  pub gained : TakesAll old new (flat_map (word_line letters) words)
+  pub written : WritesBytes sink (flat_map (word_line letters) words) old new (Ok (tt {0}))
 
 -- the first words, and a page of those that follow
 page_after_start : (P : Word → Type 0) (cursor : Option Word) (xs : List Word) (n : ℕ) (ys : List Word) (more : Bool) → IsStartOf P ◌≺◌ cursor xs → IsPage P ◌≺◌ (last_of cursor xs) n ys more
@@ -48,19 +50,27 @@ module _ (R : Word → Word → Type 0) where
   pub none_found : (next asked cursor : Option Word) → asked ≡ cursor → next ≡ None → Found asked next → IsLast (IsLeast R) ◌≺◌ cursor
   none_found next asked cursor e is h = subst (λ c. IsLast (IsLeast R) ◌≺◌ c) e (subst (Found asked) is h)
 
+  -- the bytes of a page
+  abbrev Page : List ℕ → Option Word → ℕ → Unit {0} → List ℕ → Type 0
+  Page letters after count _ = AreBytesOf (ArePageLines R letters after count)
+
   module _ (letters : List ℕ) (after : Option Word) where
     abbrev line : Word → List ℕ
     line = word_line letters
 
-    module _ (cursor : Option Word) (turns : ℕ) (old mid : Option (List ℕ)) (b : IsBegun R letters after cursor turns old mid) where
+    -- the lines of a page
+    page_bytes : (count : ℕ) (words : List Word) (more : Bool) → IsPage (IsLeast R) ◌≺◌ after count words more → (value : Unit {0}) → Page letters after count value (bytes_of (page_lines letters words more))
+    page_bytes count words more page value = record { lines = page_lines letters words more; are_such = record { words = words; more = more; is_page = page; are_lines = refl }; are_bytes = refl }
+
+    module _ {K : Type 0} (sink : Ghosts K) (cursor : Option Word) (turns : ℕ) (old mid : K) (b : IsBegun sink R letters after cursor turns old mid) where
       -- one word more
-      pub more_begun : (w : Word) (new : Option (List ℕ)) → IsNext (IsLeast R) ◌≺◌ cursor w → TakesAll mid new (line w) → IsBegun R letters after (Some w) (turns + 1) old new
-      more_begun w new next taken = record {
+      pub more_begun : (w : Word) (new : K) → IsNext (IsLeast R) ◌≺◌ cursor w → WritesBytes sink (line w) mid new (Ok (tt {0})) → IsBegun sink R letters after (Some w) (turns + 1) old new
+      more_begun w new next written = record {
         words = b.words ++ w ∷ [];
         start = start_push (IsLeast R) ◌≺◌ (shortlex_strict (IsLeast R)) after b.words w b.start (subst (λ c. IsNext (IsLeast R) ◌≺◌ c w) b.last next);
         last = sym (last_of_push (IsLeast R) ◌≺◌ (shortlex_strict (IsLeast R)) after b.words w);
         count = length-append b.words (w ∷ []) ∙ ap (λ n. n + 1) b.count;
-        gained = subst (TakesAll old new) (sym lines) (TakesAll-append old mid new (flat_map line b.words) (line w) b.gained taken);
+        written = same_bytes sink _ _ old new _ (sym lines) (bytes_then sink _ _ old mid new _ _ b.written written);
       }
         where
           lines : flat_map line (b.words ++ w ∷ []) ≡ flat_map line b.words ++ line w
@@ -74,56 +84,40 @@ module _ (R : Word → Word → Type 0) where
           subst (λ n. IsPage (IsLeast R) ◌≺◌ after n b.words true) b.count
           (page_from_next (IsLeast R) ◌≺◌ (shortlex_strict (IsLeast R)) after b.words w b.start (subst (λ c. IsNext (IsLeast R) ◌≺◌ c w) b.last next))
 
-      -- nothing follows: the page ends
-      pub page_ended : (count : ℕ) (new : Option (List ℕ)) → turns ≤ count → IsLast (IsLeast R) ◌≺◌ cursor → TakesAll mid new (end_line false) → GainsPage R letters after count old new
-      page_ended count new most h end = record { words = b.words; more = false; is_page = ended count most h; gained = listing_done line b.words (end_line false) old mid new b.gained end }
+      -- the words so far are the page, and its last line follows
+      page_with_end : (count : ℕ) (more : Bool) (new : K) (r : Result (Unit {0}) WriteFault) → IsPage (IsLeast R) ◌≺◌ after count b.words more → WritesBytes sink (end_line more) mid new r → Writes sink (Page letters after count) old new r
+      page_with_end count more new r page end = meant_bytes sink _ old new r tt (page_bytes count b.words more page) (listing_ended sink line b.words (end_line more) old mid new r b.written end)
 
-      pub page_ending : (count : ℕ) (new : Option (List ℕ)) → turns ≤ count → IsLast (IsLeast R) ◌≺◌ cursor → TakesPrefix mid new (end_line false) → GainsSomePage R letters after count old new
-      page_ending count new most h end = record { words = b.words; more = false; is_page = ended count most h; gained = listing_ending line b.words (end_line false) old mid new b.gained end }
+      -- nothing follows: the page ends
+      pub page_ended : (count : ℕ) (new : K) (r : Result (Unit {0}) WriteFault) → turns ≤ count → IsLast (IsLeast R) ◌≺◌ cursor → WritesBytes sink (end_line false) mid new r → Writes sink (Page letters after count) old new r
+      page_ended count new r most h = page_with_end count false new r (ended count most h)
 
       full : (next : Option Word) → Found cursor next → IsPage (IsLeast R) ◌≺◌ after turns b.words (is_some next)
       full None h = ended turns (omega arith) h
       full (Some w) h = filled w h
 
       -- as many words as asked for: the page tells whether there is a further one
-      pub page_full : (next : Option Word) (more : Bool) (new : Option (List ℕ)) → Found cursor next → more ≡ is_some next
-          → TakesAll mid new (end_line more) → GainsPage R letters after turns old new
-      page_full next more new h e end = record {
-        words = b.words;
-        more = more;
-        is_page = subst (λ m. IsPage (IsLeast R) ◌≺◌ after turns b.words m) (sym e) (full next h);
-        gained = listing_done line b.words (end_line more) old mid new b.gained end;
-      }
-
-      pub page_filling : (next : Option Word) (more : Bool) (new : Option (List ℕ)) → Found cursor next → more ≡ is_some next
-          → TakesPrefix mid new (end_line more) → GainsSomePage R letters after turns old new
-      page_filling next more new h e end = record {
-        words = b.words;
-        more = more;
-        is_page = subst (λ m. IsPage (IsLeast R) ◌≺◌ after turns b.words m) (sym e) (full next h);
-        gained = listing_ending line b.words (end_line more) old mid new b.gained end;
-      }
+      pub page_full : (next : Option Word) (more : Bool) (new : K) (r : Result (Unit {0}) WriteFault) → Found cursor next → more ≡ is_some next → WritesBytes sink (end_line more) mid new r → Writes sink (Page letters after turns) old new r
+      page_full next more new r h e = page_with_end turns more new r (subst (IsPage (IsLeast R) ◌≺◌ after turns b.words) (sym e) (full next h))
 
       module _ (goes_on : GoesOnOrEnds (IsLeast R) ◌≺◌) (count : ℕ) where
-        -- the first words, and further ones from the cursor on
-        begun : (n : ℕ) (ys : List Word) (more : Bool) (new : Option (List ℕ)) → turns + n ≡ count → IsPage (IsLeast R) ◌≺◌ cursor n ys more → TakesPrefix mid new (flat_map line ys)
-            → GainsSomePage R letters after count old new
-        begun n ys more new whole page taken = record {
-          words = b.words ++ ys;
-          more = more;
-          is_page = subst (λ m. IsPage (IsLeast R) ◌≺◌ after m (b.words ++ ys) more) (ap (λ m. m + n) b.count ∙ whole)
-              (page_after_start (IsLeast R) after b.words n ys more b.start (subst (λ c. IsPage (IsLeast R) ◌≺◌ c n ys more) b.last page));
-          gained = listing_begun line (b.words ++ ys) (end_line more) old mid new (subst (TakesPrefix old new) (sym (flat_map-append line b.words ys)) (prefix_after old mid new (flat_map line b.words) (flat_map line ys) b.gained taken));
-        }
+        -- a fault while further words are written, from the cursor on
+        begun : (n : ℕ) (ys : List Word) (more : Bool) (new : K) (fault : WriteFault) → turns + n ≡ count → IsPage (IsLeast R) ◌≺◌ cursor n ys more → WritesBytes sink {T = Unit {0}} (flat_map line ys) mid new (Err fault)
+            → Writes sink (Page letters after count) old new (Err fault)
+        begun n ys more new fault whole page written =
+            let pages = subst (λ m. IsPage (IsLeast R) ◌≺◌ after m (b.words ++ ys) more) (ap (λ m. m + n) b.count ∙ whole)
+            (page_after_start (IsLeast R) after b.words n ys more b.start (subst (λ c. IsPage (IsLeast R) ◌≺◌ c n ys more) b.last page)) in
+            meant_bytes sink _ old new (Err fault) tt (page_bytes count (b.words ++ ys) more pages)
+            (listing_begun sink line (b.words ++ ys) (end_line more) old new fault (same_bytes sink _ _ old new _ (sym (flat_map-append line b.words ys)) (bytes_then sink _ _ old mid new _ _ b.written written)))
 
-        -- the words so far begin a page
-        pub page_begun : turns ≤ count → GainsSomePage R letters after count old mid
+        -- memory ran out after the words so far
+        pub page_begun : turns ≤ count → Writes sink (Page letters after count) old mid (Err NoMemory)
         page_begun most =
             let rest = some_page goes_on cursor (count - turns) in
-            begun (count - turns) rest.0 rest.1 mid (omega arith) rest.2 (0, omega arith, gains_nothing mid)
+            begun (count - turns) rest.0 rest.1 mid NoMemory (omega arith) rest.2 (bytes_refused sink (flat_map line rest.0) mid)
 
-        -- and so do they with a prefix of the next one
-        pub word_begun : (w : Word) (new : Option (List ℕ)) → turns < count → IsNext (IsLeast R) ◌≺◌ cursor w → TakesPrefix mid new (line w) → GainsSomePage R letters after count old new
-        word_begun w new fewer next taken =
+        -- a fault at the next word
+        pub word_begun : (w : Word) (new : K) (fault : WriteFault) → turns < count → IsNext (IsLeast R) ◌≺◌ cursor w → WritesBytes sink {T = Unit {0}} (line w) mid new (Err fault) → Writes sink (Page letters after count) old new (Err fault)
+        word_begun w new fault fewer next written =
             let rest = some_page goes_on (Some w) (count - turns - 1) in
-            begun (suc (count - turns - 1)) (w ∷ rest.0) rest.1 new (omega arith) (next, rest.2) (prefix_more mid new (line w) (flat_map line rest.0) taken)
+            begun (suc (count - turns - 1)) (w ∷ rest.0) rest.1 new fault (omega arith) (next, rest.2) (bytes_broken_off sink (line w) (flat_map line rest.0) mid new fault written)

@@ -1,13 +1,12 @@
 // The answers of queries.
-ghost use Rattle.std.specs.Prelude.{◌≡◌, ◌<◌, ◌≤◌, ◌⊎◌, [], length, slice_index_or, true, false, OnOk, OnErr, IfOk, IfSome, IsErrOf, IsTrue, MatchOption};
-ghost use Rattle.ports.specs.Bytes.{Rose, TakesAll, TakesPrefix};
-ghost use Rattle.ports.specs.declared.fault.WriteFault.TheVariants as fault;
+ghost use Rattle.std.specs.Prelude.{◌≡◌, ◌<◌, [], length, slice_index_or, false, IfSome, IsTrue, MatchOption};
+ghost use Rattle.ports.specs.Writes.{Writes, WritesBytes};
 ghost use Rattle.theory.specs.Word.{IsElement};
 ghost use Rattle.problem.specs.Problem.{count_of, is_presented, letters_of, value_text};
 ghost use Rattle.query_lang.specs.Query.{IsQueryOf};
-ghost use Rattle.report.specs.Answer.{waits};
+ghost use Rattle.report.specs.Answer.{AreLines, waits};
 ghost use Rattle.report.specs.Closed.{IsClosureOf, number_in, words_of};
-ghost use Rattle.report.specs.Gains.{GainsAnswer, GainsLines, GainsPart, GainsSome, is_undecided};
+ghost use Rattle.report.specs.Gains.{AreAnswerBytes, AreBytesOf};
 ghost use Rattle.report.specs.Kept.{IsVerdictOf, KeepsSettings};
 ghost use Rattle.report.specs.Lines.{element_line, index_line, normal_line};
 
@@ -41,14 +40,7 @@ fn write_index<O: Sink>(
     bound: usize,
     sink: &mut O,
 ) -> Result<(), WriteFault>
-    ensures written { OnOk result (TakesAll (O.taken sink.old) (O.taken sink.new)
-        (index_line bound count)) }
-    ensures part { OnErr result (TakesPrefix (O.taken sink.old) (O.taken sink.new)
-        (index_line bound count)) }
-    ensures failed { IsErrOf result WriteFault.Failed
-        → Rose (O.faults sink.old) (O.faults sink.new) }
-    ensures kept { O.faults sink.old ≤ O.faults sink.new }
-    ensures quiet { OnOk result (O.faults sink.new ≡ O.faults sink.old) }
+    ensures { WritesBytes O.Sink (index_line bound count) sink.old sink.new result }
 {
     if count <= bound {
         write_count(alloc, count, sink)
@@ -67,16 +59,9 @@ fn write_normal<O: Sink>(
 ) -> Result<(), WriteFault>
     requires closure { IsClosureOf problem.now closure.now }
     requires word { IsElement false (count_of problem.now) word.now }
-    ensures written { OnOk result (TakesAll (O.taken sink.old) (O.taken sink.new)
-        (normal_line (letters_of problem.now)
-        (slice_index_or (words_of closure.now) (number_in closure.now word.now) []))) }
-    ensures part { OnErr result (TakesPrefix (O.taken sink.old) (O.taken sink.new)
-        (normal_line (letters_of problem.now)
-        (slice_index_or (words_of closure.now) (number_in closure.now word.now) []))) }
-    ensures failed { IsErrOf result WriteFault.Failed
-        → Rose (O.faults sink.old) (O.faults sink.new) }
-    ensures kept { O.faults sink.old ≤ O.faults sink.new }
-    ensures quiet { OnOk result (O.faults sink.new ≡ O.faults sink.old) }
+    ensures { WritesBytes O.Sink (normal_line (letters_of problem.now)
+        (slice_index_or (words_of closure.now) (number_in closure.now word.now) []))
+        sink.old sink.new result }
 {
     let normal = closure.word(closure.index_of(word))?;
     write_normal_form(alloc, problem.alphabet(), &normal, sink)
@@ -91,14 +76,8 @@ fn write_element<O: Sink>(
 ) -> Result<(), WriteFault>
     requires generated { is_presented problem.now ≡ false }
     requires word { IsElement false (length (letters_of problem.now)) word.now }
-    ensures written { OnOk result (TakesAll (O.taken sink.old) (O.taken sink.new)
-        (element_line (value_text problem.now word.now))) }
-    ensures part { OnErr result (TakesPrefix (O.taken sink.old) (O.taken sink.new)
-        (element_line (value_text problem.now word.now))) }
-    ensures failed { IsErrOf result WriteFault.Failed
-        → Rose (O.faults sink.old) (O.faults sink.new) }
-    ensures kept { O.faults sink.old ≤ O.faults sink.new }
-    ensures quiet { OnOk result (O.faults sink.new ≡ O.faults sink.old) }
+    ensures { WritesBytes O.Sink (element_line (value_text problem.now word.now))
+        sink.old sink.new result }
 {
     let entries = problem.value(alloc, word)?;
     let mut line = Line::starting(alloc, b"element ")?;
@@ -117,14 +96,8 @@ fn write_known<O: Sink>(
 ) -> Result<(), WriteFault>
     requires closure { IsClosureOf problem.now closure.now }
     requires query { IsQueryOf problem.now query.now }
-    ensures written { OnOk result (GainsLines problem.now bound query.now (O.taken sink.old)
-        (O.taken sink.new)) }
-    ensures part { OnErr result (TakesAll (O.taken sink.old) (O.taken sink.new) []
-        ⊎ GainsSome problem.now bound query.now (O.taken sink.old) (O.taken sink.new)) }
-    ensures failed { IsErrOf result WriteFault.Failed
-        → Rose (O.faults sink.old) (O.faults sink.new) }
-    ensures kept { O.faults sink.old ≤ O.faults sink.new }
-    ensures quiet { OnOk result (O.faults sink.new ≡ O.faults sink.old) }
+    ensures { Writes O.Sink (λ _. AreBytesOf (AreLines problem.now bound query.now))
+        sink.old sink.new result }
 {
     let alphabet = problem.alphabet();
     match query {
@@ -155,14 +128,8 @@ fn write_decided<O: Sink>(
     requires query { IsQueryOf problem.now query.now }
     requires kept { MatchOption state.now.verdict ⊥ (IsVerdictOf problem.now state.now.budgets) }
     requires waits { IsTrue (waits query.now) }
-    ensures written { IfOk result (λ answered. GainsAnswer problem.now state.now.budgets
-        state.now.classes query.now (is_undecided answered) (O.taken sink.old) (O.taken sink.new)) }
-    ensures part { OnErr result (GainsPart problem.now state.now.budgets state.now.classes query.now
-        (O.taken sink.old) (O.taken sink.new)) }
-    ensures failed { IsErrOf result WriteFault.Failed
-        → Rose (O.faults sink.old) (O.faults sink.new) }
-    ensures kept { O.faults sink.old ≤ O.faults sink.new }
-    ensures quiet { OnOk result (O.faults sink.new ≡ O.faults sink.old) }
+    ensures { Writes O.Sink (AreAnswerBytes problem.now state.now.budgets state.now.classes
+        query.now) sink.old sink.new result }
 {
     match state.verdict() {
         Some(Verdict::Known(closure)) => {
@@ -204,14 +171,8 @@ pub fn write_answer<R: Threads + Sync, O: Sink, G: Gate + Sync>(
     requires workers { 0 < state.old.workers }
     ensures kept { IfSome state.new.verdict (IsVerdictOf script.now.problem state.new.budgets) }
     ensures settings { KeepsSettings state.old state.new }
-    ensures written { IfOk result (λ answered. GainsAnswer script.now.problem state.old.budgets
-        state.old.classes query.now (is_undecided answered) (O.taken sink.old) (O.taken sink.new)) }
-    ensures part { OnErr result (GainsPart script.now.problem state.old.budgets state.old.classes
-        query.now (O.taken sink.old) (O.taken sink.new)) }
-    ensures failed { IsErrOf result WriteFault.Failed
-        → Rose (O.faults sink.old) (O.faults sink.new) }
-    ensures kept_faults { O.faults sink.old ≤ O.faults sink.new }
-    ensures quiet { OnOk result (O.faults sink.new ≡ O.faults sink.old) }
+    ensures written { Writes O.Sink (AreAnswerBytes script.now.problem state.old.budgets
+        state.old.classes query.now) sink.old sink.new result }
 {
     let problem = script.problem();
     if let Query::ElementOf(word) = query {

@@ -1,8 +1,6 @@
 // The Cayley graphs, as lines.
-ghost use Rattle.std.specs.Prelude.{◌≡◌, ℕ, ◌<◌, ◌≤◌, ◌+◌, ◌++◌, ◌∷◌, [], length, slice_index_or, OnOk, OnErr, IfOk, IsErrOf, codes, false};
-ghost use Rattle.std.specs.List.{flat_map, range_with_len};
-ghost use Rattle.ports.specs.Bytes.{Rose, TakesAll, TakesPrefix};
-ghost use Rattle.ports.specs.declared.fault.WriteFault.TheVariants as fault;
+ghost use Rattle.std.specs.Prelude.{◌≡◌, ◌<◌, ◌+◌, ◌++◌, ◌∷◌, [], slice_index_or, OnOk, IfOk, codes, false};
+ghost use Rattle.ports.specs.Writes.{WritesBytes};
 ghost use Rattle.problem.specs.Problem.{count_of, letters_of};
 ghost use Rattle.report.specs.Closed.{IsClosureOf, count_in, words_of, right_of, left_of};
 ghost use Rattle.report.specs.Answer.{cayley_lines};
@@ -90,18 +88,9 @@ pub fn write_cayley<O: Sink>(
     sink: &mut O,
 ) -> Result<(), WriteFault>
     requires { IsClosureOf problem.now closure.now }
-    ensures written { OnOk result (TakesAll (O.taken sink.old) (O.taken sink.new)
-        (bytes_of (cayley_lines (letters_of problem.now) (count_of problem.now)
-        (words_of closure.now) (right_of closure.now) (left_of closure.now)
-        ++ end_line false ∷ []))) }
-    ensures part { OnErr result (TakesPrefix (O.taken sink.old) (O.taken sink.new)
-        (bytes_of (cayley_lines (letters_of problem.now) (count_of problem.now)
-        (words_of closure.now) (right_of closure.now) (left_of closure.now)
-        ++ end_line false ∷ []))) }
-    ensures failed { IsErrOf result WriteFault.Failed
-        → Rose (O.faults sink.old) (O.faults sink.new) }
-    ensures kept { O.faults sink.old ≤ O.faults sink.new }
-    ensures quiet { OnOk result (O.faults sink.new ≡ O.faults sink.old) }
+    ensures { WritesBytes O.Sink (bytes_of (cayley_lines (letters_of problem.now)
+        (count_of problem.now) (words_of closure.now) (right_of closure.now) (left_of closure.now)
+        ++ end_line false ∷ [])) sink.old sink.new result }
 {
     for number in 0..closure.len() {
         row_of(alloc, problem, closure, number)?.write(sink)?;

@@ -1,12 +1,12 @@
 // The answers where the problem's congruence is solved.
-ghost use Rattle.std.specs.Prelude.{◌≡◌, ◌≤◌, ◌⊎◌, [], length, IfOk, OnOk, OnErr, IsErrOf};
+ghost use Rattle.std.specs.Prelude.{◌≡◌, length, IfOk};
 ghost use Rattle.std.specs.Option.{option_copied};
-ghost use Rattle.ports.specs.Bytes.{Rose, TakesAll};
-ghost use Rattle.ports.specs.declared.fault.WriteFault.TheVariants as fault;
+ghost use Rattle.ports.specs.Writes.{Writes};
 ghost use Rattle.theory.specs.Class.{SameClass};
 ghost use Rattle.congruence.specs.Verdicts.{IsCongruenceIn};
 ghost use Rattle.query_lang.specs.Query.{IsQueryOf};
-ghost use Rattle.report.specs.Gains.{GainsLines, GainsPage, GainsSome, GainsSomePage};
+ghost use Rattle.report.specs.Answer.{AreLines};
+ghost use Rattle.report.specs.Gains.{AreBytesOf, ArePageLines};
 
 use crate::listings::{write_end, write_rules, write_word};
 use crate::single::{write_count, write_equal, write_infinite, write_normal_form, write_over};
@@ -38,15 +38,8 @@ fn write_classes<O: Sink>(
     sink: &mut O,
 ) -> Result<(), WriteFault>
     requires { solved.now.congruence.presentation.letters ≡ length alphabet.now }
-    ensures written { OnOk result (GainsPage (SameClass solved.now.congruence) alphabet.now
-        (option_copied after.entry) count (O.taken sink.old) (O.taken sink.new)) }
-    ensures part { OnErr result (TakesAll (O.taken sink.old) (O.taken sink.new) []
-        ⊎ GainsSomePage (SameClass solved.now.congruence) alphabet.now
-        (option_copied after.entry) count (O.taken sink.old) (O.taken sink.new)) }
-    ensures failed { IsErrOf result WriteFault.Failed
-        → Rose (O.faults sink.old) (O.faults sink.new) }
-    ensures kept { O.faults sink.old ≤ O.faults sink.new }
-    ensures quiet { OnOk result (O.faults sink.new ≡ O.faults sink.old) }
+    ensures { Writes O.Sink (λ _. AreBytesOf (ArePageLines (SameClass solved.now.congruence)
+        alphabet.now (option_copied after.entry) count)) sink.old sink.new result }
 {
     let mut cursor = copied(alloc, after)?;
     for _ in 0..count {
@@ -73,14 +66,8 @@ pub fn write_solved<O: Sink>(
 ) -> Result<(), WriteFault>
     requires solved { IsCongruenceIn problem.now solved.now.congruence }
     requires query { IsQueryOf problem.now query.now }
-    ensures written { OnOk result (GainsLines problem.now bound query.now (O.taken sink.old)
-        (O.taken sink.new)) }
-    ensures part { OnErr result (TakesAll (O.taken sink.old) (O.taken sink.new) []
-        ⊎ GainsSome problem.now bound query.now (O.taken sink.old) (O.taken sink.new)) }
-    ensures failed { IsErrOf result WriteFault.Failed
-        → Rose (O.faults sink.old) (O.faults sink.new) }
-    ensures kept { O.faults sink.old ≤ O.faults sink.new }
-    ensures quiet { OnOk result (O.faults sink.new ≡ O.faults sink.old) }
+    ensures { Writes O.Sink (λ _. AreBytesOf (AreLines problem.now bound query.now))
+        sink.old sink.new result }
 {
     let alphabet = problem.alphabet();
     match query {

@@ -1,9 +1,8 @@
 // Lines that are put together.
-ghost use Rattle.std.specs.Prelude.{◌≡◌, ◌++◌, [], length, decimal, codes, OnOk, OnErr, IfOk, IsErrOf, ◌≤◌};
+ghost use Rattle.std.specs.Prelude.{◌≡◌, ◌++◌, length, decimal, codes, OnOk, IfOk};
 ghost use Rattle.theory.specs.Word.{IsOver};
 ghost use Rattle.words.specs.WordText.{text_of};
-ghost use Rattle.ports.specs.Bytes.{Rose, TakesAll, TakesPrefix};
-ghost use Rattle.ports.specs.declared.fault.WriteFault.TheVariants as fault;
+ghost use Rattle.ports.specs.Writes.{WritesBytes};
 
 use itoa::Buffer;
 use ports::{NoMemory, Sink, WriteFault, write_all};
@@ -70,14 +69,7 @@ impl Line {
     /// Ends the line with a line feed, and writes it. `Failed` comes only where the sink failed; after
     /// a refusal the sink has gained a prefix of the line.
     pub fn write<O: Sink>(mut self, sink: &mut O) -> Result<(), WriteFault>
-        ensures all { OnOk result (TakesAll (O.taken sink.old) (O.taken sink.new)
-            (self ++ codes "\n")) }
-        ensures prefix { OnErr result (TakesPrefix (O.taken sink.old) (O.taken sink.new)
-            (self ++ codes "\n")) }
-        ensures failed { IsErrOf result WriteFault.Failed
-            → Rose (O.faults sink.old) (O.faults sink.new) }
-        ensures kept { O.faults sink.old ≤ O.faults sink.new }
-        ensures quiet { OnOk result (O.faults sink.new ≡ O.faults sink.old) }
+        ensures { WritesBytes O.Sink (self ++ codes "\n") sink.old sink.new result }
     {
         self.text(b"\n")?;
         write_all(sink, self.bytes.as_slice())

@@ -1,14 +1,13 @@
 // Answers of many lines.
-ghost use Rattle.std.specs.Prelude.{◌≡◌, ℕ, ◌<◌, ◌≤◌, ◌+◌, ◌-◌, ◌++◌, ◌∷◌, [], Some, map, take, drop, nat_lt, length, slice_index_or, slice_get, codes, OnOk, OnErr, IfOk, IsErrOf, false, All};
+ghost use Rattle.std.specs.Prelude.{◌<◌, ◌≤◌, ◌+◌, ◌-◌, ◌++◌, ◌∷◌, [], Some, map, take, drop, nat_lt, length, IfOk, false, All};
 ghost use Rattle.std.specs.Option.{option_copied};
-ghost use Rattle.std.specs.List.{flat_map, range_with_len};
-ghost use Rattle.ports.specs.Bytes.{Rose, TakesAll, TakesPrefix};
-ghost use Rattle.ports.specs.declared.fault.WriteFault.TheVariants as fault;
+ghost use Rattle.std.specs.List.{flat_map};
+ghost use Rattle.ports.specs.Writes.{WritesBytes};
 ghost use Rattle.theory.specs.Word.{IsOver};
-ghost use Rattle.problem.specs.Problem.{count_of, letters_of};
+ghost use Rattle.problem.specs.Problem.{letters_of};
 ghost use Rattle.report.specs.Closed.{IsClosureOf, count_in, words_of};
 ghost use Rattle.report.specs.Gains.{bytes_of};
-ghost use Rattle.report.specs.Lines.{cayley_line, end_line, numbers_text, rule_line, word_line};
+ghost use Rattle.report.specs.Lines.{end_line, rule_line, word_line};
 ghost use Rattle.report.specs.Paging.{IsPageStart, IsSplit};
 
 use crate::closure::Closure;
@@ -16,7 +15,7 @@ use crate::line::Line;
 use ports::{NoMemory, Sink, WriteFault, write_all};
 use problem::Problem;
 use std::alloc::Global;
-use words::{Alphabet, Letter, Word, shortlex};
+use words::{Alphabet, Word, shortlex};
 
 // How many of the least words do not come after the cursor. The words ascend, so these are the first.
 fn count_before(problem: &Problem, closure: &Closure, cursor: &Word) -> Result<usize, NoMemory>
@@ -64,16 +63,8 @@ fn write_words<O: Sink>(
 ) -> Result<(), WriteFault>
     requires closure { IsClosureOf problem.now closure.now }
     requires within { (start ≤ end) × (end ≤ count_in closure.now) }
-    ensures written { OnOk result (TakesAll (O.taken sink.old) (O.taken sink.new)
-        (flat_map (word_line (letters_of problem.now))
-        (take (end - start) (drop start (words_of closure.now))))) }
-    ensures part { OnErr result (TakesPrefix (O.taken sink.old) (O.taken sink.new)
-        (flat_map (word_line (letters_of problem.now))
-        (take (end - start) (drop start (words_of closure.now))))) }
-    ensures failed { IsErrOf result WriteFault.Failed
-        → Rose (O.faults sink.old) (O.faults sink.new) }
-    ensures kept { O.faults sink.old ≤ O.faults sink.new }
-    ensures quiet { OnOk result (O.faults sink.new ≡ O.faults sink.old) }
+    ensures { WritesBytes O.Sink (flat_map (word_line (letters_of problem.now))
+        (take (end - start) (drop start (words_of closure.now)))) sink.old sink.new result }
 {
     for number in start..end {
         let word = closure.word(number)?;
@@ -90,14 +81,7 @@ pub fn write_word<O: Sink>(
     sink: &mut O,
 ) -> Result<(), WriteFault>
     requires { IsOver (length alphabet.now) word.now }
-    ensures written { OnOk result (TakesAll (O.taken sink.old) (O.taken sink.new)
-        (word_line alphabet.now word.now)) }
-    ensures part { OnErr result (TakesPrefix (O.taken sink.old) (O.taken sink.new)
-        (word_line alphabet.now word.now)) }
-    ensures failed { IsErrOf result WriteFault.Failed
-        → Rose (O.faults sink.old) (O.faults sink.new) }
-    ensures kept { O.faults sink.old ≤ O.faults sink.new }
-    ensures quiet { OnOk result (O.faults sink.new ≡ O.faults sink.old) }
+    ensures { WritesBytes O.Sink (word_line alphabet.now word.now) sink.old sink.new result }
 {
     let line = Line::of_word(alloc, alphabet, word)?;
     line.write(sink)
@@ -105,13 +89,7 @@ pub fn write_word<O: Sink>(
 
 /// Writes the line that ends a listing.
 pub fn write_end<O: Sink>(more: bool, sink: &mut O) -> Result<(), WriteFault>
-    ensures written { OnOk result (TakesAll (O.taken sink.old) (O.taken sink.new) (end_line more)) }
-    ensures part { OnErr result (TakesPrefix (O.taken sink.old) (O.taken sink.new)
-        (end_line more)) }
-    ensures failed { IsErrOf result WriteFault.Failed
-        → Rose (O.faults sink.old) (O.faults sink.new) }
-    ensures kept { O.faults sink.old ≤ O.faults sink.new }
-    ensures quiet { OnOk result (O.faults sink.new ≡ O.faults sink.old) }
+    ensures { WritesBytes O.Sink (end_line more) sink.old sink.new result }
 {
     if more {
         write_all(sink, b"more\n")
@@ -131,18 +109,10 @@ pub fn write_page<O: Sink>(
 ) -> Result<(), WriteFault>
     requires closure { IsClosureOf problem.now closure.now }
     requires within { start ≤ count_in closure.now }
-    ensures written { OnOk result (TakesAll (O.taken sink.old) (O.taken sink.new)
-        (bytes_of (map (word_line (letters_of problem.now))
+    ensures { WritesBytes O.Sink (bytes_of (map (word_line (letters_of problem.now))
         (take count (drop start (words_of closure.now)))
-        ++ end_line (nat_lt count (length (drop start (words_of closure.now)))) ∷ []))) }
-    ensures part { OnErr result (TakesPrefix (O.taken sink.old) (O.taken sink.new)
-        (bytes_of (map (word_line (letters_of problem.now))
-        (take count (drop start (words_of closure.now)))
-        ++ end_line (nat_lt count (length (drop start (words_of closure.now)))) ∷ []))) }
-    ensures failed { IsErrOf result WriteFault.Failed
-        → Rose (O.faults sink.old) (O.faults sink.new) }
-    ensures kept { O.faults sink.old ≤ O.faults sink.new }
-    ensures quiet { OnOk result (O.faults sink.new ≡ O.faults sink.old) }
+        ++ end_line (nat_lt count (length (drop start (words_of closure.now)))) ∷ []))
+        sink.old sink.new result }
 {
     let left = closure.len() - start;
     write_words(
@@ -165,14 +135,7 @@ fn write_rule<O: Sink>(
 ) -> Result<(), WriteFault>
     requires left { IsOver (length alphabet.now) rule.now.0 }
     requires right { IsOver (length alphabet.now) rule.now.1 }
-    ensures written { OnOk result (TakesAll (O.taken sink.old) (O.taken sink.new)
-        (rule_line alphabet.now rule.now)) }
-    ensures part { OnErr result (TakesPrefix (O.taken sink.old) (O.taken sink.new)
-        (rule_line alphabet.now rule.now)) }
-    ensures failed { IsErrOf result WriteFault.Failed
-        → Rose (O.faults sink.old) (O.faults sink.new) }
-    ensures kept { O.faults sink.old ≤ O.faults sink.new }
-    ensures quiet { OnOk result (O.faults sink.new ≡ O.faults sink.old) }
+    ensures { WritesBytes O.Sink (rule_line alphabet.now rule.now) sink.old sink.new result }
 {
     let mut line = Line::of_word(alloc, alphabet, &rule.0)?;
     line.text(b" ")?;
@@ -189,14 +152,8 @@ pub fn write_rules<O: Sink>(
 ) -> Result<(), WriteFault>
     requires { All (λ rule. IsOver (length alphabet.now) rule.0
         × IsOver (length alphabet.now) rule.1) rules.now.items }
-    ensures written { OnOk result (TakesAll (O.taken sink.old) (O.taken sink.new)
-        (bytes_of (map (rule_line alphabet.now) rules.now.items ++ end_line false ∷ []))) }
-    ensures part { OnErr result (TakesPrefix (O.taken sink.old) (O.taken sink.new)
-        (bytes_of (map (rule_line alphabet.now) rules.now.items ++ end_line false ∷ []))) }
-    ensures failed { IsErrOf result WriteFault.Failed
-        → Rose (O.faults sink.old) (O.faults sink.new) }
-    ensures kept { O.faults sink.old ≤ O.faults sink.new }
-    ensures quiet { OnOk result (O.faults sink.new ≡ O.faults sink.old) }
+    ensures { WritesBytes O.Sink (bytes_of (map (rule_line alphabet.now) rules.now.items
+        ++ end_line false ∷ [])) sink.old sink.new result }
 {
     for rule in rules {
         write_rule(alloc, alphabet, rule, sink)?;

@@ -1,7 +1,6 @@
 // Answers of one line.
-ghost use Rattle.std.specs.Prelude.{◌≡◌, ◌≤◌, length, OnOk, OnErr, IsErrOf};
-ghost use Rattle.ports.specs.Bytes.{Rose, TakesAll, TakesPrefix};
-ghost use Rattle.ports.specs.declared.fault.WriteFault.TheVariants as fault;
+ghost use Rattle.std.specs.Prelude.{length};
+ghost use Rattle.ports.specs.Writes.{WritesBytes};
 ghost use Rattle.theory.specs.Word.{IsOver};
 ghost use Rattle.report.specs.Lines.{count_line, over_line, infinite_line, equal_line, normal_line};
 
@@ -12,14 +11,7 @@ use words::{Alphabet, Word};
 
 /// Writes how many classes there are.
 pub fn write_count<O: Sink>(alloc: Global, count: usize, sink: &mut O) -> Result<(), WriteFault>
-    ensures written { OnOk result (TakesAll (O.taken sink.old) (O.taken sink.new)
-        (count_line count)) }
-    ensures part { OnErr result (TakesPrefix (O.taken sink.old) (O.taken sink.new)
-        (count_line count)) }
-    ensures failed { IsErrOf result WriteFault.Failed
-        → Rose (O.faults sink.old) (O.faults sink.new) }
-    ensures kept { O.faults sink.old ≤ O.faults sink.new }
-    ensures quiet { OnOk result (O.faults sink.new ≡ O.faults sink.old) }
+    ensures { WritesBytes O.Sink (count_line count) sink.old sink.new result }
 {
     let mut line = Line::starting(alloc, b"index ")?;
     line.number(count)?;
@@ -28,14 +20,7 @@ pub fn write_count<O: Sink>(alloc: Global, count: usize, sink: &mut O) -> Result
 
 /// Writes that there are more classes than the bound.
 pub fn write_over<O: Sink>(alloc: Global, bound: usize, sink: &mut O) -> Result<(), WriteFault>
-    ensures written { OnOk result (TakesAll (O.taken sink.old) (O.taken sink.new)
-        (over_line bound)) }
-    ensures part { OnErr result (TakesPrefix (O.taken sink.old) (O.taken sink.new)
-        (over_line bound)) }
-    ensures failed { IsErrOf result WriteFault.Failed
-        → Rose (O.faults sink.old) (O.faults sink.new) }
-    ensures kept { O.faults sink.old ≤ O.faults sink.new }
-    ensures quiet { OnOk result (O.faults sink.new ≡ O.faults sink.old) }
+    ensures { WritesBytes O.Sink (over_line bound) sink.old sink.new result }
 {
     let mut line = Line::starting(alloc, b"index over ")?;
     line.number(bound)?;
@@ -44,26 +29,14 @@ pub fn write_over<O: Sink>(alloc: Global, bound: usize, sink: &mut O) -> Result<
 
 /// Writes that there are infinitely many classes.
 pub fn write_infinite<O: Sink>(sink: &mut O) -> Result<(), WriteFault>
-    ensures written { OnOk result (TakesAll (O.taken sink.old) (O.taken sink.new) infinite_line) }
-    ensures part { OnErr result (TakesPrefix (O.taken sink.old) (O.taken sink.new) infinite_line) }
-    ensures failed { IsErrOf result WriteFault.Failed
-        → Rose (O.faults sink.old) (O.faults sink.new) }
-    ensures kept { O.faults sink.old ≤ O.faults sink.new }
-    ensures quiet { OnOk result (O.faults sink.new ≡ O.faults sink.old) }
+    ensures { WritesBytes O.Sink infinite_line sink.old sink.new result }
 {
     write_all(sink, b"index infinite\n")
 }
 
 /// Writes whether two words are related.
 pub fn write_equal<O: Sink>(same: bool, sink: &mut O) -> Result<(), WriteFault>
-    ensures written { OnOk result (TakesAll (O.taken sink.old) (O.taken sink.new)
-        (equal_line same)) }
-    ensures part { OnErr result (TakesPrefix (O.taken sink.old) (O.taken sink.new)
-        (equal_line same)) }
-    ensures failed { IsErrOf result WriteFault.Failed
-        → Rose (O.faults sink.old) (O.faults sink.new) }
-    ensures kept { O.faults sink.old ≤ O.faults sink.new }
-    ensures quiet { OnOk result (O.faults sink.new ≡ O.faults sink.old) }
+    ensures { WritesBytes O.Sink (equal_line same) sink.old sink.new result }
 {
     if same {
         write_all(sink, b"equal yes\n")
@@ -80,14 +53,7 @@ pub fn write_normal_form<O: Sink>(
     sink: &mut O,
 ) -> Result<(), WriteFault>
     requires { IsOver (length alphabet.now) normal.now }
-    ensures written { OnOk result (TakesAll (O.taken sink.old) (O.taken sink.new)
-        (normal_line alphabet.now normal.now)) }
-    ensures part { OnErr result (TakesPrefix (O.taken sink.old) (O.taken sink.new)
-        (normal_line alphabet.now normal.now)) }
-    ensures failed { IsErrOf result WriteFault.Failed
-        → Rose (O.faults sink.old) (O.faults sink.new) }
-    ensures kept { O.faults sink.old ≤ O.faults sink.new }
-    ensures quiet { OnOk result (O.faults sink.new ≡ O.faults sink.old) }
+    ensures { WritesBytes O.Sink (normal_line alphabet.now normal.now) sink.old sink.new result }
 {
     let mut line = Line::starting(alloc, b"normal ")?;
     line.word(alloc, alphabet, normal)?;

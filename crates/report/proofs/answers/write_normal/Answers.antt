@@ -1,13 +1,12 @@
 use Rattle.std.proofs.Common.{◌≡◌, ℕ, List, [], get_or, slice_get, Some, sym, ap, subst, ◌∙◌}
 use Rattle.std.proofs.lemmas.Option.{get_or_from_slice_get}
 use Rattle.theory.specs.Word.{Word, IsOver}
-use Rattle.ports.specs.Bytes.{TakesAll, TakesPrefix}
+use Rattle.ports.proofs.WriteLemmas.{same_bytes}
 use Rattle.problem.specs.Problem.{letters_of}
 use Rattle.report.specs.Closed.{words_of, number_in}
 use Rattle.report.specs.Lines.{normal_line}
 use Rattle.report.proofs.AnswerLemmas.{word_over}
 use Rattle.report.proofs.ClosureLemmas.{closure_letters}
-use Rattle.report.proofs.GainLemmas.{on_err_so, on_ok_so}
 use Rattle.report.proofs.answers.write_normal.Goals as goal
 
 pub index_of-requires-clause-over : goal.index_of-requires-clause-over
@@ -21,12 +20,7 @@ line_of_word : (words : List Word) (n m : ℕ) (w : Word) (letters others : List
 line_of_word words n m w letters others e at same =
     ap (λ ls. normal_line ls w) same ∙ ap (normal_line letters) (sym (get_or_from_slice_get words n w [] at) ∙ ap (λ k. get_or words k []) e)
 
-pub returns-clause-written : goal.returns-clause-written
-returns-clause-written g c =
+pub returns : goal.returns
+returns g c =
     let line = line_of_word (words_of c.args.closure.now) c.index_of.result (number_in c.args.closure.now c.args.word.now) c.in_ok-normal.normal (letters_of c.args.problem.now) c.alphabet.result.now c.index_of.ensures.number c.in_ok-normal.ensures c.alphabet.ensures.letters in
-    on_ok_so c.write_normal_form.result _ _ (subst (TakesAll (g.O.Sink.taken c.args.sink.now) (g.O.Sink.taken c.write_normal_form.new.sink)) line) c.write_normal_form.ensures.written
-
-pub returns-clause-part : goal.returns-clause-part
-returns-clause-part g c =
-    let line = line_of_word (words_of c.args.closure.now) c.index_of.result (number_in c.args.closure.now c.args.word.now) c.in_ok-normal.normal (letters_of c.args.problem.now) c.alphabet.result.now c.index_of.ensures.number c.in_ok-normal.ensures c.alphabet.ensures.letters in
-    on_err_so c.write_normal_form.result _ _ (subst (TakesPrefix (g.O.Sink.taken c.args.sink.now) (g.O.Sink.taken c.write_normal_form.new.sink)) line) c.write_normal_form.ensures.part
+    same_bytes g.O.Sink _ _ _ _ _ line c.write_normal_form.ensures

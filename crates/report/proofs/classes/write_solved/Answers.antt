@@ -1,5 +1,6 @@
 use Rattle.std.proofs.Common.{ℕ, Bool, false, List, [], ◌∷◌, ◌++◌, map, sym, ap, subst, ◌∙◌}
 use Rattle.std.specs.Option.{option_copied}
+use Rattle.ports.proofs.WriteLemmas.{handed_on, refused}
 use Rattle.theory.specs.Word.{Word}
 use Rattle.theory.specs.Class.{SameClass, IsRuleList}
 use Rattle.problem.specs.declared.kinds.Problem.{Problem}
@@ -7,113 +8,65 @@ use Rattle.problem.specs.Problem.{letters_of}
 use Rattle.query_lang.specs.declared.script.Query.TheVariants as query
 use Rattle.report.specs.Lines.{count_line, over_line, infinite_line, equal_line, normal_line, rule_line, end_line}
 use Rattle.report.specs.Gains.{bytes_of}
-use Rattle.report.proofs.AnswerLemmas.{all_lines, some_lines, one_line, lines_of}
-use Rattle.report.proofs.SolvedLemmas.{solved_count, solved_infinite, solved_over, solved_equal, solved_normal, solved_rules, solved_rules_over, solved_page, solved_part}
+use Rattle.report.proofs.AnswerLemmas.{writes_lines, one_line, lines_of}
+use Rattle.report.proofs.SolvedLemmas.{solved_count, solved_infinite, solved_over, solved_equal, solved_normal, solved_rules, solved_rules_over, solved_page}
 use Rattle.report.proofs.classes.write_solved.Goals as goal
 
-pub returns-in-Finite-clause-written : goal.returns-in-Finite-clause-written
-returns-in-Finite-clause-written g c =
+pub returns-in-Finite : goal.returns-in-Finite
+returns-in-Finite g c =
     let p : Problem = c.args.problem.now in
     let lines : List (List ℕ) = count_line c.in-Finite.count ∷ [] in
-    all_lines p c.args.bound c.args.query.now lines (lines_of p c.args.bound lines c.args.query.now query.Index c.in-Index.is (solved_count p c.args.solved.now.congruence c.requires.solved c.args.bound c.in_ok-count-in-Index.field-0 c.in-Finite.count c.in-Finite.is c.in_ok-count-in-Index.ensures))
-    c.write_count.result _ _ _ (one_line (count_line c.in-Finite.count)) c.write_count.ensures.written
+    writes_lines g.O.Sink p c.args.bound c.args.query.now lines (lines_of p c.args.bound lines c.args.query.now query.Index c.in-Index.is (solved_count p c.args.solved.now.congruence c.requires.solved c.args.bound c.in_ok-count-in-Index.field-0 c.in-Finite.count c.in-Finite.is c.in_ok-count-in-Index.ensures))
+    _ _ _ _ (one_line (count_line c.in-Finite.count)) c.write_count.ensures
 
-pub returns-in-Finite-clause-part : goal.returns-in-Finite-clause-part
-returns-in-Finite-clause-part g c =
-    let p : Problem = c.args.problem.now in
-    let lines : List (List ℕ) = count_line c.in-Finite.count ∷ [] in
-    some_lines p c.args.bound c.args.query.now lines (lines_of p c.args.bound lines c.args.query.now query.Index c.in-Index.is (solved_count p c.args.solved.now.congruence c.requires.solved c.args.bound c.in_ok-count-in-Index.field-0 c.in-Finite.count c.in-Finite.is c.in_ok-count-in-Index.ensures))
-    c.write_count.result _ _ _ (one_line (count_line c.in-Finite.count)) c.write_count.ensures.part
-
-pub returns-in-Over-clause-written : goal.returns-in-Over-clause-written
-returns-in-Over-clause-written g c =
+pub returns-in-Over : goal.returns-in-Over
+returns-in-Over g c =
     let p : Problem = c.args.problem.now in
     let lines : List (List ℕ) = over_line c.args.bound ∷ [] in
-    all_lines p c.args.bound c.args.query.now lines (lines_of p c.args.bound lines c.args.query.now query.Index c.in-Index.is (solved_over p c.args.solved.now.congruence c.requires.solved c.args.bound c.in_ok-count-in-Index.field-0 c.in-Over.is c.in_ok-count-in-Index.ensures))
-    c.write_over.result _ _ _ (one_line (over_line c.args.bound)) c.write_over.ensures.written
+    writes_lines g.O.Sink p c.args.bound c.args.query.now lines (lines_of p c.args.bound lines c.args.query.now query.Index c.in-Index.is (solved_over p c.args.solved.now.congruence c.requires.solved c.args.bound c.in_ok-count-in-Index.field-0 c.in-Over.is c.in_ok-count-in-Index.ensures))
+    _ _ _ _ (one_line (over_line c.args.bound)) c.write_over.ensures
 
-pub returns-in-Over-clause-part : goal.returns-in-Over-clause-part
-returns-in-Over-clause-part g c =
-    let p : Problem = c.args.problem.now in
-    let lines : List (List ℕ) = over_line c.args.bound ∷ [] in
-    some_lines p c.args.bound c.args.query.now lines (lines_of p c.args.bound lines c.args.query.now query.Index c.in-Index.is (solved_over p c.args.solved.now.congruence c.requires.solved c.args.bound c.in_ok-count-in-Index.field-0 c.in-Over.is c.in_ok-count-in-Index.ensures))
-    c.write_over.result _ _ _ (one_line (over_line c.args.bound)) c.write_over.ensures.part
-
-pub returns-in-Infinite-clause-written : goal.returns-in-Infinite-clause-written
-returns-in-Infinite-clause-written g c =
+pub returns-in-Infinite : goal.returns-in-Infinite
+returns-in-Infinite g c =
     let p : Problem = c.args.problem.now in
     let lines : List (List ℕ) = infinite_line ∷ [] in
-    all_lines p c.args.bound c.args.query.now lines (lines_of p c.args.bound lines c.args.query.now query.Index c.in-Index.is (solved_infinite p c.args.solved.now.congruence c.requires.solved c.args.bound c.in_ok-count-in-Index.field-0 c.in-Infinite.is c.in_ok-count-in-Index.ensures))
-    c.write_infinite.result _ _ _ (one_line infinite_line) c.write_infinite.ensures.written
+    writes_lines g.O.Sink p c.args.bound c.args.query.now lines (lines_of p c.args.bound lines c.args.query.now query.Index c.in-Index.is (solved_infinite p c.args.solved.now.congruence c.requires.solved c.args.bound c.in_ok-count-in-Index.field-0 c.in-Infinite.is c.in_ok-count-in-Index.ensures))
+    _ _ _ _ (one_line infinite_line) c.write_infinite.ensures
 
-pub returns-in-Infinite-clause-part : goal.returns-in-Infinite-clause-part
-returns-in-Infinite-clause-part g c =
-    let p : Problem = c.args.problem.now in
-    let lines : List (List ℕ) = infinite_line ∷ [] in
-    some_lines p c.args.bound c.args.query.now lines (lines_of p c.args.bound lines c.args.query.now query.Index c.in-Index.is (solved_infinite p c.args.solved.now.congruence c.requires.solved c.args.bound c.in_ok-count-in-Index.field-0 c.in-Infinite.is c.in_ok-count-in-Index.ensures))
-    c.write_infinite.result _ _ _ (one_line infinite_line) c.write_infinite.ensures.part
-
-pub returns-in_ok-equal-in-Equal-clause-written : goal.returns-in_ok-equal-in-Equal-clause-written
-returns-in_ok-equal-in-Equal-clause-written g c =
+pub returns-in_ok-equal-in-Equal : goal.returns-in_ok-equal-in-Equal
+returns-in_ok-equal-in-Equal g c =
     let p : Problem = c.args.problem.now in
     let same : Bool = c.in_ok-equal-in-Equal.field-0 in
     let lines : List (List ℕ) = equal_line same ∷ [] in
-    all_lines p c.args.bound c.args.query.now lines (lines_of p c.args.bound lines c.args.query.now (query.Equal c.in-Equal.left c.in-Equal.right) c.in-Equal.is (solved_equal p c.args.solved.now.congruence c.requires.solved c.args.bound c.in-Equal.left c.in-Equal.right same c.in_ok-equal-in-Equal.ensures))
-    c.write_equal.result _ _ _ (one_line (equal_line same)) c.write_equal.ensures.written
+    writes_lines g.O.Sink p c.args.bound c.args.query.now lines (lines_of p c.args.bound lines c.args.query.now (query.Equal c.in-Equal.left c.in-Equal.right) c.in-Equal.is (solved_equal p c.args.solved.now.congruence c.requires.solved c.args.bound c.in-Equal.left c.in-Equal.right same c.in_ok-equal-in-Equal.ensures))
+    _ _ _ _ (one_line (equal_line same)) c.write_equal.ensures
 
-pub returns-in_ok-equal-in-Equal-clause-part : goal.returns-in_ok-equal-in-Equal-clause-part
-returns-in_ok-equal-in-Equal-clause-part g c =
-    let p : Problem = c.args.problem.now in
-    let same : Bool = c.in_ok-equal-in-Equal.field-0 in
-    let lines : List (List ℕ) = equal_line same ∷ [] in
-    some_lines p c.args.bound c.args.query.now lines (lines_of p c.args.bound lines c.args.query.now (query.Equal c.in-Equal.left c.in-Equal.right) c.in-Equal.is (solved_equal p c.args.solved.now.congruence c.requires.solved c.args.bound c.in-Equal.left c.in-Equal.right same c.in_ok-equal-in-Equal.ensures))
-    c.write_equal.result _ _ _ (one_line (equal_line same)) c.write_equal.ensures.part
-
-pub returns-in_ok-normal-in-Normal-clause-written : goal.returns-in_ok-normal-in-Normal-clause-written
-returns-in_ok-normal-in-Normal-clause-written g c =
+pub returns-in_ok-normal-in-Normal : goal.returns-in_ok-normal-in-Normal
+returns-in_ok-normal-in-Normal g c =
     let p : Problem = c.args.problem.now in
     let normal : Word = c.in_ok-normal-in-Normal.normal in
     let lines : List (List ℕ) = normal_line (letters_of p) normal ∷ [] in
-    all_lines p c.args.bound c.args.query.now lines (lines_of p c.args.bound lines c.args.query.now (query.Normal c.in-Normal.word) c.in-Normal.is (solved_normal p c.args.solved.now.congruence c.requires.solved c.args.bound c.in-Normal.word normal c.in_ok-normal-in-Normal.ensures))
-    c.write_normal_form.result _ _ _ (ap (λ letters. normal_line letters normal) c.alphabet-alphabet.ensures.letters ∙ one_line (normal_line (letters_of p) normal)) c.write_normal_form.ensures.written
+    writes_lines g.O.Sink p c.args.bound c.args.query.now lines (lines_of p c.args.bound lines c.args.query.now (query.Normal c.in-Normal.word) c.in-Normal.is (solved_normal p c.args.solved.now.congruence c.requires.solved c.args.bound c.in-Normal.word normal c.in_ok-normal-in-Normal.ensures))
+    _ _ _ _ (ap (λ letters. normal_line letters normal) c.alphabet-alphabet.ensures.letters ∙ one_line (normal_line (letters_of p) normal)) c.write_normal_form.ensures
 
-pub returns-in_ok-normal-in-Normal-clause-part : goal.returns-in_ok-normal-in-Normal-clause-part
-returns-in_ok-normal-in-Normal-clause-part g c =
-    let p : Problem = c.args.problem.now in
-    let normal : Word = c.in_ok-normal-in-Normal.normal in
-    let lines : List (List ℕ) = normal_line (letters_of p) normal ∷ [] in
-    some_lines p c.args.bound c.args.query.now lines (lines_of p c.args.bound lines c.args.query.now (query.Normal c.in-Normal.word) c.in-Normal.is (solved_normal p c.args.solved.now.congruence c.requires.solved c.args.bound c.in-Normal.word normal c.in_ok-normal-in-Normal.ensures))
-    c.write_normal_form.result _ _ _ (ap (λ letters. normal_line letters normal) c.alphabet-alphabet.ensures.letters ∙ one_line (normal_line (letters_of p) normal)) c.write_normal_form.ensures.part
-
-pub returns-in-Classes-clause-written : goal.returns-in-Classes-clause-written
-returns-in-Classes-clause-written g c =
-    solved_page c.args.problem.now c.args.solved.now.congruence c.requires.solved c.args.bound c.write_classes.result c.args.query.now c.in-Classes.count c.in-Classes.after (option_copied c.as_ref.result) c.alphabet-alphabet.result.now
-    c.in-Classes.is c.as_ref.ensures.value c.alphabet-alphabet.ensures.letters _ _ c.write_classes.ensures.written
-
-pub returns-in-Classes-clause-part : goal.returns-in-Classes-clause-part
-returns-in-Classes-clause-part g c =
-    solved_part c.args.problem.now c.args.solved.now.congruence c.requires.solved c.args.bound c.write_classes.result c.args.query.now c.in-Classes.count c.in-Classes.after (option_copied c.as_ref.result) c.alphabet-alphabet.result.now
-    c.in-Classes.is c.as_ref.ensures.value c.alphabet-alphabet.ensures.letters _ _ c.write_classes.ensures.part
+pub returns-in-Classes : goal.returns-in-Classes
+returns-in-Classes g c =
+    solved_page c.args.problem.now c.args.solved.now.congruence c.requires.solved c.args.bound c.args.query.now c.in-Classes.count c.in-Classes.after (option_copied c.as_ref.result) c.alphabet-alphabet.result.now
+    c.in-Classes.is c.as_ref.ensures.value c.alphabet-alphabet.ensures.letters g.O.Sink _ _ _ c.write_classes.ensures
 
 pub write_rules-requires : goal.write_rules-requires
 write_rules-requires g c =
     solved_rules_over c.args.problem.now c.args.solved.now.congruence c.requires.solved c.into_vec-rules.result.items c.alphabet-alphabet.result.now
     (subst (IsRuleList (SameClass c.args.solved.now.congruence)) (sym c.into_vec-rules.ensures.rules) c.in_ok-rules-in-RuleList.ensures) c.alphabet-alphabet.ensures.letters c.alphabet-alphabet.ensures.one_each
 
-pub returns-in_ok-rules-in-RuleList-clause-written : goal.returns-in_ok-rules-in-RuleList-clause-written
-returns-in_ok-rules-in-RuleList-clause-written g c =
+pub returns-in_ok-rules-in-RuleList : goal.returns-in_ok-rules-in-RuleList
+returns-in_ok-rules-in-RuleList g c =
     let p : Problem = c.args.problem.now in
     let rules : List (Word × Word) = c.into_vec-rules.result.items in
     let lines : List (List ℕ) = map (rule_line (letters_of p)) rules ++ end_line false ∷ [] in
     let listed = subst (IsRuleList (SameClass c.args.solved.now.congruence)) (sym c.into_vec-rules.ensures.rules) c.in_ok-rules-in-RuleList.ensures in
-    all_lines p c.args.bound c.args.query.now lines (lines_of p c.args.bound lines c.args.query.now query.RuleList c.in-RuleList.is (solved_rules p c.args.solved.now.congruence c.requires.solved c.args.bound rules listed))
-    c.write_rules.result _ _ _ (ap (λ ls. bytes_of (map (rule_line ls) rules ++ end_line false ∷ [])) c.alphabet-alphabet.ensures.letters) c.write_rules.ensures.written
+    writes_lines g.O.Sink p c.args.bound c.args.query.now lines (lines_of p c.args.bound lines c.args.query.now query.RuleList c.in-RuleList.is (solved_rules p c.args.solved.now.congruence c.requires.solved c.args.bound rules listed))
+    _ _ _ _ (ap (λ ls. bytes_of (map (rule_line ls) rules ++ end_line false ∷ [])) c.alphabet-alphabet.ensures.letters) c.write_rules.ensures
 
-pub returns-in_ok-rules-in-RuleList-clause-part : goal.returns-in_ok-rules-in-RuleList-clause-part
-returns-in_ok-rules-in-RuleList-clause-part g c =
-    let p : Problem = c.args.problem.now in
-    let rules : List (Word × Word) = c.into_vec-rules.result.items in
-    let lines : List (List ℕ) = map (rule_line (letters_of p)) rules ++ end_line false ∷ [] in
-    let listed = subst (IsRuleList (SameClass c.args.solved.now.congruence)) (sym c.into_vec-rules.ensures.rules) c.in_ok-rules-in-RuleList.ensures in
-    some_lines p c.args.bound c.args.query.now lines (lines_of p c.args.bound lines c.args.query.now query.RuleList c.in-RuleList.is (solved_rules p c.args.solved.now.congruence c.requires.solved c.args.bound rules listed))
-    c.write_rules.result _ _ _ (ap (λ ls. bytes_of (map (rule_line ls) rules ++ end_line false ∷ [])) c.alphabet-alphabet.ensures.letters) c.write_rules.ensures.part
+pub returns-in_err-equal-in-Equal : goal.returns-in_err-equal-in-Equal
+returns-in_err-equal-in-Equal g c = handed_on g.O.Sink _ _ _ _ c.from_residual-in_err-equal-in-Equal.ensures.1 (refused g.O.Sink c.args.sink.now)

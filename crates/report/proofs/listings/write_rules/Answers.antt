@@ -1,34 +1,42 @@
-use Rattle.std.proofs.Common.{◌≡◌, ℕ, List, [], ◌∷◌, ◌++◌, map, false, subst, ◌∙◌, arith}
-use Rattle.ports.specs.Bytes.{TakesAll, TakesPrefix}
+use Rattle.std.proofs.Common.{ℕ, List, [], ◌∷◌, ◌++◌, map, false, ap, ◌∙◌, arith}
+use Rattle.ports.proofs.WriteLemmas.{handed_on, no_bytes, same_bytes}
 use Rattle.theory.specs.Word.{Word}
 use Rattle.froidure_pin.proofs.OneShape.{get_any}
 use Rattle.report.specs.Gains.{bytes_of}
 use Rattle.report.specs.Lines.{rule_line, end_line}
-use Rattle.report.proofs.GainLemmas.{on_err, on_err_so, on_ok_so}
-use Rattle.report.proofs.ListingLemmas.{line_begun, lines_done, listing_begun, listing_done, listing_ending}
+use Rattle.report.proofs.ListingLemmas.{more_lines, line_begun, lines_done, listing_begun, listing_ended}
 use Rattle.report.proofs.listings.write_rules.Goals as goal
 
-pub returns-in_err-write_rule-clause-part : goal.returns-in_err-write_rule-clause-part
-returns-in_err-write_rule-clause-part g c =
+pub loop-rule-init : goal.loop-rule-init
+loop-rule-init g c = no_bytes g.O.Sink c.args.sink.now
+
+pub loop-rule-preserved : goal.loop-rule-preserved
+loop-rule-preserved g c =
     let f : Word × Word → List ℕ = rule_line c.args.alphabet.now in
-    let all : c.deref-rule-items.result.now ≡ c.args.rules.now.items = c.deref-rule-items.ensures.value in
+    let rules : List (Word × Word) = c.deref-rule-items.result.now in
     let none : Word × Word = ([], []) in
-    let begun = line_begun f c.deref-rule-items.result.now c.loop-rule.rule-index none _ (g.O.Sink.taken c.loop-rule.sink) _ c.loop-rule-test.true c.loop-rule.invariant.gained
-    (subst (λ r. TakesPrefix (g.O.Sink.taken c.loop-rule.sink) (g.O.Sink.taken c.write_rule.new.sink) (f r)) (c.rule-item.is ∙ get_any c.deref-rule-items.result.now c.loop-rule.rule-index c.rule-item.result none c.loop-rule-test.true) c.in_err-write_rule.ensures.part) in
-    on_err _ _ (subst (λ rs. TakesPrefix (g.O.Sink.taken c.args.sink.now) (g.O.Sink.taken c.write_rule.new.sink) (bytes_of (map f rs ++ end_line false ∷ []))) all (listing_begun f c.deref-rule-items.result.now (end_line false) _ (g.O.Sink.taken c.loop-rule.sink) _ begun))
+    let rule = ap f (c.rule-item.is ∙ get_any rules c.loop-rule.rule-index c.rule-item.result none c.loop-rule-test.true) in
+    more_lines f rules g.O.Sink c.loop-rule.rule-index _ c.loop-rule.sink c.loop-rule.invariant none _ c.loop-rule-test.true
+    (same_bytes g.O.Sink _ _ _ _ _ rule c.in_ok-write_rule.ensures)
 
-pub returns-clause-written : goal.returns-clause-written
-returns-clause-written g c =
+pub returns-in_err-write_rule : goal.returns-in_err-write_rule
+returns-in_err-write_rule g c =
     let f : Word × Word → List ℕ = rule_line c.args.alphabet.now in
-    let all : c.deref-rule-items.result.now ≡ c.args.rules.now.items = c.deref-rule-items.ensures.value in
-    let done = lines_done f c.deref-rule-items.result.now c.loop-rule.rule-index _ _ (omega (arith, c.loop-rule-test.false)) c.loop-rule.invariant.gained in
-    on_ok_so c.write_end.result _ _ (λ end. subst (λ rs. TakesAll (g.O.Sink.taken c.args.sink.now) (g.O.Sink.taken c.write_end.new.sink) (bytes_of (map f rs ++ end_line false ∷ []))) all
-    (listing_done f c.deref-rule-items.result.now (end_line false) _ (g.O.Sink.taken c.loop-rule.sink) _ done end)) c.write_end.ensures.written
+    let rules : List (Word × Word) = c.deref-rule-items.result.now in
+    let none : Word × Word = ([], []) in
+    let rule = ap f (c.rule-item.is ∙ get_any rules c.loop-rule.rule-index c.rule-item.result none c.loop-rule-test.true) in
+    let all = ap (λ rs. bytes_of (map f rs ++ end_line false ∷ [])) c.deref-rule-items.ensures.value in
+    handed_on g.O.Sink _ _ _ _ c.from_residual.ensures.1
+    (same_bytes g.O.Sink _ _ _ _ _ all
+    (listing_begun g.O.Sink f rules (end_line false) _ _ _
+    (line_begun f rules g.O.Sink c.loop-rule.rule-index _ c.loop-rule.sink c.loop-rule.invariant none _ _ c.loop-rule-test.true
+    (same_bytes g.O.Sink _ _ _ _ _ rule c.in_err-write_rule.ensures))))
 
-pub returns-clause-part : goal.returns-clause-part
-returns-clause-part g c =
+pub returns : goal.returns
+returns g c =
     let f : Word × Word → List ℕ = rule_line c.args.alphabet.now in
-    let all : c.deref-rule-items.result.now ≡ c.args.rules.now.items = c.deref-rule-items.ensures.value in
-    let done = lines_done f c.deref-rule-items.result.now c.loop-rule.rule-index _ _ (omega (arith, c.loop-rule-test.false)) c.loop-rule.invariant.gained in
-    on_err_so c.write_end.result _ _ (λ end. subst (λ rs. TakesPrefix (g.O.Sink.taken c.args.sink.now) (g.O.Sink.taken c.write_end.new.sink) (bytes_of (map f rs ++ end_line false ∷ []))) all
-    (listing_ending f c.deref-rule-items.result.now (end_line false) _ (g.O.Sink.taken c.loop-rule.sink) _ done end)) c.write_end.ensures.part
+    let rules : List (Word × Word) = c.deref-rule-items.result.now in
+    let all = ap (λ rs. bytes_of (map f rs ++ end_line false ∷ [])) c.deref-rule-items.ensures.value in
+    same_bytes g.O.Sink _ _ _ _ _ all
+    (listing_ended g.O.Sink f rules (end_line false) _ c.loop-rule.sink _ _
+    (lines_done f rules g.O.Sink c.loop-rule.rule-index _ _ c.loop-rule.invariant (omega (arith, c.loop-rule-test.false))) c.write_end.ensures)

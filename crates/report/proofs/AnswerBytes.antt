@@ -1,0 +1,35 @@
+-- The bytes of an answer, from those of its lines.
+use Rattle.std.proofs.Common.{inl, inr, ℕ, List, [], ◌∷◌, Ok, Err, ◌≡◌, ◌∙◌, subst}
+use Rattle.ports.specs.declared.sink.Sink.{Ghosts}
+use Rattle.ports.specs.declared.fault.WriteFault.{WriteFault}
+use Rattle.ports.specs.Writes.{Writes, WritesBytes}
+use Rattle.ports.proofs.WriteLemmas.{answered, faulted}
+use Rattle.problem.specs.declared.budgets.Budgets.{Budgets}
+use Rattle.problem.specs.declared.kinds.Problem.{Problem}
+use Rattle.problem.specs.Problem.{IsDecided}
+use Rattle.query_lang.specs.declared.script.Query.{Query}
+use Rattle.report.specs.declared.answers.Answered.{Answered}
+use Rattle.report.specs.declared.answers.Answered.TheVariants.{Defined}
+use Rattle.report.specs.Answer.{AreLines, IsAnswer}
+use Rattle.report.specs.Gains.{AreAnswerBytes, AreBytesOf, is_undecided}
+use Rattle.report.proofs.AnswerLemmas.{one_line}
+
+module _ {K : Type 0} (sink : Ghosts K) (p : Problem) (b : Budgets) (bound : ℕ) (q : Query) (old new : K) where
+  module _ (decided : IsDecided p b) (asked : ℕ) (same : asked ≡ bound) where
+    defined_bytes : (bytes : List ℕ) → AreBytesOf (AreLines p asked q) bytes → AreAnswerBytes p b bound q Defined bytes
+    defined_bytes bytes h = record { lines = h.lines; are_such = record { decided = λ _. decided; are_lines = subst (λ n. AreLines p n q h.lines) same h.are_such }; are_bytes = h.are_bytes }
+
+    -- the lines of a query of a problem that is decided
+    pub defined_told : (value : Unit {0}) → Writes sink (λ _. AreBytesOf (AreLines p asked q)) old new (Ok value) → Writes sink (AreAnswerBytes p b bound q) old new (Ok Defined)
+    defined_told value = answered sink old new value Defined defined_bytes
+
+    pub defined_begun : (fault : WriteFault) → Writes sink {T = Unit {0}} (λ _. AreBytesOf (AreLines p asked q)) old new (Err fault) → Writes sink (AreAnswerBytes p b bound q) old new (Err fault)
+    defined_begun fault = faulted sink old new fault (λ bytes c. elim c [ inl none ↦ inl none | inr some ↦ inr (Defined, defined_bytes bytes some.1) ])
+
+  -- an answer of one line
+  module _ (told : Answered) (line : List ℕ) (is_answer : IsAnswer p b bound q (line ∷ []) (is_undecided told)) where
+    pub line_told : (value : Unit {0}) → WritesBytes sink line old new (Ok value) → Writes sink (AreAnswerBytes p b bound q) old new (Ok told)
+    line_told value = answered sink old new value told (λ bytes e. record { lines = line ∷ []; are_such = is_answer; are_bytes = e ∙ one_line line })
+
+    pub line_begun : (fault : WriteFault) → WritesBytes sink {T = Unit {0}} line old new (Err fault) → Writes sink (AreAnswerBytes p b bound q) old new (Err fault)
+    line_begun fault = faulted sink old new fault (λ bytes e. inr (told, record { lines = line ∷ []; are_such = is_answer; are_bytes = e ∙ one_line line }))
