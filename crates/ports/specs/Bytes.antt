@@ -21,7 +21,8 @@ abbrev pub IsAtEnd : Option (List ℕ) → Type 0
 IsAtEnd (Some left) = left ≡ []
 IsAtEnd None = Unit {0}
 
--- A read took the next n bytes into buf; 0 comes only where nothing is left, and a refusal takes nothing.
+-- A read took the next n bytes into buf; 0 comes only where nothing is left, and a refusal takes
+-- nothing.
 abbrev pub Gives : {F : Type 0} → Option (List ℕ) → Option (List ℕ) → Result ℕ F → List ℕ → Type 0
 Gives old new (Ok n) buf = Gave old new (take n buf) × (n ≡ 0 → IsAtEnd old)
 Gives old new (Err f) buf = Gave old new []

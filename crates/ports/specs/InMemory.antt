@@ -95,7 +95,8 @@ sink_refused s = record {
   refusals = next s.refusals;
 }
 
--- A sink whose calls do not fail: the bytes that were taken, and how many calls were refused memory.
+-- A sink whose calls do not fail: the bytes that were taken, and how many calls were refused
+-- memory.
 pub record SureSinkState : Type 0 where
   pub taken : List ℕ
   pub refusals : ℕ

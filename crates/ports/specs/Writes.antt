@@ -6,9 +6,9 @@ use Rattle.ports.specs.declared.fault.WriteFault.TheVariants.{Failed, NoMemory}
 use Rattle.ports.specs.Bytes.{Rose, TakesAll, TakesPrefix}
 
 module _ {A : Type 0} (sink : Ghosts A) where
-  -- Where the call is Ok, the sink took all of some bytes that are whole, and its count of faults stayed;
-  -- else it took a prefix of some bytes that are begun. The call tells that it failed only where the count
-  -- rose, and the count never falls.
+  -- Where the call is Ok, the sink took all of some bytes that are whole, and its count of faults
+  -- stayed; else it took a prefix of some bytes that are begun. The call tells that it failed only
+  -- where the count rose, and the count never falls.
   pub record WritesOrBegins {T : Type 0} (IsWhole : T → List ℕ → Type 0) (IsBegun : List ℕ → Type 0)
       (old new : A) (result : Result T WriteFault) : Type 0 where
     pub all : IfOk result (λ value. (bytes : List ℕ) × IsWhole value bytes
@@ -19,10 +19,12 @@ module _ {A : Type 0} (sink : Ghosts A) where
     pub kept : sink.faults old ≤ sink.faults new
     pub quiet : OnOk result (sink.faults new ≡ sink.faults old)
 
-  -- the call writes some bytes that are meant with its value, or else nothing or a prefix of such bytes
+  -- the call writes some bytes that are meant with its value, or else nothing or a prefix of such
+  -- bytes
   abbrev pub Writes : {T : Type 0} → (T → List ℕ → Type 0) → A → A → Result T WriteFault → Type 0
   Writes {T} IsMeant old new result =
-      WritesOrBegins IsMeant (λ bytes. (bytes ≡ []) ⊎ (value : T) × IsMeant value bytes) old new result
+      WritesOrBegins IsMeant (λ bytes. (bytes ≡ []) ⊎ (value : T) × IsMeant value bytes)
+      old new result
 
   -- the call writes these bytes, or else a prefix of them
   abbrev pub WritesBytes : {T : Type 0} → List ℕ → A → A → Result T WriteFault → Type 0

@@ -1,5 +1,5 @@
-/// What each turn of a lane in a race over threads waits for, given the lane's number. Tests watch and delay lanes
-/// by it.
+/// What each turn of a lane in a race over threads waits for, given the lane's number. Tests watch
+/// and delay lanes by it.
 pub trait Gate {
     /// It returns when the turn may begin.
     fn pass(&self, number: usize);

@@ -1,9 +1,9 @@
 //! Where bytes come from and go to.
 //!
-//! A [`Source`] gives bytes and a [`Sink`] takes them, each in pieces of any size, and each call may
-//! fail. A source counts its failed calls, and a sink counts these and the calls that were refused
-//! memory, so that a caller's contract can say that a failure is told only where one happened. A count
-//! never falls, and may stay at the last value of a `u64` once it is there.
+//! A [`Source`] gives bytes and a [`Sink`] takes them, each in pieces of any size, and each call
+//! may fail. A source counts its failed calls, and a sink counts these and the calls that were
+//! refused memory, so that a caller's contract can say that a failure is told only where one
+//! happened. A count never falls, and may stay at the last value of a `u64` once it is there.
 //!
 //! [`read_all`] reads a source to its end, and [`write_all`] passes a whole piece to a sink.
 //! [`MemSource`], [`MemSink`], [`SureSource`] and [`SureSink`] hold their bytes in memory.

@@ -7,7 +7,8 @@ use super::sink::Sink;
 use std::alloc::Global;
 use std::marker::Model;
 
-/// A sink in memory, which keeps what it takes, and takes it in pieces. Calls of given numbers fail.
+/// A sink in memory, which keeps what it takes, and takes it in pieces. Calls of given numbers
+/// fail.
 #[derive(Drop)]
 pub struct MemSink {
     bytes: Vec<u8>,
@@ -37,8 +38,8 @@ impl Model for MemSink {
 }
 
 impl MemSink {
-    /// A sink that has taken nothing, and takes at most `piece` bytes a call. `fails` has the numbers
-    /// of the calls that fail, where the first call is number 1.
+    /// A sink that has taken nothing, and takes at most `piece` bytes a call. `fails` has the
+    /// numbers of the calls that fail, where the first call is number 1.
     pub fn new(alloc: Global, piece: usize, fails: Vec<u64>) -> MemSink
         requires { 0 < piece }
         ensures { result ≡ sink_start piece fails.items }
@@ -75,8 +76,8 @@ impl Sink for MemSink {
 
     ghost refusals = { λ s. s.refusals };
 
-    /// Takes the first piece of the bytes. A call fails exactly where its number is one of those that
-    /// fail, and then changes nothing but the counts, as does a call that is refused memory.
+    /// Takes the first piece of the bytes. A call fails exactly where its number is one of those
+    /// that fail, and then changes nothing but the counts, as does a call that is refused memory.
     fn write(&mut self, bytes: &[u8]) -> Result<usize, WriteFault>
         ensures within { IfOk result (λ n. n ≤ length bytes.now) }
         ensures progress { IfOk result (λ n. 0 < length bytes.now → 0 < n) }

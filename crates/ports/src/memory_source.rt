@@ -65,8 +65,8 @@ impl Source for MemSource {
     ghost faults = { λ s. s.faults };
 
     /// Gives as many bytes as fit `buf` and one piece, and leaves what stands in `buf` behind them.
-    /// A call fails exactly where its number is one of those that fail, and then changes nothing but
-    /// the counts.
+    /// A call fails exactly where its number is one of those that fail, and then changes nothing
+    /// but the counts.
     fn read(&mut self, buf: &mut [u8]) -> Result<usize, Failed>
         requires { 0 < length buf.old }
         ensures within { IfOk result (λ n. n ≤ length buf.new) }

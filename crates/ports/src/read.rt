@@ -5,12 +5,13 @@ use super::fault::ReadFault;
 use super::source::Source;
 use std::alloc::Global;
 
-/// Reads to the end of input, or until more than `limit` bytes came. The answer is all the bytes that
-/// were left, and leaves none.
+/// Reads to the end of input, or until more than `limit` bytes came. The answer is all the bytes
+/// that were left, and leaves none.
 ///
-/// `TooLong` comes exactly where more than `limit` bytes came. `Failed` comes only where the source's
-/// count of faults rose, and the count rises with no other outcome. `NoMemory` comes where memory ran
-/// out. After each of the three the source has given a prefix of its bytes, which is lost.
+/// `TooLong` comes exactly where more than `limit` bytes came. `Failed` comes only where the
+/// source's count of faults rose, and the count rises with no other outcome. `NoMemory` comes where
+/// memory ran out. After each of the three the source has given a prefix of its bytes, which is
+/// lost.
 pub fn read_all<S: Source>(
     alloc: Global,
     source: &mut S,

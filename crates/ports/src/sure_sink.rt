@@ -7,8 +7,8 @@ use super::sink::Sink;
 use std::alloc::Global;
 use std::marker::Model;
 
-/// A sink in memory, which keeps what it takes, and takes each piece whole. No call fails unless it is
-/// refused memory.
+/// A sink in memory, which keeps what it takes, and takes each piece whole. No call fails unless it
+/// is refused memory.
 #[derive(Drop)]
 pub struct SureSink {
     bytes: Vec<u8>,
@@ -49,7 +49,8 @@ impl Sink for SureSink {
 
     ghost refusals = { λ s. s.refusals };
 
-    /// Takes the whole piece. A call that is refused memory changes nothing but the count of refusals.
+    /// Takes the whole piece. A call that is refused memory changes nothing but the count of
+    /// refusals.
     fn write(&mut self, bytes: &[u8]) -> Result<usize, WriteFault>
         ensures within { IfOk result (λ n. n ≤ length bytes.now) }
         ensures progress { IfOk result (λ n. 0 < length bytes.now → 0 < n) }
