@@ -18,8 +18,8 @@ use std::alloc::Global;
 use std::marker::Model;
 use words::{Alphabet, AlphabetFault};
 
-// Generators of one kind and shape, each with a letter. Contracts see the numbers of the header, the
-// bytes of the letters, and the generators.
+// Generators of one kind and shape, each with a letter. Contracts see the numbers of the header,
+// the bytes of the letters, and the generators.
 #[derive(Drop)]
 struct Listed<E: Generator> {
     sizes: (u32, u32),
@@ -177,8 +177,8 @@ impl Draft {
         }
     }
 
-    /// The generator with this name and these entries behind the others. Refused with the cause of its
-    /// line, or for want of memory.
+    /// The generator with this name and these entries behind the others. Refused with the cause of
+    /// its line, or for want of memory.
     pub fn with_generator(
         self,
         alloc: Global,

@@ -13,7 +13,8 @@ use words::{AlphabetFault, WordFault};
 /// Why bytes make no script.
 #[derive(Clone, Copy, Debug, PartialEq, Eq, Error)]
 pub enum ScriptFault {
-    /// The first line, counted from 1, that is out of form or out of place, and the number of its cause.
+    /// The first line, counted from 1, that is out of form or out of place, and the number of its
+    /// cause.
     #[error("line {line}: cause {cause}")]
     Bad { line: usize, cause: u8 },
     /// Memory is wanting.

@@ -1,6 +1,6 @@
-//! The script language: what the bytes of a script pose and ask, or its first fault with the line and
-//! the cause. A script poses a congruence on a monoid or a semigroup that is given by relations, or a
-//! semigroup by generators of one kind.
+//! The script language: what the bytes of a script pose and ask, or its first fault with the line
+//! and the cause. A script poses a congruence on a monoid or a semigroup that is given by
+//! relations, or a semigroup by generators of one kind.
 #![tactic(auto)]
 
 mod cause;

@@ -141,8 +141,8 @@ impl Outline {
         })
     }
 
-    /// The pair of this kind and of these two words behind the others. Refused with the cause of its
-    /// line, or for want of memory.
+    /// The pair of this kind and of these two words behind the others. Refused with the cause of
+    /// its line, or for want of memory.
     pub fn with_pair(
         self,
         alloc: Global,

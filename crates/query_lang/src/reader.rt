@@ -229,8 +229,8 @@ fn read_line(alloc: Global, reader: Option<Reader>, line: &[&[u8]]) -> Result<Re
     }
 }
 
-/// One line more: the header, a line after it, or one that is skipped. Refused with the cause of the
-/// line, or for want of memory.
+/// One line more: the header, a line after it, or one that is skipped. Refused with the cause of
+/// the line, or for want of memory.
 pub fn take_line(
     alloc: Global,
     reader: Option<Reader>,
@@ -246,8 +246,8 @@ pub fn take_line(
     Ok(Some(read_line(alloc, reader, &tokens)?))
 }
 
-/// The script of all lines. Refused where the header is missing, or every generator of a script that
-/// is no presentation, or for want of memory.
+/// The script of all lines. Refused where the header is missing, or every generator of a script
+/// that is no presentation, or for want of memory.
 pub fn whole_of(alloc: Global, reader: Option<Reader>) -> Result<Script, LineFault>
     ensures ok { IfOk result (λ script. whole_of reader ≡ Ok script) }
     ensures err { IfErr result (IsLineFault (whole_of reader)) }

@@ -29,8 +29,8 @@ pub enum Query {
     /// The first `count` least words of classes, in short-lex order; where there is a word to come
     /// `after`, of those that are greater than it.
     Classes { count: usize, after: Option<Word> },
-    /// The reduced rewriting rules, where generators are given, or relations with two-sided pairs or
-    /// none.
+    /// The reduced rewriting rules, where generators are given, or relations with two-sided pairs
+    /// or none.
     RuleList,
     /// The value of the word, where generators are given.
     ElementOf(Word),
@@ -118,9 +118,9 @@ impl Script {
     }
 }
 
-/// The script that the bytes are. Refused with `Bad` exactly where a line has a cause of refusal, at
-/// the first such line, or where the header is missing at the end, or every generator of a script
-/// that is no presentation, at the last line; with `NoMemory` only where memory is wanting.
+/// The script that the bytes are. Refused with `Bad` exactly where a line has a cause of refusal,
+/// at the first such line, or where the header is missing at the end, or every generator of a
+/// script that is no presentation, at the last line; with `NoMemory` only where memory is wanting.
 pub fn read_script(alloc: Global, bytes: &[u8]) -> Result<Script, ScriptFault>
     ensures ok { IfOk result (λ script. AreScript (lines_of bytes.now) script) }
     ensures err { IfErr result (IsScriptFault bytes.now) }

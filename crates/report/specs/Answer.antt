@@ -1,4 +1,5 @@
--- What a query asks, over relatedness, least words, the class list and the bound alone (Froidure and Pin 1997; libsemigroups: Congruence).
+-- What a query asks, over relatedness, least words, the class list and the bound alone (Froidure
+-- and Pin 1997; libsemigroups: Congruence).
 use Rattle.std.specs.Prelude.{◌≡◌, ℕ, Bool, true, false, IsTrue, ◌⊎◌, List, [], ◌∷◌, ◌++◌, length, map, slice_index_or}
 use Rattle.std.specs.List.{range_with_len}
 use Rattle.theory.specs.Word.{Word}
@@ -53,7 +54,8 @@ waits RuleList = true
 waits (ElementOf u) = false
 waits Cayley = true
 
--- the answer of a query is defined: the problem is decided within the budgets, where the query waits for that
+-- the answer of a query is defined: the problem is decided within the budgets, where the query
+-- waits for that
 pub record IsDefined (p : Problem) (budgets : Budgets) (bound : ℕ) (query : Query)
     (lines : List (List ℕ)) : Type 0 where
   pub decided : IsTrue (waits query) → IsDecided p budgets

@@ -1,4 +1,5 @@
--- Classes of words by numbers, and the numbers of their products with letters (Froidure and Pin 1997).
+-- Classes of words by numbers, and the numbers of their products with letters (Froidure and Pin
+-- 1997).
 use Rattle.std.specs.Prelude.{ℕ, ◌<◌, List, [], ◌∷◌, ◌++◌, length, slice_index_or}
 use Rattle.theory.specs.Word.{Word}
 use Rattle.theory.specs.Class.{IsClassList}
@@ -7,7 +8,8 @@ use Rattle.theory.specs.Class.{IsClassList}
 abbrev pub IsNumbered : (Word → Word → Type 0) → List Word → ℕ → Word → Type 0
 IsNumbered R words i u = (i < length words) × R u (slice_index_or words i [])
 
--- the least words of all classes, and the numbers of each of them times each of k letters, and of each letter times each of them
+-- the least words of all classes, and the numbers of each of them times each of k letters, and of
+-- each letter times each of them
 pub record AreCayleyGraphs (R : Word → Word → Type 0) (k : ℕ) (words : List Word)
     (right left : ℕ → ℕ → ℕ) : Type 0 where
   pub listed : IsClassList R words

@@ -51,7 +51,8 @@ module _ (letters : List ℕ) where
   abbrev pub rule_line : Word × Word → List ℕ
   rule_line p = text_of letters p.0 ++ (codes " " ++ (text_of letters p.1 ++ codes "\n"))
 
-  -- an element's number and word, and the numbers of its products by k letters on the right and on the left
+  -- an element's number and word, and the numbers of its products by k letters on the right and on
+  -- the left
   abbrev pub cayley_line : ℕ → ℕ → Word → (ℕ → ℕ) → (ℕ → ℕ) → List ℕ
   cayley_line k i w right left =
       decimal i ++ (codes " " ++ (text_of letters w ++ (codes " right"

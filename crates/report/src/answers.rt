@@ -149,10 +149,10 @@ fn write_decided<O: Sink>(
 }
 
 /// Writes the answer of a query of the script, each line as one piece, and tells whether it is
-/// defined. The value of a word is told whatever the budgets are; the other queries are answered where
-/// the problem is decided within them, and else with the line `undecided`. A problem by relations is
-/// decided with the number of workers of the state, at least one, which changes no answer; with
-/// more than one each turn of their race is behind the gate.
+/// defined. The value of a word is told whatever the budgets are; the other queries are answered
+/// where the problem is decided within them, and else with the line `undecided`. A problem by
+/// relations is decided with the number of workers of the state, at least one, which changes no
+/// answer; with more than one each turn of their race is behind the gate.
 ///
 /// `Failed` comes only where the sink failed, and `NoMemory` for want of memory; the sink has then
 /// gained a prefix of the answer. What the state keeps is of this script's problem, and what it

@@ -92,8 +92,8 @@ fn table_of<E: Element>(
 }
 
 impl Closure {
-    /// The elements of a problem that is given by generators; none exactly where there are more than
-    /// the bound. Only want of memory refuses it.
+    /// The elements of a problem that is given by generators; none exactly where there are more
+    /// than the bound. Only want of memory refuses it.
     pub fn of(alloc: Global, problem: &Problem, bound: usize) -> Result<Option<Closure>, NoMemory>
         requires { is_presented problem.now ≡ false }
         ensures { IfOk result (λ found. (budgets : Budgets) → budgets.elements ≡ bound

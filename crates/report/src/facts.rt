@@ -5,8 +5,8 @@ ghost use Rattle.problem.specs.declared.kinds.Problem.{Problem};
 ghost use Rattle.query_lang.specs.declared.script.Query.{Query};
 ghost use Rattle.report.specs.Answer.{IsAnswer};
 
-/// A query has one answer: the problem, the budgets and the bound determine its lines, and whether it
-/// is left undecided.
+/// A query has one answer: the problem, the budgets and the bound determine its lines, and whether
+/// it is left undecided.
 pub fn answer_is_one()
     ensures { (p : Problem) (budgets : Budgets) (bound : ℕ) (query : Query)
         (lines others : List (List ℕ)) (undecided other : Bool)

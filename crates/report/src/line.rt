@@ -66,8 +66,8 @@ impl Line {
         self.text(alphabet.print_word(alloc, word)?.as_slice())
     }
 
-    /// Ends the line with a line feed, and writes it. `Failed` comes only where the sink failed; after
-    /// a refusal the sink has gained a prefix of the line.
+    /// Ends the line with a line feed, and writes it. `Failed` comes only where the sink failed;
+    /// after a refusal the sink has gained a prefix of the line.
     pub fn write<O: Sink>(mut self, sink: &mut O) -> Result<(), WriteFault>
         ensures { WritesBytes O.Sink (self ++ codes "\n") sink.old sink.new result }
     {

@@ -17,7 +17,8 @@ use problem::Problem;
 use std::alloc::Global;
 use words::{Alphabet, Word, shortlex};
 
-// How many of the least words do not come after the cursor. The words ascend, so these are the first.
+// How many of the least words do not come after the cursor. The words ascend, so these are the
+// first.
 fn count_before(problem: &Problem, closure: &Closure, cursor: &Word) -> Result<usize, NoMemory>
     requires { IsClosureOf problem.now closure.now }
     ensures { IfOk result (IsSplit (words_of closure.now) cursor.now) }
@@ -35,8 +36,8 @@ fn count_before(problem: &Problem, closure: &Closure, cursor: &Word) -> Result<u
     Ok(low)
 }
 
-/// The number of the first least word on a page: the first at all, or the first after the cursor. Only
-/// want of memory refuses it.
+/// The number of the first least word on a page: the first at all, or the first after the cursor.
+/// Only want of memory refuses it.
 pub fn page_start(
     problem: &Problem,
     closure: &Closure,

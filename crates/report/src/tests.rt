@@ -90,7 +90,8 @@ fn an_infinite_monoid_is_answered(rt: HostRuntime) -> Result<(), Fail> {
 
 #[test]
 fn rules_do_not_tell_which_engine_won(rt: HostRuntime) -> Result<(), Fail> {
-    // The semilattice of two generators: ten definitions suffice, and completion within two letters.
+    // The semilattice of two generators: ten definitions suffice, and completion within two
+    // letters.
     for length in [0, 2] {
         let script = "semigroup ab\nrel aa a\nrel bb b\nrel ab ba\nrules";
         let (answered, out) = answer(&rt, script, length, 0)?;
