@@ -1,17 +1,24 @@
 -- An input has one report, and beginnings are prefixes of it.
-use Rattle.std.proofs.Common.{◌≡◌, ℕ, Bool, List, [], ◌∷◌, ◌++◌, Option, Result, Ok, refl, sym, ap, ap₂, ◌∙◌, subst}
+use Rattle.std.proofs.Common.{◌≡◌, ℕ, ◌≤◌, length, arith, Bool, List, [], ◌∷◌, ◌++◌, Option, Some, None, IfSome, refl, sym, ap, ap₂, ◌∙◌, subst, append-nil}
 use Rattle.std.specs.List.{flat_map, list_any}
 use Rattle.std.proofs.lemmas.Grind.{flat_map-append}
-use Rattle.ports.specs.Bytes.{TakesPrefix}
+use Rattle.ports.specs.Bytes.{Gave, IsAtEnd, TakesPrefix}
 use Rattle.problem.specs.declared.kinds.Problem.{Problem}
-use Rattle.query_lang.specs.declared.cause.Cause.{Cause}
 use Rattle.query_lang.specs.declared.script.Query.{Query}
-use Rattle.query_lang.specs.Script.{ScriptOf}
+use Rattle.query_lang.specs.declared.fault.ScriptFault.{ScriptFault}
+use Rattle.query_lang.specs.declared.fault.ScriptFault.TheVariants as script
+use Rattle.query_lang.specs.Asked.{ScriptOf}
+use Rattle.query_lang.specs.Faults.{IsScriptFault}
+use Rattle.query_lang.proofs.ScriptLaw.{no_script_with_fault, one_script}
 use Rattle.report.specs.Answer.{IsAnswer}
 use Rattle.report.proofs.GainLemmas.{prefix_more}
 use Rattle.report.proofs.UniqueAnswer as unique
 use Rattle.settings.specs.declared.Settings.{Settings}
-use Rattle.semi.specs.Report.{Answer, AreAnswers, AreFirstAnswers, GainsBeginning, IsAnswerOf, IsReport, budgets_of, is_undecided, lines_of}
+use Rattle.semi.specs.declared.fault.Fault.{Fault}
+use Rattle.semi.specs.declared.fault.Fault.TheVariants.{TooLong, Script, Arguments, Read, Write, NoMemory}
+use Rattle.semi.specs.Limits.{most_bytes}
+use Rattle.semi.specs.Status.{of_script, status_of}
+use Rattle.semi.specs.Report.{Answer, AreAnswers, AreFirstAnswers, GainsBeginning, GainsReport, IsAnswerOf, IsRefusal, IsRefused, IsReport, IsScript, budgets_of, is_undecided, lines_of}
 
 module _ (settings : Settings) (problem : Problem) where
   one_answer : (query : Query) (x y : Answer) → IsAnswerOf settings problem query x → IsAnswerOf settings problem query y → x ≡ y
@@ -36,8 +43,50 @@ module _ (settings : Settings) (problem : Problem) where
       let rest = first_of_all queries xs ys p.1 q.1 in
       (rest.0, sym (ap₂ ◌∷◌ (one_answer r x y p.0 q.0) (sym rest.1)))
 
-same_script : (p q : ScriptOf) → ◌≡◌ {A = Result ScriptOf (ℕ × Cause)} (Ok p) (Ok q) → p ≡ q
-same_script p q e = cc
+-- a script is not refused
+pub no_refused_script : (input : List ℕ) (script : ScriptOf) → IsScript input script → IsRefused input → ⊥
+no_refused_script input script s (TooLong, long) = let short : length input ≤ most_bytes = s.short in absurd (omega (arith, long))
+no_refused_script input script s (Script line cause, refused) = no_script_with_fault input script line refused.1.0 s.reads refused.1.1
+no_refused_script input script s (Arguments, refused) = refused
+no_refused_script input script s (Read, refused) = refused
+no_refused_script input script s (Write, refused) = refused
+no_refused_script input script s (NoMemory, refused) = refused
+
+-- the bytes that a source gave are all of its input
+pub whole_input : (old new : Option (List ℕ)) (bytes : List ℕ) (P : List ℕ → Type 0) → Gave old new bytes → IsAtEnd new → P bytes → IfSome old P
+whole_input None new bytes P gave end p = tt
+whole_input (Some input) None bytes P gave end p = absurd gave
+whole_input (Some input) (Some left) bytes P gave end p = subst P (sym (gave ∙ ap (λ rest. bytes ++ rest) end ∙ append-nil bytes)) p
+
+-- the first fault of bytes that are not too long refuses them
+pub refused_bytes : (bytes : List ℕ) (fault : ScriptFault) → length bytes ≤ most_bytes → IsScriptFault bytes fault → status_of (of_script fault) ≡ 2 → IsRefusal bytes (of_script fault)
+refused_bytes bytes (script.Bad line cause) short fault two = (short, fault)
+refused_bytes bytes script.NoMemory short fault two = let bad : 6 ≡ 2 = two in absurd (omega arith)
+
+-- where a script was reported, the input is not refused
+pub reported_not_refused : (left : Option (List ℕ)) (settings : Settings) (undecided : Bool) (old new : Option (List ℕ)) (A : Type 0)
+    → IfSome left (λ input. GainsReport settings input undecided old new) → IfSome left (λ input. IsRefused input → A)
+reported_not_refused None settings undecided old new A h = tt
+reported_not_refused (Some input) settings undecided old new A h = λ refused. absurd (no_refused_script input h.is_report.script h.is_report.is_script refused)
+
+-- where the input is refused, it is no script
+pub refused_no_script : (left : Option (List ℕ)) (fault : Fault) (A : Type 0) → IfSome left (λ input. IsRefusal input fault) → IfSome left (λ input. (script : ScriptOf) → IsScript input script → A)
+refused_no_script None fault A h = tt
+refused_no_script (Some input) fault A h = λ script s. absurd (no_refused_script input script s (fault, h))
+
+-- where a beginning was reported, the input is not refused
+pub begun_not_refused : (left : Option (List ℕ)) (settings : Settings) (old new : Option (List ℕ)) (A : Type 0)
+    → IfSome left (λ input. GainsBeginning settings input old new) → IfSome left (λ input. IsRefused input → A)
+begun_not_refused None settings old new A h = tt
+begun_not_refused (Some input) settings old new A h = λ refused. absurd (no_refused_script input h.script h.is_script refused)
+
+pub any_refused : (left : Option (List ℕ)) (A : Type 0) → A → IfSome left (λ input. IsRefused input → A)
+any_refused None A a = tt
+any_refused (Some input) A a = λ refused. a
+
+pub any_script : (left : Option (List ℕ)) (A : Type 0) → A → IfSome left (λ input. (script : ScriptOf) → IsScript input script → A)
+any_script None A a = tt
+any_script (Some input) A a = λ script s. a
 
 -- settings with the same budgets and bound have the same answers
 same_answers : (s t : Settings) (problem : Problem) (queries : List Query) (answers : List Answer) → budgets_of s ≡ budgets_of t → s.classes ≡ t.classes
@@ -55,7 +104,7 @@ pub one_report : (settings others : Settings) (input r s : List ℕ) (u v : Bool
     → IsReport settings input r u → IsReport others input s v → (r ≡ s) × (u ≡ v)
 one_report settings others input r s u v budgets classes p q =
     let answered = same_answers settings others q.script.problem q.script.queries q.are_lines.answers budgets classes q.are_lines.correct in
-    let scripts : p.script ≡ q.script = same_script p.script q.script (sym p.is_script.reads ∙ q.is_script.reads) in
+    let scripts : p.script ≡ q.script = one_script input p.script q.script p.is_script.reads q.is_script.reads in
     let correct : AreAnswers settings q.script.problem q.script.queries p.are_lines.answers = subst (λ t. AreAnswers settings t.problem t.queries p.are_lines.answers) scripts p.are_lines.correct in
     let same = one_list settings q.script.problem q.script.queries p.are_lines.answers q.are_lines.answers correct answered in (
       p.are_lines.lines ∙ ap (flat_map lines_of) same ∙ sym q.are_lines.lines,
@@ -64,7 +113,7 @@ one_report settings others input r s u v budgets classes p q =
 
 pub beginning_prefix : (settings : Settings) (input report : List ℕ) (undecided : Bool) (old new : Option (List ℕ)) → IsReport settings input report undecided → GainsBeginning settings input old new → TakesPrefix old new report
 beginning_prefix settings input report undecided old new p q =
-    let scripts : q.script ≡ p.script = same_script q.script p.script (sym q.is_script.reads ∙ p.is_script.reads) in
+    let scripts : q.script ≡ p.script = one_script input q.script p.script q.is_script.reads p.is_script.reads in
     let first : AreFirstAnswers settings p.script.problem p.script.queries q.part.answers = subst (λ t. AreFirstAnswers settings t.problem t.queries q.part.answers) scripts q.part.correct in
     let rest = first_of_all settings p.script.problem p.script.queries q.part.answers p.are_lines.answers first p.are_lines.correct in
     let whole : report ≡ flat_map lines_of q.part.answers ++ flat_map lines_of rest.0 = p.are_lines.lines ∙ ap (flat_map lines_of) rest.1 ∙ flat_map-append lines_of q.part.answers rest.0 in

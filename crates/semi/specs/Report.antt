@@ -1,13 +1,15 @@
 -- What is due for the bytes of a script, and what goes where.
-use Rattle.std.specs.Prelude.{◌≡◌, ℕ, ◌<◌, ◌≤◌, Bool, List, [], ◌∷◌, length, IfSome, Option, Ok}
+use Rattle.std.specs.Prelude.{◌≡◌, ℕ, ◌<◌, ◌≤◌, Bool, List, [], ◌∷◌, length, IfSome, Option}
 use Rattle.std.specs.List.{flat_map, list_any}
 use Rattle.ports.specs.Bytes.{Rose, TakesAll, TakesPrefix}
 use Rattle.problem.specs.declared.budgets.Budgets.{Budgets}
 use Rattle.problem.specs.declared.kinds.Problem.{Problem}
 use Rattle.query_lang.specs.declared.fault.ScriptFault.TheVariants.{Bad}
 use Rattle.query_lang.specs.declared.script.Query.{Query}
+use Rattle.query_lang.specs.Asked.{ScriptOf}
 use Rattle.query_lang.specs.Faults.{IsScriptFault}
-use Rattle.query_lang.specs.Script.{ScriptOf, script_of}
+use Rattle.query_lang.specs.Grammar.{lines_of as lines_in}
+use Rattle.query_lang.specs.LineCauses.{AreScript}
 use Rattle.report.specs.declared.state.State.{State}
 use Rattle.report.specs.Answer.{IsAnswer}
 use Rattle.report.specs.Gains.{bytes_of}
@@ -62,13 +64,13 @@ AreFirstAnswers settings problem (q ∷ queries) (a ∷ answers) =
 -- the input is this script
 pub record IsScript (input : List ℕ) (script : ScriptOf) : Type 0 where
   pub short : length input ≤ most_bytes
-  pub reads : script_of input ≡ Ok script
+  pub reads : AreScript (lines_in input) script
 
 -- the input is refused for this fault: it is too long, or else this is its first fault
 abbrev pub IsRefusal : List ℕ → Fault → Type 0
 IsRefusal input TooLong = most_bytes < length input
 IsRefusal input (Script line cause) =
-    (length input ≤ most_bytes) × IsScriptFault (script_of input) (Bad line cause)
+    (length input ≤ most_bytes) × IsScriptFault input (Bad line cause)
 IsRefusal input Arguments = ⊥
 IsRefusal input Read = ⊥
 IsRefusal input Write = ⊥

@@ -1,0 +1,23 @@
+use Rattle.std.proofs.Common.{◌≡◌, ◌≤◌, ℕ, List, Result, Ok, Err, IfErr, IsErrAnd, IfSome, length, sym, subst}
+use Rattle.query_lang.specs.declared.fault.ScriptFault.{ScriptFault}
+use Rattle.query_lang.specs.Faults.{IsScriptFault}
+use Rattle.semi.specs.Limits.{most_bytes}
+use Rattle.semi.specs.Report.{IsRefusal}
+use Rattle.semi.specs.Status.{of_script, status_of}
+use Rattle.semi.proofs.UniqueReport.{refused_bytes, whole_input}
+use Rattle.semi.proofs.whole.take_script.Goals as goal
+
+-- what holds of a fault that is handed on
+handed_on : {A E : Type 0} (P : E → Type 0) (r : Result A E) (fault : E) → IsErrAnd r (λ e. e ≡ fault) → P fault → IfErr r P
+handed_on P (Ok x) fault h p = tt
+handed_on P (Err e) fault h p = subst P (sym h) p
+
+pub returns-in_err-script-clause-refused : goal.returns-in_err-script-clause-refused
+returns-in_err-script-clause-refused g c =
+    let bytes : List ℕ = c.in_ok-bytes.bytes.items in
+    let fault : ScriptFault = c.in_err-script.field-0.0 in
+    let told : IsScriptFault bytes fault = subst (λ b. IsScriptFault b fault) c.as_slice.ensures.value c.in_err-script.ensures.err in
+    let short : length bytes ≤ most_bytes = subst (λ n. n ≤ most_bytes) c.in_ok-bytes.bytes.ok.0 c.in_ok-bytes.ensures.within in
+    let all = c.in_ok-bytes.ensures.all in
+    handed_on (λ fault. status_of fault ≡ 2 → IfSome (g.S.Source.left c.args.source.now) (λ input. IsRefusal input fault)) _ (of_script fault) c.from_residual-in_err-script.ensures.1
+    (λ two. whole_input (g.S.Source.left c.args.source.now) _ bytes (λ input. IsRefusal input (of_script fault)) all.0 all.1 (refused_bytes bytes fault short told two))
