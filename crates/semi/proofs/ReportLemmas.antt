@@ -1,16 +1,20 @@
--- What a sink gains with each answer.
-use Rattle.std.proofs.Common.{◌≡◌, ℕ, Bool, true, false, ◌||◌, inl, inr, List, [], ◌∷◌, ◌++◌, Option, refl, sym, ap, ◌∙◌, subst, subst₂, append-nil}
+-- What is written with each answer.
+use Rattle.ports.specs.declared.sink.Sink.{Ghosts}
+use Rattle.std.proofs.Common.{◌≡◌, ℕ, Bool, true, false, ◌||◌, inl, inr, List, [], ◌∷◌, ◌++◌, Option, Some, None, IfSome, Ok, Err, refl, sym, ap, ◌∙◌, subst, subst₂, append-nil}
 use Rattle.std.specs.List.{flat_map, list_any}
 use Rattle.std.proofs.lemmas.Grind.{flat_map-append}
-use Rattle.ports.specs.Bytes.{TakesAll, TakesPrefix}
-use Rattle.ports.proofs.BytesLemmas.{TakesAll-append}
+use Rattle.ports.specs.declared.fault.WriteFault.{WriteFault}
+use Rattle.ports.specs.Writes.{Writes}
+use Rattle.ports.proofs.WriteLemmas.{no_bytes, answered, faulted, writes_then}
 use Rattle.problem.specs.declared.kinds.Problem.{Problem}
 use Rattle.query_lang.specs.declared.script.Query.{Query}
+use Rattle.query_lang.specs.Script.{ScriptOf}
+use Rattle.report.specs.declared.answers.Answered.{Answered}
 use Rattle.report.specs.declared.state.State.{State}
 use Rattle.report.specs.Gains as gains
-use Rattle.report.proofs.GainLemmas.{gains_nothing, all_is_prefix, prefix_after}
+use Rattle.report.specs.Gains.{AreAnswerBytes}
 use Rattle.settings.specs.declared.Settings.{Settings}
-use Rattle.semi.specs.Report.{Answer, AreAnswers, AreFirstAnswers, GainsLines, GainsPart, IsStateOf, budgets_of, is_undecided, lines_of}
+use Rattle.semi.specs.Report.{Answer, AreAnswers, AreFirstAnswers, AreFirstLines, AreLines, GainsBeginning, GainsReport, IsScript, IsStateOf, WritesLines, budgets_of, is_undecided, lines_of}
 
 or_false : (b : Bool) → (b || false) ≡ b
 or_false true = refl
@@ -42,56 +46,79 @@ module _ (settings : Settings) (problem : Problem) where
   first-append (r ∷ qs) rs more [] ys p q = absurd p
   first-append (r ∷ qs) rs more (x ∷ xs) ys p q = (p.0, first-append qs rs more xs ys p.1 q)
 
-  -- one answer, all of its lines
-  pub one_gained : (state : State) (q : Query) (u : Bool) (old new : Option (List ℕ)) → IsStateOf settings problem state → gains.GainsAnswer problem state.budgets state.classes q u old new
-      → GainsLines settings problem (q ∷ []) u old new
-  one_gained state q u old new known taken =
-      let p = subst₂ (λ budgets bound. gains.GainsAnswer problem budgets bound q u old new) known.budgets known.classes taken in
-      record {
-        report = gains.bytes_of p.lines;
-        are_lines = record { answers = record { lines = p.lines; undecided = u } ∷ []; correct = (p.is_answer, tt); lines = sym (append-nil (gains.bytes_of p.lines)); status = sym (or_false u) };
-        gained = p.gained;
-      }
-
-  begun : (q : Query) (old new : Option (List ℕ)) → gains.GainsPart problem (budgets_of settings) settings.classes q old new → GainsPart settings problem (q ∷ []) old new
-  begun q old new (inl p) = record { answers = []; correct = tt; gained = all_is_prefix old new [] p }
-  begun q old new (inr p) = record {
-    answers = record { lines = p.lines; undecided = p.undecided } ∷ [];
-    correct = (p.is_answer, tt);
-    gained = subst (TakesPrefix old new) (sym (append-nil (gains.bytes_of p.lines))) p.gained;
+  -- the lines of two lists of queries
+  lines-append : (qs rs : List Query) (u v : Bool) (xs ys : List ℕ) → AreLines settings problem qs xs u → AreLines settings problem rs ys v → AreLines settings problem (qs ++ rs) (xs ++ ys) (u || v)
+  lines-append qs rs u v xs ys p q = record {
+    answers = p.answers ++ q.answers;
+    correct = answers-append qs rs p.answers q.answers p.correct q.correct;
+    lines = ap (λ t. t ++ ys) p.lines ∙ ap (λ t. flat_map lines_of p.answers ++ t) q.lines ∙ sym (flat_map-append lines_of p.answers q.answers);
+    status = ap (λ b. b || v) p.status ∙ ap (λ b. list_any is_undecided p.answers || b) q.status ∙ sym (any-append p.answers q.answers);
   }
 
-  -- nothing, or a prefix of one answer
-  pub one_begun : (state : State) (q : Query) (old new : Option (List ℕ)) → IsStateOf settings problem state → gains.GainsPart problem state.budgets state.classes q old new → GainsPart settings problem (q ∷ []) old new
-  one_begun state q old new known part = begun q old new (subst₂ (λ budgets bound. gains.GainsPart problem budgets bound q old new) known.budgets known.classes part)
+  -- the lines of some queries, and the first lines of those that follow
+  first_lines-append : (qs rs more : List Query) (u : Bool) (xs ys : List ℕ) → AreLines settings problem qs xs u → AreFirstLines settings problem rs ys → AreFirstLines settings problem (qs ++ rs ++ more) (xs ++ ys)
+  first_lines-append qs rs more u xs ys p q = record {
+    answers = p.answers ++ q.answers;
+    correct = first-append qs rs more p.answers q.answers p.correct q.correct;
+    lines = ap (λ t. t ++ ys) p.lines ∙ ap (λ t. flat_map lines_of p.answers ++ t) q.lines ∙ sym (flat_map-append lines_of p.answers q.answers);
+  }
 
-  -- no query, no line
-  pub none_gained : (old : Option (List ℕ)) → GainsLines settings problem [] false old old
-  none_gained old = record { report = []; are_lines = record { answers = []; correct = tt; lines = refl; status = refl }; gained = gains_nothing old }
+  module _ (q : Query) (told : Answered) (bytes : List ℕ) (h : AreAnswerBytes problem (budgets_of settings) settings.classes q told bytes) where
+    abbrev here : Answer
+    here = record { lines = h.lines; undecided = gains.is_undecided told }
 
-  -- the lines of more queries
-  pub more_gained : (qs rs : List Query) (u v : Bool) (old mid new : Option (List ℕ)) → GainsLines settings problem qs u old mid → GainsLines settings problem rs v mid new → GainsLines settings problem (qs ++ rs) (u || v) old new
-  more_gained qs rs u v old mid new p q =
-      let xs : List Answer = p.are_lines.answers in
-      let ys : List Answer = q.are_lines.answers in
-      record {
-        report = p.report ++ q.report;
-        are_lines = record {
-          answers = xs ++ ys;
-          correct = answers-append qs rs xs ys p.are_lines.correct q.are_lines.correct;
-          lines = ap (λ t. t ++ q.report) p.are_lines.lines ∙ ap (λ t. flat_map lines_of xs ++ t) q.are_lines.lines ∙ sym (flat_map-append lines_of xs ys);
-          status = ap (λ b. b || v) p.are_lines.status ∙ ap (λ b. list_any is_undecided xs || b) q.are_lines.status ∙ sym (any-append xs ys);
-        };
-        gained = TakesAll-append old mid new p.report q.report p.gained q.gained;
-      }
+    whole : bytes ≡ flat_map lines_of (here ∷ [])
+    whole = h.are_bytes ∙ sym (append-nil (gains.bytes_of h.lines))
 
-  -- the lines of some queries, and a part of those of others
-  pub more_begun : (qs rs more : List Query) (u : Bool) (old mid new : Option (List ℕ)) → GainsLines settings problem qs u old mid → GainsPart settings problem rs mid new → GainsPart settings problem (qs ++ rs ++ more) old new
-  more_begun qs rs more u old mid new p q =
-      let xs : List Answer = p.are_lines.answers in
-      let front : List ℕ = flat_map lines_of xs in
-      record {
-        answers = xs ++ q.answers;
-        correct = first-append qs rs more xs q.answers p.are_lines.correct q.correct;
-        gained = subst (TakesPrefix old new) (sym (flat_map-append lines_of xs q.answers)) (prefix_after old mid new front (flat_map lines_of q.answers) (subst (TakesAll old mid) p.are_lines.lines p.gained) q.gained);
-      }
+    -- one answer
+    answer_lines : AreLines settings problem (q ∷ []) bytes (gains.is_undecided told)
+    answer_lines = record { answers = here ∷ []; correct = (h.are_such, tt); lines = whole; status = sym (or_false (gains.is_undecided told)) }
+
+    answer_first : AreFirstLines settings problem (q ∷ []) bytes
+    answer_first = record { answers = here ∷ []; correct = (h.are_such, tt); lines = whole }
+
+  module _ {K : Type 0} (sink : Ghosts K) where
+    -- no query, no line
+    pub none_written : (old : K) → WritesLines sink settings problem [] old old (Ok false)
+    none_written old = answered sink old old (tt {0}) false (λ bytes e. record { answers = []; correct = tt; lines = e; status = refl }) (no_bytes sink old)
+
+    module _ (state : State) (q : Query) (old new : K) (known : IsStateOf settings problem state) where
+      -- one answer is written
+      pub one_written : (told : Answered) (u : Bool) → u ≡ gains.is_undecided told → Writes sink (AreAnswerBytes problem state.budgets state.classes q) old new (Ok told) → WritesLines sink settings problem (q ∷ []) old new (Ok u)
+      one_written told u e h =
+          let same = subst₂ (λ budgets bound. Writes sink (AreAnswerBytes problem budgets bound q) old new (Ok told)) known.budgets known.classes h in
+          answered sink old new told u (λ bytes w. subst (AreLines settings problem (q ∷ []) bytes) (sym e) (answer_lines q told bytes w)) same
+
+      -- a fault while one answer is written
+      pub one_begun : (fault : WriteFault) → Writes sink {T = Answered} (AreAnswerBytes problem state.budgets state.classes q) old new (Err fault) → WritesLines sink settings problem (q ∷ []) old new (Err fault)
+      one_begun fault h =
+          let same = subst₂ (λ budgets bound. Writes sink {T = Answered} (AreAnswerBytes problem budgets bound q) old new (Err fault)) known.budgets known.classes h in
+          faulted sink old new fault (λ bytes c. elim c [
+            | inl none ↦ record { answers = []; correct = tt; lines = none }
+            | inr some ↦ answer_first q some.0 bytes some.1
+          ]) same
+
+    module _ (qs rs : List Query) (u : Bool) (old mid new : K) (before : WritesLines sink settings problem qs old mid (Ok u)) where
+      -- the lines of more queries
+      pub more_written : (v : Bool) → WritesLines sink settings problem rs mid new (Ok v) → WritesLines sink settings problem (qs ++ rs) old new (Ok (u || v))
+      more_written v after =
+          answered sink old new v (u || v) (λ bytes w. w)
+          (writes_then sink {W = λ value bytes. AreLines settings problem (qs ++ rs) bytes (u || value)} {B = AreFirstLines settings problem (qs ++ rs ++ [])} old mid new u (Ok v)
+          (λ value xs ys. lines-append qs rs u value xs ys) (λ xs ys. first_lines-append qs rs [] u xs ys) before after)
+
+      -- a fault while the lines of more queries are written
+      pub more_begun : (more : List Query) (fault : WriteFault) → WritesLines sink settings problem rs mid new (Err fault) → WritesLines sink settings problem (qs ++ rs ++ more) old new (Err fault)
+      more_begun more fault after =
+          faulted sink old new fault (λ bytes w. w)
+          (writes_then sink {W = λ value bytes. AreLines settings problem (qs ++ rs) bytes (u || value)} {B = AreFirstLines settings problem (qs ++ rs ++ more)} old mid new u (Err fault)
+          (λ value xs ys. lines-append qs rs u value xs ys) (λ xs ys. first_lines-append qs rs more u xs ys) before after)
+
+-- what the sink gained with the lines of a script, where the source tells its bytes
+module _ {K : Type 0} (sink : Ghosts K) (settings : Settings) (script : ScriptOf) (old new : K) where
+  pub report_gained : (input : Option (List ℕ)) (u : Bool) → IfSome input (λ bytes. IsScript bytes script) → WritesLines sink settings script.problem script.queries old new (Ok u) → IfSome input (λ bytes. GainsReport settings bytes u (sink.taken old) (sink.taken new))
+  report_gained (Some bytes) u is_script h = record { report = h.all.0; is_report = record { script = script; is_script = is_script; are_lines = h.all.1 }; gained = h.all.2 }
+  report_gained None u is_script h = tt
+
+  pub beginning_gained : (input : Option (List ℕ)) (fault : WriteFault) → IfSome input (λ bytes. IsScript bytes script) → WritesLines sink settings script.problem script.queries old new (Err fault) → IfSome input (λ bytes. GainsBeginning settings bytes (sink.taken old) (sink.taken new))
+  beginning_gained (Some bytes) fault is_script h = record { script = script; is_script = is_script; beginning = h.part.0; are_first = h.part.1; gained = h.part.2 }
+  beginning_gained None fault is_script h = tt

@@ -3,6 +3,7 @@ use Rattle.std.proofs.Common.{◌≡◌, ℕ, ◌≤◌, length, arith, Bool, Li
 use Rattle.std.specs.List.{flat_map, list_any}
 use Rattle.std.proofs.lemmas.Grind.{flat_map-append}
 use Rattle.ports.specs.Bytes.{Gave, IsAtEnd, TakesPrefix}
+use Rattle.ports.proofs.BytesLemmas.{prefix_more}
 use Rattle.problem.specs.declared.kinds.Problem.{Problem}
 use Rattle.query_lang.specs.declared.script.Query.{Query}
 use Rattle.query_lang.specs.declared.fault.ScriptFault.{ScriptFault}
@@ -11,7 +12,6 @@ use Rattle.query_lang.specs.Asked.{ScriptOf}
 use Rattle.query_lang.specs.Faults.{IsScriptFault}
 use Rattle.query_lang.proofs.ScriptLaw.{no_script_with_fault, one_script}
 use Rattle.report.specs.Answer.{IsAnswer}
-use Rattle.report.proofs.GainLemmas.{prefix_more}
 use Rattle.report.proofs.UniqueAnswer as unique
 use Rattle.settings.specs.declared.Settings.{Settings}
 use Rattle.semi.specs.declared.fault.Fault.{Fault}
@@ -114,7 +114,7 @@ one_report settings others input r s u v budgets classes p q =
 pub beginning_prefix : (settings : Settings) (input report : List ℕ) (undecided : Bool) (old new : Option (List ℕ)) → IsReport settings input report undecided → GainsBeginning settings input old new → TakesPrefix old new report
 beginning_prefix settings input report undecided old new p q =
     let scripts : q.script ≡ p.script = one_script input q.script p.script q.is_script.reads p.is_script.reads in
-    let first : AreFirstAnswers settings p.script.problem p.script.queries q.part.answers = subst (λ t. AreFirstAnswers settings t.problem t.queries q.part.answers) scripts q.part.correct in
-    let rest = first_of_all settings p.script.problem p.script.queries q.part.answers p.are_lines.answers first p.are_lines.correct in
-    let whole : report ≡ flat_map lines_of q.part.answers ++ flat_map lines_of rest.0 = p.are_lines.lines ∙ ap (flat_map lines_of) rest.1 ∙ flat_map-append lines_of q.part.answers rest.0 in
-    subst (TakesPrefix old new) (sym whole) (prefix_more old new (flat_map lines_of q.part.answers) (flat_map lines_of rest.0) q.part.gained)
+    let first : AreFirstAnswers settings p.script.problem p.script.queries q.are_first.answers = subst (λ t. AreFirstAnswers settings t.problem t.queries q.are_first.answers) scripts q.are_first.correct in
+    let rest = first_of_all settings p.script.problem p.script.queries q.are_first.answers p.are_lines.answers first p.are_lines.correct in
+    let whole : report ≡ flat_map lines_of q.are_first.answers ++ flat_map lines_of rest.0 = p.are_lines.lines ∙ ap (flat_map lines_of) rest.1 ∙ flat_map-append lines_of q.are_first.answers rest.0 in
+    subst (TakesPrefix old new) (sym (whole ∙ ap (λ front. front ++ flat_map lines_of rest.0) (sym q.are_first.lines))) (prefix_more old new q.beginning (flat_map lines_of rest.0) q.gained)

@@ -1,7 +1,10 @@
 -- What is due for the bytes of a script, and what goes where.
-use Rattle.std.specs.Prelude.{◌≡◌, ℕ, ◌<◌, ◌≤◌, Bool, List, [], ◌∷◌, length, IfSome, Option}
+use Rattle.ports.specs.declared.sink.Sink.{Ghosts}
+use Rattle.std.specs.Prelude.{◌≡◌, ℕ, ◌<◌, ◌≤◌, Bool, List, [], ◌∷◌, length, IfSome, Option, Result}
 use Rattle.std.specs.List.{flat_map, list_any}
+use Rattle.ports.specs.declared.fault.WriteFault.{WriteFault}
 use Rattle.ports.specs.Bytes.{Rose, TakesAll, TakesPrefix}
+use Rattle.ports.specs.Writes.{WritesOrBegins}
 use Rattle.problem.specs.declared.budgets.Budgets.{Budgets}
 use Rattle.problem.specs.declared.kinds.Problem.{Problem}
 use Rattle.query_lang.specs.declared.fault.ScriptFault.TheVariants.{Bad}
@@ -88,18 +91,25 @@ pub record AreLines (settings : Settings) (problem : Problem) (queries : List Qu
   pub lines : report ≡ flat_map lines_of answers
   pub status : undecided ≡ list_any is_undecided answers
 
+-- the lines of the answers of the first of these queries, in order
+pub record AreFirstLines (settings : Settings) (problem : Problem) (queries : List Query)
+    (report : List ℕ) : Type 0 where
+  pub answers : List Answer
+  pub correct : AreFirstAnswers settings problem queries answers
+  pub lines : report ≡ flat_map lines_of answers
+
+-- a call writes the lines of these queries and tells whether an answer is undecided, or begins them
+abbrev pub WritesLines : {A : Type 0} → Ghosts A → Settings → Problem → List Query → A → A
+    → Result Bool WriteFault → Type 0
+WritesLines sink settings problem queries =
+    WritesOrBegins sink (λ undecided report. AreLines settings problem queries report undecided)
+    (AreFirstLines settings problem queries)
+
 -- the report of the input
 pub record IsReport (settings : Settings) (input report : List ℕ) (undecided : Bool) : Type 0 where
   pub script : ScriptOf
   pub is_script : IsScript input script
   pub are_lines : AreLines settings script.problem script.queries report undecided
-
--- the sink gained the lines of these queries
-pub record GainsLines (settings : Settings) (problem : Problem) (queries : List Query)
-    (undecided : Bool) (old new : Option (List ℕ)) : Type 0 where
-  pub report : List ℕ
-  pub are_lines : AreLines settings problem queries report undecided
-  pub gained : TakesAll old new report
 
 -- the sink gained the report of the input
 pub record GainsReport (settings : Settings) (input : List ℕ) (undecided : Bool)
@@ -108,19 +118,14 @@ pub record GainsReport (settings : Settings) (input : List ℕ) (undecided : Boo
   pub is_report : IsReport settings input report undecided
   pub gained : TakesAll old new report
 
--- the sink gained a prefix of the lines of the first of these queries
-pub record GainsPart (settings : Settings) (problem : Problem) (queries : List Query)
-    (old new : Option (List ℕ)) : Type 0 where
-  pub answers : List Answer
-  pub correct : AreFirstAnswers settings problem queries answers
-  pub gained : TakesPrefix old new (flat_map lines_of answers)
-
 -- the sink gained a beginning of the report of the input
 pub record GainsBeginning (settings : Settings) (input : List ℕ)
     (old new : Option (List ℕ)) : Type 0 where
   pub script : ScriptOf
   pub is_script : IsScript input script
-  pub part : GainsPart settings script.problem script.queries old new
+  pub beginning : List ℕ
+  pub are_first : AreFirstLines settings script.problem script.queries beginning
+  pub gained : TakesPrefix old new beginning
 
 -- the state answers queries of this problem under these settings
 pub record IsStateOf (settings : Settings) (problem : Problem) (state : State) : Type 0 where
@@ -129,12 +134,9 @@ pub record IsStateOf (settings : Settings) (problem : Problem) (state : State) :
   pub workers : state.workers ≡ settings.workers
   pub verdict : IfSome state.verdict (IsVerdictOf problem state.budgets)
 
--- the sink gained this line, or a prefix of it where one of its two counts rose
-pub record GainsLine (line : List ℕ) (old new : Option (List ℕ))
-    (faults faults' refusals refusals' : ℕ) : Type 0 where
-  pub whole : (Rose faults faults' → ⊥) → (Rose refusals refusals' → ⊥) → TakesAll old new line
-  pub prefix : TakesPrefix old new line
-
--- err gained the line of this fault, or a prefix of it where one of its counts rose
-abbrev pub GainsLineOf : Fault → Option (List ℕ) → Option (List ℕ) → ℕ → ℕ → ℕ → ℕ → Type 0
-GainsLineOf fault = GainsLine (line_of_fault fault)
+-- the sink gained the line of this fault, or a prefix of it where one of its two counts rose
+pub record GainsLineOf {A : Type 0} (sink : Ghosts A) (fault : Fault) (old new : A) : Type 0 where
+  pub whole : (Rose (sink.faults old) (sink.faults new) → ⊥)
+      → (Rose (sink.refusals old) (sink.refusals new) → ⊥)
+      → TakesAll (sink.taken old) (sink.taken new) (line_of_fault fault)
+  pub prefix : TakesPrefix (sink.taken old) (sink.taken new) (line_of_fault fault)

@@ -1,6 +1,6 @@
 // Why a run ends without the whole report.
-ghost use Rattle.std.specs.Prelude.{◌≡◌, ◌++◌, OnErr, OnOk, IsErrOf, codes};
-ghost use Rattle.ports.specs.Bytes.{Rose, TakesAll, TakesPrefix};
+ghost use Rattle.std.specs.Prelude.{◌≡◌};
+ghost use Rattle.ports.specs.Writes.{TellsRefusals, WritesBytes};
 ghost use Rattle.semi.specs.Report.{GainsLineOf};
 ghost use Rattle.semi.specs.Status.{line_of_fault, of_read, of_script, of_settings, of_write, status_of, text_of};
 ghost use Rattle.semi.specs.declared.fault.Fault.TheVariants as fault;
@@ -105,15 +105,8 @@ impl Fault {
 
     // Writes what the fault says. It asks for no memory.
     fn write_text<E: Sink>(self, err: &mut E) -> Result<(), WriteFault>
-        ensures all { OnOk result (TakesAll (E.taken err.old) (E.taken err.new) (text_of self)) }
-        ensures prefix { OnErr result (TakesPrefix (E.taken err.old) (E.taken err.new)
-            (text_of self)) }
-        ensures quiet { OnOk result ((E.faults err.new ≡ E.faults err.old)
-            × (E.refusals err.new ≡ E.refusals err.old)) }
-        ensures failed { IsErrOf result WriteFault.Failed
-            → Rose (E.faults err.old) (E.faults err.new) }
-        ensures refused { IsErrOf result WriteFault.NoMemory
-            → Rose (E.refusals err.old) (E.refusals err.new) }
+        ensures bytes { WritesBytes E.Sink (text_of self) err.old err.new result }
+        ensures refusals { TellsRefusals E.Sink err.old err.new result }
     {
         match self {
             Fault::TooLong => write_all(err, b"script too long"),
@@ -127,14 +120,8 @@ impl Fault {
 
     // Writes the line of the fault, with the program's name and the line feed.
     fn write_line<E: Sink>(self, err: &mut E) -> Result<(), WriteFault>
-        ensures all { OnOk result (TakesAll (E.taken err.old) (E.taken err.new)
-            (line_of_fault self)) }
-        ensures prefix { OnErr result (TakesPrefix (E.taken err.old) (E.taken err.new)
-            (line_of_fault self)) }
-        ensures failed { IsErrOf result WriteFault.Failed
-            → Rose (E.faults err.old) (E.faults err.new) }
-        ensures refused { IsErrOf result WriteFault.NoMemory
-            → Rose (E.refusals err.old) (E.refusals err.new) }
+        ensures bytes { WritesBytes E.Sink (line_of_fault self) err.old err.new result }
+        ensures refusals { TellsRefusals E.Sink err.old err.new result }
     {
         write_all(err, b"semi: ")?;
         self.write_text(err)?;
@@ -145,8 +132,7 @@ impl Fault {
     /// changes no status.
     pub fn tell<E: Sink>(self, err: &mut E) -> u8
         ensures status { result ≡ status_of self }
-        ensures told { GainsLineOf self (E.taken err.old) (E.taken err.new) (E.faults err.old)
-            (E.faults err.new) (E.refusals err.old) (E.refusals err.new) }
+        ensures told { GainsLineOf E.Sink self err.old err.new }
     {
         let _ = self.write_line(err);
         self.status()
@@ -155,15 +141,8 @@ impl Fault {
 
 // Writes the number of a line and the text of its cause.
 fn write_place<E: Sink>(err: &mut E, line: usize, cause: u8) -> Result<(), WriteFault>
-    ensures all { OnOk result (TakesAll (E.taken err.old) (E.taken err.new)
-        (text_of (fault.Script line cause))) }
-    ensures prefix { OnErr result (TakesPrefix (E.taken err.old) (E.taken err.new)
-        (text_of (fault.Script line cause))) }
-    ensures quiet { OnOk result ((E.faults err.new ≡ E.faults err.old)
-        × (E.refusals err.new ≡ E.refusals err.old)) }
-    ensures failed { IsErrOf result WriteFault.Failed → Rose (E.faults err.old) (E.faults err.new) }
-    ensures refused { IsErrOf result WriteFault.NoMemory
-        → Rose (E.refusals err.old) (E.refusals err.new) }
+    ensures bytes { WritesBytes E.Sink (text_of (fault.Script line cause)) err.old err.new result }
+    ensures refusals { TellsRefusals E.Sink err.old err.new result }
 {
     let mut buffer = Buffer::new();
     write_all(err, b"line ")?;

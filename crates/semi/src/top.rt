@@ -56,7 +56,7 @@ fn run<R: Threads + Sync, S: Source, O: Sink, G: Gate + Sync>(
 {
     let settings = settings_of(alloc, words)?;
     let script = take_script(alloc, source)?;
-    write_report(rt, alloc, settings, &script, out, gate)
+    Ok(write_report(rt, alloc, settings, &script, out, gate)?)
 }
 
 /// The program: reads the source as a script, of a presentation or of elements, and writes its report to
@@ -111,8 +111,7 @@ pub fn semi<R: Threads + Sync, S: Source, O: Sink, E: Sink, G: Gate + Sync>(
     ensures told { 2 ≤ result → (fault : Fault) × (result ≡ status_of fault)
         × (result ≡ 2 → IfSome (S.left source.old) (λ input. IsRefusal input fault))
         × IsTakenAt fault (S.left source.old) (S.left source.new)
-        × GainsLineOf fault (E.taken err.old) (E.taken err.new) (E.faults err.old)
-        (E.faults err.new) (E.refusals err.old) (E.refusals err.new) }
+        × GainsLineOf E.Sink fault err.old err.new }
     ensures err_untouched { result ≤ 1 → err.new ≡ err.old }
 
     // words that are refused give 3, or memory is wanting

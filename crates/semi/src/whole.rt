@@ -1,15 +1,15 @@
 // The report of a script.
-ghost use Rattle.std.specs.Prelude.{◌≡◌, ℕ, ◌≤◌, Bool, List, Option, [], ◌∷◌, IfErr, IfOk, IfSome, IsErrOf, MatchResult, OnErr, OnOk};
+ghost use Rattle.std.specs.Prelude.{◌≡◌, ℕ, ◌≤◌, Bool, List, Option, [], ◌∷◌, IfErr, IfOk, IfSome, IsErrOf, MatchResult, OnOk};
 ghost use Rattle.ports.specs.Bytes.{Rose, TakesPrefix};
 ghost use Rattle.query_lang.specs.Query.{IsQueryOf};
 ghost use Rattle.report.specs.Gains.{is_undecided};
 ghost use Rattle.settings.specs.declared.Settings.{Settings};
-ghost use Rattle.semi.specs.Report.{GainsBeginning, GainsLines, GainsPart, IsRefusal, IsReport, IsScript, IsStateOf, budgets_of};
+ghost use Rattle.semi.specs.Report.{GainsBeginning, IsRefusal, IsReport, IsScript, IsStateOf, WritesLines, budgets_of};
 ghost use Rattle.semi.specs.Taken.{IsTakenAt, IsTakenWhole};
 ghost use Rattle.semi.specs.Status.{status_of};
 
 use crate::fault::Fault;
-use ports::{Gate, Sink, Source, read_all};
+use ports::{Gate, Sink, Source, WriteFault, read_all};
 use problem::Budgets;
 use query_lang::{Query, Script, read_script};
 use report::{Answered, State, write_answer};
@@ -59,25 +59,19 @@ fn write_one<R: Threads + Sync, O: Sink, G: Gate + Sync>(
     state: &mut State,
     out: &mut O,
     gate: &G,
-) -> Result<bool, Fault>
+) -> Result<bool, WriteFault>
     requires query { IsQueryOf script.now.problem query.now }
     requires state { IsStateOf settings script.now.problem state.old }
     requires workers { 1 ≤ settings.workers }
     ensures state { IsStateOf settings script.now.problem state.new }
-    ensures written { IfOk result (λ undecided. GainsLines settings script.now.problem
-        (query.now ∷ []) undecided (O.taken out.old) (O.taken out.new)) }
-    ensures part { OnErr result (GainsPart settings script.now.problem (query.now ∷ [])
-        (O.taken out.old) (O.taken out.new)) }
-    ensures write { IsErrOf result Fault.Write → Rose (O.faults out.old) (O.faults out.new) }
-    ensures only { IfErr result (λ fault. 5 ≤ status_of fault) }
-    ensures kept { O.faults out.old ≤ O.faults out.new }
-    ensures quiet { OnOk result (O.faults out.new ≡ O.faults out.old) }
+    ensures written { WritesLines O.Sink settings script.now.problem (query.now ∷ [])
+        out.old out.new result }
 {
     let answered = write_answer(rt, alloc, script, query, state, out, gate)?;
     Ok(left_undecided(answered))
 }
 
-/// Writes the report of a script, and tells whether an answer is undecided. Refused with `Write`
+/// Writes the report of a script, and tells whether an answer is undecided. Refused with `Failed`
 /// where the sink failed, else with `NoMemory`; the sink has then gained a beginning of the report.
 pub fn write_report<R: Threads + Sync, O: Sink, G: Gate + Sync>(
     rt: &R,
@@ -86,16 +80,10 @@ pub fn write_report<R: Threads + Sync, O: Sink, G: Gate + Sync>(
     script: &Script,
     out: &mut O,
     gate: &G,
-) -> Result<bool, Fault>
+) -> Result<bool, WriteFault>
     requires { 1 ≤ settings.workers }
-    ensures written { IfOk result (λ undecided. GainsLines settings script.now.problem
-        script.now.queries undecided (O.taken out.old) (O.taken out.new)) }
-    ensures part { OnErr result (GainsPart settings script.now.problem script.now.queries
-        (O.taken out.old) (O.taken out.new)) }
-    ensures write { IsErrOf result Fault.Write → Rose (O.faults out.old) (O.faults out.new) }
-    ensures only { IfErr result (λ fault. 5 ≤ status_of fault) }
-    ensures kept { O.faults out.old ≤ O.faults out.new }
-    ensures quiet { OnOk result (O.faults out.new ≡ O.faults out.old) }
+    ensures { WritesLines O.Sink settings script.now.problem script.now.queries
+        out.old out.new result }
 {
     let budgets = Budgets {
         defs: settings.defs,

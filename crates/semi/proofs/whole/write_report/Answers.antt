@@ -1,24 +1,25 @@
-use Rattle.std.proofs.Common.{◌≡◌, ℕ, ◌+◌, ◌<◌, List, [], ◌∷◌, ◌++◌, Bool, ◌||◌, ◌∙◌, sym, ap, subst, length, take, drop, get_or}
-use Rattle.std.proofs.lemmas.List.{take_more, take-append-drop}
+use Rattle.std.proofs.Common.{◌≡◌, ℕ, ◌+◌, ◌<◌, List, [], ◌∷◌, ◌++◌, Bool, ◌||◌, ◌∙◌, sym, ap, subst, length, take, drop, get_or, Ok, Err, arith}
+use Rattle.std.proofs.lemmas.List.{take_all, take_more, take-append-drop}
 use Rattle.query_lang.specs.declared.script.Query.{Query}
-use Rattle.semi.specs.Report.{GainsLines, GainsPart}
-use Rattle.report.proofs.GainLemmas.{on_err}
-use Rattle.semi.proofs.ReportLemmas.{more_gained, more_begun}
+use Rattle.ports.proofs.WriteLemmas.{handed_on}
+use Rattle.semi.specs.Report.{WritesLines}
+use Rattle.semi.proofs.ReportLemmas.{more_written, more_begun}
 use Rattle.semi.proofs.whole.write_report.Goals as goal
 
 -- those before a place, and the one at it
 next : (queries : List Query) (i : ℕ) (q : Query) → q ≡ get_or queries i q → i < length queries → take i queries ++ q ∷ [] ≡ take (i + 1) queries
 next queries i q e h = ap (λ x. take i queries ++ x ∷ []) e ∙ sym (take_more queries i q h)
 
-pub returns-in_err-undecided-clause-part : goal.returns-in_err-undecided-clause-part
-returns-in_err-undecided-clause-part g c =
+pub returns-in_err-undecided : goal.returns-in_err-undecided
+returns-in_err-undecided g c =
     let queries : List Query = c.queries-query-items.result.now in
     let i : ℕ = c.loop-query.query-index in
     let q : Query = c.query-item.result in
     let all : (take i queries ++ q ∷ []) ++ drop (i + 1) queries ≡ c.args.script.now.queries =
     ap (λ front. front ++ drop (i + 1) queries) (next queries i q c.query-item.is c.loop-query-test.true) ∙ take-append-drop (i + 1) queries ∙ c.queries-query-items.ensures.queries in
-    on_err _ _ (subst (λ qs. GainsPart c.args.settings c.args.script.now.problem qs (g.O.Sink.taken c.args.out.now) (g.O.Sink.taken c.write_one.new.out)) all
-    (more_begun c.args.settings c.args.script.now.problem (take i queries) (q ∷ []) (drop (i + 1) queries) c.loop-query.undecided _ (g.O.Sink.taken c.loop-query.out) _ c.loop-query.invariant.gained c.in_err-undecided.ensures.part))
+    handed_on g.O.Sink _ _ _ _ c.from_residual.ensures.1
+    (subst (λ qs. WritesLines g.O.Sink c.args.settings c.args.script.now.problem qs c.args.out.now c.write_one.new.out (Err c.in_err-undecided.field-0.0)) all
+    (more_begun c.args.settings c.args.script.now.problem g.O.Sink (take i queries) (q ∷ []) c.loop-query.undecided _ c.loop-query.out _ c.loop-query.invariant.written (drop (i + 1) queries) _ c.in_err-undecided.ensures.written))
 
 pub loop-query-preserved : goal.loop-query-preserved
 loop-query-preserved g c =
@@ -28,7 +29,12 @@ loop-query-preserved g c =
     let v : Bool = c.in_ok-undecided.field-0 in
     record {
       state = c.in_ok-undecided.ensures.state;
-      gained = subst (λ qs. GainsLines c.args.settings c.args.script.now.problem qs (c.loop-query.undecided || v) (g.O.Sink.taken c.args.out.now) (g.O.Sink.taken c.write_one.new.out)) (next queries i q c.query-item.is c.loop-query-test.true)
-          (more_gained c.args.settings c.args.script.now.problem (take i queries) (q ∷ []) c.loop-query.undecided v _ (g.O.Sink.taken c.loop-query.out) _ c.loop-query.invariant.gained c.in_ok-undecided.ensures.written);
-      quiet = c.in_ok-undecided.ensures.quiet ∙ c.loop-query.invariant.quiet;
+      written = subst (λ qs. WritesLines g.O.Sink c.args.settings c.args.script.now.problem qs c.args.out.now c.write_one.new.out (Ok (c.loop-query.undecided || v))) (next queries i q c.query-item.is c.loop-query-test.true)
+          (more_written c.args.settings c.args.script.now.problem g.O.Sink (take i queries) (q ∷ []) c.loop-query.undecided _ c.loop-query.out _ c.loop-query.invariant.written v c.in_ok-undecided.ensures.written);
     }
+
+pub returns : goal.returns
+returns g c =
+    let queries : List Query = c.queries-query-items.result.now in
+    let all : take c.loop-query.query-index queries ≡ c.args.script.now.queries = take_all c.loop-query.query-index queries (omega (arith, c.loop-query-test.false)) ∙ c.queries-query-items.ensures.queries in
+    subst (λ qs. WritesLines g.O.Sink c.args.settings c.args.script.now.problem qs c.args.out.now c.loop-query.out (Ok c.loop-query.undecided)) all c.loop-query.invariant.written
