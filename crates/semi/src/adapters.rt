@@ -38,8 +38,8 @@ impl<R: Read> Source for InputSource<R> {
     }
 }
 
-/// A writer as a sink. It counts the writes that fail; to take nothing of a piece is such a failure.
-/// It never finds memory wanting.
+/// A writer as a sink. It counts the writes that fail; to take nothing of a piece is such a
+/// failure. It never finds memory wanting.
 #[derive(Drop)]
 pub struct OutputSink<W> {
     writer: W,

@@ -128,8 +128,8 @@ impl Fault {
         write_all(err, b"\n")
     }
 
-    /// Writes the line of the fault to `err`, and gives the fault's status. A refused write to `err`
-    /// changes no status.
+    /// Writes the line of the fault to `err`, and gives the fault's status. A refused write to
+    /// `err` changes no status.
     pub fn tell<E: Sink>(self, err: &mut E) -> u8
         ensures status { result ≡ status_of self }
         ensures told { GainsLineOf E.Sink self err.old err.new }

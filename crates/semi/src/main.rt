@@ -1,6 +1,6 @@
-//! Reads a script, which presents a monoid or a semigroup by relations or generates one by transformations,
-//! partial permutations, Boolean matrices or truncated max-plus matrices, and writes the answers of its
-//! queries.
+//! Reads a script, which presents a monoid or a semigroup by relations or generates one by
+//! transformations, partial permutations, Boolean matrices or truncated max-plus matrices, and
+//! writes the answers of its queries.
 #![tactic(auto)]
 
 ghost use Rattle.std.specs.Prelude.{◌≡◌, ◌≤◌, []};

@@ -59,16 +59,17 @@ fn run<R: Threads + Sync, S: Source, O: Sink, G: Gate + Sync>(
     Ok(write_report(rt, alloc, settings, &script, out, gate)?)
 }
 
-/// The program: reads the source as a script, of a presentation or of elements, and writes its report to
-/// `out`; gives the status.
+/// The program: reads the source as a script, of a presentation or of elements, and writes its
+/// report to `out`; gives the status.
 ///
 /// - 0: the whole report was written, and no answer is undecided. 1: the same, with one at least.
 /// - 2: the input, read in full, is longer than 1,048,576 bytes, or a line of it is faulty.
 /// - 3: the words are not those of the command; nothing is read.
 /// - 4: the source failed. 5: `out` failed. 6: memory is wanting.
 ///
-/// `err` gets one line at the statuses from 2 on; at 2 it tells the first faulty line and its cause. `words`
-/// begins with the program's name. Where a problem is raced for by several workers, each turn is behind the gate.
+/// `err` gets one line at the statuses from 2 on; at 2 it tells the first faulty line and its
+/// cause. `words` begins with the program's name. Where a problem is raced for by several workers,
+/// each turn is behind the gate.
 pub fn semi<R: Threads + Sync, S: Source, O: Sink, E: Sink, G: Gate + Sync>(
     rt: &R,
     alloc: Global,
@@ -117,7 +118,8 @@ pub fn semi<R: Threads + Sync, S: Source, O: Sink, E: Sink, G: Gate + Sync>(
     // words that are refused give 3, or memory is wanting
     ensures rejects { AreRefused (map string_bytes words.now.items) → (result ≡ 3) ⊎ (result ≡ 6) }
 
-    // where nothing fails, a refused input gives 2, and a script its whole report, or memory is wanting
+    // where nothing fails, a refused input gives 2, and a script its whole report, or memory is
+    // wanting
     ensures refuses { AreAccepted (map string_bytes words.now.items)
         → (Rose (S.faults source.old) (S.faults source.new) → ⊥)
         → IfSome (S.left source.old) (λ input. IsRefused input → (result ≡ 2) ⊎ (result ≡ 6)) }

@@ -99,8 +99,8 @@ pub fn write_report<R: Threads + Sync, O: Sink, G: Gate + Sync>(
     Ok(undecided)
 }
 
-/// The report is a function of the budgets, the bound of the index and the input alone: they have one report, and
-/// one status, whatever the number of workers.
+/// The report is a function of the budgets, the bound of the index and the input alone: they have
+/// one report, and one status, whatever the number of workers.
 pub fn report_is_one()
     ensures { (settings others : Settings) (input report other : List ℕ) (undecided waits : Bool)
         → budgets_of settings ≡ budgets_of others → settings.classes ≡ others.classes
