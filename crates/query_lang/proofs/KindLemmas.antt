@@ -1,5 +1,5 @@
 -- The elements of generator lines: those that are read, and why others are refused.
-use Rattle.std.proofs.Common.{◌≡◌, ◌≢◌, ℕ, ◌+◌, ◌*◌, ◌<◌, Bool, true, false, List, [], ◌∷◌, length, map, All, Option, Some, Result, Ok, Err, IfErr, IsErrAnd, slice_get, get_or, if◌then◌else◌, refl, sym, ap, ◌∙◌, subst, arith}
+use Rattle.std.proofs.Common.{◌≡◌, ◌≢◌, ℕ, ◌+◌, ◌*◌, ◌<◌, Bool, true, false, List, [], ◌∷◌, length, map, All, Option, Some, None, Result, Ok, Err, IfErr, IsErrAnd, slice_get, get_or, if◌then◌else◌, refl, sym, ap, ◌∙◌, subst, arith}
 use Rattle.std.proofs.lemmas.List.{length-map}
 use Rattle.std.proofs.lemmas.List.Elements.{All-weaker, All-cons, All-head, All-tail}
 use Rattle.elements.specs.declared.field.Field.{Field}
@@ -12,8 +12,6 @@ use Rattle.elements.specs.BMat.{BooleanMatrix, IsBit, field_of_bit, IsBooleanMat
 use Rattle.elements.specs.MaxPlus.{TruncatedMatrix, IsTruncatedMatrix}
 use Rattle.query_lang.specs.declared.cause.Cause.{Cause}
 use Rattle.query_lang.specs.declared.cause.Cause.TheVariants.{NotInjective, WrongNumberOfEntries, BadEntry}
-use Rattle.query_lang.specs.declared.fault.LineFault.{LineFault}
-use Rattle.query_lang.specs.declared.fault.LineFault.TheVariants as line
 use Rattle.query_lang.specs.Outcome.{and_then}
 use Rattle.query_lang.specs.Faults.{IsLineFault, fault_of_element}
 use Rattle.query_lang.specs.Entries.{below, below_or_dash, bit, is_injective}
@@ -22,14 +20,14 @@ use Rattle.query_lang.proofs.EntryLemmas.{ReadsEntries, reads_images, reads_part
 use Rattle.query_lang.proofs.InjectiveLemmas.{injective, not_injective}
 
 -- a fault that is handed on
-pub handed_on : {A B : Type 0} (r : Result B LineFault) (fault : LineFault) (outcome : Result A Cause) → IsErrAnd r (λ e. e ≡ fault) → IsLineFault outcome fault → IfErr r (IsLineFault outcome)
+pub handed_on : {A B : Type 0} (r : Result B (Option Cause)) (fault : Option Cause) (outcome : Result A Cause) → IsErrAnd r (λ e. e ≡ fault) → IsLineFault outcome fault → IfErr r (IsLineFault outcome)
 handed_on (Ok x) fault outcome h p = tt
 handed_on (Err e) fault outcome h p = subst (IsLineFault outcome) (sym h) p
 
 -- what comes after a refusal is refused too
-pub refused_then : {A B : Type 0} (f : A → Result B Cause) (outcome : Result A Cause) (fault : LineFault) → IsLineFault outcome fault → IsLineFault (and_then f outcome) fault
-refused_then f outcome (line.Refused cause) h = ap (and_then f) h
-refused_then f outcome line.NoMemory h = tt
+pub refused_then : {A B : Type 0} (f : A → Result B Cause) (outcome : Result A Cause) (fault : Option Cause) → IsLineFault outcome fault → IsLineFault (and_then f outcome) fault
+refused_then f outcome (Some cause) h = ap (and_then f) h
+refused_then f outcome None h = tt
 
 -- a field that is not good
 pub record HasBad (IsGood : Field → Type 0) (fields : List Field) (place : ℕ) : Type 0 where
@@ -105,9 +103,9 @@ truncated_matrix_read sizes fields m d t e valid =
 pub partial_permutation_refused : (sizes : ℕ × ℕ) (fields : List Field) (fault : ElementFault) → RefusesEntries (IsBelowOrDash sizes.0) sizes.0 fields fault
     → ((place : ℕ) → fault ≡ element.NotInjective place → (length fields ≡ sizes.0) × All (IsBelowOrDash sizes.0) fields × IsFirstRepeat fields place) → IsLineFault (partial_permutation_of sizes fields) (fault_of_element fault)
 partial_permutation_refused sizes fields element.BadCount h again =
-    refused_then _ _ (line.Refused WrongNumberOfEntries) (entries_refused (IsBelowOrDash sizes.0) field_of (below_or_dash sizes.0) (reads_partial sizes.0) sizes.0 fields element.BadCount h (λ place e. absurd (cc)))
+    refused_then _ _ (Some WrongNumberOfEntries) (entries_refused (IsBelowOrDash sizes.0) field_of (below_or_dash sizes.0) (reads_partial sizes.0) sizes.0 fields element.BadCount h (λ place e. absurd (cc)))
 partial_permutation_refused sizes fields (element.BadEntry place) h again =
-    refused_then _ _ (line.Refused BadEntry) (entries_refused (IsBelowOrDash sizes.0) field_of (below_or_dash sizes.0) (reads_partial sizes.0) sizes.0 fields (element.BadEntry place) h (λ place e. absurd (cc)))
+    refused_then _ _ (Some BadEntry) (entries_refused (IsBelowOrDash sizes.0) field_of (below_or_dash sizes.0) (reads_partial sizes.0) sizes.0 fields (element.BadEntry place) h (λ place e. absurd (cc)))
 partial_permutation_refused sizes fields (element.NotInjective place) h again =
     let found = again place refl in partial_permutation_again sizes fields place found.0 found.1 found.2
 partial_permutation_refused sizes fields element.NoMemory h again = tt

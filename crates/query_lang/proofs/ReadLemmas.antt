@@ -8,8 +8,6 @@ use Rattle.std.proofs.lemmas.List.Splits.{length-slice_split}
 use Rattle.std.proofs.lemmas.List.Sums.{count_by-le-length}
 use Rattle.std.proofs.Math.Seq.{drop-cons}
 use Rattle.query_lang.specs.declared.cause.Cause.{Cause}
-use Rattle.query_lang.specs.declared.fault.LineFault.{LineFault}
-use Rattle.query_lang.specs.declared.fault.LineFault.TheVariants.{Refused, NoMemory}
 use Rattle.query_lang.specs.Outcome.{and_then}
 use Rattle.query_lang.specs.Faults.{IsLineFault, IsScriptFault, fault_at_line}
 use Rattle.query_lang.specs.Grammar.{lines_of}
@@ -54,21 +52,21 @@ read_refused before after x s cause read e =
     ∙ ap (λ r. and_then (λ u. read_lines (suc (length before + 1)) u after) (at_line (length before + 1) r)) e
 
 -- the fault of a line is the first fault of the script
-pub line_fault : (bytes : List ℕ) (before after : List (List ℕ)) (x : List ℕ) (s : Option ReaderOf) (fault : LineFault) (n : ℕ) → cut_lines bytes ≡ before ++ x ∷ after → read_lines 1 None before ≡ Ok s → n ≡ length before + 1
+pub line_fault : (bytes : List ℕ) (before after : List (List ℕ)) (x : List ℕ) (s : Option ReaderOf) (fault : Option Cause) (n : ℕ) → cut_lines bytes ≡ before ++ x ∷ after → read_lines 1 None before ≡ Ok s → n ≡ length before + 1
     → IsLineFault (take_line s x) fault → IsScriptFault bytes (fault_at_line n fault)
-line_fault bytes before after x s (Refused cause) n whole read count e =
+line_fault bytes before after x s (Some cause) n whole read count e =
     let refused : read_lines 1 None (cut_lines bytes) ≡ Err (n, cause) = ap (read_lines 1 None) whole ∙ read_refused before after x s cause read e ∙ ap (λ m. Err (m, cause)) (sym count) in
     (cause, fault_is_told bytes n cause (ap (and_then (λ t. at_line (length (cut_lines bytes)) (whole_of t))) refused), refl)
-line_fault bytes before after x s NoMemory n whole read count e = tt
+line_fault bytes before after x s None n whole read count e = tt
 
 -- what is missing at the end is the fault of the script
-pub end_fault : (bytes : List ℕ) (lines : List (List ℕ)) (s : Option ReaderOf) (fault : LineFault) (n : ℕ) → lines ≡ cut_lines bytes → read_lines 1 None lines ≡ Ok s → n ≡ length lines
+pub end_fault : (bytes : List ℕ) (lines : List (List ℕ)) (s : Option ReaderOf) (fault : Option Cause) (n : ℕ) → lines ≡ cut_lines bytes → read_lines 1 None lines ≡ Ok s → n ≡ length lines
     → IsLineFault (whole_of s) fault → IsScriptFault bytes (fault_at_line n fault)
-end_fault bytes lines s (Refused cause) n whole read count e =
+end_fault bytes lines s (Some cause) n whole read count e =
     let told : script_of bytes ≡ Err (n, cause) =
     ap (λ ls. and_then (λ t. at_line (length ls) (whole_of t)) (read_lines 1 None ls)) (sym whole) ∙ ap (and_then (λ t. at_line (length lines) (whole_of t))) read ∙ ap (at_line (length lines)) e ∙ ap (λ m. Err (m, cause)) (sym count) in
     (cause, fault_is_told bytes n cause told, refl)
-end_fault bytes lines s NoMemory n whole read count e = tt
+end_fault bytes lines s None n whole read count e = tt
 
 -- the script of lines that were all read
 pub whole_script : (bytes : List ℕ) (lines : List (List ℕ)) (s : Option ReaderOf) (p : ScriptOf) → lines ≡ cut_lines bytes → read_lines 1 None lines ≡ Ok s → whole_of s ≡ Ok p → AreScript (lines_of bytes) p

@@ -1,5 +1,5 @@
 -- What the faults of the reader mean.
-use Rattle.std.specs.Prelude.{◌≡◌, ℕ, List, Result, Err}
+use Rattle.std.specs.Prelude.{◌≡◌, ℕ, List, Option, Some, None, Result, Err}
 use Rattle.elements.specs.declared.field.ElementFault.{ElementFault}
 use Rattle.elements.specs.declared.field.ElementFault.TheVariants as element
 use Rattle.words.specs.declared.fault.AlphabetFault.{AlphabetFault}
@@ -8,8 +8,6 @@ use Rattle.words.specs.declared.fault.WordFault.{WordFault}
 use Rattle.words.specs.declared.fault.WordFault.TheVariants as word
 use Rattle.query_lang.specs.declared.cause.Cause.{Cause}
 use Rattle.query_lang.specs.declared.cause.Cause.TheVariants.{NotALetter, RepeatedLetter, WrongNumberOfEntries, BadEntry, NotInjective, NotInAlphabet, WordTooLong, EmptyWord}
-use Rattle.query_lang.specs.declared.fault.LineFault.{LineFault}
-use Rattle.query_lang.specs.declared.fault.LineFault.TheVariants as line
 use Rattle.query_lang.specs.declared.fault.ScriptFault.{ScriptFault}
 use Rattle.query_lang.specs.declared.fault.ScriptFault.TheVariants as script
 use Rattle.query_lang.specs.Causes.{number_of_cause}
@@ -17,35 +15,35 @@ use Rattle.query_lang.specs.Grammar.{lines_of}
 use Rattle.query_lang.specs.LineCauses.{IsFirstFault}
 
 -- a line is refused for its cause; want of memory says nothing of it
-abbrev pub IsLineFault : {A : Type 0} → Result A Cause → LineFault → Type 0
-IsLineFault outcome (line.Refused cause) = outcome ≡ Err cause
-IsLineFault outcome line.NoMemory = Unit {0}
+abbrev pub IsLineFault : {A : Type 0} → Result A Cause → Option Cause → Type 0
+IsLineFault outcome (Some cause) = outcome ≡ Err cause
+IsLineFault outcome None = Unit {0}
 
 -- the fault of a line whose entries are refused
-abbrev pub fault_of_element : ElementFault → LineFault
-fault_of_element element.BadCount = line.Refused WrongNumberOfEntries
-fault_of_element (element.BadEntry place) = line.Refused BadEntry
-fault_of_element (element.NotInjective place) = line.Refused NotInjective
-fault_of_element element.NoMemory = line.NoMemory
+abbrev pub fault_of_element : ElementFault → Option Cause
+fault_of_element element.BadCount = Some WrongNumberOfEntries
+fault_of_element (element.BadEntry place) = Some BadEntry
+fault_of_element (element.NotInjective place) = Some NotInjective
+fault_of_element element.NoMemory = None
 
 -- the fault of a line with letters that are refused
-abbrev pub fault_of_alphabet : AlphabetFault → LineFault
-fault_of_alphabet alphabet.Empty = line.Refused NotALetter
-fault_of_alphabet (alphabet.NotALetter place) = line.Refused NotALetter
-fault_of_alphabet (alphabet.Repeated place) = line.Refused RepeatedLetter
-fault_of_alphabet alphabet.NoMemory = line.NoMemory
+abbrev pub fault_of_alphabet : AlphabetFault → Option Cause
+fault_of_alphabet alphabet.Empty = Some NotALetter
+fault_of_alphabet (alphabet.NotALetter place) = Some NotALetter
+fault_of_alphabet (alphabet.Repeated place) = Some RepeatedLetter
+fault_of_alphabet alphabet.NoMemory = None
 
 -- the fault of a line with a word that is refused
-abbrev pub fault_of_word : WordFault → LineFault
-fault_of_word word.EmptyWord = line.Refused EmptyWord
-fault_of_word (word.NotInAlphabet place) = line.Refused NotInAlphabet
-fault_of_word word.TooLong = line.Refused WordTooLong
-fault_of_word word.NoMemory = line.NoMemory
+abbrev pub fault_of_word : WordFault → Option Cause
+fault_of_word word.EmptyWord = Some EmptyWord
+fault_of_word (word.NotInAlphabet place) = Some NotInAlphabet
+fault_of_word word.TooLong = Some WordTooLong
+fault_of_word word.NoMemory = None
 
 -- the fault of a line, with its number
-abbrev pub fault_at_line : ℕ → LineFault → ScriptFault
-fault_at_line n (line.Refused cause) = script.Bad n (number_of_cause cause)
-fault_at_line n line.NoMemory = script.NoMemory
+abbrev pub fault_at_line : ℕ → Option Cause → ScriptFault
+fault_at_line n (Some cause) = script.Bad n (number_of_cause cause)
+fault_at_line n None = script.NoMemory
 
 -- the first fault of the bytes, by its cause's number; want of memory says nothing of them
 abbrev pub IsScriptFault : List ℕ → ScriptFault → Type 0

@@ -103,8 +103,8 @@ impl<E: Generator> Listed<E> {
     {
         match Alphabet::new(alloc, &self.letters) {
             Ok(alphabet) => Ok(Posed::new(alphabet, Gens::from_vec(self.generators))),
-            Err(AlphabetFault::Empty) => Err(LineFault::Refused(Cause::NoGenerator)),
-            Err(AlphabetFault::NoMemory) => Err(LineFault::NoMemory),
+            Err(AlphabetFault::Empty) => Err(LineFault::refused(Cause::NoGenerator)),
+            Err(AlphabetFault::NoMemory) => Err(LineFault::no_memory()),
             Err(_) => unreachable!(),
         }
     }

@@ -1,12 +1,12 @@
 // Why a script is refused.
-ghost use Rattle.std.specs.Prelude.{◌≡◌};
+ghost use Rattle.std.specs.Prelude.{◌≡◌, None, Some};
 ghost use Rattle.query_lang.specs.Faults.{fault_at_line, fault_of_alphabet, fault_of_element, fault_of_word};
-ghost use Rattle.query_lang.specs.declared.fault.LineFault.TheVariants as line;
 
 use crate::cause::Cause;
 use elements::ElementFault;
 use ports::NoMemory;
 use std::alloc::{AllocError, AllocFailed};
+use std::marker::Model;
 use thiserror::Error;
 use words::{AlphabetFault, WordFault};
 
@@ -22,22 +22,56 @@ pub enum ScriptFault {
     NoMemory,
 }
 
-/// Why a line is refused.
-#[derive(Clone, Copy, Debug, PartialEq, Eq, Error)]
-pub enum LineFault {
-    /// The line has a cause of refusal.
-    #[error("cause {0:?}")]
-    Refused(Cause),
+/// Why a line is refused: for its cause, or for want of memory. Contracts see the cause, if there
+/// is one.
+#[derive(Drop)]
+pub struct LineFault {
+    cause: Option<Cause>,
+}
+
+impl Model for LineFault {
+    ghost use Rattle.std.specs.Prelude.{Option};
+    ghost use Rattle.query_lang.specs.declared.cause.Cause.{Cause as CauseOf};
+
+    ghost Value = { Option CauseOf };
+
+    ghost view = { λ f. f.cause };
+}
+
+impl LineFault {
+    /// The fault of a line that has this cause.
+    pub fn refused(cause: Cause) -> LineFault
+        ensures { result ≡ Some cause }
+    {
+        LineFault { cause: Some(cause) }
+    }
+
     /// Memory is wanting.
-    #[error("out of memory")]
-    NoMemory,
+    pub fn no_memory() -> LineFault
+        ensures { result ≡ None }
+    {
+        LineFault { cause: None }
+    }
+
+    /// The fault at the line of this number.
+    pub fn at_line(self, line: usize) -> ScriptFault
+        ensures { result ≡ fault_at_line line self }
+    {
+        match self.cause {
+            Some(cause) => ScriptFault::Bad {
+                line,
+                cause: cause.number(),
+            },
+            None => ScriptFault::NoMemory,
+        }
+    }
 }
 
 impl From<Cause> for LineFault {
-    ghost from_gives = { λ cause e. e ≡ line.Refused cause };
+    ghost from_gives = { λ cause e. e ≡ Some cause };
 
     fn from(cause: Cause) -> LineFault {
-        LineFault::Refused(cause)
+        LineFault::refused(cause)
     }
 }
 
@@ -46,10 +80,10 @@ impl From<ElementFault> for LineFault {
 
     fn from(fault: ElementFault) -> LineFault {
         match fault {
-            ElementFault::BadCount => LineFault::Refused(Cause::WrongNumberOfEntries),
-            ElementFault::BadEntry(_) => LineFault::Refused(Cause::BadEntry),
-            ElementFault::NotInjective(_) => LineFault::Refused(Cause::NotInjective),
-            ElementFault::NoMemory => LineFault::NoMemory,
+            ElementFault::BadCount => LineFault::refused(Cause::WrongNumberOfEntries),
+            ElementFault::BadEntry(_) => LineFault::refused(Cause::BadEntry),
+            ElementFault::NotInjective(_) => LineFault::refused(Cause::NotInjective),
+            ElementFault::NoMemory => LineFault::no_memory(),
         }
     }
 }
@@ -59,10 +93,10 @@ impl From<AlphabetFault> for LineFault {
 
     fn from(fault: AlphabetFault) -> LineFault {
         match fault {
-            AlphabetFault::Empty => LineFault::Refused(Cause::NotALetter),
-            AlphabetFault::NotALetter(_) => LineFault::Refused(Cause::NotALetter),
-            AlphabetFault::Repeated(_) => LineFault::Refused(Cause::RepeatedLetter),
-            AlphabetFault::NoMemory => LineFault::NoMemory,
+            AlphabetFault::Empty => LineFault::refused(Cause::NotALetter),
+            AlphabetFault::NotALetter(_) => LineFault::refused(Cause::NotALetter),
+            AlphabetFault::Repeated(_) => LineFault::refused(Cause::RepeatedLetter),
+            AlphabetFault::NoMemory => LineFault::no_memory(),
         }
     }
 }
@@ -72,49 +106,34 @@ impl From<WordFault> for LineFault {
 
     fn from(fault: WordFault) -> LineFault {
         match fault {
-            WordFault::EmptyWord => LineFault::Refused(Cause::EmptyWord),
-            WordFault::NotInAlphabet(_) => LineFault::Refused(Cause::NotInAlphabet),
-            WordFault::TooLong => LineFault::Refused(Cause::WordTooLong),
-            WordFault::NoMemory => LineFault::NoMemory,
+            WordFault::EmptyWord => LineFault::refused(Cause::EmptyWord),
+            WordFault::NotInAlphabet(_) => LineFault::refused(Cause::NotInAlphabet),
+            WordFault::TooLong => LineFault::refused(Cause::WordTooLong),
+            WordFault::NoMemory => LineFault::no_memory(),
         }
     }
 }
 
 impl From<NoMemory> for LineFault {
-    ghost from_gives = { λ _ e. e ≡ line.NoMemory };
+    ghost from_gives = { λ _ e. e ≡ None };
 
     fn from(_error: NoMemory) -> LineFault {
-        LineFault::NoMemory
+        LineFault::no_memory()
     }
 }
 
 impl From<AllocError> for LineFault {
-    ghost from_gives = { λ _ e. e ≡ line.NoMemory };
+    ghost from_gives = { λ _ e. e ≡ None };
 
     fn from(_error: AllocError) -> LineFault {
-        LineFault::NoMemory
+        LineFault::no_memory()
     }
 }
 
 impl<T: Drop> From<AllocFailed<T>> for LineFault {
-    ghost from_gives = { λ _ e. e ≡ line.NoMemory };
+    ghost from_gives = { λ _ e. e ≡ None };
 
     fn from(_error: AllocFailed<T>) -> LineFault {
-        LineFault::NoMemory
-    }
-}
-
-impl LineFault {
-    /// The fault at the line of this number.
-    pub fn at_line(self, line: usize) -> ScriptFault
-        ensures { result ≡ fault_at_line line self }
-    {
-        match self {
-            LineFault::Refused(cause) => ScriptFault::Bad {
-                line,
-                cause: cause.number(),
-            },
-            LineFault::NoMemory => ScriptFault::NoMemory,
-        }
+        LineFault::no_memory()
     }
 }

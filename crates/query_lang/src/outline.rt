@@ -103,11 +103,11 @@ impl Outline {
         ensures err { IfErr result (IsLineFault (with_relation self (texts tokens.now))) }
     {
         if !self.pairs.is_empty() {
-            return Err(LineFault::Refused(Cause::LineOutOfOrder));
+            return Err(LineFault::refused(Cause::LineOutOfOrder));
         }
         let (left, right) = two_tokens(tokens)?;
         if self.presentation.relations().len() == MOST_RELATIONS {
-            return Err(LineFault::Refused(Cause::TooManyRelations));
+            return Err(LineFault::refused(Cause::TooManyRelations));
         }
         let (left, right) = self.sides(alloc, left, right)?;
         Ok(self.add_relation(left, right)?)
@@ -155,10 +155,10 @@ impl Outline {
     {
         let (left, right) = two_tokens(tokens)?;
         if self.pairs.len() == MOST_PAIRS {
-            return Err(LineFault::Refused(Cause::TooManyPairs));
+            return Err(LineFault::refused(Cause::TooManyPairs));
         }
         if !self.takes(kind) {
-            return Err(LineFault::Refused(Cause::MixedKinds));
+            return Err(LineFault::refused(Cause::MixedKinds));
         }
         let (left, right) = self.sides(alloc, left, right)?;
         Ok(self.add_pair(kind, left, right)?)

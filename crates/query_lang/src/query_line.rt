@@ -141,7 +141,7 @@ fn cursor_of(
     if is_word(b"after", after) {
         element_of(alloc, alphabet, allow_empty, token)
     } else {
-        Err(LineFault::Refused(Cause::AfterExpected))
+        Err(LineFault::refused(Cause::AfterExpected))
     }
 }
 
@@ -172,7 +172,7 @@ fn page_of(
                 after: Some(cursor),
             })
         }
-        _ => Err(LineFault::Refused(Cause::WrongNumberOfWords)),
+        _ => Err(LineFault::refused(Cause::WrongNumberOfWords)),
     }
 }
 

@@ -114,8 +114,8 @@ impl Reader {
     {
         match self.stage {
             Stage::Posing(draft) => Ok(posing(draft.with_generator(alloc, name, entries)?)),
-            Stage::Relating(_) => Err(LineFault::Refused(Cause::UnknownLine)),
-            Stage::Asking(_) => Err(LineFault::Refused(Cause::LineOutOfOrder)),
+            Stage::Relating(_) => Err(LineFault::refused(Cause::UnknownLine)),
+            Stage::Asking(_) => Err(LineFault::refused(Cause::LineOutOfOrder)),
         }
     }
 
@@ -171,7 +171,7 @@ impl Reader {
                 self.add_pair(alloc, Kind::Right, tokens)
             }
             [first, tokens @ ..] => self.add_query(alloc, first, tokens),
-            [] => Err(LineFault::Refused(Cause::UnknownLine)),
+            [] => Err(LineFault::refused(Cause::UnknownLine)),
         }
     }
 
@@ -185,7 +185,7 @@ impl Reader {
                 self.add_generator(alloc, name, entries)
             }
             [first, tokens @ ..] => self.add_query(alloc, first, tokens),
-            [] => Err(LineFault::Refused(Cause::UnknownLine)),
+            [] => Err(LineFault::refused(Cause::UnknownLine)),
         }
     }
 

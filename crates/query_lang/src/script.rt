@@ -87,13 +87,13 @@ impl Script {
             mut queries,
         } = self;
         if problem.is_presented() && name.needs_generators() {
-            return Err(LineFault::Refused(Cause::UnknownLine));
+            return Err(LineFault::refused(Cause::UnknownLine));
         }
         if !name.takes(tokens) {
-            return Err(LineFault::Refused(Cause::WrongNumberOfWords));
+            return Err(LineFault::refused(Cause::WrongNumberOfWords));
         }
         if name.asks_rules() && !problem.allows_rules() {
-            return Err(LineFault::Refused(Cause::QueryNotAllowed));
+            return Err(LineFault::refused(Cause::QueryNotAllowed));
         }
         let allow_empty = problem.has_empty_word();
         let query = query_of(alloc, problem.alphabet(), allow_empty, name, tokens)?;

@@ -1,5 +1,8 @@
-use Rattle.std.proofs.Common.{◌≡◌, length, sym, arith}
+use Rattle.std.proofs.Common.{◌≡◌, length, sym, subst, arith}
 use borrow.Author.Tests.{ltb-true, ltb-false}
+use Rattle.query_lang.specs.Faults.{IsLineFault}
+use Rattle.query_lang.specs.QueryLines.{page_of}
+use Rattle.query_lang.specs.Texts.{texts}
 use Rattle.query_lang.proofs.KindLemmas.{handed_on}
 use Rattle.query_lang.proofs.LineLemmas.{count_refused, no_page}
 use Rattle.query_lang.proofs.query_line.page_of.Goals as goal
@@ -12,7 +15,8 @@ returns-in_err-count-in-len3-clause-err c =
 
 pub returns-in_default-clause-err : goal.returns-in_default-clause-err
 returns-in_default-clause-err c =
-    no_page c.args.alphabet.now c.args.allow_empty c.args.tokens.now
+    subst (IsLineFault (page_of c.args.alphabet.now c.args.allow_empty (texts c.args.tokens.now))) (sym c.refused.ensures)
+    (no_page c.args.alphabet.now c.args.allow_empty c.args.tokens.now
     (elim c.in_default.branch [
       | in_default-via-then-tokens-lt1 w ↦ omega (arith, ltb-true, ltb-false)
       | in_default-via-else-tokens-lt1+else-tokens-lt2+then-tokens-lt3 w ↦ omega (arith, ltb-true, ltb-false)
@@ -22,4 +26,4 @@ returns-in_default-clause-err c =
       | in_default-via-then-tokens-lt1 w ↦ omega (arith, ltb-true, ltb-false)
       | in_default-via-else-tokens-lt1+else-tokens-lt2+then-tokens-lt3 w ↦ omega (arith, ltb-true, ltb-false)
       | in_default-via-else-tokens-lt1+else-tokens-lt2+else-tokens-lt3+else-tokens-lt4 w ↦ omega (arith, ltb-true, ltb-false)
-    ])
+    ]))
