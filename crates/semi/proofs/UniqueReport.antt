@@ -9,8 +9,9 @@ use Rattle.query_lang.specs.declared.script.Query.{Query}
 use Rattle.query_lang.specs.declared.fault.ScriptFault.{ScriptFault}
 use Rattle.query_lang.specs.declared.fault.ScriptFault.TheVariants as script
 use Rattle.query_lang.specs.Asked.{ScriptOf}
+use Rattle.query_lang.specs.Causes.{number_of_cause}
 use Rattle.query_lang.specs.Faults.{IsScriptFault}
-use Rattle.query_lang.proofs.ScriptLaw.{no_script_with_fault, one_script}
+use Rattle.query_lang.proofs.ScriptLaw.{no_script_with_fault, one_fault, one_script}
 use Rattle.report.specs.Answer.{IsAnswer}
 use Rattle.report.proofs.UniqueAnswer as unique
 use Rattle.settings.specs.declared.Settings.{Settings}
@@ -51,6 +52,27 @@ no_refused_script input script s (Arguments, refused) = refused
 no_refused_script input script s (Read, refused) = refused
 no_refused_script input script s (Write, refused) = refused
 no_refused_script input script s (NoMemory, refused) = refused
+
+-- an input is refused for one fault
+pub one_refusal : (input : List ℕ) (one other : Fault) → IsRefusal input one → IsRefusal input other → one ≡ other
+one_refusal input TooLong TooLong p q = refl
+one_refusal input TooLong (Script line cause) p q = absurd (omega (arith, p, q.0))
+one_refusal input TooLong Arguments p q = absurd q
+one_refusal input TooLong Read p q = absurd q
+one_refusal input TooLong Write p q = absurd q
+one_refusal input TooLong NoMemory p q = absurd q
+one_refusal input (Script line cause) TooLong p q = absurd (omega (arith, p.0, q))
+one_refusal input (Script line cause) (Script other number) p q =
+    let same = one_fault input line other p.1.0 q.1.0 p.1.1 q.1.1 in
+    ap₂ Script same.0 (p.1.2 ∙ ap number_of_cause same.1 ∙ sym q.1.2)
+one_refusal input (Script line cause) Arguments p q = absurd q
+one_refusal input (Script line cause) Read p q = absurd q
+one_refusal input (Script line cause) Write p q = absurd q
+one_refusal input (Script line cause) NoMemory p q = absurd q
+one_refusal input Arguments other p q = absurd p
+one_refusal input Read other p q = absurd p
+one_refusal input Write other p q = absurd p
+one_refusal input NoMemory other p q = absurd p
 
 -- the bytes that a source gave are all of its input
 pub whole_input : (old new : Option (List ℕ)) (bytes : List ℕ) (P : List ℕ → Type 0) → Gave old new bytes → IsAtEnd new → P bytes → IfSome old P

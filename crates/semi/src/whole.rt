@@ -7,6 +7,7 @@ ghost use Rattle.settings.specs.declared.Settings.{Settings};
 ghost use Rattle.semi.specs.Report.{GainsBeginning, IsRefusal, IsReport, IsScript, IsStateOf, WritesLines, budgets_of};
 ghost use Rattle.semi.specs.Taken.{IsTakenAt, IsTakenWhole};
 ghost use Rattle.semi.specs.Status.{status_of};
+ghost use Rattle.semi.specs.declared.fault.Fault.{Fault};
 
 use crate::fault::Fault;
 use ports::{Gate, Sink, Source, WriteFault, read_all};
@@ -114,4 +115,11 @@ pub fn beginning_is_prefix()
         (old new : Option (List ℕ)) → IsReport settings input report undecided
         → GainsBeginning settings input old new
         → TakesPrefix old new report }
+{}
+
+/// An input is refused for one fault: it is too long, or else it has one first faulty line, with one
+/// cause.
+pub fn refusal_is_one()
+    ensures { (input : List ℕ) (one other : Fault)
+        → IsRefusal input one → IsRefusal input other → one ≡ other }
 {}
