@@ -1,4 +1,5 @@
 use super::*;
+use ports::NoMemory;
 use presentation::Kind;
 use problem::Problem;
 use std::alloc::Global;
@@ -326,10 +327,10 @@ fn each_kind_holds_its_generators(rt: HostRuntime) -> Result<(), Fail> {
         let script = read_script(alloc, script.as_bytes())?;
         let text = match script.problem() {
             Problem::Presented(_) => Ok(Vec::new(alloc)),
-            Problem::Transf(posed) => posed.generators()[1].print(alloc),
-            Problem::PPerm(posed) => posed.generators()[1].print(alloc),
-            Problem::BMat(posed) => posed.generators()[1].print(alloc),
-            Problem::MaxPlus(posed) => posed.generators()[1].print(alloc),
+            Problem::Transf(posed) => posed.generators().get(1).ok_or(NoMemory)?.print(alloc),
+            Problem::PPerm(posed) => posed.generators().get(1).ok_or(NoMemory)?.print(alloc),
+            Problem::BMat(posed) => posed.generators().get(1).ok_or(NoMemory)?.print(alloc),
+            Problem::MaxPlus(posed) => posed.generators().get(1).ok_or(NoMemory)?.print(alloc),
         };
         assert_eq!(rt; text?.as_slice(), want.as_bytes());
         assert_eq!(rt;
