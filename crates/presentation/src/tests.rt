@@ -108,16 +108,17 @@ fn reverses_each_side(rt: HostRuntime) -> Result<(), Fail> {
 #[test]
 fn puts_pairs_behind_relations(rt: HostRuntime) -> Result<(), Fail> {
     let alloc = rt.alloc();
-    let presentation = with_one_relation(alloc)?;
+    let more = with_one_relation(alloc)?.with_pairs(alloc, &Pairs::new(alloc))?;
+    let sides = relation(&more, alloc, 0)?;
+    assert_eq!(rt; more.relations().len(), 1);
+    assert_eq!(rt; sides.0.as_slice(), b"aab".as_slice());
+    assert_eq!(rt; sides.1.as_slice(), b"ba".as_slice());
     let mut pairs = Pairs::new(alloc);
     pairs.push(Word::new(alloc), Word::new(alloc))?;
     let pairs = Pairs::from_vec(pairs.into_vec());
-    let more = presentation.with_pairs(alloc, &pairs)?;
-    let first = relation(&more, alloc, 0)?;
-    let second = relation(&more, alloc, 1)?;
-    assert_eq!(rt; more.relations().len(), 2);
-    assert_eq!(rt; first.0.as_slice(), b"aab".as_slice());
-    assert_eq!(rt; second.1.as_slice(), b"1".as_slice());
+    let all = more.relations().concat(alloc, &pairs)?;
+    let lengths = all.as_slice().iter().map(|pair| pair.0.len());
+    assert!(rt; lengths.eq([3, 0]));
     Ok(())
 }
 
