@@ -2,7 +2,7 @@ use Rattle.std.proofs.Common.{◌≡◌, ℕ, List, [], ◌∷◌, ◌++◌, ◌
 use Rattle.std.proofs.lemmas.Grind.{common_steps}
 use Rattle.std.proofs.lemmas.List.{take-append-drop, take-append-le, take_all, length-drop, length-take-le}
 use Rattle.std.proofs.Math.Seq.{take-add, take-append-add, take-append_seam}
-use Rattle.ports.specs.Bytes.{Gave, GaveOver, GaveUpTo, IsAtEnd, TakesAll, TakesPrefix}
+use Rattle.ports.specs.Bytes.{Gave, GaveOver, GaveUpTo, TakesAll, TakesPrefix}
 
 -- two gifts, one after the other
 pub Gave-append : (old mid new : Option (List ℕ)) (xs ys : List ℕ) → Gave old mid xs → Gave mid new ys → Gave old new (xs ++ ys)
@@ -15,19 +15,6 @@ Gave-append None None c xs ys p q = gave_none c q
     gave_none : (c : Option (List ℕ)) → Gave None c ys → Gave None c (xs ++ ys)
     gave_none (Some c) q = q
     gave_none None q = q
-
--- a call that gave nothing
-pub Gave-none : (old : Option (List ℕ)) → Gave old old []
-Gave-none (Some a) = refl
-Gave-none None = tt
-
--- nothing is left behind what is left at the end
-pub Gave-end : (old new : Option (List ℕ)) (bytes : List ℕ) → Gave old new bytes → IsAtEnd old → IsAtEnd new
-Gave-end (Some a) (Some b) [] p e = sym p ∙ e
-Gave-end (Some a) (Some b) (x ∷ xs) p e = absurd (cc)
-Gave-end (Some a) None bytes p e = tt
-Gave-end None (Some b) bytes p e = absurd p
-Gave-end None None bytes p e = tt
 
 -- how many bytes xs and the first n of a buffer are
 length-front : (xs buf : List ℕ) (n : ℕ) → n ≤ length buf → length (xs ++ take n buf) ≡ length xs + n

@@ -4,7 +4,7 @@ use Rattle.std.proofs.Common.{◌≡◌, inl, inr, List, ℕ, [], ◌++◌, appe
 use Rattle.ports.specs.Bytes.{Rose}
 use Rattle.ports.specs.declared.fault.WriteFault.{WriteFault}
 use Rattle.ports.specs.declared.fault.WriteFault.TheVariants.{NoMemory}
-use Rattle.ports.specs.Writes.{TellsRefusals, Writes, WritesBytes, WritesOrBegins}
+use Rattle.ports.specs.Writes.{Writes, WritesBytes, WritesOrBegins}
 use Rattle.ports.proofs.BytesLemmas.{TakesAll-append, takes_nothing, all_before, prefix_more, prefix_after}
 
 module _ {A : Type 0} (sink : Ghosts A) where
@@ -95,13 +95,3 @@ module _ {A : Type 0} (sink : Ghosts A) where
   -- what is meant by one call is meant by another
   pub meant_weaker : {T : Type 0} {M N : T → List ℕ → Type 0} (old new : A) (r : Result T WriteFault) → ((value : T) (bytes : List ℕ) → M value bytes → N value bytes) → Writes sink M old new r → Writes sink N old new r
   meant_weaker old new r f = writes_weaker old new r f (λ bytes c. elim c [ inl none ↦ inl none | inr some ↦ inr (some.0, f some.0 bytes some.1) ])
-
-  -- want of memory is told by one call, and then by another
-  pub refusals_then : {S T : Type 0} (old mid new : A) (first : S) (r : Result T WriteFault) → TellsRefusals sink old mid (Ok first) → TellsRefusals sink mid new r → TellsRefusals sink old new r
-  refusals_then old mid new first (Ok value) p q = record { refused = tt; kept = omega (arith, p.kept, q.kept); quiet = q.quiet ∙ p.quiet }
-  refusals_then old mid new first (Err fault) p q = record { refused = λ e. subst (λ n. Rose n (sink.refusals new)) p.quiet (q.refused e); kept = omega (arith, p.kept, q.kept); quiet = tt }
-
-  -- and by an error that is handed on
-  pub refusals_handed_on : {S T : Type 0} (old new : A) (r : Result T WriteFault) (fault : WriteFault) → IsErrAnd r (λ e. e ≡ fault) → TellsRefusals sink {T = S} old new (Err fault) → TellsRefusals sink old new r
-  refusals_handed_on old new (Ok value) fault e h = absurd e
-  refusals_handed_on old new (Err other) fault e h = record { refused = λ is. h.refused (sym e ∙ is); kept = h.kept; quiet = tt }

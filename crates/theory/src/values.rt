@@ -1,6 +1,6 @@
 // Values of words over generators.
 ghost use Rattle.theory.specs.declared.Kind.{Kind};
-ghost use Rattle.std.specs.Prelude.{◌≡◌, ℕ, ◌<◌, ◌↔◌, Bool, false, List, [], ◌++◌, IsTrue};
+ghost use Rattle.std.specs.Prelude.{◌≡◌, ℕ, ◌<◌, ◌↔◌, false, List, [], ◌++◌, IsTrue};
 ghost use Rattle.theory.specs.Word.{Word, IsElement};
 ghost use Rattle.theory.specs.Congruence.{AreElements};
 ghost use Rattle.theory.specs.Class.{IsNormal, IsClassList};
