@@ -1,5 +1,6 @@
 // Congruences given by pairs.
-ghost use Rattle.std.specs.Prelude.{◌≡◌, List, length, IfOk};
+ghost use Rattle.std.specs.Prelude.{◌≡◌, List, [], ◌∷◌, ◌++◌, length, IfOk};
+ghost use Rattle.theory.specs.Word.{IsElement};
 ghost use Rattle.theory.specs.Congruence.{AreElements, IsWellFormed, is_two_sided};
 ghost use Rattle.presentation.specs.Presented.{IsPosed};
 
@@ -9,6 +10,7 @@ use ports::NoMemory;
 use std::alloc::Global;
 use std::marker::Model;
 use theory::Kind;
+use words::Word;
 
 /// The congruence of a kind that pairs generate on a presentation (libsemigroups, `Congruence`).
 /// The sides of the pairs are elements.
@@ -90,6 +92,35 @@ impl Congruence {
             Kind::TwoSided => true,
             Kind::Right | Kind::Left => self.pairs.is_empty(),
         }
+    }
+
+    /// The congruence with one pair more behind the others; all pairs are of this kind. The sides
+    /// are elements. Refused only where memory is wanting.
+    pub fn with_pair(self, kind: Kind, left: Word, right: Word) -> Result<Congruence, NoMemory>
+        requires left { IsElement self.congruence.presentation.is_monoid
+            self.congruence.presentation.letters left }
+        requires right { IsElement self.congruence.presentation.is_monoid
+            self.congruence.presentation.letters right }
+        ensures { IfOk result (λ c. c ≡ record {
+          alphabet = self.alphabet;
+          congruence = record {
+            presentation = self.congruence.presentation;
+            kind = kind;
+            pairs = self.congruence.pairs ++ (left, right) ∷ [];
+          };
+        }) }
+    {
+        let Congruence {
+            presentation,
+            mut pairs,
+            ..
+        } = self;
+        pairs.push(left, right)?;
+        Ok(Congruence {
+            presentation,
+            kind,
+            pairs,
+        })
     }
 
     /// The same congruence in memory of its own. Refused only where memory is wanting.
