@@ -14,3 +14,5 @@ pub mod TableLaws
 pub mod PrintLaws
 pub mod WalkThere
 pub mod ReprintLaws
+pub mod LevelLaws
+pub mod LevelSteps

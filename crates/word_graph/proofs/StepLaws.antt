@@ -12,7 +12,7 @@ use Rattle.word_graph.specs.Steps.{step_at, walked, IsWalkedTo}
 use Rattle.word_graph.specs.declared.walks.Step.{Step}
 use Rattle.word_graph.proofs.WalkLaws.{walk_none, walk_known, walk_found, walk_row, walk_start, none_missing, first_missing}
 
-none_set : {X : Type 0} (xs : List (Option X)) (i : ℕ) (x : X) → i < length xs → get_or xs i None ≡ None → count_none (set xs i (Some x)) + 1 ≡ count_none xs
+pub none_set : {X : Type 0} (xs : List (Option X)) (i : ℕ) (x : X) → i < length xs → get_or xs i None ≡ None → count_none (set xs i (Some x)) + 1 ≡ count_none xs
 none_set [] i x h e = absurd (omega arith)
 none_set (None ∷ xs) zero x h e = omega arith
 none_set (Some y ∷ xs) zero x h e = cc
@@ -24,7 +24,7 @@ none_all zero = refl
 none_all (suc n) = omega (arith, none_all n)
 
 -- the words, and one more
-word_with : (ℕ → Word) → ℕ → Word → ℕ → Word
+pub word_with : (ℕ → Word) → ℕ → Word → ℕ → Word
 word_with word n u j = cond (nat_eq j n) u (word j)
 
 with_same : (word : ℕ → Word) (n : ℕ) (u : Word) (j : ℕ) → j ≡ n → word_with word n u j ≡ u
@@ -51,6 +51,42 @@ walked_known k g steps places i a next graph hi here known is = go (get_or place
     go None e h = cc
     go (Some j) e h = record { word = is.word; walk = walk_known k g (walked steps places is.word) i a is.walk next j hi here e; shape = is.shape; left = is.left }
 
+pub not_some : {X : Type 0} (o : Option X) → is_some o ≡ false → o ≡ None
+not_some None h = refl
+not_some (Some j) h = cc
+
+-- one step more, to a node of the graph
+pub one_found : (steps : List Step) (places : List (Option ℕ)) (word : ℕ → Word) (i a next : ℕ) → next < length places
+    → IsFound (walked steps places word)
+    (walked (steps ++ record { node = next; parent = i; letter = a } ∷ []) (set places next (Some (length steps))) (word_with word (length steps) (word i ++ a ∷ [])))
+    i a next
+one_found steps places word i a next inside =
+    record {
+      count = length_push steps new;
+      node_is = ap (λ (s : Step). s.node) last;
+      parent_is = ap (λ (s : Step). s.parent) last;
+      letter_is = ap (λ (s : Step). s.letter) last;
+      word_is = with_same word (length steps) (word i ++ a ∷ []) (length steps) refl;
+      place_is = get_or-set_same places next (Some (length steps)) None inside;
+      nodes = λ j h. ap (λ (s : Step). s.node) (old j h);
+      parents = λ j h. ap (λ (s : Step). s.parent) (old j h);
+      letters = λ j h. ap (λ (s : Step). s.letter) (old j h);
+      words = λ j h. with_other word (length steps) (word i ++ a ∷ []) j h;
+      places = λ m d. get_or-set_other places next m (Some (length steps)) None d;
+    }
+  where
+    new : Step
+    new = record { node = next; parent = i; letter = a }
+
+    steps' : List Step
+    steps' = steps ++ record { node = next; parent = i; letter = a } ∷ []
+
+    old : (j : ℕ) → j < length steps → step_at steps' j ≡ step_at steps j
+    old j h = get_or_append_left steps (new ∷ []) (record { node = 0; parent = 0; letter = 0 }) j h
+
+    last : step_at steps' (length steps) ≡ new
+    last = get_or_push steps new (record { node = 0; parent = 0; letter = 0 }) (length steps) refl
+
 -- an edge to a new node
 pub walked_found : (k : ℕ) (g : Graph) (steps : List Step) (places : List (Option ℕ)) (i a next : ℕ) → IsGraph k g → i < length steps → a < k
     → target g (step_at steps i).node a ≡ Some next → is_some (get_or places next None) ≡ false
@@ -59,7 +95,7 @@ pub walked_found : (k : ℕ) (g : Graph) (steps : List Step) (places : List (Opt
 walked_found k g steps places i a next graph hi ha here fresh is =
     record {
       word = word';
-      walk = walk_found k g (walked steps places is.word) i a is.walk (walked steps' places' word') next found hi ha here none;
+      walk = walk_found k g (walked steps places is.word) i a is.walk (walked steps' places' word') next (one_found steps places is.word i a next inside) hi ha here none;
       shape = length-set places next (Some (length steps)) ∙ is.shape;
       left = omega (arith, none_set places next (length steps) inside none, length_push steps new, is.left);
     }
@@ -80,32 +116,7 @@ walked_found k g steps places i a next graph hi ha here fresh is =
     inside = omega (arith, graph.nodes (step_at steps i).node a next here, is.shape)
 
     none : get_or places next None ≡ None
-    none = go (get_or places next None) fresh
-      where
-        go : (o : Option ℕ) → is_some o ≡ false → o ≡ None
-        go None h = refl
-        go (Some j) h = cc
-
-    old : (j : ℕ) → j < length steps → step_at steps' j ≡ step_at steps j
-    old j h = get_or_append_left steps (new ∷ []) (record { node = 0; parent = 0; letter = 0 }) j h
-
-    last : step_at steps' (length steps) ≡ new
-    last = get_or_push steps new (record { node = 0; parent = 0; letter = 0 }) (length steps) refl
-
-    found : IsFound (walked steps places is.word) (walked steps' places' word') i a next
-    found = record {
-      count = length_push steps new;
-      node_is = ap (λ (s : Step). s.node) last;
-      parent_is = ap (λ (s : Step). s.parent) last;
-      letter_is = ap (λ (s : Step). s.letter) last;
-      word_is = with_same is.word (length steps) (is.word i ++ a ∷ []) (length steps) refl;
-      place_is = get_or-set_same places next (Some (length steps)) None inside;
-      nodes = λ j h. ap (λ (s : Step). s.node) (old j h);
-      parents = λ j h. ap (λ (s : Step). s.parent) (old j h);
-      letters = λ j h. ap (λ (s : Step). s.letter) (old j h);
-      words = λ j h. with_other is.word (length steps) (is.word i ++ a ∷ []) j h;
-      places = λ m d. get_or-set_other places next m (Some (length steps)) None d;
-    }
+    none = not_some (get_or places next None) fresh
 
 -- the row ends
 pub walked_row : (k : ℕ) (g : Graph) (steps : List Step) (places : List (Option ℕ)) (i : ℕ) → IsGraph k g → IsWalkedTo k g steps places i k
@@ -113,34 +124,38 @@ pub walked_row : (k : ℕ) (g : Graph) (steps : List Step) (places : List (Optio
 walked_row k g steps places i graph is =
     record { word = is.word; walk = walk_row k g (walked steps places is.word) i graph is.walk; shape = is.shape; left = is.left }
 
+blank : (nodes m : ℕ) → get_or (replicate {A = Option ℕ} nodes None) m None ≡ None
+blank nodes m = elim (cases_lt m nodes) [
+  | inl h ↦ get_or-replicate nodes m None None h
+  | inr h ↦ get_or_past (replicate nodes None) m None (omega (arith, length-replicate {A = Option ℕ} nodes None))
+]
+
+-- the root has the first place, and no other node has one
+abbrev pub root_places : ℕ → List (Option ℕ)
+root_places nodes = set (replicate nodes None) 0 (Some 0)
+
+pub root_placed : (nodes : ℕ) → 0 < nodes → get_or (root_places nodes) 0 None ≡ Some 0
+root_placed nodes some = get_or-set_same (replicate nodes None) 0 (Some 0) None (omega (arith, length-replicate {A = Option ℕ} nodes None))
+
+pub no_other_placed : (nodes m : ℕ) → (m ≡ 0 → ⊥) → get_or (root_places nodes) m None ≡ None
+no_other_placed nodes m d = get_or-set_other (replicate nodes None) 0 m (Some 0) None d ∙ blank nodes m
+
+pub root_left : (nodes : ℕ) → 0 < nodes → count_none (root_places nodes) + 1 ≡ nodes
+root_left nodes some = none_set (replicate nodes None) 0 0 (omega (arith, length-replicate {A = Option ℕ} nodes None)) (blank nodes 0) ∙ none_all nodes
+
 -- the root alone
 pub walked_start : (k : ℕ) (g : Graph) (nodes : ℕ) (letter : ℕ) → 0 < nodes → length g ≡ nodes
-    → IsWalkedTo k g (record { node = 0; parent = 0; letter = letter } ∷ []) (set (replicate nodes None) 0 (Some 0)) 0 0
+    → IsWalkedTo k g (record { node = 0; parent = 0; letter = letter } ∷ []) (root_places nodes) 0 0
 walked_start k g nodes letter some shape =
     record {
       word = λ j. [];
-      walk = walk_start k g (walked steps places (λ j. [])) refl refl refl (get_or-set_same (replicate nodes None) 0 (Some 0) None inside) none;
+      walk = walk_start k g (walked steps (root_places nodes) (λ j. [])) refl refl refl (root_placed nodes some) (no_other_placed nodes);
       shape = length-set (replicate nodes None) 0 (Some 0) ∙ length-replicate nodes None ∙ sym shape;
-      left = omega (arith, none_set (replicate nodes None) 0 0 inside (blank 0), none_all nodes, shape);
+      left = root_left nodes some ∙ sym shape;
     }
   where
     steps : List Step
     steps = record { node = 0; parent = 0; letter = letter } ∷ []
-
-    places : List (Option ℕ)
-    places = set (replicate nodes None) 0 (Some 0)
-
-    inside : 0 < length (replicate {A = Option ℕ} nodes None)
-    inside = omega (arith, length-replicate {A = Option ℕ} nodes None)
-
-    blank : (m : ℕ) → get_or (replicate {A = Option ℕ} nodes None) m None ≡ None
-    blank m = elim (cases_lt m nodes) [
-      | inl h ↦ get_or-replicate nodes m None None h
-      | inr h ↦ get_or_past (replicate nodes None) m None (omega (arith, length-replicate {A = Option ℕ} nodes None))
-    ]
-
-    none : (m : ℕ) → (m ≡ 0 → ⊥) → get_or places m None ≡ None
-    none m d = get_or-set_other (replicate nodes None) 0 m (Some 0) None d ∙ blank m
 
 there : (o : Option ℕ) → o ≢ None → (m : ℕ) × (o ≡ Some m)
 there None h = absurd (h refl)

@@ -23,7 +23,7 @@ before_next p b i a (inr h) = go (cases_lt b a)
     go (inl l) = inl (inr (h.0, l))
     go (inr l) = inr (h.0, omega (arith, h.1, l))
 
-before_more : (p b i a : ℕ) → IsBefore p b i a → IsBefore p b i (a + 1)
+pub before_more : (p b i a : ℕ) → IsBefore p b i a → IsBefore p b i (a + 1)
 before_more p b i a (inl h) = inl h
 before_more p b i a (inr h) = inr (h.0, omega (arith, h.1))
 

@@ -28,19 +28,20 @@ words_length words (s ∷ ss) = words_length (words ++ next_word words s ∷ [])
 pub words_size : (ss : List Step) → length (words_of ss) ≡ length ss
 words_size ss = words_length [] ss ∙ omega arith
 
-module _ (k : ℕ) (g : Graph) (steps : List Step) (places : List (Option ℕ)) (is : IsWalkedTo k g steps places (length steps) 0) where
-  new_word : (i : ℕ) → i < length steps → ((j : ℕ) → j < i → get_or (words_of (take i steps)) j [] ≡ is.word j)
-      → next_word (words_of (take i steps)) (step_at steps i) ≡ is.word i
+module _ (steps : List Step) (word : ℕ → Word) (root : word 0 ≡ [])
+    (made : (j : ℕ) → 0 < j → j < length steps → ((step_at steps j).parent < j) × (word j ≡ word (step_at steps j).parent ++ (step_at steps j).letter ∷ [])) where
+  new_word : (i : ℕ) → i < length steps → ((j : ℕ) → j < i → get_or (words_of (take i steps)) j [] ≡ word j)
+      → next_word (words_of (take i steps)) (step_at steps i) ≡ word i
   new_word zero h old =
-      ap (λ b. cond b (get_or [] (step_at steps 0).parent [] ++ (step_at steps 0).letter ∷ []) []) (none_less (step_at steps 0).parent) ∙ sym is.walk.root
+      ap (λ b. cond b (get_or [] (step_at steps 0).parent [] ++ (step_at steps 0).letter ∷ []) []) (none_less (step_at steps 0).parent) ∙ sym root
   new_word (suc i) h old =
-      let m = is.walk.made (suc i) (omega arith) h in
+      let m = made (suc i) (omega arith) h in
       let size : length (words_of (take (suc i) steps)) ≡ suc i = words_size (take (suc i) steps) ∙ length-take-le (suc i) steps (omega arith) in
       ap (λ b. cond b (get_or (words_of (take (suc i) steps)) (step_at steps (suc i)).parent [] ++ (step_at steps (suc i)).letter ∷ []) [])
-      (less_true (step_at steps (suc i)).parent (length (words_of (take (suc i) steps))) (omega (arith, size, m.1)))
-      ∙ ap (λ w. w ++ (step_at steps (suc i)).letter ∷ []) (old (step_at steps (suc i)).parent m.1) ∙ sym (m.3)
+      (less_true (step_at steps (suc i)).parent (length (words_of (take (suc i) steps))) (omega (arith, size, m.0)))
+      ∙ ap (λ w. w ++ (step_at steps (suc i)).letter ∷ []) (old (step_at steps (suc i)).parent m.0) ∙ sym m.1
 
-  words_to : (i : ℕ) → i ≤ length steps → (j : ℕ) → j < i → get_or (words_of (take i steps)) j [] ≡ is.word j
+  words_to : (i : ℕ) → i ≤ length steps → (j : ℕ) → j < i → get_or (words_of (take i steps)) j [] ≡ word j
   words_to zero h j less = absurd (omega arith)
   words_to (suc i) h j less =
       let size : length (words_of (take i steps)) ≡ i = words_size (take i steps) ∙ length-take-le i steps (omega arith) in
@@ -49,23 +50,24 @@ module _ (k : ℕ) (g : Graph) (steps : List Step) (places : List (Option ℕ)) 
       ap words_of one ∙ words_more [] (take i steps) (step_at steps i) in
       ap (λ (ws : List Word). get_or ws j []) more ∙ go (cases_lt j i) size (words_to i (omega arith))
     where
-      go : (j < i) ⊎ (i ≤ j) → length (words_of (take i steps)) ≡ i → ((j : ℕ) → j < i → get_or (words_of (take i steps)) j [] ≡ is.word j)
-          → get_or (words_of (take i steps) ++ next_word (words_of (take i steps)) (step_at steps i) ∷ []) j [] ≡ is.word j
+      go : (j < i) ⊎ (i ≤ j) → length (words_of (take i steps)) ≡ i → ((j : ℕ) → j < i → get_or (words_of (take i steps)) j [] ≡ word j)
+          → get_or (words_of (take i steps) ++ next_word (words_of (take i steps)) (step_at steps i) ∷ []) j [] ≡ word j
       go (inl old) size known = get_or_append_left (words_of (take i steps)) (next_word (words_of (take i steps)) (step_at steps i) ∷ []) [] j (omega (arith, size, old)) ∙ known j old
       go (inr new) size known =
           let e : i ≡ j = omega arith in
-          get_or_push (words_of (take i steps)) (next_word (words_of (take i steps)) (step_at steps i)) [] j (size ∙ e) ∙ new_word i (omega arith) known ∙ ap is.word e
+          get_or_push (words_of (take i steps)) (next_word (words_of (take i steps)) (step_at steps i)) [] j (size ∙ e) ∙ new_word i (omega arith) known ∙ ap word e
 
-  -- the words of the steps are those of the walk
-  pub words_are : (j : ℕ) → j < length steps → get_or (words_of steps) j [] ≡ is.word j
+  -- the words of the steps are those of a walk
+  pub words_are : (j : ℕ) → j < length steps → get_or (words_of steps) j [] ≡ word j
   words_are j h = ap (λ (ss : List Step). get_or (words_of ss) j []) (sym (take_all (length steps) steps (omega arith))) ∙ words_to (length steps) (omega arith) j h
 
+module _ (k : ℕ) (g : Graph) (steps : List Step) (places : List (Option ℕ)) (is : IsWalkedTo k g steps places (length steps) 0) where
   -- the word of a node's place is its least
   pub place_least : (node j : ℕ) → get_or places node None ≡ Some j → (j < length steps) × IsLeastWord g node (get_or (words_of steps) j [])
   place_least node j at =
       let placed = is.walk.placed node j at in (
         placed.0,
-        subst (λ w. IsLeastWord g node w) (sym (words_are j placed.0)) (record {
+        subst (λ w. IsLeastWord g node w) (sym (words_are steps is.word is.walk.root (λ j some h. let m = is.walk.made j some h in (m.1, m.3)) j placed.0)) (record {
           leads = is.walk.leads j placed.0 ∙ ap (λ z. Some z) placed.1;
           least = λ v e.
               let f = word_place k g (walked steps places is.word) is.walk v [] 0 node 0 is.walk.root_place (inr is.walk.root) e in

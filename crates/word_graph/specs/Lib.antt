@@ -7,3 +7,5 @@ pub mod Standard
 pub mod Numbered
 pub mod TableText
 pub mod Table
+pub mod Levels
+pub mod Backwards

@@ -4,6 +4,7 @@
 //! *Computation with finitely presented groups*, 1994, chapter 5; libsemigroups, `WordGraph`).
 #![tactic(auto)]
 
+mod backwards;
 pub mod facts;
 mod fault;
 mod graphs;

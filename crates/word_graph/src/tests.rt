@@ -86,6 +86,33 @@ fn lists_least_words_by_node(rt: HostRuntime) -> Result<(), Fail> {
     Ok(())
 }
 
+// The words `ab` and `ba` lead to node 3, and from there `a` to node 4.
+fn diamond(alloc: Global) -> Result<WordGraph, NoMemory> {
+    let mut graph = WordGraph::new(alloc, 2, 5)?;
+    put(&mut graph, 0, 0, 1);
+    put(&mut graph, 0, 1, 2);
+    put(&mut graph, 1, 1, 3);
+    put(&mut graph, 2, 0, 3);
+    put(&mut graph, 3, 0, 4);
+    Ok(graph)
+}
+
+// The least word of node 4 is `aba`, and read backwards it is `aab`.
+#[test]
+fn lists_least_words_read_backwards(rt: HostRuntime) -> Result<(), Fail> {
+    let alloc = rt.alloc();
+    let graph = diamond(alloc)?.standardise(alloc)?;
+    let least = graph.least_reversed(alloc)?;
+    assert_eq!(rt; least.len(), 5);
+    assert!(rt; least[0].is_empty());
+    let [a, b] = [Letter::new(0), Letter::new(1)];
+    assert!(rt; least[1].letters() == [a].as_slice());
+    assert!(rt; least[2].letters() == [b].as_slice());
+    assert!(rt; least[3].letters() == [a, b].as_slice());
+    assert!(rt; least[4].letters() == [a, a, b].as_slice());
+    Ok(())
+}
+
 // What a text of a table over two letters is refused with; the text again where it is read.
 fn read_and_printed(alloc: Global, text: &[u8]) -> Result<Vec<u8>, TableFault> {
     let table = WordGraph::read_table(alloc, 2, text)?;

@@ -4,6 +4,7 @@ ghost use Rattle.theory.specs.Facts.{AllDefined};
 ghost use Rattle.theory.specs.Graph.{Graph, IsGraph, SameEnd};
 ghost use Rattle.word_graph.specs.Walk.{IsFirstMissing, AreLeastWords};
 ghost use Rattle.word_graph.specs.Steps.{IsWalkedTo, next_word, words_of};
+ghost use Rattle.word_graph.specs.Levels.{IsLevelledTo, IsLevelledBefore};
 
 use crate::graphs::WordGraph;
 use ports::NoMemory;
@@ -53,10 +54,12 @@ fn next_word(alloc: Global, words: &[Word], step: &Step) -> Result<Word, NoMemor
 
 impl Walk {
     // The root is found.
-    fn at_root(alloc: Global, nodes: usize) -> Result<Walk, NoMemory>
+    pub(crate) fn at_root(alloc: Global, nodes: usize) -> Result<Walk, NoMemory>
         requires { 0 < nodes }
         ensures walk { IfOk result (λ w. (k : ℕ) (g : Graph) → length g ≡ nodes
             → IsWalkedTo k g w.steps.items w.places.items 0 0) }
+        ensures levels { IfOk result (λ w. (k : ℕ) (g : Graph) → length g ≡ nodes
+            → IsLevelledBefore k g w.steps.items w.places.items 0) }
         ensures steps { IfOk result (λ w. length w.steps.items ≡ 1) }
         ensures places { IfOk result (λ w. length w.places.items ≡ nodes) }
     {
@@ -72,13 +75,24 @@ impl Walk {
     }
 
     // Follows an edge, if it is there, and finds the node that it leads to, if it is new.
-    fn follow(&mut self, graph: &WordGraph, place: usize, letter: Letter) -> Result<(), NoMemory>
+    pub(crate) fn follow(
+        &mut self,
+        graph: &WordGraph,
+        place: usize,
+        letter: Letter,
+    ) -> Result<(), NoMemory>
         requires place { place < length self.old.steps.items }
         requires places { length self.old.places.items ≡ length graph.now }
         ensures walk { OnOk result ((k : ℕ) → IsGraph k graph.now → letter < k
             → IsWalkedTo k graph.now self.old.steps.items self.old.places.items place letter
             → IsWalkedTo k graph.now self.new.steps.items self.new.places.items
             place (letter + 1)) }
+        ensures levels { OnOk result ((k from to : ℕ) → IsGraph k graph.now → letter < k
+            → from ≤ place → place < to
+            → IsLevelledTo k graph.now self.old.steps.items self.old.places.items
+            from to letter place
+            → IsLevelledTo k graph.now self.new.steps.items self.new.places.items
+            from to letter (place + 1)) }
         ensures steps { length self.old.steps.items ≤ length self.new.steps.items }
         ensures places { length self.new.places.items ≡ length self.old.places.items }
     {
@@ -132,7 +146,7 @@ impl Walk {
     }
 
     // The words by which the nodes were found.
-    fn words(&self, alloc: Global) -> Result<Vec<Word>, NoMemory>
+    pub(crate) fn words(&self, alloc: Global) -> Result<Vec<Word>, NoMemory>
         ensures { IfOk result (λ v. v.items ≡ words_of self.now.steps.items) }
     {
         let mut words = Vec::new(alloc);
