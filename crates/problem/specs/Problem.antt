@@ -1,10 +1,11 @@
--- Problems: congruences on presentations (Sims 1994), and semigroups by generators of one kind,
+-- Problems: congruences on presentations (Sims 1994), and on semigroups by generators of one kind,
 -- each with a letter (Froidure and Pin 1997).
-use Rattle.std.specs.Prelude.{◌≡◌, ℕ, ◌+◌, ◌≤◌, ◌⊎◌, Bool, true, false, List, [], ◌==◌, length, codes, decimal}
+use Rattle.std.specs.Prelude.{◌≡◌, ℕ, ◌+◌, ◌≤◌, ◌⊎◌, Bool, true, false, List, [], ◌∷◌, ◌++◌, ◌==◌, length, codes, decimal}
 use Rattle.std.specs.Cmp.Lexicographic.{pointwise}
 use Rattle.std.specs.List.{join_by}
 use Rattle.std.specs.Option.{option_eq}
-use Rattle.theory.specs.declared.Kind.TheVariants as kind
+use Rattle.theory.specs.declared.Kind.{Kind}
+use Rattle.theory.specs.declared.Kind.TheVariants.{TwoSided, Right, Left}
 use Rattle.theory.specs.Word.{Word}
 use Rattle.theory.specs.Congruence.{Congruence, as_right, is_two_sided}
 use Rattle.theory.specs.Class.{SameClass}
@@ -20,6 +21,8 @@ use Rattle.elements.specs.BMat.{BooleanMatrix, boolean_product, bit_text}
 use Rattle.elements.specs.BMatLaws.{boolean_matrix_eq}
 use Rattle.elements.specs.MaxPlus.{TruncatedMatrix, truncated_product}
 use Rattle.elements.specs.MaxPlusLaws.{truncated_matrix_eq}
+use Rattle.presentation.specs.Presented as presented
+use Rattle.problem.specs.Posed.{IsPosed, one_pair_more}
 use Rattle.problem.specs.declared.budgets.Budgets.{Budgets}
 use Rattle.problem.specs.declared.kinds.Problem.{Problem}
 use Rattle.problem.specs.declared.kinds.Problem.TheVariants.{Presented, Transf, PPerm, BMat, MaxPlus}
@@ -63,18 +66,45 @@ count_of (PPerm p) = length p.generators
 count_of (BMat p) = length p.generators
 count_of (MaxPlus p) = length p.generators
 
+-- the pairs
+abbrev pub pairs_of : Problem → List (Word × Word)
+pairs_of (Presented p) = p.congruence.pairs
+pairs_of (Transf p) = p.pairs
+pairs_of (PPerm p) = p.pairs
+pairs_of (BMat p) = p.pairs
+pairs_of (MaxPlus p) = p.pairs
+
+-- their kind
+abbrev pub kind_of : Problem → Kind
+kind_of (Presented p) = p.congruence.kind
+kind_of (Transf p) = p.kind
+kind_of (PPerm p) = p.kind
+kind_of (BMat p) = p.kind
+kind_of (MaxPlus p) = p.kind
+
+-- one pair more behind the others; all are of this kind
+abbrev pub with_pair : Problem → Kind → Word × Word → Problem
+with_pair (Presented p) kind pair =
+    Presented (record p {
+      congruence = record p.congruence { kind = kind; pairs = p.congruence.pairs ++ pair ∷ [] };
+    })
+with_pair (Transf p) kind pair = Transf (one_pair_more p kind pair)
+with_pair (PPerm p) kind pair = PPerm (one_pair_more p kind pair)
+with_pair (BMat p) kind pair = BMat (one_pair_more p kind pair)
+with_pair (MaxPlus p) kind pair = MaxPlus (one_pair_more p kind pair)
+
 -- both words are elements, and the congruence relates them; or a chain joins them that replaces
--- factors by words of equal value
+-- factors by words of equal value, and uses the pairs as their kind allows
 abbrev pub SameClassOf : Problem → Word → Word → Type 0
 SameClassOf (Presented p) = SameClass p.congruence
 SameClassOf (Transf p) = SameElement (length p.generators) (pointwise ◌==◌)
-    (value_by composed p.generators []) kind.TwoSided []
+    (value_by composed p.generators []) p.kind p.pairs
 SameClassOf (PPerm p) = SameElement (length p.generators) (pointwise (option_eq ◌==◌))
-    (value_by partially_composed p.generators []) kind.TwoSided []
+    (value_by partially_composed p.generators []) p.kind p.pairs
 SameClassOf (BMat p) = SameElement (length p.generators) boolean_matrix_eq
-    (value_by boolean_product p.generators no_matrix) kind.TwoSided []
+    (value_by boolean_product p.generators no_matrix) p.kind p.pairs
 SameClassOf (MaxPlus p) = SameElement (length p.generators) truncated_matrix_eq
-    (value_by truncated_product p.generators no_truncated_matrix) kind.TwoSided []
+    (value_by truncated_product p.generators no_truncated_matrix) p.kind p.pairs
 
 -- both words are elements of equal values; words over relations have none
 abbrev pub SameValueOf : Problem → Word → Word → Type 0
@@ -96,19 +126,32 @@ HasOneShape (PPerm p) = HaveOneShape (λ t. (length t, 0)) p.generators
 HasOneShape (BMat p) = HaveOneShape (λ m. (m.dimension, 0)) p.generators
 HasOneShape (MaxPlus p) = HaveOneShape (λ m. (m.dimension, m.bound)) p.generators
 
--- the congruence has at most 8,192 relations and pairs together, and its pairs are two-sided or
--- right ones
-pub record IsSolvable (c : Congruence) : Type 0 where
-  pub few : length c.presentation.relations + length c.pairs ≤ 8192
-  pub sided : (c.kind ≡ kind.TwoSided) ⊎ (c.kind ≡ kind.Right)
+-- what holds of every problem: the sides of relations and pairs are elements, and generators are
+-- of one shape, one for each letter
+abbrev pub IsWellPosed : Problem → Type 0
+IsWellPosed (Presented p) = presented.IsPosed p
+IsWellPosed (Transf p) = IsPosed (λ t. (length t, 0)) p.letters p.generators p.pairs
+IsWellPosed (PPerm p) = IsPosed (λ t. (length t, 0)) p.letters p.generators p.pairs
+IsWellPosed (BMat p) = IsPosed (λ m. (m.dimension, 0)) p.letters p.generators p.pairs
+IsWellPosed (MaxPlus p) = IsPosed (λ m. (m.dimension, m.bound)) p.letters p.generators p.pairs
 
--- whether reduced rules may be asked for: elements have them, and classes of a two-sided congruence
+-- the congruence has at most 8,192 relations and pairs together
+abbrev pub IsSolvable : Congruence → Type 0
+IsSolvable c = length c.presentation.relations + length c.pairs ≤ 8192
+
+-- two-sided pairs, or none
+abbrev pub are_two_sided : Kind → List (Word × Word) → Bool
+are_two_sided TwoSided pairs = true
+are_two_sided Right pairs = length pairs == 0
+are_two_sided Left pairs = length pairs == 0
+
+-- whether reduced rules may be asked for: the congruence is two-sided
 abbrev pub allows_rules : Problem → Bool
 allows_rules (Presented p) = is_two_sided p.congruence
-allows_rules (Transf p) = true
-allows_rules (PPerm p) = true
-allows_rules (BMat p) = true
-allows_rules (MaxPlus p) = true
+allows_rules (Transf p) = are_two_sided p.kind p.pairs
+allows_rules (PPerm p) = are_two_sided p.kind p.pairs
+allows_rules (BMat p) = are_two_sided p.kind p.pairs
+allows_rules (MaxPlus p) = are_two_sided p.kind p.pairs
 
 -- a problem that scripts pose
 abbrev pub IsPosable : Problem → Type 0

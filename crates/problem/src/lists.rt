@@ -1,7 +1,9 @@
 // Lists of elements.
-ghost use Rattle.std.specs.Prelude.{◌≡◌};
+ghost use Rattle.std.specs.Prelude.{◌≡◌, IfOk};
 
 use elements::Element;
+use ports::NoMemory;
+use std::alloc::Global;
 use std::marker::Model;
 
 /// Elements, as the generators of a semigroup. Contracts see their list.
@@ -29,7 +31,25 @@ impl<E: Element> Gens<E> {
         Gens { elements }
     }
 
+    /// The same elements in memory of their own. Refused only where memory is wanting.
+    pub fn copy(&self, alloc: Global) -> Result<Gens<E>, NoMemory>
+        ensures { IfOk result (λ copy. copy ≡ self.now) }
+    {
+        let mut elements = Vec::new(alloc);
+        for element in &self.elements {
+            elements.push(element.copy(alloc)?)?;
+        }
+        Ok(Gens { elements })
+    }
+
     /// The elements, in order. It takes no memory.
+    pub fn into_vec(self) -> Vec<E>
+        ensures { result.items ≡ self }
+    {
+        self.elements
+    }
+
+    /// The elements, in order, lent.
     pub fn as_vec(&self) -> &Vec<E>
         ensures { result.now.items ≡ self.now }
     {

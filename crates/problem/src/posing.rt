@@ -1,56 +1,72 @@
 // Generators, and the values of words over them.
-ghost use Rattle.std.specs.Prelude.{◌≡◌, ◌≢◌, ℕ, ◌<◌, ◌≤◌, [], length, slice_get, Some, IfOk};
-ghost use Rattle.theory.specs.Word.{IsOver};
+ghost use Rattle.std.specs.Prelude.{◌≡◌, ◌≢◌, ℕ, ◌<◌, ◌≤◌, [], false, length, slice_get, Some, IfOk};
+ghost use Rattle.theory.specs.Word.{IsOver, IsElement};
+ghost use Rattle.theory.specs.Congruence.{AreElements};
 ghost use Rattle.elements.specs.Generators.{HaveOneShape, value_by};
+ghost use Rattle.problem.specs.Posed.{IsPosed, one_pair_more};
+ghost use Rattle.problem.specs.Problem.{are_two_sided};
 
 use super::lists::Gens;
 use elements::Element;
 use ports::NoMemory;
+use presentation::{Kind, Pairs};
 use std::alloc::Global;
 use std::marker::Model;
 use words::{Alphabet, Letter, Word};
 
 /// Generators of one shape, as many as the alphabet has letters: the first is that of the first
-/// letter, and so on. Contracts see the bytes of the letters, and the generators.
+/// letter, and so on; and pairs of elements that generate a congruence of a kind on their
+/// semigroup. Contracts see the bytes of the letters, the generators, the kind and the pairs.
 #[derive(Drop)]
 pub struct Posed<E: Element> {
     alphabet: Alphabet,
     generators: Gens<E>,
+    kind: Kind,
+    pairs: Pairs,
 }
 
 impl<E: Element> Model for Posed<E> {
-    ghost use Rattle.std.specs.Prelude.{◌≡◌, length};
-    ghost use Rattle.elements.specs.Generators.{HaveOneShape};
-    ghost use Rattle.problem.specs.Posed.{PosedOf, posed_code};
+    ghost use Rattle.problem.specs.Posed.{PosedOf, IsPosed, posed_code};
 
     ghost Value = { PosedOf E };
 
     ghost coded = { posed_code E.code };
 
-    ghost view = { λ p. record { letters = p.alphabet; generators = p.generators } };
+    ghost view = { λ p. record {
+      letters = p.alphabet;
+      generators = p.generators;
+      kind = p.kind;
+      pairs = p.pairs;
+    } };
 
-    ghost invariant = { λ p. (length p.generators ≡ length p.alphabet)
-        × HaveOneShape E.shape p.generators };
+    ghost invariant = { λ p. IsPosed E.shape p.alphabet p.generators p.pairs };
 }
 
 impl<E: Element> Posed<E> {
-    /// These generators, by these letters.
-    pub fn new(alphabet: Alphabet, generators: Gens<E>) -> Posed<E>
+    /// These generators, by these letters, and these pairs of words over them.
+    pub fn new(alphabet: Alphabet, generators: Gens<E>, kind: Kind, pairs: Pairs) -> Posed<E>
         requires one_each { length generators ≡ length alphabet }
         requires shape { HaveOneShape E.shape generators }
-        ensures letters { result.letters ≡ alphabet }
-        ensures generators { result.generators ≡ generators }
+        requires elements { AreElements false (length alphabet) pairs }
+        ensures { result ≡ record {
+          letters = alphabet;
+          generators = generators;
+          kind = kind;
+          pairs = pairs;
+        } }
     {
         Posed {
             alphabet,
             generators,
+            kind,
+            pairs,
         }
     }
 
-    /// The letters.
+    /// The letters. What holds of all that is posed is told here.
     pub fn alphabet(&self) -> &Alphabet
         ensures letters { result.now ≡ self.now.letters }
-        ensures one_each { length self.now.generators ≡ length self.now.letters }
+        ensures posed { IsPosed E.shape self.now.letters self.now.generators self.now.pairs }
     {
         &self.alphabet
     }
@@ -65,6 +81,72 @@ impl<E: Element> Posed<E> {
     {
         prove!(self.generators.as_vec().len() == self.alphabet.len());
         self.generators.as_vec()
+    }
+
+    /// The generators in memory of their own. Refused only where memory is wanting.
+    pub fn copied_generators(&self, alloc: Global) -> Result<Vec<E>, NoMemory>
+        ensures { IfOk result (λ copy. copy.items ≡ self.now.generators) }
+    {
+        Ok(self.generators.copy(alloc)?.into_vec())
+    }
+
+    /// The kind of the pairs.
+    pub fn kind(&self) -> Kind
+        ensures { result ≡ self.now.kind }
+    {
+        self.kind
+    }
+
+    /// The pairs, whose sides are elements.
+    pub fn pairs(&self) -> &Pairs
+        ensures pairs { result.now ≡ self.now.pairs }
+        ensures elements { AreElements false (length self.now.generators) self.now.pairs }
+    {
+        &self.pairs
+    }
+
+    /// The same with one pair more behind the others; all pairs are of this kind. The sides are
+    /// elements. Refused only where memory is wanting.
+    pub fn with_pair(self, kind: Kind, left: Word, right: Word) -> Result<Posed<E>, NoMemory>
+        requires left { IsElement false (length self.letters) left }
+        requires right { IsElement false (length self.letters) right }
+        ensures { IfOk result (λ posed. posed ≡ one_pair_more self kind (left, right)) }
+    {
+        let Posed {
+            alphabet,
+            generators,
+            mut pairs,
+            ..
+        } = self;
+        pairs.push(left, right)?;
+        Ok(Posed {
+            alphabet,
+            generators,
+            kind,
+            pairs,
+        })
+    }
+
+    /// Whether the pairs are two-sided, or there are none.
+    pub fn is_two_sided(&self) -> bool
+        ensures { result ≡ are_two_sided self.now.kind self.now.pairs }
+    {
+        match self.kind {
+            Kind::TwoSided => true,
+            Kind::Right | Kind::Left => self.pairs.is_empty(),
+        }
+    }
+
+    /// The same in memory of its own. Refused only where memory is wanting.
+    pub fn copy(&self, alloc: Global) -> Result<Posed<E>, NoMemory>
+        ensures { IfOk result (λ posed. posed ≡ self.now) }
+    {
+        Ok(Posed {
+            alphabet: self.alphabet.copy(alloc)?,
+            generators: self.generators.copy(alloc)?,
+            kind: self.kind,
+            pairs: self.pairs.copy(alloc)?,
+        })
     }
 
     /// The generator of a letter.

@@ -1,10 +1,12 @@
 // Values of words.
-ghost use Rattle.std.specs.Prelude.{◌≡◌, IfOk, length};
+ghost use Rattle.std.specs.Prelude.{◌≡◌, false, IfOk, length};
+ghost use Rattle.problem.specs.Problem.{is_presented, letters_of};
 
 use super::*;
 use elements::{BMat, Element, Field, MaxPlusTrunc, PPerm, Transf};
 use presentation::{Congruence, Kind, Pairs, Presentation};
 use std::alloc::Global;
+use std::process::Abort;
 use std::test::Fail;
 use words::{Alphabet, Letter, Word};
 
@@ -15,42 +17,56 @@ fn posed<E: Element>(alloc: Global, generator: E) -> Result<Posed<E>, Fail>
     let alphabet = Alphabet::new(alloc, b"a")?;
     let mut generators = Vec::new(alloc);
     generators.push(generator)?;
-    Ok(Posed::new(alphabet, Gens::from_vec(generators)))
+    Ok(Posed::new(
+        alphabet,
+        Gens::from_vec(generators),
+        Kind::TwoSided,
+        Pairs::new(alloc),
+    ))
 }
 
-#[test]
-fn values_are_printed(rt: HostRuntime) -> Result<(), Fail> {
-    let alloc = rt.alloc();
+// The value of the word `aa` is printed so.
+fn check_value(rt: &impl Abort, alloc: Global, problem: &Problem, text: &str) -> Result<(), Fail>
+    requires generated { is_presented problem.now ≡ false }
+    requires one { length (letters_of problem.now) ≡ 1 }
+{
     let mut word = Word::new(alloc);
     word.push(Letter::new(0))?;
     word.push(Letter::new(0))?;
-    let one = Field::Number(1);
-    let none = Field::Dash;
-    let zero = Field::Number(0);
-    let transf = posed(
-        alloc,
-        Transf::read(alloc, 3, &[one, Field::Number(2), zero])?,
-    )?;
-    assert_eq!(rt; transf.generators().len(), 1);
-    let pperm = posed(
-        alloc,
-        PPerm::read(alloc, 3, &[one, Field::Number(2), none])?,
-    )?;
-    let bmat = posed(alloc, BMat::read(alloc, 2, &[one, one, zero, zero])?)?;
-    let max_plus = posed(
-        alloc,
-        MaxPlusTrunc::read(alloc, (1, 5), &[Field::Number(2)])?,
-    )?;
-    for (problem, text) in [
-        (Problem::Transf(transf), "2 0 1"),
-        (Problem::PPerm(pperm), "2 - -"),
-        (Problem::BMat(bmat), "1 1 0 0"),
-        (Problem::MaxPlus(max_plus), "4"),
-    ] {
-        assert_eq!(rt; problem.alphabet().len(), 1);
-        assert_eq!(rt; problem.value(alloc, &word)?.as_slice(), text.as_bytes());
-    }
+    assert_eq!(rt; problem.value(alloc, &word)?.as_slice(), text.as_bytes());
     Ok(())
+}
+
+#[test]
+fn transformations_are_printed(rt: HostRuntime) -> Result<(), Fail> {
+    let alloc = rt.alloc();
+    let images = [Field::Number(1), Field::Number(2), Field::Number(0)];
+    let problem = Problem::Transf(posed(alloc, Transf::read(alloc, 3, &images)?)?);
+    check_value(&rt, alloc, &problem, "2 0 1")
+}
+
+#[test]
+fn partial_permutations_are_printed(rt: HostRuntime) -> Result<(), Fail> {
+    let alloc = rt.alloc();
+    let images = [Field::Number(1), Field::Number(2), Field::Dash];
+    let problem = Problem::PPerm(posed(alloc, PPerm::read(alloc, 3, &images)?)?);
+    check_value(&rt, alloc, &problem, "2 - -")
+}
+
+#[test]
+fn boolean_matrices_are_printed(rt: HostRuntime) -> Result<(), Fail> {
+    let alloc = rt.alloc();
+    let (one, zero) = (Field::Number(1), Field::Number(0));
+    let problem = Problem::BMat(posed(alloc, BMat::read(alloc, 2, &[one, one, zero, zero])?)?);
+    check_value(&rt, alloc, &problem, "1 1 0 0")
+}
+
+#[test]
+fn max_plus_matrices_are_printed(rt: HostRuntime) -> Result<(), Fail> {
+    let alloc = rt.alloc();
+    let entry = [Field::Number(2)];
+    let problem = Problem::MaxPlus(posed(alloc, MaxPlusTrunc::read(alloc, (1, 5), &entry)?)?);
+    check_value(&rt, alloc, &problem, "4")
 }
 
 #[test]
