@@ -1,47 +1,46 @@
 -- The reader refuses each line for the cause that is said, and no other.
-use Rattle.std.proofs.Common.{◌≡◌, ℕ, ◌&&◌, ◌==◌, Bool, true, false, if◌then◌else◌, List, [], ◌∷◌, length, Option, Some, None, Result, Ok, Err, refl, ◌∙◌}
+use Rattle.std.proofs.Common.{◌≡◌, ℕ, Bool, true, false, if◌then◌else◌, List, [], ◌∷◌, Option, Some, None, Result, Ok, refl, sym, ap, ◌∙◌}
+use Rattle.presentation.specs.Presented.{Posed}
+use Rattle.problem.specs.Problem.{is_presented}
 use Rattle.problem.specs.declared.kinds.Problem.{Problem}
 use Rattle.problem.specs.declared.kinds.Problem.TheVariants as problem
 use Rattle.query_lang.specs.declared.cause.Cause.{Cause}
 use Rattle.query_lang.specs.declared.cause.Cause.TheVariants as cause
 use Rattle.query_lang.specs.declared.script.Query.{Query}
-use Rattle.query_lang.specs.Asked.{ScriptOf}
 use Rattle.query_lang.specs.Outcome.{and_then}
 use Rattle.query_lang.specs.Token.{Token, Line, is_kept}
-use Rattle.query_lang.specs.Script.{read_line, whole_of, with_line}
-use Rattle.query_lang.specs.Grammar.{Partial}
+use Rattle.query_lang.specs.Script.{ReaderOf, element_line, finished, presentation_line, read_line, whole_of, with_line}
+use Rattle.query_lang.specs.Grammar.{Partial, lacks_generator}
 use Rattle.query_lang.specs.LineCauses.{first_of, cause_in, line_causes, causes_after, cause_of_line, cause_at_end, when}
-use Rattle.query_lang.proofs.FoldLemmas.{reader_of, readers, take_tokens}
-use Rattle.query_lang.proofs.FormLemmas.{presenting_cause, asking_cause, same-cause}
+use Rattle.query_lang.proofs.FoldLemmas.{partial, reader_of, readers, take_tokens}
+use Rattle.query_lang.proofs.ReaderLemmas.{Come, asking, posed, lacking, come_of, presentation_kept}
+use Rattle.query_lang.proofs.FormLemmas.{presentation_cause, same-cause}
+use Rattle.query_lang.proofs.GeneratorLemmas.{transf_cause, pperm_cause, bmat_cause, mpt_cause}
 use Rattle.query_lang.proofs.HeaderLemmas.{header_cause}
-use Rattle.query_lang.proofs.ElementLemmas.{ready, elements_cause, transf_line, pperm_line, bmat_line, mpt_line}
+use Rattle.query_lang.proofs.ElementLemmas.{elements_cause}
 
-abbrev pub partial : ℕ × ℕ → Problem → List Query → Partial
-partial sizes p queries = record { sizes = sizes; problem = p; queries = queries }
+-- a line of a presentation
+presented_agrees : (sizes : ℕ × ℕ) (o : Posed) (queries : List Query) (first : Token) (tokens : List Token)
+    → cause_in (presentation_line (reader_of (partial sizes (problem.Presented o) queries)) (first ∷ tokens)) ≡ first_of (line_causes (partial sizes (problem.Presented o) queries) (first ∷ tokens))
+presented_agrees sizes o queries first [] = presentation_cause sizes o queries first []
+presented_agrees sizes o queries first (t ∷ tokens) = presentation_cause sizes o queries first (t ∷ tokens)
 
-and-false : (b : Bool) → (b && false) ≡ false
-and-false true = refl
-and-false false = refl
+-- a line behind the header, by the kind of the script
+by_kind : (sizes : ℕ × ℕ) (p : Problem) (queries : List Query) (first : Token) (tokens : List Token) → let r : ReaderOf = reader_of (partial sizes p queries) in
+    cause_in (if is_presented p then presentation_line r (first ∷ tokens) else element_line r (first ∷ tokens)) ≡ first_of (line_causes (partial sizes p queries) (first ∷ tokens))
+by_kind sizes (problem.Presented o) queries first tokens = presented_agrees sizes o queries first tokens
+by_kind sizes (problem.Transf g) queries first tokens = elements_cause sizes (problem.Transf g) queries first tokens refl (transf_cause sizes g queries)
+by_kind sizes (problem.PPerm g) queries first tokens = elements_cause sizes (problem.PPerm g) queries first tokens refl (pperm_cause sizes g queries)
+by_kind sizes (problem.BMat g) queries first tokens = elements_cause sizes (problem.BMat g) queries first tokens refl (bmat_cause sizes g queries)
+by_kind sizes (problem.MaxPlus g) queries first tokens = elements_cause sizes (problem.MaxPlus g) queries first tokens refl (mpt_cause sizes g queries)
 
 -- a line behind the header
 agrees : (sizes : ℕ × ℕ) (p : Problem) (queries : List Query) (first : Token) (tokens : List Token)
     → cause_in (with_line (reader_of (partial sizes p queries)) (first ∷ tokens)) ≡ first_of (line_causes (partial sizes p queries) (first ∷ tokens))
-agrees sizes (problem.Presented o) [] first [] = presenting_cause sizes o first []
-agrees sizes (problem.Presented o) [] first (t ∷ tokens) = presenting_cause sizes o first (t ∷ tokens)
-agrees sizes (problem.Presented o) (q ∷ queries) first [] = asking_cause sizes o q queries first []
-agrees sizes (problem.Presented o) (q ∷ queries) first (t ∷ tokens) = asking_cause sizes o q queries first (t ∷ tokens)
-agrees sizes (problem.Transf g) [] first tokens = transf_line sizes g first tokens
-agrees sizes (problem.PPerm g) [] first tokens = pperm_line sizes g first tokens
-agrees sizes (problem.BMat g) [] first tokens = bmat_line sizes g first tokens
-agrees sizes (problem.MaxPlus g) [] first tokens = mpt_line sizes g first tokens
-agrees sizes (problem.Transf g) (q ∷ queries) first tokens =
-    elements_cause (reader_of (partial sizes (problem.Transf g) (q ∷ queries))) (partial sizes (problem.Transf g) (q ∷ queries)) first tokens refl refl (ready refl (and-false (length g.letters == 0))) (λ name entries. refl)
-agrees sizes (problem.PPerm g) (q ∷ queries) first tokens =
-    elements_cause (reader_of (partial sizes (problem.PPerm g) (q ∷ queries))) (partial sizes (problem.PPerm g) (q ∷ queries)) first tokens refl refl (ready refl (and-false (length g.letters == 0))) (λ name entries. refl)
-agrees sizes (problem.BMat g) (q ∷ queries) first tokens =
-    elements_cause (reader_of (partial sizes (problem.BMat g) (q ∷ queries))) (partial sizes (problem.BMat g) (q ∷ queries)) first tokens refl refl (ready refl (and-false (length g.letters == 0))) (λ name entries. refl)
-agrees sizes (problem.MaxPlus g) (q ∷ queries) first tokens =
-    elements_cause (reader_of (partial sizes (problem.MaxPlus g) (q ∷ queries))) (partial sizes (problem.MaxPlus g) (q ∷ queries)) first tokens refl refl (ready refl (and-false (length g.letters == 0))) (λ name entries. refl)
+agrees sizes p queries first tokens =
+    let r : ReaderOf = reader_of (partial sizes p queries) in
+    ap (λ b. cause_in (if b then presentation_line r (first ∷ tokens) else element_line r (first ∷ tokens))) (presentation_kept sizes p queries)
+    ∙ by_kind sizes p queries first tokens
 
 pub line_agrees : (s : Option Partial) (first : Token) (tokens : List Token) → cause_in (read_line (readers s) (first ∷ tokens)) ≡ first_of (causes_after s (first ∷ tokens))
 line_agrees None first tokens = header_cause first tokens
@@ -56,28 +55,12 @@ pub causes_agree : (s : Option Partial) (line : Line) → cause_in (take_tokens 
 causes_agree s [] = refl
 causes_agree s (first ∷ tokens) = kept-or-not (is_kept (first ∷ tokens)) (readers s) (read_line (readers s) (first ∷ tokens)) _ (line_agrees s first tokens)
 
-end-two : {A B : Type 0} (none : Bool) (x : A) (f : A → B) (g : B → ScriptOf)
-    → cause_in (and_then (λ y. Ok (g y)) (and_then (λ y. Ok (f y)) (if none then Err cause.NoGenerator else Ok x))) ≡ when cause.NoGenerator (none && true)
-end-two true x f g = refl
-end-two false x f g = refl
-
-when-late : (b : Bool) → None ≡ when cause.NoGenerator (b && false)
-when-late true = refl
-when-late false = refl
-
-end-of : (sizes : ℕ × ℕ) (p : Problem) (queries : List Query) → cause_in (whole_of (readers (Some (partial sizes p queries)))) ≡ cause_at_end (Some (partial sizes p queries))
-end-of sizes (problem.Presented o) [] = refl
-end-of sizes (problem.Presented o) (q ∷ queries) = refl
-end-of sizes (problem.Transf g) [] = end-two (length g.letters == 0) _ _ _
-end-of sizes (problem.PPerm g) [] = end-two (length g.letters == 0) _ _ _
-end-of sizes (problem.BMat g) [] = end-two (length g.letters == 0) _ _ _
-end-of sizes (problem.MaxPlus g) [] = end-two (length g.letters == 0) _ _ _
-end-of sizes (problem.Transf g) (q ∷ queries) = when-late (length g.letters == 0)
-end-of sizes (problem.PPerm g) (q ∷ queries) = when-late (length g.letters == 0)
-end-of sizes (problem.BMat g) (q ∷ queries) = when-late (length g.letters == 0)
-end-of sizes (problem.MaxPlus g) (q ∷ queries) = when-late (length g.letters == 0)
+end_by : (r : ReaderOf) (p : Partial) → Come r p → cause_in (finished r) ≡ when cause.NoGenerator (lacks_generator p)
+end_by r p (asking f e l late) = ap cause_in f ∙ ap (λ b. when cause.NoGenerator b) (sym l)
+end_by r p (posed f e l early) = ap cause_in f ∙ ap (λ b. when cause.NoGenerator b) (sym l)
+end_by r p (lacking f e l early) = ap cause_in f ∙ ap (λ b. when cause.NoGenerator b) (sym l)
 
 -- what is missing at the end is what is said
 pub ends_agree : (s : Option Partial) → cause_in (whole_of (readers s)) ≡ cause_at_end s
 ends_agree None = refl
-ends_agree (Some p) = end-of p.sizes p.problem p.queries
+ends_agree (Some p) = end_by (reader_of p) p (come_of p.sizes p.problem p.queries)

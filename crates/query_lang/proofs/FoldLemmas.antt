@@ -1,27 +1,36 @@
 -- What the reader keeps of a partial script, and how it takes lines by their tokens.
-use Rattle.std.proofs.Common.{◌≡◌, ℕ, suc, if◌then◌else◌, List, [], ◌∷◌, map, Option, Some, None, Result, Ok, Err, refl}
+use Rattle.std.proofs.Common.{◌≡◌, ℕ, suc, ◌==◌, if◌then◌else◌, List, [], ◌∷◌, length, map, Option, Some, None, Result, Ok, Err, refl}
 use Rattle.query_lang.specs.declared.cause.Cause.{Cause}
 use Rattle.query_lang.specs.Draft as draft
 use Rattle.query_lang.specs.Script.{ReaderOf}
-use Rattle.query_lang.specs.Script.{Posing, Relating, Asking}
+use Rattle.query_lang.specs.Script.{Posing, Relating, Pairing, Asking}
 use Rattle.problem.specs.declared.kinds.Problem.{Problem}
 use Rattle.problem.specs.declared.kinds.Problem.TheVariants.{Presented, Transf, PPerm, BMat, MaxPlus}
+use Rattle.problem.specs.Problem.{pairs_of}
+use Rattle.query_lang.specs.declared.script.Query.{Query}
 use Rattle.query_lang.specs.Outcome.{and_then}
 use Rattle.query_lang.specs.Token.{Line, tokens_of, is_kept}
 use Rattle.query_lang.specs.Script.{read_line, take_line, at_line, read_lines}
 use Rattle.query_lang.specs.Grammar.{Partial, is_empty, Step, script_in}
 
--- what the reader keeps before the first query
+-- what the reader keeps before the first pair
 abbrev pub opened : ℕ × ℕ → Problem → ReaderOf
 opened sizes (Presented o) = Relating o
-opened sizes (Transf g) = Posing (draft.Transf (record { sizes = sizes; letters = g.letters; generators = g.generators }))
-opened sizes (PPerm g) = Posing (draft.PPerm (record { sizes = sizes; letters = g.letters; generators = g.generators }))
-opened sizes (BMat g) = Posing (draft.BMat (record { sizes = sizes; letters = g.letters; generators = g.generators }))
-opened sizes (MaxPlus g) = Posing (draft.MaxPlus (record { sizes = sizes; letters = g.letters; generators = g.generators }))
+opened sizes (Transf g) = Posing (draft.Transf (record { sizes = sizes; posed = g }))
+opened sizes (PPerm g) = Posing (draft.PPerm (record { sizes = sizes; posed = g }))
+opened sizes (BMat g) = Posing (draft.BMat (record { sizes = sizes; posed = g }))
+opened sizes (MaxPlus g) = Posing (draft.MaxPlus (record { sizes = sizes; posed = g }))
+
+-- what the reader keeps before the first query
+abbrev pub unasked : ℕ × ℕ → Problem → ReaderOf
+unasked sizes p = if length (pairs_of p) == 0 then opened sizes p else Pairing p
 
 -- what the reader keeps of a partial script
 abbrev pub reader_of : Partial → ReaderOf
-reader_of p = if is_empty p.queries then opened p.sizes p.problem else Asking (script_in p)
+reader_of p = if is_empty p.queries then unasked p.sizes p.problem else Asking (script_in p)
+
+abbrev pub partial : ℕ × ℕ → Problem → List Query → Partial
+partial sizes p queries = record { sizes = sizes; problem = p; queries = queries }
 
 abbrev pub readers : Option Partial → Option ReaderOf
 readers None = None

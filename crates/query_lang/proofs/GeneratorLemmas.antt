@@ -1,5 +1,5 @@
 -- The causes of generator lines as the reader gives them.
-use Rattle.std.proofs.Common.{◌≡◌, ℕ, ◌*◌, ◌+◌, ◌==◌, Bool, true, false, not, ◌||◌, if◌then◌else◌, List, [], ◌∷◌, length, map, Option, Some, None, option_and_then, Result, Ok, Err, is_none, refl, ap, ◌∙◌}
+use Rattle.std.proofs.Common.{◌≡◌, ℕ, ◌*◌, ◌+◌, ◌==◌, nat_lt, Bool, true, false, not, ◌||◌, if◌then◌else◌, List, [], ◌∷◌, length, map, Option, Some, None, option_and_then, Result, Ok, Err, is_none, refl, ap, ◌∙◌}
 use Rattle.std.specs.Option.{ok_or}
 use Rattle.std.specs.List.{list_any}
 use Rattle.elements.specs.declared.field.Field.{Field}
@@ -15,10 +15,11 @@ use Rattle.query_lang.specs.Outcome.{and_then}
 use Rattle.query_lang.specs.Token.{Token, letter_of}
 use Rattle.query_lang.specs.Fields.{field_of}
 use Rattle.query_lang.specs.Entries.{all_of, below, below_or_dash, bit, is_injective}
-use Rattle.query_lang.specs.Script.{generator_line}
+use Rattle.query_lang.specs.declared.script.Query.{Query}
+use Rattle.query_lang.specs.Script.{ReaderOf, Pairing, generator_line}
 use Rattle.query_lang.specs.Grammar.{Partial}
-use Rattle.query_lang.specs.LineCauses.{when, first_of, cause_in, is_taken, has_image_twice, generator_causes}
-use Rattle.query_lang.proofs.FoldLemmas.{opened}
+use Rattle.query_lang.specs.LineCauses.{when, first_of, cause_in, entry_count, is_bad_entry, is_taken, has_image_twice, repeats_image, generator_causes}
+use Rattle.query_lang.proofs.FoldLemmas.{opened, partial, reader_of}
 use Rattle.query_lang.proofs.FormLemmas.{same-cause}
 
 one-bad : {A : Type 0} (x : Option A) (xs : Option (List A)) (bad : Bool) → is_none xs ≡ bad
@@ -63,30 +64,58 @@ named p (Some x) g f cs h = new-letter x (list_any (λ y. y == x) (letters_of p.
 twice : {A B C : Type 0} (f : A → B) (g : B → C) (r : Result A Cause) → cause_in (and_then (λ x. Ok (g x)) (and_then (λ x. Ok (f x)) r)) ≡ cause_in r
 twice f g r = same-cause g (and_then (λ x. Ok (f x)) r) ∙ same-cause f r
 
-abbrev pub posing : ℕ × ℕ → Problem → Partial
-posing sizes p = record { sizes = sizes; problem = p; queries = [] }
+-- the causes of a generator line from its name on
+abbrev name_causes : Partial → Token → List Field → List (Option Cause)
+name_causes p name fields =
+    when cause.NotALetter (is_none (letter_of name)) ∷ when cause.RepeatedLetter (is_taken p (letter_of name)) ∷ when cause.WrongNumberOfEntries (not (length fields == entry_count p.sizes p.problem))
+    ∷ when cause.BadEntry (list_any (is_bad_entry p.sizes p.problem) fields) ∷ when cause.NotInjective (repeats_image p.sizes p.problem fields) ∷ []
+
+generator_by : (no_pair : Bool) (r : ReaderOf) (p : Problem) (name : Token) (entries : List Token) (cs : List (Option Cause)) → cause_in (generator_line r name entries) ≡ first_of cs
+    → cause_in (generator_line (if no_pair then r else Pairing p) name entries) ≡ first_of (when cause.LineOutOfOrder (nat_lt 2 (if no_pair then 2 else 3)) ∷ cs)
+generator_by true r p name entries cs h = h
+generator_by false r p name entries cs h = refl
 
 -- a generator line has the cause that is said
-pub transf_cause : (sizes : ℕ × ℕ) (g : PosedOf (List ℕ)) (name : Token) (entries : List Token)
-    → cause_in (generator_line (opened sizes (problem.Transf g)) name entries) ≡ first_of (generator_causes (posing sizes (problem.Transf g)) name (map field_of entries))
-transf_cause sizes g name entries =
-    twice _ _ _ ∙ named (posing sizes (problem.Transf g)) (letter_of name) _ _ _
+abbrev pub GeneratorCauses : ℕ × ℕ → Problem → List Query → Type 0
+GeneratorCauses sizes p queries = (name : Token) (entries : List Token)
+    → cause_in (generator_line (reader_of (partial sizes p queries)) name entries) ≡ first_of (generator_causes (partial sizes p queries) name (map field_of entries))
+
+transf_behind : (sizes : ℕ × ℕ) (g : PosedOf (List ℕ)) (name : Token) (entries : List Token)
+    → cause_in (generator_line (opened sizes (problem.Transf g)) name entries) ≡ first_of (name_causes (partial sizes (problem.Transf g) []) name (map field_of entries))
+transf_behind sizes g name entries =
+    twice _ _ _ ∙ named (partial sizes (problem.Transf g) []) (letter_of name) _ _ _
     (plain (length (map field_of entries) == sizes.0) (all_of (below sizes.0) (map field_of entries)) _ (some-bad (below sizes.0) (map field_of entries)))
 
-pub pperm_cause : (sizes : ℕ × ℕ) (g : PosedOf (List (Option ℕ))) (name : Token) (entries : List Token)
-    → cause_in (generator_line (opened sizes (problem.PPerm g)) name entries) ≡ first_of (generator_causes (posing sizes (problem.PPerm g)) name (map field_of entries))
-pperm_cause sizes g name entries =
-    twice _ _ _ ∙ named (posing sizes (problem.PPerm g)) (letter_of name) _ _ _
+pub transf_cause : (sizes : ℕ × ℕ) (g : PosedOf (List ℕ)) (queries : List Query) → GeneratorCauses sizes (problem.Transf g) queries
+transf_cause sizes g (q ∷ queries) name entries = refl
+transf_cause sizes g [] name entries = generator_by (length g.pairs == 0) (opened sizes (problem.Transf g)) (problem.Transf g) name entries _ (transf_behind sizes g name entries)
+
+pperm_behind : (sizes : ℕ × ℕ) (g : PosedOf (List (Option ℕ))) (name : Token) (entries : List Token)
+    → cause_in (generator_line (opened sizes (problem.PPerm g)) name entries) ≡ first_of (name_causes (partial sizes (problem.PPerm g) []) name (map field_of entries))
+pperm_behind sizes g name entries =
+    twice _ _ _ ∙ named (partial sizes (problem.PPerm g) []) (letter_of name) _ _ _
     (injective-too (length (map field_of entries) == sizes.0) (all_of (below_or_dash sizes.0) (map field_of entries)) _ (some-bad (below_or_dash sizes.0) (map field_of entries)))
 
-pub bmat_cause : (sizes : ℕ × ℕ) (g : PosedOf BooleanMatrix) (name : Token) (entries : List Token)
-    → cause_in (generator_line (opened sizes (problem.BMat g)) name entries) ≡ first_of (generator_causes (posing sizes (problem.BMat g)) name (map field_of entries))
-bmat_cause sizes g name entries =
-    twice _ _ _ ∙ named (posing sizes (problem.BMat g)) (letter_of name) _ _ _
+pub pperm_cause : (sizes : ℕ × ℕ) (g : PosedOf (List (Option ℕ))) (queries : List Query) → GeneratorCauses sizes (problem.PPerm g) queries
+pperm_cause sizes g (q ∷ queries) name entries = refl
+pperm_cause sizes g [] name entries = generator_by (length g.pairs == 0) (opened sizes (problem.PPerm g)) (problem.PPerm g) name entries _ (pperm_behind sizes g name entries)
+
+bmat_behind : (sizes : ℕ × ℕ) (g : PosedOf BooleanMatrix) (name : Token) (entries : List Token)
+    → cause_in (generator_line (opened sizes (problem.BMat g)) name entries) ≡ first_of (name_causes (partial sizes (problem.BMat g) []) name (map field_of entries))
+bmat_behind sizes g name entries =
+    twice _ _ _ ∙ named (partial sizes (problem.BMat g) []) (letter_of name) _ _ _
     (same-cause _ _ ∙ plain (length (map field_of entries) == sizes.0 * sizes.0) (all_of bit (map field_of entries)) _ (some-bad bit (map field_of entries)))
 
-pub mpt_cause : (sizes : ℕ × ℕ) (g : PosedOf TruncatedMatrix) (name : Token) (entries : List Token)
-    → cause_in (generator_line (opened sizes (problem.MaxPlus g)) name entries) ≡ first_of (generator_causes (posing sizes (problem.MaxPlus g)) name (map field_of entries))
-mpt_cause sizes g name entries =
-    twice _ _ _ ∙ named (posing sizes (problem.MaxPlus g)) (letter_of name) _ _ _
+pub bmat_cause : (sizes : ℕ × ℕ) (g : PosedOf BooleanMatrix) (queries : List Query) → GeneratorCauses sizes (problem.BMat g) queries
+bmat_cause sizes g (q ∷ queries) name entries = refl
+bmat_cause sizes g [] name entries = generator_by (length g.pairs == 0) (opened sizes (problem.BMat g)) (problem.BMat g) name entries _ (bmat_behind sizes g name entries)
+
+mpt_behind : (sizes : ℕ × ℕ) (g : PosedOf TruncatedMatrix) (name : Token) (entries : List Token)
+    → cause_in (generator_line (opened sizes (problem.MaxPlus g)) name entries) ≡ first_of (name_causes (partial sizes (problem.MaxPlus g) []) name (map field_of entries))
+mpt_behind sizes g name entries =
+    twice _ _ _ ∙ named (partial sizes (problem.MaxPlus g) []) (letter_of name) _ _ _
     (same-cause _ _ ∙ plain (length (map field_of entries) == sizes.0 * sizes.0) (all_of (below_or_dash (sizes.1 + 1)) (map field_of entries)) _ (some-bad (below_or_dash (sizes.1 + 1)) (map field_of entries)))
+
+pub mpt_cause : (sizes : ℕ × ℕ) (g : PosedOf TruncatedMatrix) (queries : List Query) → GeneratorCauses sizes (problem.MaxPlus g) queries
+mpt_cause sizes g (q ∷ queries) name entries = refl
+mpt_cause sizes g [] name entries = generator_by (length g.pairs == 0) (opened sizes (problem.MaxPlus g)) (problem.MaxPlus g) name entries _ (mpt_behind sizes g name entries)

@@ -4,7 +4,9 @@ pub mod KindLemmas
 pub mod DraftLemmas
 pub mod LineLemmas
 pub mod ReadLemmas
+pub mod PairingLemmas
 pub mod FoldLemmas
+pub mod ReaderLemmas
 pub mod FormLemmas
 pub mod GeneratorLemmas
 pub mod HeaderLemmas

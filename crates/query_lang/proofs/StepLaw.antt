@@ -1,19 +1,19 @@
 -- A line is read to one partial script, and only where it has no cause.
-use Rattle.std.proofs.Common.{◌≡◌, ℕ, List, [], ◌∷◌, Option, Some, None, Result, Ok, refl, sym, ap, ap₂, ◌∙◌}
+use Rattle.std.proofs.Common.{◌≡◌, ℕ, ◌==◌, Bool, true, false, if◌then◌else◌, List, [], ◌∷◌, length, Option, Some, None, Result, Ok, refl, sym, ap, ap₂, ◌∙◌}
 use Rattle.problem.specs.declared.kinds.Problem.{Problem}
 use Rattle.problem.specs.declared.kinds.Problem.TheVariants.{Presented, Transf, PPerm, BMat, MaxPlus}
 use Rattle.query_lang.specs.declared.cause.Cause.{Cause}
 use Rattle.query_lang.specs.Draft.{AnyDraft}
 use Rattle.query_lang.specs.Draft as draft
 use Rattle.query_lang.specs.Script.{ReaderOf}
-use Rattle.query_lang.specs.Script.{Posing, Relating, Asking}
+use Rattle.query_lang.specs.Script.{Posing, Relating, Pairing, Asking}
 use Rattle.query_lang.specs.declared.script.Query.{Query}
 use Rattle.query_lang.specs.Token.{Line}
 use Rattle.query_lang.specs.Grammar.{HeaderReads, LineReads, Partial, Step}
 use Rattle.query_lang.specs.Grammar as grammar
 use Rattle.query_lang.specs.LineCauses.{cause_in, cause_of_line}
-use Rattle.query_lang.proofs.CauseLaw.{causes_agree, partial}
-use Rattle.query_lang.proofs.FoldLemmas.{reader_of}
+use Rattle.query_lang.proofs.CauseLaw.{causes_agree}
+use Rattle.query_lang.proofs.FoldLemmas.{partial, reader_of}
 use Rattle.query_lang.proofs.SoundLaw.{sound}
 
 -- a line that is read has no cause
@@ -23,10 +23,10 @@ step_has_no_cause s t line step = sym (causes_agree s line) ∙ ap cause_in (sou
 -- what a reader keeps of its partial script
 
 abbrev drafted : AnyDraft → Problem
-drafted (draft.Transf d) = Transf (record { letters = d.letters; generators = d.generators })
-drafted (draft.PPerm d) = PPerm (record { letters = d.letters; generators = d.generators })
-drafted (draft.BMat d) = BMat (record { letters = d.letters; generators = d.generators })
-drafted (draft.MaxPlus d) = MaxPlus (record { letters = d.letters; generators = d.generators })
+drafted (draft.Transf d) = Transf d.posed
+drafted (draft.PPerm d) = PPerm d.posed
+drafted (draft.BMat d) = BMat d.posed
+drafted (draft.MaxPlus d) = MaxPlus d.posed
 
 abbrev sizes_drafted : AnyDraft → ℕ × ℕ
 sizes_drafted (draft.Transf d) = d.sizes
@@ -37,33 +37,44 @@ sizes_drafted (draft.MaxPlus d) = d.sizes
 abbrev problem_kept : ReaderOf → Problem
 problem_kept (Posing d) = drafted d
 problem_kept (Relating o) = Presented o
+problem_kept (Pairing p) = p
 problem_kept (Asking script) = script.problem
 
 abbrev queries_kept : ReaderOf → List Query
 queries_kept (Posing d) = []
 queries_kept (Relating o) = []
+queries_kept (Pairing p) = []
 queries_kept (Asking script) = script.queries
 
 abbrev sizes_kept : ReaderOf → ℕ × ℕ
 sizes_kept (Posing d) = sizes_drafted d
 sizes_kept (Relating o) = (0, 0)
+sizes_kept (Pairing p) = (0, 0)
 sizes_kept (Asking script) = (0, 0)
+
+either_problem : (no_pair : Bool) (r : ReaderOf) (p : Problem) → problem_kept r ≡ p → problem_kept (if no_pair then r else Pairing p) ≡ p
+either_problem true r p h = h
+either_problem false r p h = refl
 
 problem_is_kept : (sizes : ℕ × ℕ) (problem : Problem) (queries : List Query) → problem_kept (reader_of (partial sizes problem queries)) ≡ problem
 problem_is_kept sizes problem (q ∷ queries) = refl
-problem_is_kept sizes (Presented o) [] = refl
-problem_is_kept sizes (Transf g) [] = refl
-problem_is_kept sizes (PPerm g) [] = refl
-problem_is_kept sizes (BMat g) [] = refl
-problem_is_kept sizes (MaxPlus g) [] = refl
+problem_is_kept sizes (Presented o) [] = either_problem (length o.congruence.pairs == 0) _ (Presented o) refl
+problem_is_kept sizes (Transf g) [] = either_problem (length g.pairs == 0) _ (Transf g) refl
+problem_is_kept sizes (PPerm g) [] = either_problem (length g.pairs == 0) _ (PPerm g) refl
+problem_is_kept sizes (BMat g) [] = either_problem (length g.pairs == 0) _ (BMat g) refl
+problem_is_kept sizes (MaxPlus g) [] = either_problem (length g.pairs == 0) _ (MaxPlus g) refl
+
+either_queries : (no_pair : Bool) (r : ReaderOf) (p : Problem) → queries_kept r ≡ [] → queries_kept (if no_pair then r else Pairing p) ≡ []
+either_queries true r p h = h
+either_queries false r p h = refl
 
 queries_are_kept : (sizes : ℕ × ℕ) (problem : Problem) (queries : List Query) → queries_kept (reader_of (partial sizes problem queries)) ≡ queries
 queries_are_kept sizes problem (q ∷ queries) = refl
-queries_are_kept sizes (Presented o) [] = refl
-queries_are_kept sizes (Transf g) [] = refl
-queries_are_kept sizes (PPerm g) [] = refl
-queries_are_kept sizes (BMat g) [] = refl
-queries_are_kept sizes (MaxPlus g) [] = refl
+queries_are_kept sizes (Presented o) [] = either_queries (length o.congruence.pairs == 0) _ (Presented o) refl
+queries_are_kept sizes (Transf g) [] = either_queries (length g.pairs == 0) _ (Transf g) refl
+queries_are_kept sizes (PPerm g) [] = either_queries (length g.pairs == 0) _ (PPerm g) refl
+queries_are_kept sizes (BMat g) [] = either_queries (length g.pairs == 0) _ (BMat g) refl
+queries_are_kept sizes (MaxPlus g) [] = either_queries (length g.pairs == 0) _ (MaxPlus g) refl
 
 one_partial : (p q : Partial) → p.sizes ≡ q.sizes → reader_of p ≡ reader_of q → p ≡ q
 one_partial p q sizes same =
@@ -75,7 +86,7 @@ one_partial p q sizes same =
 sizes_stay : (p q : Partial) (line : Line) → LineReads p line q → q.sizes ≡ p.sizes
 sizes_stay p q line (grammar.generator is early named new made) = refl
 sizes_stay p q line (grammar.relation is poses early few h k) = refl
-sizes_stay p q line (grammar.pair kind is there poses early few kinds h k) = refl
+sizes_stay p q line (grammar.pair kind some sign is early few kinds h k) = refl
 sizes_stay p q line (grammar.query some sign is) = refl
 
 header_sizes : (line : Line) (q : Partial) → HeaderReads line q → sizes_kept (reader_of q) ≡ q.sizes

@@ -1,5 +1,5 @@
 -- A line behind the header that begins with a name is read, where it has no cause.
-use Rattle.std.proofs.Common.{◌≡◌, ℕ, ◌==◌, nat_lt, Bool, true, false, not, ◌&&◌, ◌⊎◌, inl, inr, if◌then◌else◌, List, [], ◌∷◌, length, codes, Option, Some, None, Result, Ok, Err, is_none, Contains, refl, sym, ap, ◌∙◌, subst, arith, true≢false}
+use Rattle.std.proofs.Common.{◌≡◌, ℕ, ◌==◌, nat_lt, Bool, true, false, not, ◌&&◌, ◌⊎◌, inl, inr, if◌then◌else◌, List, [], ◌∷◌, length, codes, Option, Some, None, Result, Ok, Err, is_none, refl, sym, ap, ◌∙◌, subst, arith, true≢false}
 use Rattle.std.proofs.lemmas.Bool.{ltb-false, eqb-true, eqb-false}
 use Rattle.std.specs.Cmp.Lexicographic.{same_text}
 use Rattle.theory.specs.Word.{Word}
@@ -13,7 +13,7 @@ use Rattle.query_lang.specs.declared.cause.Cause.{Cause}
 use Rattle.query_lang.specs.declared.script.Query.{Query}
 use Rattle.query_lang.specs.Token.{Token, Line, is_word}
 use Rattle.query_lang.specs.LineWords.{with_cause}
-use Rattle.query_lang.specs.Outline.{is_same_kind}
+use Rattle.query_lang.specs.Pairing.{is_same_kind}
 use Rattle.query_lang.specs.Grammar as grammar
 use Rattle.query_lang.specs.Grammar.{Partial, section_reached, LineReads, is_generator_line, lacks_generator}
 use Rattle.query_lang.specs.Forms.{Form, Relation, Pair, Index, Equal, Normal, Classes, Rules, Element, Cayley, name_of, shapes_of, section_of, forms_of}
@@ -139,18 +139,17 @@ one-kind pairs j k = split (length pairs == 0) (is_same_kind j k) refl refl
     split false true n s h = inr (same-kind j k s)
     split false false n s h = absurd (true≢false h)
 
-pair-read : (sizes : ℕ × ℕ) (o : Posed) (queries : List Query) (first : Token) (tokens : List Token) (kind : Kind) → Contains (forms_of true) (Pair kind) →
-    let p : Partial = record { sizes = sizes; problem = problem.Presented o; queries = queries } in FormReads p first tokens (Pair kind)
-pair-read sizes o queries first [] kind there e c = absurd (true≢false c.shaped)
-pair-read sizes o queries first (s ∷ []) kind there e c = absurd (true≢false c.shaped)
-pair-read sizes o queries first (s ∷ t ∷ []) kind there e c =
+pair-read : (p : Partial) (first : Token) (tokens : List Token) (kind : Kind) → is_generator_line p (first ∷ tokens) ≡ false → FormReads p first tokens (Pair kind)
+pair-read p first [] kind g e c = absurd (true≢false c.shaped)
+pair-read p first (s ∷ []) kind g e c = absurd (true≢false c.shaped)
+pair-read p first (s ∷ t ∷ []) kind g e c =
     let u = word-read _ _ c.tokens_read in
     let v = word-read _ _ u.2 in (
       _,
-      grammar.pair kind (ap (λ n. n ∷ s ∷ t ∷ []) e) there refl (ltb-false _ _ c.in_order) (eqb-false _ _ c.few_pairs)
+      grammar.pair kind c.has_generator g (ap (λ n. n ∷ s ∷ t ∷ []) e) (ltb-false _ _ c.in_order) (eqb-false _ _ c.few_pairs)
           (one-kind _ _ _ c.one_kind) u.1 v.1,
     )
-pair-read sizes o queries first (s ∷ t ∷ w ∷ tokens) kind there e c = absurd (true≢false c.shaped)
+pair-read p first (s ∷ t ∷ w ∷ tokens) kind g e c = absurd (true≢false c.shaped)
 
 -- the queries
 
@@ -207,12 +206,6 @@ cayley-read p first (s ∷ tokens) k g e c = absurd (true≢false c.shaped)
 
 -- a line of a presentation
 
-two-sided-there : Contains (forms_of true) (Pair TwoSided)
-two-sided-there = (1, omega arith, refl)
-
-right-there : Contains (forms_of true) (Pair Right)
-right-there = (2, omega arith, refl)
-
 pub presented-read : (sizes : ℕ × ℕ) (o : Posed) (queries : List Query) (first : Token) (tokens : List Token) →
     let p : Partial = record { sizes = sizes; problem = problem.Presented o; queries = queries } in
     first_of (named_causes p (form_among (forms_of true) first) tokens) ≡ None → IsRead p (first ∷ tokens)
@@ -220,24 +213,28 @@ presented-read sizes o queries first tokens =
     let p : Partial = record { sizes = sizes; problem = problem.Presented o; queries = queries } in
     by-form p first tokens (forms_of true)
     (also Relation (relation-read sizes o queries first tokens)
-    (also (Pair TwoSided) (pair-read sizes o queries first tokens TwoSided two-sided-there)
-    (also (Pair Right) (pair-read sizes o queries first tokens Right right-there)
+    (also (Pair TwoSided) (pair-read p first tokens TwoSided refl)
+    (also (Pair Right) (pair-read p first tokens Right refl)
+    (also (Pair Left) (pair-read p first tokens Left refl)
     (also Index (index-read p first tokens refl)
     (also Equal (equal-read p first tokens refl)
     (also Normal (normal-read p first tokens refl)
     (also Classes (classes-read p first tokens refl)
-    (also Rules (rules-read p first tokens refl) every))))))))
+    (also Rules (rules-read p first tokens refl) every)))))))))
 
--- a query of an element script
+-- a pair or a query of an element script
 pub asked-read : (p : Partial) (first : Token) (tokens : List Token) → is_presented p.problem ≡ false → is_generator_line p (first ∷ tokens) ≡ false
     → first_of (named_causes p (form_among (forms_of (is_presented p.problem)) first) tokens) ≡ None → IsRead p (first ∷ tokens)
 asked-read p first tokens k g h =
     by-form p first tokens (forms_of false)
+    (also (Pair TwoSided) (pair-read p first tokens TwoSided g)
+    (also (Pair Right) (pair-read p first tokens Right g)
+    (also (Pair Left) (pair-read p first tokens Left g)
     (also Index (index-read p first tokens g)
     (also Equal (equal-read p first tokens g)
     (also Normal (normal-read p first tokens g)
     (also Classes (classes-read p first tokens g)
     (also Rules (rules-read p first tokens g)
     (also Element (element-read p first tokens k g)
-    (also Cayley (cayley-read p first tokens k g) every)))))))
+    (also Cayley (cayley-read p first tokens k g) every))))))))))
     (subst (λ b. first_of (named_causes p (form_among (forms_of b) first) tokens) ≡ None) k h)

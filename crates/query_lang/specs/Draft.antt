@@ -1,10 +1,11 @@
 -- Generators that lines give, one after another.
 use Rattle.std.specs.Prelude.{◌≡◌, ℕ, ◌==◌, List, [], ◌∷◌, ◌++◌, length, All, if◌then◌else◌, Option, None, Result, Ok, Err, refl}
-use Rattle.std.specs.Coded.{Coded, code_by, coded×, coded_list, coded_ℕ}
+use Rattle.std.specs.Coded.{Coded, code_by, coded×, coded_ℕ}
 use Rattle.std.specs.List.{list_any}
 use Rattle.std.specs.Option.{ok_or}
 use Rattle.words.specs.Alphabet.{first_fault}
-use Rattle.problem.specs.Posed.{PosedOf}
+use Rattle.theory.specs.declared.Kind.TheVariants.{TwoSided}
+use Rattle.problem.specs.Posed.{PosedOf, posed_code}
 use Rattle.elements.specs.BMat.{BooleanMatrix}
 use Rattle.elements.specs.MaxPlus.{TruncatedMatrix}
 use Rattle.elements.specs.declared.field.Field.{Field}
@@ -16,15 +17,21 @@ use Rattle.query_lang.specs.Token.{Token, letter_of}
 -- the numbers of the header, and the generators so far, each with its letter
 pub record DraftOf (V : Type 0) : Type 0 where
   pub sizes : ℕ × ℕ
-  pub letters : List ℕ
-  pub generators : List V
+  pub posed : PosedOf V
 
 abbrev pub draft_code : {V : Type 0} → Coded V → Coded (DraftOf V)
 draft_code {V} code =
-    code_by ((ℕ × ℕ) × (List ℕ × List V))
-    (coded× (coded× coded_ℕ coded_ℕ) (coded× (coded_list coded_ℕ) (coded_list code)))
-    (λ d. (d.sizes, (d.letters, d.generators)))
-    (λ p. record { sizes = p.0; letters = p.1.0; generators = p.1.1 }) (λ _. refl)
+    code_by ((ℕ × ℕ) × PosedOf V) (coded× (coded× coded_ℕ coded_ℕ) (posed_code code))
+    (λ d. (d.sizes, d.posed)) (λ p. record { sizes = p.0; posed = p.1 }) (λ _. refl)
+
+-- generators with their letters, and no pairs
+abbrev pub without_pairs : {V : Type 0} → List ℕ → List V → PosedOf V
+without_pairs letters generators = record {
+  letters = letters;
+  generators = generators;
+  kind = TwoSided;
+  pairs = [];
+}
 
 -- generators so far, of one of the kinds
 pub data AnyDraft : Type 0 where
@@ -43,7 +50,7 @@ pub record IsDraft {V : Type 0} (shape_of : V → ℕ × ℕ) (shape : ℕ × �
 
 -- no generator yet
 abbrev pub start_of : {V : Type 0} → ℕ × ℕ → DraftOf V
-start_of sizes = record { sizes = sizes; letters = []; generators = [] }
+start_of sizes = record { sizes = sizes; posed = without_pairs [] [] }
 
 -- a letter that no generator has yet
 abbrev pub new_letter_of : List ℕ → Token → Result ℕ Cause
@@ -53,20 +60,21 @@ new_letter_of letters name = and_then
 
 -- one generator more
 abbrev pub add_generator : {V : Type 0} → DraftOf V → ℕ → V → DraftOf V
-add_generator d x g = record {
-  sizes = d.sizes;
-  letters = d.letters ++ x ∷ [];
-  generators = d.generators ++ g ∷ [];
-}
+add_generator d x g =
+    record d {
+      posed = record d.posed {
+        letters = d.posed.letters ++ x ∷ [];
+        generators = d.posed.generators ++ g ∷ [];
+      };
+    }
 
 -- the generator with this name and these entries, which are read by the numbers of the header
 abbrev pub with_generator : {V : Type 0} → (ℕ × ℕ → List Field → Result V Cause) → DraftOf V → Token
     → List Field → Result (DraftOf V) Cause
 with_generator generator_of d name fields =
     and_then (λ x. and_then (λ g. Ok (add_generator d x g)) (generator_of d.sizes fields))
-    (new_letter_of d.letters name)
+    (new_letter_of d.posed.letters name)
 
 -- the generators with their letters, of which there are some
 abbrev pub posed_of : {V : Type 0} → DraftOf V → Result (PosedOf V) Cause
-posed_of d = if length d.letters == 0 then Err NoGenerator
-    else Ok (record { letters = d.letters; generators = d.generators })
+posed_of d = if length d.posed.letters == 0 then Err NoGenerator else Ok d.posed

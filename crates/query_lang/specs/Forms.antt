@@ -62,6 +62,7 @@ section_of Cayley = 4
 
 -- the forms that a script of this kind has: a presentation, or generators
 abbrev pub forms_of : (is_presentation : Bool) → List Form
-forms_of true = Relation ∷ Pair TwoSided ∷ Pair Right
+forms_of true = Relation ∷ Pair TwoSided ∷ Pair Right ∷ Pair Left
     ∷ Index ∷ Equal ∷ Normal ∷ Classes ∷ Rules ∷ []
-forms_of false = Index ∷ Equal ∷ Normal ∷ Classes ∷ Rules ∷ Element ∷ Cayley ∷ []
+forms_of false = Pair TwoSided ∷ Pair Right ∷ Pair Left
+    ∷ Index ∷ Equal ∷ Normal ∷ Classes ∷ Rules ∷ Element ∷ Cayley ∷ []

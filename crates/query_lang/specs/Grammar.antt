@@ -1,6 +1,6 @@
 -- The grammar: what a script may have, line by line, and what each line adds to what the lines
 -- before it say.
-use Rattle.std.specs.Prelude.{◌≡◌, ◌≢◌, ℕ, ◌+◌, ◌*◌, ◌≤◌, Bool, true, false, not, ◌&&◌, ◌==◌, ◌⊎◌, Contains, List, [], ◌∷◌, ◌++◌, length, map, codes, if◌then◌else◌, Option, Some, None, Ok}
+use Rattle.std.specs.Prelude.{◌≡◌, ◌≢◌, ℕ, ◌+◌, ◌*◌, ◌≤◌, Bool, true, false, not, ◌&&◌, ◌==◌, ◌⊎◌, List, [], ◌∷◌, ◌++◌, length, map, codes, if◌then◌else◌, Option, Some, None, Ok}
 use Rattle.std.specs.List.{list_any}
 use Rattle.elements.specs.BMat.{BooleanMatrix}
 use Rattle.elements.specs.MaxPlus.{TruncatedMatrix}
@@ -14,14 +14,15 @@ use Rattle.presentation.specs.Presented.{Posed}
 use Rattle.problem.specs.Posed.{PosedOf}
 use Rattle.problem.specs.declared.kinds.Problem.{Problem}
 use Rattle.problem.specs.declared.kinds.Problem.TheVariants.{Presented, Transf, PPerm, BMat, MaxPlus}
-use Rattle.problem.specs.Problem.{allows_rules, has_empty_word, is_presented, letters_of}
+use Rattle.problem.specs.Problem.{allows_rules, has_empty_word, is_presented, kind_of, letters_of, pairs_of, with_pair}
 use Rattle.query_lang.specs.declared.script.Query.{Query}
 use Rattle.query_lang.specs.declared.script.Query.TheVariants as ask
 use Rattle.query_lang.specs.Asked.{ScriptOf}
 use Rattle.query_lang.specs.Fields.{field_of}
 use Rattle.query_lang.specs.Entries.{all_of, below, below_or_dash, bit, is_injective}
-use Rattle.query_lang.specs.Forms.{Pair, forms_of, name_of}
-use Rattle.query_lang.specs.Relations.{add_pair, add_relation, free_over, most_pairs, most_relations}
+use Rattle.query_lang.specs.Forms.{Pair, name_of}
+use Rattle.query_lang.specs.Pairing.{most_pairs}
+use Rattle.query_lang.specs.Relations.{add_relation, free_over, most_relations, relations_of}
 use Rattle.query_lang.specs.Token.{Token, Line, cut_lines, is_kept, is_word, letter_of, number_within, tokens_of}
 
 -- what the lines so far say: the numbers of the header, 0 in the place of one that it has not;
@@ -30,30 +31,6 @@ pub record Partial : Type 0 where
   pub sizes : ℕ × ℕ
   pub problem : Problem
   pub queries : List Query
-
--- the pairs so far
-abbrev pub pairs_of : Problem → List (Word × Word)
-pairs_of (Presented p) = p.congruence.pairs
-pairs_of (Transf p) = []
-pairs_of (PPerm p) = []
-pairs_of (BMat p) = []
-pairs_of (MaxPlus p) = []
-
--- the relations so far
-abbrev pub relations_of : Problem → List (Word × Word)
-relations_of (Presented p) = p.congruence.presentation.relations
-relations_of (Transf p) = []
-relations_of (PPerm p) = []
-relations_of (BMat p) = []
-relations_of (MaxPlus p) = []
-
--- the kind of the pairs; two-sided where there is none
-abbrev pub kind_of : Problem → Kind
-kind_of (Presented p) = p.congruence.kind
-kind_of (Transf p) = TwoSided
-kind_of (PPerm p) = TwoSided
-kind_of (BMat p) = TwoSided
-kind_of (MaxPlus p) = TwoSided
 
 abbrev pub is_empty : {A : Type 0} → List A → Bool
 is_empty [] = true
@@ -74,10 +51,11 @@ has_sign (first ∷ second ∷ tokens) = is_word (codes "=") second
 abbrev pub is_generator_line : Partial → Line → Bool
 is_generator_line p line = not (is_presented p.problem) && has_sign line
 
--- an element script that has no generator yet, and so no query
+-- an element script that has no generator yet, and so neither a pair nor a query
 abbrev pub lacks_generator : Partial → Bool
 lacks_generator p = not (is_presented p.problem)
-    && ((length (letters_of p.problem) == 0) && is_empty p.queries)
+    && ((length (letters_of p.problem) == 0)
+    && ((length (pairs_of p.problem) == 0) && is_empty p.queries))
 
 -- the token is this word of the script
 abbrev pub IsWordOf : Partial → Token → Word → Type 0
@@ -93,7 +71,8 @@ AreEntries count entry fields xs = (length fields ≡ count) × (all_of entry fi
 
 -- one generator more
 abbrev pub one_more : {V : Type 0} → PosedOf V → ℕ → V → PosedOf V
-one_more p x g = record { letters = p.letters ++ x ∷ []; generators = p.generators ++ g ∷ [] }
+one_more p x g = record p
+    { letters = p.letters ++ x ∷ []; generators = p.generators ++ g ∷ [] }
 
 -- the problem has one generator more, whose entries these fields are
 pub data HasGenerator (sizes : ℕ × ℕ) (x : ℕ) (fields : List Field)
@@ -144,19 +123,18 @@ pub data LineReads (p : Partial) (line : Line) : Partial → Type 0 where
       → p.problem ≡ Presented o → section_reached p ≤ 2
       → length (relations_of p.problem) ≢ most_relations → IsWordOf p U u → IsWordOf p V v
       → LineReads p line (record p { problem = Presented (add_relation o (u, v)) })
-  pair : {U V : Token} {u v : Word} {o : Posed} (kind : Kind)
-      → line ≡ name_of (Pair kind) ∷ U ∷ V ∷ [] → Contains (forms_of true) (Pair kind)
-      → p.problem ≡ Presented o → section_reached p ≤ 3
-      → length (pairs_of p.problem) ≢ most_pairs
+  pair : {U V : Token} {u v : Word} (kind : Kind) → lacks_generator p ≡ false
+      → is_generator_line p line ≡ false → line ≡ name_of (Pair kind) ∷ U ∷ V ∷ []
+      → section_reached p ≤ 3 → length (pairs_of p.problem) ≢ most_pairs
       → (pairs_of p.problem ≡ []) ⊎ (kind_of p.problem ≡ kind) → IsWordOf p U u → IsWordOf p V v
-      → LineReads p line (record p { problem = Presented (add_pair o kind (u, v)) })
+      → LineReads p line (record p { problem = with_pair p.problem kind (u, v) })
   query : {q : Query} → lacks_generator p ≡ false → is_generator_line p line ≡ false
       → IsQuery p line q
       → LineReads p line (record p { queries = p.queries ++ q ∷ [] })
 
 -- no generator yet
 abbrev pub no_generators : {V : Type 0} → PosedOf V
-no_generators = record { letters = []; generators = [] }
+no_generators = record { letters = []; generators = []; kind = TwoSided; pairs = [] }
 
 -- what the header says
 abbrev pub begin_with : ℕ × ℕ → Problem → Partial

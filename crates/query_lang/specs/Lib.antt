@@ -11,6 +11,7 @@ pub mod Generators
 pub mod LineWords
 pub mod Relations
 pub mod Outline
+pub mod Pairing
 pub mod Header
 pub mod Query
 pub mod QueryLines

@@ -3,7 +3,7 @@ use Rattle.std.specs.Prelude.{◌≡◌, ℕ, suc, ◌+◌, ◌*◌, Bool, true,
 use Rattle.std.specs.List.{list_any}
 use Rattle.problem.specs.declared.kinds.Problem.{Problem}
 use Rattle.problem.specs.declared.kinds.Problem.TheVariants.{Presented, Transf, PPerm, BMat, MaxPlus}
-use Rattle.problem.specs.Problem.{allows_rules, has_empty_word, is_presented, letters_of}
+use Rattle.problem.specs.Problem.{allows_rules, has_empty_word, is_presented, kind_of, letters_of, pairs_of}
 use Rattle.elements.specs.declared.field.Field.{Field}
 use Rattle.query_lang.specs.declared.cause.Cause.{Cause}
 use Rattle.query_lang.specs.declared.cause.Cause.TheVariants as cause
@@ -12,10 +12,11 @@ use Rattle.query_lang.specs.Entries.{all_of, below, below_or_dash, bit, is_injec
 use Rattle.query_lang.specs.Fields.{field_of}
 use Rattle.query_lang.specs.LineWords.{element_of}
 use Rattle.query_lang.specs.Forms.{Form, Relation, Pair, Rules, Cayley, Place, AWord, ANumber, After, name_of, shapes_of, section_of, forms_of}
-use Rattle.query_lang.specs.Outline.{alphabet_of, is_same_kind}
-use Rattle.query_lang.specs.Relations.{most_pairs, most_relations}
+use Rattle.query_lang.specs.Outline.{alphabet_of}
+use Rattle.query_lang.specs.Pairing.{is_same_kind, most_pairs}
+use Rattle.query_lang.specs.Relations.{most_relations, relations_of}
 use Rattle.query_lang.specs.Token.{Token, Line, is_kept, is_word, letter_of, number_within}
-use Rattle.query_lang.specs.Grammar.{Partial, lacks_generator, section_reached, pairs_of, relations_of, kind_of, is_generator_line, Reads, script_in}
+use Rattle.query_lang.specs.Grammar.{Partial, lacks_generator, section_reached, is_generator_line, Reads, script_in}
 
 -- the cause, where it applies
 abbrev pub when : Cause → Bool → Option Cause

@@ -1,8 +1,8 @@
 -- Queries, and the words in them.
-use Rattle.std.specs.Prelude.{◌≡◌, ℕ, Bool, true, false, length, Some, None}
+use Rattle.std.specs.Prelude.{◌≡◌, ℕ, Bool, true, false, [], length, Some, None}
 use Rattle.theory.specs.Word.{IsElement}
 use Rattle.problem.specs.declared.kinds.Problem.{Problem}
-use Rattle.problem.specs.Problem.{allows_rules, has_empty_word, is_presented, letters_of}
+use Rattle.problem.specs.Problem.{allows_rules, has_empty_word, is_presented, letters_of, pairs_of}
 use Rattle.query_lang.specs.declared.script.Query.{Query}
 use Rattle.query_lang.specs.declared.script.Query.TheVariants.{Index, Equal, Normal, Classes, RuleList, ElementOf, Cayley}
 
@@ -37,9 +37,20 @@ is_rule_list RuleList = true
 is_rule_list (ElementOf u) = false
 is_rule_list Cayley = false
 
+-- whether the query asks for the Cayley graphs
+abbrev pub is_cayley : Query → Bool
+is_cayley Index = false
+is_cayley (Equal u v) = false
+is_cayley (Normal u) = false
+is_cayley (Classes count after) = false
+is_cayley RuleList = false
+is_cayley (ElementOf u) = false
+is_cayley Cayley = true
+
 -- the query is one of this problem: it is there for it, rules are allowed where it asks for them,
--- and each of its words is an element
+-- there are no pairs where it asks for the Cayley graphs, and each of its words is an element
 pub record IsQueryOf (p : Problem) (query : Query) : Type 0 where
   pub there : is_presented p ≡ true → needs_generators query ≡ false
   pub allowed : is_rule_list query ≡ true → allows_rules p ≡ true
+  pub unpaired : is_cayley query ≡ true → pairs_of p ≡ []
   pub over : IsQueryOver (has_empty_word p) (length (letters_of p)) query

@@ -1,7 +1,9 @@
 -- The lines of queries.
-use Rattle.std.specs.Prelude.{ℕ, Bool, true, false, List, [], ◌∷◌, codes, if◌then◌else◌, Option, Some, None, Result, Ok, Err}
+use Rattle.std.specs.Prelude.{ℕ, Bool, true, false, not, ◌==◌, List, [], ◌∷◌, length, codes, if◌then◌else◌, Option, Some, None, Result, Ok, Err}
 use Rattle.std.specs.Option.{ok_or}
 use Rattle.theory.specs.Word.{Word}
+use Rattle.problem.specs.declared.kinds.Problem.{Problem}
+use Rattle.problem.specs.Problem.{allows_rules, pairs_of}
 use Rattle.query_lang.specs.declared.cause.Cause.{Cause}
 use Rattle.query_lang.specs.declared.cause.Cause.TheVariants.{WrongNumberOfWords, BadNumber, AfterExpected}
 use Rattle.query_lang.specs.declared.script.Query.{Query}
@@ -51,6 +53,26 @@ name_asks_rules Classes = false
 name_asks_rules Rules = true
 name_asks_rules Element = false
 name_asks_rules Cayley = false
+
+-- whether a query of this name asks for the Cayley graphs
+abbrev pub name_asks_cayley : NameOf → Bool
+name_asks_cayley Index = false
+name_asks_cayley Equal = false
+name_asks_cayley Normal = false
+name_asks_cayley Classes = false
+name_asks_cayley Rules = false
+name_asks_cayley Element = false
+name_asks_cayley Cayley = true
+
+-- whether a query of this name is not there for the pairs of the problem
+abbrev pub is_name_barred : Problem → NameOf → Bool
+is_name_barred p Index = false
+is_name_barred p Equal = false
+is_name_barred p Normal = false
+is_name_barred p Classes = false
+is_name_barred p Rules = not (allows_rules p)
+is_name_barred p Element = false
+is_name_barred p Cayley = not (length (pairs_of p) == 0)
 
 -- no token, one, two, or one or three
 abbrev pub are_none : List Token → Bool

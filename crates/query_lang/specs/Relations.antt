@@ -1,44 +1,41 @@
--- A presentation with pairs, to which relations and pairs are added.
-use Rattle.std.specs.Prelude.{◌≡◌, ℕ, ◌≤◌, Bool, List, [], ◌∷◌, ◌++◌, ◌⊎◌, length}
-use Rattle.theory.specs.declared.Kind.{Kind}
-use Rattle.theory.specs.declared.Kind.TheVariants.{TwoSided, Right}
+-- A presentation to which relations are added.
+use Rattle.std.specs.Prelude.{ℕ, ◌≤◌, Bool, List, [], ◌∷◌, length}
 use Rattle.theory.specs.Word.{Word, IsElement}
-use Rattle.theory.specs.Congruence.{AreElements, of_presentation, with_relations}
+use Rattle.theory.specs.Congruence.{of_presentation, with_relations}
 use Rattle.presentation.specs.Presented.{Presented, Posed}
+use Rattle.problem.specs.declared.kinds.Problem.{Problem}
+use Rattle.problem.specs.declared.kinds.Problem.TheVariants as problem
 
--- the most relations, and the most pairs
+-- the most relations
 abbrev pub most_relations : ℕ
 most_relations = 4096
 
-abbrev pub most_pairs : ℕ
-most_pairs = 4096
+-- the relations of a problem; generators have none
+abbrev pub relations_of : Problem → List (Word × Word)
+relations_of (problem.Presented p) = p.congruence.presentation.relations
+relations_of (problem.Transf p) = []
+relations_of (problem.PPerm p) = []
+relations_of (problem.BMat p) = []
+relations_of (problem.MaxPlus p) = []
 
--- pairs of a kind on a presentation
-abbrev pub outlined : Presented → Kind → List (Word × Word) → Posed
-outlined p kind pairs = record {
-  alphabet = p.alphabet;
-  congruence = record { presentation = p.presentation; kind = kind; pairs = pairs };
-}
+-- a presentation without pairs
+abbrev pub outlined : Presented → Posed
+outlined p = record { alphabet = p.alphabet; congruence = of_presentation p.presentation }
 
--- the relations and the pairs are not too many; the pairs are two-sided or right ones, and their
--- sides elements
-pub record IsOutline (o : Posed) : Type 0 where
-  pub few_relations : length o.congruence.presentation.relations ≤ most_relations
-  pub few_pairs : length o.congruence.pairs ≤ most_pairs
-  pub sided : (o.congruence.kind ≡ TwoSided) ⊎ (o.congruence.kind ≡ Right)
-  pub elements : AreElements o.congruence.presentation.is_monoid o.congruence.presentation.letters
-      o.congruence.pairs
+-- the relations are not too many
+abbrev pub IsOutline : Posed → Type 0
+IsOutline o = length o.congruence.presentation.relations ≤ most_relations
 
--- no relation and no pair yet: a two-sided congruence on the free monoid or semigroup
+-- no relation yet: a free monoid or semigroup
 abbrev pub free_over : Bool → List ℕ → Posed
-free_over is_monoid alphabet =
-    record {
+free_over is_monoid alphabet = outlined
+    (record {
       alphabet = alphabet;
-      congruence = of_presentation
-          (record { letters = length alphabet; is_monoid = is_monoid; relations = [] });
-    }
+      presentation = record
+          { letters = length alphabet; is_monoid = is_monoid; relations = [] };
+    })
 
--- the word is an element, as a side of a relation or a pair is
+-- the word is an element, as a side of a relation is
 abbrev pub IsSide : Posed → Word → Type 0
 IsSide o = IsElement o.congruence.presentation.is_monoid (length o.alphabet)
 
@@ -48,12 +45,4 @@ add_relation o p =
     record o {
       congruence = record o.congruence
           { presentation = with_relations o.congruence.presentation (p ∷ []) };
-    }
-
--- one pair more; the pairs are of this kind
-abbrev pub add_pair : Posed → Kind → Word × Word → Posed
-add_pair o kind p =
-    record o {
-      congruence = record o.congruence
-          { kind = kind; pairs = o.congruence.pairs ++ p ∷ [] };
     }

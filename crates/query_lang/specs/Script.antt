@@ -3,10 +3,10 @@ pub use Rattle.query_lang.specs.Asked.{ScriptOf}
 use Rattle.std.specs.Prelude.{ℕ, suc, Bool, true, false, not, ◌&&◌, List, [], ◌∷◌, ◌++◌, length, map, codes, if◌then◌else◌, Option, Some, None, Result, Ok, Err}
 use Rattle.std.specs.Option.{ok_or}
 use Rattle.theory.specs.declared.Kind.{Kind}
-use Rattle.theory.specs.declared.Kind.TheVariants.{TwoSided, Right}
 use Rattle.presentation.specs.Presented.{Posed}
+use Rattle.problem.specs.declared.kinds.Problem.{Problem}
 use Rattle.problem.specs.declared.kinds.Problem.TheVariants.{Presented}
-use Rattle.problem.specs.Problem.{allows_rules, has_empty_word, is_presented, letters_of}
+use Rattle.problem.specs.Problem.{has_empty_word, is_presented, letters_of}
 use Rattle.query_lang.specs.declared.cause.Cause.{Cause}
 use Rattle.query_lang.specs.declared.cause.Cause.TheVariants.{HeaderMissing, UnknownHeader, UnknownLine, LineOutOfOrder, QueryNotAllowed, WrongNumberOfWords}
 use Rattle.query_lang.specs.declared.script.Query.{Query}
@@ -16,14 +16,16 @@ use Rattle.query_lang.specs.Draft.{AnyDraft}
 use Rattle.query_lang.specs.Fields.{field_of}
 use Rattle.query_lang.specs.Generators.{draft_with, problem_of}
 use Rattle.query_lang.specs.Header.{header_of, outline_of}
-use Rattle.query_lang.specs.Outline.{with_pair, with_relation}
-use Rattle.query_lang.specs.QueryLines.{NameOf, name_asks_rules, name_needs_generators, name_takes, query_name_of, query_of}
+use Rattle.query_lang.specs.Outline.{with_relation}
+use Rattle.query_lang.specs.Pairing.{add_pair, pair_kind_of}
+use Rattle.query_lang.specs.QueryLines.{NameOf, is_name_barred, name_needs_generators, name_takes, query_name_of, query_of}
 
--- what the lines so far have given: before the first query generators, or a presentation and pairs,
--- and from it on a script
+-- what the lines so far have given: generators or a presentation, from the first pair on a problem,
+-- and from the first query on a script
 pub data ReaderOf : Type 0 where
   Posing : AnyDraft → ReaderOf
   Relating : Posed → ReaderOf
+  Pairing : Problem → ReaderOf
   Asking : ScriptOf → ReaderOf
 
 -- the query behind the others
@@ -35,7 +37,7 @@ abbrev pub asked : ScriptOf → NameOf → List Token → Result ScriptOf Cause
 asked s name tokens =
     if is_presented s.problem && name_needs_generators name then Err UnknownLine
     else if not (name_takes name tokens) then Err WrongNumberOfWords
-    else if name_asks_rules name && not (allows_rules s.problem) then Err QueryNotAllowed
+    else if is_name_barred s.problem name then Err QueryNotAllowed
     else and_then (λ query. Ok (with_asked s query))
     (query_of (letters_of s.problem) (has_empty_word s.problem) name tokens)
 
@@ -43,6 +45,7 @@ asked s name tokens =
 abbrev pub is_presentation : ReaderOf → Bool
 is_presentation (Posing draft) = false
 is_presentation (Relating outline) = true
+is_presentation (Pairing problem) = is_presented problem
 is_presentation (Asking script) = is_presented script.problem
 
 -- the script so far: a presentation, or what has a generator
@@ -50,19 +53,22 @@ abbrev pub finished : ReaderOf → Result ScriptOf Cause
 finished (Posing draft) = and_then (λ p. Ok (record { problem = p; queries = [] }))
     (problem_of draft)
 finished (Relating outline) = Ok (record { problem = Presented outline; queries = [] })
+finished (Pairing problem) = Ok (record { problem = problem; queries = [] })
 finished (Asking script) = Ok script
 
--- the generator line `x = ENTRIES`, which may stand before the queries
+-- the generator line `x = ENTRIES`, which may stand before the pairs
 abbrev pub generator_line : ReaderOf → Token → List Token → Result ReaderOf Cause
 generator_line (Posing draft) name entries = and_then (λ d. Ok (Posing d))
     (draft_with draft name (map field_of entries))
 generator_line (Relating outline) name entries = Err UnknownLine
+generator_line (Pairing problem) name entries = Err LineOutOfOrder
 generator_line (Asking script) name entries = Err LineOutOfOrder
 
--- the relations and the pairs so far, which stand before the queries
+-- the relations so far, which stand before the pairs
 abbrev pub outline_so_far : ReaderOf → Result Posed Cause
 outline_so_far (Posing draft) = Err UnknownLine
 outline_so_far (Relating outline) = Ok outline
+outline_so_far (Pairing problem) = Err LineOutOfOrder
 outline_so_far (Asking script) = Err LineOutOfOrder
 
 -- the relation `rel U V`
@@ -70,33 +76,47 @@ abbrev pub relation_line : ReaderOf → List Token → Result ReaderOf Cause
 relation_line r tokens = and_then
     (λ outline. and_then (λ o. Ok (Relating o)) (with_relation outline tokens)) (outline_so_far r)
 
--- the pair `twosided U V` or `right U V`
+-- the problem and its pairs so far, which stand before the queries
+abbrev pub paired_so_far : ReaderOf → Result Problem Cause
+paired_so_far (Posing draft) = problem_of draft
+paired_so_far (Relating outline) = Ok (Presented outline)
+paired_so_far (Pairing problem) = Ok problem
+paired_so_far (Asking script) = Err LineOutOfOrder
+
+-- the pair `twosided U V`, `right U V` or `left U V`
 abbrev pub pair_line : ReaderOf → Kind → List Token → Result ReaderOf Cause
 pair_line r kind tokens = and_then
-    (λ outline. and_then (λ o. Ok (Relating o)) (with_pair outline kind tokens)) (outline_so_far r)
+    (λ problem. and_then (λ p. Ok (Pairing p)) (add_pair problem kind tokens)) (paired_so_far r)
 
--- a query, which may stand after the generators, or after the relations and the pairs
+-- a query, which may stand after whatever is posed
 abbrev pub query_line : ReaderOf → Token → List Token → Result ReaderOf Cause
 query_line r first tokens =
     and_then (λ name. and_then (λ script. and_then (λ s. Ok (Asking s)) (asked script name tokens))
     (finished r)) (ok_or (query_name_of first) UnknownLine)
+
+-- a pair of this kind, if there is one, or else a query
+abbrev pub pair_or_query : ReaderOf → Option Kind → Token → List Token → Result ReaderOf Cause
+pair_or_query r (Some kind) first tokens = pair_line r kind tokens
+pair_or_query r None first tokens = query_line r first tokens
+
+-- a pair or a query, by its first token
+abbrev pub common_line : ReaderOf → Token → List Token → Result ReaderOf Cause
+common_line r first tokens = pair_or_query r (pair_kind_of first) first tokens
 
 -- a line after the header of a presentation
 abbrev pub presentation_line : ReaderOf → Line → Result ReaderOf Cause
 presentation_line r [] = Err UnknownLine
 presentation_line r (first ∷ tokens) =
     if is_word (codes "rel") first then relation_line r tokens
-    else if is_word (codes "twosided") first then pair_line r TwoSided tokens
-    else if is_word (codes "right") first then pair_line r Right tokens
-    else query_line r first tokens
+    else common_line r first tokens
 
 -- a line after the header of generators; the second token of a generator line is `=`
 abbrev pub element_line : ReaderOf → Line → Result ReaderOf Cause
 element_line r [] = Err UnknownLine
-element_line r (first ∷ []) = query_line r first []
+element_line r (first ∷ []) = common_line r first []
 element_line r (first ∷ second ∷ tokens) =
-    if is_word (codes "=") second then generator_line r first tokens else query_line r first
-    (second ∷ tokens)
+    if is_word (codes "=") second then generator_line r first tokens
+    else common_line r first (second ∷ tokens)
 
 -- a line after the header
 abbrev pub with_line : ReaderOf → Line → Result ReaderOf Cause

@@ -20,9 +20,11 @@ pub enum Cause {
     /// The line is of no form that the script's kind has: its first token is no name of such a
     /// line, and it is no generator line.
     UnknownLine = 7,
-    /// A generator, a relation or a pair stands after a query, or a relation after a pair.
+    /// A generator, a relation or a pair stands after a query, or a generator or a relation after
+    /// a pair.
     LineOutOfOrder = 8,
-    /// In a script of generators a query stands before any, or the script ends without one.
+    /// In a script of generators a pair or a query stands before any, or the script ends without
+    /// one.
     NoGenerator = 9,
     /// A generator has not as many entries as it should.
     WrongNumberOfEntries = 10,
@@ -42,7 +44,8 @@ pub enum Cause {
     TooManyPairs = 17,
     /// A pair is of another kind than the first one.
     MixedKinds = 18,
-    /// The rules are asked for, and the script has right pairs.
+    /// The rules are asked for, and the script has right or left pairs; or the Cayley graphs are,
+    /// and it has pairs.
     QueryNotAllowed = 19,
     /// The token in the place of `after` is another.
     AfterExpected = 21,

@@ -1,11 +1,11 @@
 // Generators that lines give, one after another.
-ghost use Rattle.std.specs.Prelude.{◌≡◌, ℕ, IfOk, IfErr, Ok, map};
-ghost use Rattle.problem.specs.Problem.{IsPosable};
+ghost use Rattle.std.specs.Prelude.{◌≡◌, ℕ, [], IfOk, IfErr, Ok, map};
 ghost use Rattle.query_lang.specs.Draft.{new_letter_of, posed_of, start_of, with_generator};
 ghost use Rattle.query_lang.specs.Draft as said;
 ghost use Rattle.query_lang.specs.Faults.{IsLineFault};
 ghost use Rattle.query_lang.specs.Fields.{field_of};
 ghost use Rattle.query_lang.specs.Generators.{draft_with, problem_of};
+ghost use Rattle.query_lang.specs.Pairing.{IsPairable};
 ghost use Rattle.query_lang.specs.Texts.{texts};
 
 use crate::cause::Cause;
@@ -13,6 +13,7 @@ use crate::fault::LineFault;
 use crate::generator::{Generator, fields_of};
 use crate::tokens::letter_of;
 use elements::{BMat, Field, MaxPlusTrunc, PPerm, Transf};
+use presentation::{Kind, Pairs};
 use problem::{Gens, Posed, Problem};
 use std::alloc::Global;
 use std::marker::Model;
@@ -28,17 +29,14 @@ struct Listed<E: Generator> {
 }
 
 impl<E: Generator> Model for Listed<E> {
-    ghost use Rattle.query_lang.specs.Draft.{DraftOf, IsDraft, draft_code};
+    ghost use Rattle.query_lang.specs.Draft.{DraftOf, IsDraft, draft_code, without_pairs};
 
     ghost Value = { DraftOf E };
 
     ghost coded = { draft_code E.code };
 
-    ghost view = { λ d. record {
-      sizes = d.sizes;
-      letters = d.letters.items;
-      generators = d.generators.items;
-    } };
+    ghost view = { λ d. record
+        { sizes = d.sizes; posed = without_pairs d.letters.items d.generators.items } };
 
     ghost invariant = { λ d. IsDraft E.shape
         (E.shape_for d.sizes) d.letters.items d.generators.items };
@@ -99,10 +97,15 @@ impl<E: Generator> Listed<E> {
     // The generators by their letters, which are an alphabet, since each was new.
     fn posed(self, alloc: Global) -> Result<Posed<E>, LineFault>
         ensures ok { IfOk result (λ posed. posed_of self ≡ Ok posed) }
+        ensures unpaired { IfOk result (λ posed. posed.pairs ≡ []) }
         ensures err { IfErr result (IsLineFault (posed_of self)) }
     {
         match Alphabet::new(alloc, &self.letters) {
-            Ok(alphabet) => Ok(Posed::new(alphabet, Gens::from_vec(self.generators))),
+            Ok(alphabet) => {
+                let generators = Gens::from_vec(self.generators);
+                let pairs = Pairs::new(alloc);
+                Ok(Posed::new(alphabet, generators, Kind::TwoSided, pairs))
+            }
             Err(AlphabetFault::Empty) => Err(LineFault::refused(Cause::NoGenerator)),
             Err(AlphabetFault::NoMemory) => Err(LineFault::no_memory()),
             Err(_) => unreachable!(),
@@ -214,7 +217,7 @@ impl Draft {
     /// What the generators pose. Refused where there is none, or for want of memory.
     pub fn problem(self, alloc: Global) -> Result<Problem, LineFault>
         ensures ok { IfOk result (λ problem. problem_of self ≡ Ok problem) }
-        ensures posable { IfOk result IsPosable }
+        ensures pairable { IfOk result IsPairable }
         ensures err { IfErr result (IsLineFault (problem_of self)) }
     {
         match self.listed {

@@ -1,6 +1,6 @@
 //! The script language: what the bytes of a script pose and ask, or its first fault with the line
 //! and the cause. A script poses a congruence on a monoid or a semigroup that is given by
-//! relations, or a semigroup by generators of one kind.
+//! relations, or on a semigroup that is given by generators of one kind.
 #![tactic(auto)]
 
 mod cause;
@@ -11,6 +11,7 @@ mod generator;
 mod header;
 mod line_words;
 mod outline;
+mod pairing;
 mod query_line;
 mod reader;
 mod script;

@@ -1,9 +1,9 @@
-// Relations and pairs that lines give, one after another.
-ghost use Rattle.std.specs.Prelude.{◌≡◌, ◌≢◌, ◌⊎◌, IfOk, IfErr, Ok, length};
-ghost use Rattle.problem.specs.Problem.{IsPosable};
+// Relations that lines give, one after another.
+ghost use Rattle.std.specs.Prelude.{◌≡◌, ◌≢◌, IfOk, IfErr, Ok, length};
 ghost use Rattle.query_lang.specs.Faults.{IsLineFault};
-ghost use Rattle.query_lang.specs.Relations.{IsSide, add_pair, add_relation, free_over, most_pairs, most_relations};
-ghost use Rattle.query_lang.specs.Outline.{is_same_kind, paired, related, sides_of, takes_kind, with_pair, with_relation};
+ghost use Rattle.query_lang.specs.Relations.{IsSide, add_relation, free_over, most_relations};
+ghost use Rattle.query_lang.specs.Outline.{related, sides_of, with_relation};
+ghost use Rattle.query_lang.specs.Pairing.{IsPairable};
 ghost use Rattle.query_lang.specs.Texts.{texts};
 
 use crate::cause::Cause;
@@ -19,16 +19,11 @@ use words::{Alphabet, Word};
 // The most relations of a script.
 const MOST_RELATIONS: usize = 4096;
 
-// The most pairs of a script.
-const MOST_PAIRS: usize = 4096;
-
-/// A presentation and pairs of one kind, two-sided or right ones, so far. Contracts see the letters
-/// and the congruence.
+/// A presentation with the relations so far. Contracts see the letters, and the congruence without
+/// pairs.
 #[derive(Drop)]
 pub struct Outline {
     presentation: Presentation,
-    kind: Kind,
-    pairs: Pairs,
 }
 
 impl Model for Outline {
@@ -37,27 +32,18 @@ impl Model for Outline {
 
     ghost Value = { Posed };
 
-    ghost view = { λ o. outlined o.presentation o.kind o.pairs };
+    ghost view = { λ o. outlined o.presentation };
 
-    ghost invariant = { λ o. IsOutline (outlined o.presentation o.kind o.pairs) };
-}
-
-// Whether the kinds are one.
-fn is_same_kind(one: Kind, other: Kind) -> bool
-    ensures { result ≡ is_same_kind one other }
-{
-    one == other
+    ghost invariant = { λ o. IsOutline (outlined o.presentation) };
 }
 
 impl Outline {
-    /// No relation and no pair yet.
+    /// No relation yet.
     pub fn new(alloc: Global, alphabet: Alphabet, monoid: bool) -> Outline
         ensures { result ≡ free_over monoid alphabet }
     {
         Outline {
             presentation: Presentation::new(alloc, alphabet, monoid),
-            kind: Kind::TwoSided,
-            pairs: Pairs::new(alloc),
         }
     }
 
@@ -80,31 +66,20 @@ impl Outline {
         requires right { IsSide self right }
         ensures { IfOk result (λ next. next ≡ add_relation self (left, right)) }
     {
-        let Outline {
-            mut presentation,
-            kind,
-            pairs,
-        } = self;
+        let Outline { mut presentation } = self;
         match presentation.add(left, right) {
-            Ok(()) => Ok(Outline {
-                presentation,
-                kind,
-                pairs,
-            }),
+            Ok(()) => Ok(Outline { presentation }),
             Err(AddFault::NoMemory) => Err(NoMemory),
             Err(_) => unreachable!(),
         }
     }
 
-    /// The relation of these two words behind the others, which may stand before the pairs. Refused
-    /// with the cause of its line, or for want of memory.
+    /// The relation of these two words behind the others. Refused with the cause of its line, or
+    /// for want of memory.
     pub fn with_relation(self, alloc: Global, tokens: &[&[u8]]) -> Result<Outline, LineFault>
         ensures ok { IfOk result (λ next. with_relation self (texts tokens.now) ≡ Ok next) }
         ensures err { IfErr result (IsLineFault (with_relation self (texts tokens.now))) }
     {
-        if !self.pairs.is_empty() {
-            return Err(LineFault::refused(Cause::LineOutOfOrder));
-        }
         let (left, right) = two_tokens(tokens)?;
         if self.presentation.relations().len() == MOST_RELATIONS {
             return Err(LineFault::refused(Cause::TooManyRelations));
@@ -113,62 +88,12 @@ impl Outline {
         Ok(self.add_relation(left, right)?)
     }
 
-    // Whether a pair of this kind may come.
-    fn takes(&self, kind: Kind) -> bool
-        ensures { result ≡ takes_kind self.now kind }
-    {
-        self.pairs.is_empty() || is_same_kind(self.kind, kind)
-    }
-
-    // The pair of these two elements behind the others.
-    fn add_pair(self, kind: Kind, left: Word, right: Word) -> Result<Outline, NoMemory>
-        requires sided { (kind ≡ Kind.TwoSided) ⊎ (kind ≡ Kind.Right) }
-        requires few { length self.congruence.pairs ≢ most_pairs }
-        requires left { IsSide self left }
-        requires right { IsSide self right }
-        ensures { IfOk result (λ next. next ≡ add_pair self kind (left, right)) }
-    {
-        let Outline {
-            presentation,
-            mut pairs,
-            ..
-        } = self;
-        pairs.push(left, right)?;
-        Ok(Outline {
-            presentation,
-            kind,
-            pairs,
-        })
-    }
-
-    /// The pair of this kind and of these two words behind the others. Refused with the cause of
-    /// its line, or for want of memory.
-    pub fn with_pair(
-        self,
-        alloc: Global,
-        kind: Kind,
-        tokens: &[&[u8]],
-    ) -> Result<Outline, LineFault>
-        requires { (kind ≡ Kind.TwoSided) ⊎ (kind ≡ Kind.Right) }
-        ensures ok { IfOk result (λ next. with_pair self kind (texts tokens.now) ≡ Ok next) }
-        ensures err { IfErr result (IsLineFault (with_pair self kind (texts tokens.now))) }
-    {
-        let (left, right) = two_tokens(tokens)?;
-        if self.pairs.len() == MOST_PAIRS {
-            return Err(LineFault::refused(Cause::TooManyPairs));
-        }
-        if !self.takes(kind) {
-            return Err(LineFault::refused(Cause::MixedKinds));
-        }
-        let (left, right) = self.sides(alloc, left, right)?;
-        Ok(self.add_pair(kind, left, right)?)
-    }
-
-    /// What the presentation and the pairs pose.
-    pub fn problem(self) -> Problem
+    /// What the presentation poses.
+    pub fn problem(self, alloc: Global) -> Problem
         ensures problem { result ≡ Problem.Presented self }
-        ensures posable { IsPosable result }
+        ensures pairable { IsPairable result }
     {
-        Problem::Presented(Congruence::new(self.presentation, self.kind, self.pairs))
+        let pairs = Pairs::new(alloc);
+        Problem::Presented(Congruence::new(self.presentation, Kind::TwoSided, pairs))
     }
 }

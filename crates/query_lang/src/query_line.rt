@@ -2,8 +2,8 @@
 ghost use Rattle.std.specs.Prelude.{◌≡◌, false, IfOk, IfErr, Ok, length};
 ghost use Rattle.theory.specs.Word.{IsElement};
 ghost use Rattle.query_lang.specs.Faults.{IsLineFault};
-ghost use Rattle.query_lang.specs.Query.{IsQueryOver, is_rule_list, needs_generators};
-ghost use Rattle.query_lang.specs.QueryLines.{bare, count_of, cursor_of, name_asks_rules, name_needs_generators, name_takes, page_of, query_name_of, query_of};
+ghost use Rattle.query_lang.specs.Query.{IsQueryOver, is_cayley, is_rule_list, needs_generators};
+ghost use Rattle.query_lang.specs.QueryLines.{bare, count_of, cursor_of, is_name_barred, name_asks_cayley, name_asks_rules, name_needs_generators, name_takes, page_of, query_name_of, query_of};
 ghost use Rattle.query_lang.specs.Texts.{texts};
 
 use crate::cause::Cause;
@@ -11,6 +11,7 @@ use crate::fault::LineFault;
 use crate::line_words::{element_of, one_word, two_words};
 use crate::script::Query;
 use crate::tokens::{is_word, number_within};
+use problem::Problem;
 use std::alloc::Global;
 use std::marker::Model;
 use words::{Alphabet, Word};
@@ -69,11 +70,16 @@ impl QueryName {
         }
     }
 
-    /// Whether a query of this name asks for the rules.
-    pub fn asks_rules(&self) -> bool
-        ensures { result ≡ name_asks_rules self.now }
+    /// Whether a query of this name is not there for the pairs of the problem: the rules for right
+    /// or left pairs, the Cayley graphs for any.
+    pub fn is_barred(&self, problem: &Problem) -> bool
+        ensures { result ≡ is_name_barred problem.now self.now }
     {
-        matches!(self.name, Name::Rules)
+        match self.name {
+            Name::Index | Name::Equal | Name::Normal | Name::Classes | Name::Element => false,
+            Name::Rules => !problem.allows_rules(),
+            Name::Cayley => !problem.pairs().is_empty(),
+        }
     }
 
     /// Whether there are as many tokens as stand behind this name.
@@ -157,6 +163,7 @@ fn page_of(
     ensures over { IfOk result (IsQueryOver allow_empty (length alphabet.now)) }
     ensures needs { IfOk result (λ query. needs_generators query ≡ false) }
     ensures rules { IfOk result (λ query. is_rule_list query ≡ false) }
+    ensures cayley { IfOk result (λ query. is_cayley query ≡ false) }
     ensures err { IfErr result (IsLineFault (page_of alphabet.now allow_empty (texts tokens.now))) }
 {
     match tokens {
@@ -190,6 +197,7 @@ pub fn query_of(
     ensures over { IfOk result (IsQueryOver allow_empty (length alphabet.now)) }
     ensures needs { IfOk result (λ query. needs_generators query ≡ name_needs_generators name) }
     ensures rules { IfOk result (λ query. is_rule_list query ≡ name_asks_rules name) }
+    ensures cayley { IfOk result (λ query. is_cayley query ≡ name_asks_cayley name) }
     ensures err { IfErr result (IsLineFault
         (query_of alphabet.now allow_empty name (texts tokens.now))) }
 {

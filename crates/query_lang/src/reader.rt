@@ -1,7 +1,7 @@
 // What the lines of a script give, one after another.
-ghost use Rattle.std.specs.Prelude.{◌≡◌, ◌⊎◌, IfOk, IfErr, Ok};
+ghost use Rattle.std.specs.Prelude.{◌≡◌, IfOk, IfErr, Ok};
 ghost use Rattle.query_lang.specs.Faults.{IsLineFault};
-ghost use Rattle.query_lang.specs.Script.{element_line, finished, generator_line, header_line, is_presentation, outline_so_far, pair_line, presentation_line, query_line, read_line, relation_line, take_line, whole_of, with_line};
+ghost use Rattle.query_lang.specs.Script.{common_line, element_line, finished, generator_line, header_line, is_presentation, outline_so_far, pair_line, paired_so_far, presentation_line, query_line, read_line, relation_line, take_line, whole_of, with_line};
 ghost use Rattle.query_lang.specs.Script as said;
 ghost use Rattle.query_lang.specs.Texts.{texts};
 
@@ -10,6 +10,7 @@ use crate::draft::Draft;
 use crate::fault::LineFault;
 use crate::header::{header_of, outline_of};
 use crate::outline::Outline;
+use crate::pairing::{Paired, pair_kind_of};
 use crate::query_line::query_name_of;
 use crate::script::Script;
 use crate::tokens::{is_kept, is_word, tokens_of};
@@ -20,16 +21,18 @@ use std::marker::Model;
 // What the lines so far have given, by how far they have come.
 #[derive(Drop)]
 enum Stage {
-    // Generators, before the first query.
+    // Generators, before the first pair.
     Posing(Draft),
-    // A presentation and pairs, before the first query.
+    // A presentation, before the first pair.
     Relating(Outline),
+    // A problem, from the first pair on.
+    Pairing(Paired),
     // A script, from the first query on.
     Asking(Script),
 }
 
-/// What the lines so far have given, from the header on: generators, or a presentation and pairs,
-/// before the first query, and a script from it on.
+/// What the lines so far have given, from the header on: generators or a presentation, from the
+/// first pair on a problem, and from the first query on a script.
 #[derive(Drop)]
 pub struct Reader {
     stage: Stage,
@@ -45,11 +48,12 @@ impl Model for Reader {
     ghost view = { λ r. elim r.stage [
       | kept.Posing draft ↦ said.Posing draft
       | kept.Relating outline ↦ said.Relating outline
+      | kept.Pairing paired ↦ said.Pairing paired
       | kept.Asking script ↦ said.Asking script
     ] };
 }
 
-// Generators, before the first query.
+// Generators, before the first pair.
 fn posing(draft: Draft) -> Reader
     ensures { result ≡ said.Posing draft }
 {
@@ -58,12 +62,21 @@ fn posing(draft: Draft) -> Reader
     }
 }
 
-// A presentation and pairs, before the first query.
+// A presentation, before the first pair.
 fn relating(outline: Outline) -> Reader
     ensures { result ≡ said.Relating outline }
 {
     Reader {
         stage: Stage::Relating(outline),
+    }
+}
+
+// A problem, from the first pair on.
+fn pairing(paired: Paired) -> Reader
+    ensures { result ≡ said.Pairing paired }
+{
+    Reader {
+        stage: Stage::Pairing(paired),
     }
 }
 
@@ -84,6 +97,7 @@ impl Reader {
         match &self.stage {
             Stage::Posing(_) => false,
             Stage::Relating(_) => true,
+            Stage::Pairing(paired) => paired.is_presented(),
             Stage::Asking(script) => script.problem().is_presented(),
         }
     }
@@ -95,8 +109,15 @@ impl Reader {
         ensures err { IfErr result (IsLineFault (finished self)) }
     {
         match self.stage {
-            Stage::Posing(draft) => Ok(Script::new(alloc, draft.problem(alloc)?)),
-            Stage::Relating(outline) => Ok(Script::new(alloc, outline.problem())),
+            Stage::Posing(draft) => {
+                let paired = Paired::new(draft.problem(alloc)?);
+                Ok(Script::new(alloc, paired.problem()))
+            }
+            Stage::Relating(outline) => {
+                let paired = Paired::new(outline.problem(alloc));
+                Ok(Script::new(alloc, paired.problem()))
+            }
+            Stage::Pairing(paired) => Ok(Script::new(alloc, paired.problem())),
             Stage::Asking(script) => Ok(script),
         }
     }
@@ -115,18 +136,20 @@ impl Reader {
         match self.stage {
             Stage::Posing(draft) => Ok(posing(draft.with_generator(alloc, name, entries)?)),
             Stage::Relating(_) => Err(LineFault::refused(Cause::UnknownLine)),
-            Stage::Asking(_) => Err(LineFault::refused(Cause::LineOutOfOrder)),
+            Stage::Pairing(_) | Stage::Asking(_) => {
+                Err(LineFault::refused(Cause::LineOutOfOrder))
+            }
         }
     }
 
-    // The relations and the pairs so far, which stand before the queries.
+    // The relations so far, which stand before the pairs.
     fn into_outline(self) -> Result<Outline, Cause>
         ensures { result ≡ outline_so_far self }
     {
         match self.stage {
             Stage::Posing(_) => Err(Cause::UnknownLine),
             Stage::Relating(outline) => Ok(outline),
-            Stage::Asking(_) => Err(Cause::LineOutOfOrder),
+            Stage::Pairing(_) | Stage::Asking(_) => Err(Cause::LineOutOfOrder),
         }
     }
 
@@ -138,14 +161,26 @@ impl Reader {
         Ok(relating(outline.with_relation(alloc, tokens)?))
     }
 
-    // A pair of this kind, which is two-sided or right.
+    // The problem and its pairs so far, which stand before the queries.
+    fn into_paired(self, alloc: Global) -> Result<Paired, LineFault>
+        ensures ok { IfOk result (λ paired. paired_so_far self ≡ Ok paired) }
+        ensures err { IfErr result (IsLineFault (paired_so_far self)) }
+    {
+        match self.stage {
+            Stage::Posing(draft) => Ok(Paired::new(draft.problem(alloc)?)),
+            Stage::Relating(outline) => Ok(Paired::new(outline.problem(alloc))),
+            Stage::Pairing(paired) => Ok(paired),
+            Stage::Asking(_) => Err(LineFault::refused(Cause::LineOutOfOrder)),
+        }
+    }
+
+    // A pair of this kind.
     fn add_pair(self, alloc: Global, kind: Kind, tokens: &[&[u8]]) -> Result<Reader, LineFault>
-        requires { (kind ≡ Kind.TwoSided) ⊎ (kind ≡ Kind.Right) }
         ensures ok { IfOk result (λ next. pair_line self kind (texts tokens.now) ≡ Ok next) }
         ensures err { IfErr result (IsLineFault (pair_line self kind (texts tokens.now))) }
     {
-        let outline = self.into_outline()?;
-        Ok(relating(outline.with_pair(alloc, kind, tokens)?))
+        let paired = self.into_paired(alloc)?;
+        Ok(pairing(paired.with_pair(alloc, kind, tokens)?))
     }
 
     fn add_query(self, alloc: Global, first: &[u8], tokens: &[&[u8]]) -> Result<Reader, LineFault>
@@ -157,6 +192,23 @@ impl Reader {
         Ok(asking(script.with_query(alloc, name, tokens)?))
     }
 
+    // A pair or a query, which all scripts have.
+    fn add_common_line(
+        self,
+        alloc: Global,
+        first: &[u8],
+        tokens: &[&[u8]],
+    ) -> Result<Reader, LineFault>
+        ensures ok { IfOk result (λ next. common_line self first.now (texts tokens.now)
+            ≡ Ok next) }
+        ensures err { IfErr result (IsLineFault (common_line self first.now (texts tokens.now))) }
+    {
+        match pair_kind_of(first) {
+            Some(kind) => self.add_pair(alloc, kind, tokens),
+            None => self.add_query(alloc, first, tokens),
+        }
+    }
+
     // A line after the header of a presentation.
     fn add_presentation_line(self, alloc: Global, line: &[&[u8]]) -> Result<Reader, LineFault>
         ensures ok { IfOk result (λ next. presentation_line self (texts line.now) ≡ Ok next) }
@@ -164,13 +216,7 @@ impl Reader {
     {
         match line {
             [first, tokens @ ..] if is_word(b"rel", first) => self.add_relation(alloc, tokens),
-            [first, tokens @ ..] if is_word(b"twosided", first) => {
-                self.add_pair(alloc, Kind::TwoSided, tokens)
-            }
-            [first, tokens @ ..] if is_word(b"right", first) => {
-                self.add_pair(alloc, Kind::Right, tokens)
-            }
-            [first, tokens @ ..] => self.add_query(alloc, first, tokens),
+            [first, tokens @ ..] => self.add_common_line(alloc, first, tokens),
             [] => Err(LineFault::refused(Cause::UnknownLine)),
         }
     }
@@ -184,7 +230,7 @@ impl Reader {
             [name, sign, entries @ ..] if is_word(b"=", sign) => {
                 self.add_generator(alloc, name, entries)
             }
-            [first, tokens @ ..] => self.add_query(alloc, first, tokens),
+            [first, tokens @ ..] => self.add_common_line(alloc, first, tokens),
             [] => Err(LineFault::refused(Cause::UnknownLine)),
         }
     }

@@ -29,12 +29,11 @@ pub enum Query {
     /// The first `count` least words of classes, in short-lex order; where there is a word to come
     /// `after`, of those that are greater than it.
     Classes { count: usize, after: Option<Word> },
-    /// The reduced rewriting rules, where generators are given, or relations with two-sided pairs
-    /// or none.
+    /// The reduced rewriting rules, where pairs are two-sided, or there are none.
     RuleList,
     /// The value of the word, where generators are given.
     ElementOf(Word),
-    /// The Cayley graphs, where generators are given.
+    /// The Cayley graphs, where generators are given, and no pairs.
     Cayley,
 }
 
@@ -92,7 +91,7 @@ impl Script {
         if !name.takes(tokens) {
             return Err(LineFault::refused(Cause::WrongNumberOfWords));
         }
-        if name.asks_rules() && !problem.allows_rules() {
+        if name.is_barred(&problem) {
             return Err(LineFault::refused(Cause::QueryNotAllowed));
         }
         let allow_empty = problem.has_empty_word();

@@ -1,7 +1,8 @@
 use super::*;
+use elements::Element;
 use ports::NoMemory;
 use presentation::Kind;
-use problem::Problem;
+use problem::{Posed, Problem};
 use std::alloc::Global;
 use std::test::Fail;
 
@@ -133,7 +134,6 @@ fn queries_are_read_or_refused(rt: HostRuntime) -> Result<(), Fail> {
         ("Index", 7),
         ("trans 2", 7),
         ("rel a b", 7),
-        ("twosided a b", 7),
         ("lowindex 1 1", 7),
         ("equal c 1", 13),
         ("equal ab ac", 13),
@@ -199,7 +199,6 @@ fn presentations_are_read_or_refused(rt: HostRuntime) -> Result<(), Fail> {
         ("monoid ab\nright a 1\ntwosided a 1\n", 3, 18),
         ("monoid ab\ntwosided a 1\nright c d\n", 3, 18),
         ("monoid ab\nright a 1\ntwosided a\n", 3, 3),
-        ("monoid ab\nleft a 1\n", 2, 7),
         ("monoid ab\na = 0 1\n", 2, 7),
         ("monoid ab\nindex\nmonoid ab\n", 3, 7),
         ("monoid ab\nrules\n", 0, 0),
@@ -215,7 +214,7 @@ fn presentations_are_read_or_refused(rt: HostRuntime) -> Result<(), Fail> {
         ("monoid ab\nindex\ncayley 1\n", 3, 7),
         ("trans 2\nrel a a\n", 2, 7),
         ("trans 2\na = 0 1\nrel a a\n", 3, 7),
-        ("trans 2\na = 0 1\nindex\nright a a\n", 4, 7),
+        ("trans 2\na = 0 1\nright a a\nrel a a\n", 4, 7),
     ] {
         assert_eq!(rt; fault_of(alloc, script)?, (line, cause), "{script}");
     }
@@ -246,6 +245,105 @@ fn a_presentation_holds_what_was_read(rt: HostRuntime) -> Result<(), Fail> {
         assert_eq!(rt; presentation.relations().len(), relations);
         assert_eq!(rt; congruence.pairs().len(), pairs);
         assert_eq!(rt; congruence.kind(), kind);
+    }
+    Ok(())
+}
+
+#[test]
+fn pairs_are_read_or_refused(rt: HostRuntime) -> Result<(), Fail> {
+    let alloc = rt.alloc();
+    for (script, line, cause) in [
+        ("trans 2\na = 0 1\ntwosided a aa\nrules\n", 0usize, 0u8),
+        ("pperm 1\na = -\nright a aa\nright aa a\nindex\n", 0, 0),
+        ("bmat 1\na = 1\nleft a aa\nelement a\n", 0, 0),
+        ("monoid ab\nleft a 1\nleft 1 b\nindex\n", 0, 0),
+        ("semigroup ab\nrel a b\nleft a b\n", 0, 0),
+        ("trans 2\nright a a\na = 0 1\n", 2, 9),
+        ("trans 2\nright a\n", 2, 9),
+        ("trans 2\na = 0 1\nright a a\nb = 1 0\n", 4, 8),
+        ("trans 2\na = 0 1\nright a a\nB = 1\n", 4, 8),
+        ("trans 2\na = 0 1\nindex\nleft a\n", 4, 8),
+        ("monoid ab\nindex\nleft a 1\n", 3, 8),
+        ("monoid ab\nleft a 1\nrel a 1\n", 3, 8),
+        ("trans 2\na = 0 1\nright = a\n", 3, 5),
+        ("trans 2\na = 0 1\nright a\n", 3, 3),
+        ("trans 2\na = 0 1\nleft a a a\n", 3, 3),
+        ("trans 2\na = 0 1\nleft 1 a\n", 3, 15),
+        ("trans 2\na = 0 1\nleft a b\n", 3, 13),
+        ("semigroup ab\nleft a 1\n", 2, 15),
+        ("trans 2\na = 0 1\nright a a\nleft a a\n", 4, 18),
+        ("trans 2\na = 0 1\nright a a\nleft a\n", 4, 3),
+        ("trans 2\na = 0 1\ntwosided a a\nright b 1\n", 4, 18),
+        ("monoid ab\nleft a 1\nright a 1\n", 3, 18),
+    ] {
+        assert_eq!(rt; fault_of(alloc, script)?, (line, cause), "{script}");
+    }
+    Ok(())
+}
+
+#[test]
+fn pairs_bar_queries(rt: HostRuntime) -> Result<(), Fail> {
+    let alloc = rt.alloc();
+    for (script, line, cause) in [
+        ("trans 2\na = 0 1\nright a a\nrules\n", 4usize, 19u8),
+        ("trans 2\na = 0 1\nleft a a\nindex\nrules\n", 5, 19),
+        ("trans 2\na = 0 1\nright a a\nrules a\n", 4, 3),
+        ("trans 2\na = 0 1\ntwosided a a\ncayley\n", 4, 19),
+        ("trans 2\na = 0 1\nleft a a\nindex\ncayley\n", 5, 19),
+        ("trans 2\na = 0 1\ntwosided a a\ncayley a\n", 4, 3),
+        ("monoid ab\nleft a 1\nrules\n", 3, 19),
+        ("monoid ab\nleft a 1\ncayley\n", 3, 7),
+    ] {
+        assert_eq!(rt; fault_of(alloc, script)?, (line, cause), "{script}");
+    }
+    Ok(())
+}
+
+#[test]
+fn a_script_holds_its_pairs(rt: HostRuntime) -> Result<(), Fail> {
+    let alloc = rt.alloc();
+    for (script, kind, count) in [
+        (
+            "trans 2\na = 0 1\nleft a aa\nleft a aaa",
+            Kind::Left,
+            2usize,
+        ),
+        ("pperm 1\na = -\nindex", Kind::TwoSided, 0),
+        ("bmat 1\na = 1\nright a aa\nindex", Kind::Right, 1),
+        ("mpt 1 2\na = 1\ntwosided a aa", Kind::TwoSided, 1),
+        ("monoid a\nleft 1 a\nindex", Kind::Left, 1),
+    ] {
+        let script = read_script(alloc, script.as_bytes())?;
+        let pairs = script.problem().pairs();
+        assert_eq!(rt; script.problem().kind(), kind);
+        assert_eq!(rt; pairs.len(), count);
+        for pair in pairs.as_slice() {
+            assert!(rt; pair.0.len() < pair.1.len());
+        }
+    }
+    Ok(())
+}
+
+#[test]
+fn the_4097th_pair_is_refused(rt: HostRuntime) -> Result<(), Fail> {
+    let alloc = rt.alloc();
+    for (last, cause) in [
+        ("index", 0u8),
+        ("left a a", 17),
+        ("right b", 3),
+        ("right b b", 17),
+    ] {
+        let mut script = Vec::from_slice(alloc, b"trans 1\na = 0\n")?;
+        for _ in 0..4096 {
+            script.extend_from_slice(b"left a a\n")?;
+        }
+        script.extend_from_slice(last.as_bytes())?;
+        let want = if cause == 0 {
+            None
+        } else {
+            Some(ScriptFault::Bad { line: 4099, cause })
+        };
+        assert_eq!(rt; read_script(alloc, &script).err(), want, "{last}");
     }
     Ok(())
 }
@@ -315,6 +413,22 @@ fn a_script_holds_what_was_read(rt: HostRuntime) -> Result<(), Fail> {
     Ok(())
 }
 
+// The second generator.
+fn second_of<E: Element>(posed: &Posed<E>) -> Result<&E, NoMemory> {
+    posed.generators().get(1).ok_or(NoMemory)
+}
+
+// The entries of the second generator; no byte where relations are given.
+fn second_text(alloc: Global, problem: &Problem) -> Result<Vec<u8>, NoMemory> {
+    match problem {
+        Problem::Presented(_) => Ok(Vec::new(alloc)),
+        Problem::Transf(posed) => second_of(posed)?.print(alloc),
+        Problem::PPerm(posed) => second_of(posed)?.print(alloc),
+        Problem::BMat(posed) => second_of(posed)?.print(alloc),
+        Problem::MaxPlus(posed) => second_of(posed)?.print(alloc),
+    }
+}
+
 #[test]
 fn each_kind_holds_its_generators(rt: HostRuntime) -> Result<(), Fail> {
     let alloc = rt.alloc();
@@ -325,14 +439,8 @@ fn each_kind_holds_its_generators(rt: HostRuntime) -> Result<(), Fail> {
         ("mpt 2 9\nb = 0 0 0 0\na = 9 - 0 07\n", "9 - 0 7"),
     ] {
         let script = read_script(alloc, script.as_bytes())?;
-        let text = match script.problem() {
-            Problem::Presented(_) => Ok(Vec::new(alloc)),
-            Problem::Transf(posed) => posed.generators().get(1).ok_or(NoMemory)?.print(alloc),
-            Problem::PPerm(posed) => posed.generators().get(1).ok_or(NoMemory)?.print(alloc),
-            Problem::BMat(posed) => posed.generators().get(1).ok_or(NoMemory)?.print(alloc),
-            Problem::MaxPlus(posed) => posed.generators().get(1).ok_or(NoMemory)?.print(alloc),
-        };
-        assert_eq!(rt; text?.as_slice(), want.as_bytes());
+        let text = second_text(alloc, script.problem())?;
+        assert_eq!(rt; text.as_slice(), want.as_bytes());
         assert_eq!(rt;
             script
                 .problem()

@@ -1,0 +1,132 @@
+// Pairs that lines give, one after another.
+ghost use Rattle.std.specs.Prelude.{◌≡◌, ◌≢◌, IfOk, IfErr, Ok, length};
+ghost use Rattle.theory.specs.Word.{IsElement};
+ghost use Rattle.problem.specs.Problem.{IsPosable, has_empty_word, is_presented, letters_of, pairs_of, with_pair};
+ghost use Rattle.query_lang.specs.Faults.{IsLineFault};
+ghost use Rattle.query_lang.specs.Pairing.{IsPairable, add_pair, is_same_kind, most_pairs, pair_kind_of, sides_of, takes_kind};
+ghost use Rattle.query_lang.specs.Texts.{texts};
+
+use crate::cause::Cause;
+use crate::fault::LineFault;
+use crate::line_words::{both_elements, two_tokens};
+use crate::tokens::is_word;
+use ports::NoMemory;
+use presentation::Kind;
+use problem::Problem;
+use std::alloc::Global;
+use std::marker::Model;
+use words::Word;
+
+// The most pairs of a script.
+const MOST_PAIRS: usize = 4096;
+
+/// A problem, with the pairs so far, which are all of one kind. Contracts see the problem.
+#[derive(Drop)]
+pub struct Paired {
+    problem: Problem,
+}
+
+impl Model for Paired {
+    ghost use Rattle.problem.specs.declared.kinds.Problem.{Problem as ProblemOf};
+    ghost use Rattle.query_lang.specs.Pairing.{IsPairable};
+
+    ghost Value = { ProblemOf };
+
+    ghost view = { λ p. p.problem };
+
+    ghost invariant = { λ p. IsPairable p.problem };
+}
+
+/// The kind of the pairs whose lines begin so.
+pub fn pair_kind_of(first: &[u8]) -> Option<Kind>
+    ensures { result ≡ pair_kind_of first.now }
+{
+    match first {
+        text if is_word(b"twosided", text) => Some(Kind::TwoSided),
+        text if is_word(b"right", text) => Some(Kind::Right),
+        text if is_word(b"left", text) => Some(Kind::Left),
+        _ => None,
+    }
+}
+
+// Whether the kinds are one.
+fn is_same_kind(one: Kind, other: Kind) -> bool
+    ensures { result ≡ is_same_kind one other }
+{
+    one == other
+}
+
+impl Paired {
+    /// The problem, which may get pairs.
+    pub fn new(problem: Problem) -> Paired
+        requires { IsPairable problem }
+        ensures { result ≡ problem }
+    {
+        Paired { problem }
+    }
+
+    /// Whether the problem is given by relations.
+    pub fn is_presented(&self) -> bool
+        ensures { result ≡ is_presented self.now }
+    {
+        self.problem.is_presented()
+    }
+
+    // The two elements that the tokens are.
+    fn sides(&self, alloc: Global, left: &[u8], right: &[u8]) -> Result<(Word, Word), LineFault>
+        ensures ok { IfOk result (λ sides. sides_of self.now left.now right.now ≡ Ok sides) }
+        ensures left { IfOk result (λ sides. IsElement
+            (has_empty_word self.now) (length (letters_of self.now)) sides.0) }
+        ensures right { IfOk result (λ sides. IsElement
+            (has_empty_word self.now) (length (letters_of self.now)) sides.1) }
+        ensures err { IfErr result (IsLineFault (sides_of self.now left.now right.now)) }
+    {
+        let alphabet = self.problem.alphabet();
+        let allow_empty = self.problem.has_empty_word();
+        both_elements(alloc, alphabet, allow_empty, left, right)
+    }
+
+    // Whether a pair of this kind may come.
+    fn takes(&self, kind: Kind) -> bool
+        ensures { result ≡ takes_kind self.now kind }
+    {
+        self.problem.pairs().is_empty() || is_same_kind(self.problem.kind(), kind)
+    }
+
+    // The pair of these two elements behind the others.
+    fn with_sides(self, kind: Kind, left: Word, right: Word) -> Result<Paired, NoMemory>
+        requires few { length (pairs_of self) ≢ most_pairs }
+        requires left { IsElement (has_empty_word self) (length (letters_of self)) left }
+        requires right { IsElement (has_empty_word self) (length (letters_of self)) right }
+        ensures { IfOk result (λ next. next ≡ with_pair self kind (left, right)) }
+    {
+        Ok(Paired {
+            problem: self.problem.with_pair(kind, left, right)?,
+        })
+    }
+
+    /// The pair of this kind and of these two words behind the others. Refused with the cause of
+    /// its line, or for want of memory.
+    pub fn with_pair(self, alloc: Global, kind: Kind, tokens: &[&[u8]]) -> Result<Paired, LineFault>
+        ensures ok { IfOk result (λ next. add_pair self kind (texts tokens.now) ≡ Ok next) }
+        ensures err { IfErr result (IsLineFault (add_pair self kind (texts tokens.now))) }
+    {
+        let (left, right) = two_tokens(tokens)?;
+        if self.problem.pairs().len() == MOST_PAIRS {
+            return Err(LineFault::refused(Cause::TooManyPairs));
+        }
+        if !self.takes(kind) {
+            return Err(LineFault::refused(Cause::MixedKinds));
+        }
+        let (left, right) = self.sides(alloc, left, right)?;
+        Ok(self.with_sides(kind, left, right)?)
+    }
+
+    /// The problem.
+    pub fn problem(self) -> Problem
+        ensures problem { result ≡ self }
+        ensures posable { IsPosable result }
+    {
+        self.problem
+    }
+}
