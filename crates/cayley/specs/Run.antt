@@ -5,7 +5,7 @@ use Rattle.theory.specs.Word.{Word}
 use Rattle.theory.specs.Congruence.{AreElements}
 use Rattle.theory.specs.Value.{HasAtMostValues, HasMoreValues}
 use Rattle.theory.specs.declared.Kind.{Kind}
-use Rattle.theory.specs.declared.Kind.TheVariants.{TwoSided, Right, Left}
+use Rattle.presentation.specs.Codes.{coded_kind, coded_pairs}
 use Rattle.elements.specs.Generators.{HaveOneShape, value_by}
 use Rattle.froidure_pin.specs.declared.tables.CayleyTables.{CayleyTables}
 use Rattle.race.specs.declared.engines.Progress.{Progress}
@@ -27,22 +27,7 @@ pub record PairsRun (V : Type 0) : Type 0 where
   pub classes : Option (List ℕ)
   pub said : Progress
 
--- how kinds, answers, tables and runs are told apart
-abbrev pub kind_number : Kind → ℕ
-kind_number TwoSided = 0
-kind_number Right = 1
-kind_number Left = 2
-
-abbrev pub kind_of : ℕ → Kind
-kind_of zero = TwoSided
-kind_of (suc zero) = Right
-kind_of (suc (suc n)) = Left
-
-abbrev pub kind_back : (k : Kind) → kind_of (kind_number k) ≡ k
-kind_back TwoSided = refl
-kind_back Right = refl
-kind_back Left = refl
-
+-- how answers, tables and runs are told apart
 abbrev pub progress_number : Progress → ℕ
 progress_number More = 0
 progress_number Decided = 1
@@ -74,10 +59,8 @@ tables_code =
 
 abbrev pub task_code : {V : Type 0} → Coded V → Coded (PairsTask V)
 task_code {V} code =
-    code_by (List V × (Kind × (List (List ℕ × List ℕ) × ℕ)))
-    (coded× (coded_list code)
-    (coded× (code_by ℕ coded_ℕ kind_number kind_of kind_back)
-    (coded× (coded_list (coded× (coded_list coded_ℕ) (coded_list coded_ℕ))) coded_ℕ)))
+    code_by (List V × (Kind × (List (Word × Word) × ℕ)))
+    (coded× (coded_list code) (coded× coded_kind (coded× coded_pairs coded_ℕ)))
     (λ t. (t.generators, (t.kind, (t.pairs, t.bound))))
     (λ p. record { generators = p.0; kind = p.1.0; pairs = p.1.1.0; bound = p.1.1.1 })
     (λ _. refl)

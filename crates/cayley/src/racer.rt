@@ -6,7 +6,7 @@ ghost use Rattle.elements.specs.Generators.{HaveOneShape, value_by};
 ghost use Rattle.froidure_pin.specs.Rules.{IsWholeTable};
 ghost use Rattle.cayley.specs.Whole.{AreTablesOf, AreClassesOf};
 ghost use Rattle.cayley.specs.Tables.{FitTogether};
-ghost use Rattle.cayley.specs.Run.{AreListed, AreSought};
+ghost use Rattle.cayley.specs.Run.{AreListed, AreSought, HasMore};
 
 use crate::classes::{Classes, by_pairs};
 use elements::Element;
@@ -251,6 +251,14 @@ impl<E: Element> PairsRacer<E> {
         ensures { IsTrue result ↔ (self.now.said ≡ Progress.Decided) }
     {
         self.said == Progress::Decided
+    }
+
+    /// Whether a turn has given `Spent`: the generators have more values than the bound.
+    pub fn is_spent(&self) -> bool
+        ensures spent { IsTrue result ↔ (self.now.said ≡ Progress.Spent) }
+        ensures more { self.now.said ≡ Progress.Spent → HasMore E.product E.eq self.now.task }
+    {
+        self.said == Progress::Spent
     }
 
     /// The tables of a search that is decided: those of the generators.
