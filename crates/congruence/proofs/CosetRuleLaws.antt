@@ -1,32 +1,106 @@
--- The rules of the places of a two-sided congruence's graph are its reduced rules.
-use Rattle.std.proofs.Common.{◌≡◌, ◌≢◌, ℕ, zero, suc, ◌<◌, Bool, true, false, List, [], ◌∷◌, ◌++◌, length, drop, refl, sym, ◌∙◌, ap, subst, arith, ◌⊎◌, inl, inr, None, append_assoc, append-nil, length-append}
+-- The rules of the places of a graph are the reduced rules, where the classes are kept in every
+-- context.
+use Rattle.std.proofs.Common.{◌≡◌, ◌≢◌, ℕ, zero, suc, ◌<◌, ◌==◌, not, Bool, true, false, List, [], ◌∷◌, ◌++◌, length, drop, refl, sym, ◌∙◌, ap, subst, arith, ◌⊎◌, inl, inr, None, append_assoc, append-nil, length-append}
+use Rattle.std.proofs.lemmas.Bool.{eqb-true}
 use Rattle.std.proofs.lemmas.List.{nil_from_length}
 use Rattle.theory.specs.Word.{Word, IsOver, IsElement}
-use Rattle.theory.specs.Congruence.{Congruence, IsTwoSided, of_presentation, with_relations, is_two_sided}
-use Rattle.theory.specs.Chain.{Related}
-use Rattle.theory.specs.Class.{SameClass, IsLeast, IsNormal, IsReducedRule, RuleBefore, IsRuleList}
+use Rattle.theory.specs.Congruence.{EitherWay, is_two_sided}
+use Rattle.theory.specs.Chain.{Joined, Step, StepBy}
+use Rattle.theory.specs.Class.{Among, IsLeast, IsNormal, IsReducedRule, RuleBefore, IsRuleList}
 use Rattle.theory.specs.Graph.{Graph, IsGraph}
-use Rattle.theory.specs.declared.Kind.TheVariants.{TwoSided}
+use Rattle.theory.specs.declared.Kind.{Kind}
+use Rattle.theory.specs.declared.Kind.TheVariants.{TwoSided, Right, Left}
 use Rattle.theory.proofs.Words.{order_cases, over_append, over_left, over_right}
-use Rattle.theory.proofs.Chains.{related_congruence}
-use Rattle.theory.proofs.Related.{element_over, nonempty_element}
-use Rattle.theory.proofs.KindLaws.{pairs_as_relations}
+use Rattle.theory.proofs.Chains.{joined_map, step_kept}
+use Rattle.theory.proofs.Related.{element_over, nonempty_element, none_either}
+use Rattle.theory.proofs.Completeness.{normal_unique}
 use Rattle.theory.proofs.FactsLaws.{last_letter}
 use Rattle.theory.proofs.ReducedRules.{greater_full}
-use Rattle.theory.proofs.ClassLaws.{same_class_equivalence, same_normal, least_part, rule_order}
+use Rattle.theory.proofs.ClassLaws.{IsPartialEquivalence, least_part, rule_order}
 use Rattle.theory.proofs.Counting.{in_from_contains, contains_from_in}
 use Rattle.theory.proofs.Listings.{list_from_ascending}
-use Rattle.congruence.proofs.RewrittenRules.{two_sided}
-use Rattle.congruence.specs.Solution.{IsSolution, node_of, word_at}
+use Rattle.problem.specs.declared.kinds.Problem.{Problem}
+use Rattle.problem.specs.declared.kinds.Problem.TheVariants.{Presented, Transf, PPerm, BMat, MaxPlus}
+use Rattle.problem.specs.Problem.{SameClassOf, SameValueOf, allows_rules, are_two_sided, count_of, kind_of, pairs_of}
+use Rattle.congruence.specs.Solution.{IsSolution, place_of, word_at, are_read_backwards, reads_backwards}
 use Rattle.congruence.specs.CosetRules.{normal_of, Falls, IsRuleAt, AreRulesTo}
 use Rattle.congruence.proofs.SolutionLaws.{first_small}
-use Rattle.congruence.proofs.AnswerLaws.{normal_word, place_of}
+use Rattle.congruence.proofs.AnswerLaws.{known, normal_word, least_place}
 
--- a two-sided congruence is kept in every context
-related_within : (c : Congruence) → IsTwoSided c → (x u v y : Word) → Related c u v → Related c (x ++ (u ++ y)) (x ++ (v ++ y))
-related_within c two x u v y h =
-    (pairs_as_relations c two (x ++ (u ++ y)) (x ++ (v ++ y))).1
-    ((related_congruence (of_presentation (with_relations c.presentation c.pairs))).kept x y tt u v ((pairs_as_relations c two u v).0 h))
+-- where pairs are two-sided, or there are none, chains are kept in every context
+joined_within : (B : Word → Word → Type 0) (kind : Kind) (pairs : List (Word × Word)) → are_two_sided kind pairs ≡ true → (x y u v : Word)
+    → Joined (StepBy B kind pairs) u v → Joined (StepBy B kind pairs) (x ++ (u ++ y)) (x ++ (v ++ y))
+joined_within B kind pairs two x y = joined_map (StepBy B kind pairs) (StepBy B kind pairs) (λ w. x ++ (w ++ y)) one
+  where
+    none : (pairs : List (Word × Word)) → (length pairs == 0) ≡ true → (r s : Word) → EitherWay pairs r s → ⊥
+    none [] e r s h = none_either r s h
+    none (p ∷ pairs) e r s h = omega (arith, eqb-true (length (p ∷ pairs)) 0 e)
+
+    by_pair : (kind : Kind) → are_two_sided kind pairs ≡ true → (u v : Word) → Step (EitherWay pairs) kind u v
+        → Step (EitherWay pairs) kind (x ++ (u ++ y)) (x ++ (v ++ y))
+    by_pair TwoSided two u v b = step_kept (EitherWay pairs) TwoSided u v x y b tt
+    by_pair Right two u v b = absurd (none pairs two b.from b.to b.base)
+    by_pair Left two u v b = absurd (none pairs two b.from b.to b.base)
+
+    one : (u v : Word) → StepBy B kind pairs u v → StepBy B kind pairs (x ++ (u ++ y)) (x ++ (v ++ y))
+    one u v s = elim s [ inl a ↦ inl (step_kept B TwoSided u v x y a tt) | inr b ↦ inr (by_pair kind two u v b) ]
+
+-- where part of a word is an element, the word is
+element_within : (b : Bool) (k : ℕ) (x f y : Word) → IsOver k x → IsElement b k f → IsOver k y → IsElement b k (x ++ (f ++ y))
+element_within true k x f y before part after = over_append k x (f ++ y) before (over_append k f y part after)
+element_within false k x f y before part after = (
+  λ e. part.0 (nil_from_length f (omega (arith, ap length e, length-append x (f ++ y), length-append f y))),
+  over_append k x (f ++ y) before (over_append k f y part.1 after),
+)
+
+-- and so is what they join
+joined_elements : (b : Bool) (k : ℕ) (B : Word → Word → Type 0) (kind : Kind) (pairs : List (Word × Word)) → are_two_sided kind pairs ≡ true
+    → (x y u v : Word) → IsOver k x → IsOver k y → Among (IsElement b k) (Joined (StepBy B kind pairs)) u v
+    → Among (IsElement b k) (Joined (StepBy B kind pairs)) (x ++ (u ++ y)) (x ++ (v ++ y))
+joined_elements b k B kind pairs two x y u v before after h = record {
+  left = element_within b k x u y before h.left after;
+  right = element_within b k x v y before h.right after;
+  related = joined_within B kind pairs two x y u v h.related;
+}
+
+-- rules are allowed where the pairs are two-sided, or there are none
+two_sided_pairs : (p : Problem) → allows_rules p ≡ true → are_two_sided (kind_of p) (pairs_of p) ≡ true
+two_sided_pairs (Presented p) e = go p.congruence.kind e
+  where
+    go : (kind : Kind) → is_two_sided (record p.congruence { kind = kind }) ≡ true → are_two_sided kind p.congruence.pairs ≡ true
+    go TwoSided e = e
+    go Right e = e
+    go Left e = e
+two_sided_pairs (Transf p) e = e
+two_sided_pairs (PPerm p) e = e
+two_sided_pairs (BMat p) e = e
+two_sided_pairs (MaxPlus p) e = e
+
+-- words are then read forwards
+pub read_forwards : (p : Problem) → allows_rules p ≡ true → reads_backwards p ≡ false
+read_forwards p allowed = go (kind_of p) (two_sided_pairs p allowed)
+  where
+    go : (kind : Kind) → are_two_sided kind (pairs_of p) ≡ true → are_read_backwards kind (pairs_of p) ≡ false
+    go TwoSided e = refl
+    go Right e = refl
+    go Left e = ap not e
+
+-- and the classes are kept in every context
+abbrev IsKept : ℕ → (Word → Word → Type 0) → Type 0
+IsKept k R = (x y u v : Word) → IsOver k x → IsOver k y → R u v → R (x ++ (u ++ y)) (x ++ (v ++ y))
+
+pub kept_in_contexts : (p : Problem) → allows_rules p ≡ true → IsKept (count_of p) (SameClassOf p)
+kept_in_contexts (Presented p) allowed =
+    joined_elements p.congruence.presentation.is_monoid p.congruence.presentation.letters (EitherWay p.congruence.presentation.relations)
+    p.congruence.kind p.congruence.pairs (two_sided_pairs (Presented p) allowed)
+kept_in_contexts (Transf p) allowed =
+    joined_elements false (length p.generators) (SameValueOf (Transf p)) p.kind p.pairs allowed
+kept_in_contexts (PPerm p) allowed =
+    joined_elements false (length p.generators) (SameValueOf (PPerm p)) p.kind p.pairs allowed
+kept_in_contexts (BMat p) allowed =
+    joined_elements false (length p.generators) (SameValueOf (BMat p)) p.kind p.pairs allowed
+kept_in_contexts (MaxPlus p) allowed =
+    joined_elements false (length p.generators) (SameValueOf (MaxPlus p)) p.kind p.pairs allowed
 
 empty_or_not : (u : Word) → (u ≡ []) ⊎ (u ≡ [] → ⊥)
 empty_or_not [] = inl refl
@@ -47,54 +121,38 @@ same_front (d ∷ u) (f ∷ v) a b e =
     let fronts : u ≡ v = same_front u v a b tails in
     λ i. heads i ∷ fronts i
 
--- where part of a word is an element, the word is
-element_within : (b : Bool) (k : ℕ) (x f y : Word) → IsOver k x → IsElement b k f → IsOver k y → IsElement b k (x ++ (f ++ y))
-element_within true k x f y before part after = over_append k x (f ++ y) before (over_append k f y part after)
-element_within false k x f y before part after = (
-  λ e. part.0 (nil_from_length f (omega (arith, ap length e, length-append x (f ++ y), length-append f y))),
-  over_append k x (f ++ y) before (over_append k f y part.1 after),
-)
-
 -- empty, or the least word of its class
-abbrev IsFit : Congruence → Word → Type 0
-IsFit c u = (u ≡ []) ⊎ IsLeast (SameClass c) u
+abbrev IsFit : (Word → Word → Type 0) → Word → Type 0
+IsFit R u = (u ≡ []) ⊎ IsLeast R u
 
--- a proper factor of the left side of a reduced rule is empty, or least
-fit_factor : (c : Congruence) (u v : Word) → IsReducedRule (SameClass c) u v → (f x y : Word) → u ≡ x ++ (f ++ y) → f ≢ u → IsFit c f
-fit_factor c u v h [] x y at proper = inl refl
-fit_factor c u v h (d ∷ f) x y at proper =
-    let over : IsOver c.presentation.letters (x ++ ((d ∷ f) ++ y)) =
-    subst (λ w. IsOver c.presentation.letters w) at (element_over c.presentation.is_monoid c.presentation.letters u h.normal.related.left) in
-    let part = over_left c.presentation.letters (d ∷ f) y (over_right c.presentation.letters x ((d ∷ f) ++ y) over) in
-    let element = nonempty_element c.presentation.is_monoid c.presentation.letters (d ∷ f) part (λ e. cc) in
-    inr
-    (h.factors (d ∷ f) (record { factor = record { before = x; after = y; is = at }; proper = proper })
-    (record { left = element; right = element; related = (related_congruence c).reflexive (d ∷ f) }))
+module _ (R : Word → Word → Type 0) (empty : Bool) (k : ℕ)
+    (every : (u : Word) → IsElement empty k u → R u u) (among : (u v : Word) → R u v → IsElement empty k u × IsElement empty k v) where
+  -- a proper factor of the left side of a reduced rule is empty, or least
+  fit_factor : (u v : Word) → IsReducedRule R u v → (f x y : Word) → u ≡ x ++ (f ++ y) → f ≢ u → IsFit R f
+  fit_factor u v h [] x y at proper = inl refl
+  fit_factor u v h (d ∷ f) x y at proper =
+      let over : IsOver k (x ++ ((d ∷ f) ++ y)) = subst (λ w. IsOver k w) at (element_over empty k u (among u v h.normal.related).0) in
+      let part = over_left k (d ∷ f) y (over_right k x ((d ∷ f) ++ y) over) in
+      inr
+      (h.factors (d ∷ f) (record { factor = record { before = x; after = y; is = at }; proper = proper })
+      (every (d ∷ f) (nonempty_element empty k (d ∷ f) part (λ e. cc))))
 
--- and so is what is left of it without its first letter
-fit_rest : (c : Congruence) (u v : Word) → IsReducedRule (SameClass c) u v → IsFit c (drop 1 u)
-fit_rest c [] v h = inl refl
-fit_rest c (d ∷ u) v h = fit_factor c (d ∷ u) v h u (d ∷ []) [] (ap (λ w. d ∷ w) (sym (append-nil u))) (λ e. omega (arith, ap length e))
+  -- and so is what is left of it without its first letter
+  fit_rest : (u v : Word) → IsReducedRule R u v → IsFit R (drop 1 u)
+  fit_rest [] v h = inl refl
+  fit_rest (d ∷ u) v h = fit_factor (d ∷ u) v h u (d ∷ []) [] (ap (λ w. d ∷ w) (sym (append-nil u))) (λ e. omega (arith, ap length e))
 
-module _ (c : Congruence) (two : IsTwoSided c) where
+module _ (R : Word → Word → Type 0) (k : ℕ) (over : (u : Word) → R u u → IsOver k u) (kept : IsKept k R) where
   -- a part of a least word is least, if it is an element
-  part_least : (x f y : Word) → IsElement c.presentation.is_monoid c.presentation.letters f → IsLeast (SameClass c) (x ++ (f ++ y))
-      → IsLeast (SameClass c) f
-  part_least x f y element h =
-      let over = element_over c.presentation.is_monoid c.presentation.letters (x ++ (f ++ y)) h.element.left in
-      let before = over_left c.presentation.letters x (f ++ y) over in
-      let after = over_right c.presentation.letters f y (over_right c.presentation.letters x (f ++ y) over) in
-      least_part (SameClass c) x f y
-      (λ v r. record {
-        left = h.element.left;
-        right = element_within c.presentation.is_monoid c.presentation.letters x v y before r.right after;
-        related = related_within c two x f v y r.related;
-      })
-      (record { left = element; right = element; related = (related_congruence c).reflexive f }) h
+  part_least : (x f y : Word) → R f f → IsLeast R (x ++ (f ++ y)) → IsLeast R f
+  part_least x f y same h =
+      let whole = over (x ++ (f ++ y)) h.element in
+      let behind = over_right k f y (over_right k x (f ++ y) whole) in
+      least_part R x f y (λ v r. kept x y f v (over_left k x (f ++ y) whole) behind r) same h
 
   -- where a word is fit without its last letter and without its first, its proper factors are least
-  factor_least : (u w : Word) (a : ℕ) → u ≡ w ++ a ∷ [] → IsFit c w → IsFit c (drop 1 u) → (f x y : Word)
-      → SameClass c f f → u ≡ x ++ (f ++ y) → f ≢ u → IsLeast (SameClass c) f
+  factor_least : (u w : Word) (a : ℕ) → u ≡ w ++ a ∷ [] → IsFit R w → IsFit R (drop 1 u) → (f x y : Word)
+      → R f f → u ≡ x ++ (f ++ y) → f ≢ u → IsLeast R f
   factor_least u w a is front rest [] x y same at proper = record { element = same; none_less = λ v r less. greater_full [] v less refl }
   factor_least u w a is front rest (d ∷ f) x y same at proper = elim (last_letter y) [
     | inl e ↦ behind x (at ∙ ap (λ z. x ++ ((d ∷ f) ++ z)) e ∙ ap (λ z. x ++ z) (append-nil (d ∷ f)))
@@ -104,110 +162,122 @@ module _ (c : Congruence) (two : IsTwoSided c) where
       some : (x z : Word) → x ++ ((d ∷ f) ++ z) ≡ [] → ⊥
       some x z e = omega (arith, ap length e, length-append x ((d ∷ f) ++ z))
 
-      behind : (x : Word) → u ≡ x ++ (d ∷ f) → IsLeast (SameClass c) (d ∷ f)
+      behind : (x : Word) → u ≡ x ++ (d ∷ f) → IsLeast R (d ∷ f)
       behind [] e = absurd (proper (sym e))
       behind (b ∷ x) e =
           let here : drop 1 u ≡ x ++ ((d ∷ f) ++ []) = ap (drop 1) e ∙ ap (λ z. x ++ z) (sym (append-nil (d ∷ f))) in
           elim rest [
             | inl none ↦ absurd (some x [] (sym here ∙ none))
-            | inr least ↦ part_least x (d ∷ f) [] same.left (subst (IsLeast (SameClass c)) here least)
+            | inr least ↦ part_least x (d ∷ f) [] same (subst (IsLeast R) here least)
           ]
 
-      before : (z : Word) (b : ℕ) → u ≡ x ++ ((d ∷ f) ++ (z ++ b ∷ [])) → IsLeast (SameClass c) (d ∷ f)
+      before : (z : Word) (b : ℕ) → u ≡ x ++ ((d ∷ f) ++ (z ++ b ∷ [])) → IsLeast R (d ∷ f)
       before z b e =
           let regrouped : (x ++ ((d ∷ f) ++ z)) ++ b ∷ [] ≡ x ++ ((d ∷ f) ++ (z ++ b ∷ [])) = append_assoc x ((d ∷ f) ++ z) (b ∷ []) ∙ ap (λ t. x ++ t) (append_assoc (d ∷ f) z (b ∷ [])) in
           let here : w ≡ x ++ ((d ∷ f) ++ z) = same_front w (x ++ ((d ∷ f) ++ z)) a b (sym is ∙ e ∙ sym regrouped) in
           elim front [
             | inl none ↦ absurd (some x z (sym here ∙ none))
-            | inr least ↦ part_least x (d ∷ f) z same.left (subst (IsLeast (SameClass c)) here least)
+            | inr least ↦ part_least x (d ∷ f) z same (subst (IsLeast R) here least)
           ]
 
-module _ (c : Congruence) (g : Graph) (least : List (ℕ × Word)) (is : IsSolution c g least) where
+module _ (R : Word → Word → Type 0) (empty : Bool) (k : ℕ) (g : Graph) (least : List (ℕ × Word)) (places : List ℕ)
+    (is : IsSolution R empty k false g least places) (kept : IsKept k R) where
+  some : 0 < length least
+  some = let l = is.listed [] in omega (arith, l.1)
+
+  law : IsPartialEquivalence R
+  law = known R empty k false g least places is
+
+  every : (u : Word) → IsElement empty k u → R u u
+  every u element =
+      let to = is.defined u (element_over empty k u element) in
+      (is.decides u u element element).1 (to.0, to.1, to.1)
+
   not_root : (i : ℕ) → (word_at least i ≡ [] → ⊥) → 0 < i
   not_root zero some = absurd (some is.root)
   not_root (suc i) some = omega arith
 
   -- the words of places are fit, and each fit word has a place
-  fit_place : (i : ℕ) → i < length least → IsFit c (word_at least i)
+  fit_place : (i : ℕ) → i < length least → IsFit R (word_at least i)
   fit_place i h = elim (empty_or_not (word_at least i)) [
     | inl none ↦ inl none
-    | inr some ↦ inr (is.classes i (first_small c.presentation.is_monoid i (not_root i some)) h)
+    | inr some ↦ inr (is.classes i (first_small empty i (not_root i some)) h)
   ]
 
-  place_fit : (u : Word) → IsFit c u → (i : ℕ) × (i < length least) × (word_at least i ≡ u)
-  place_fit u (inl none) = (0, is.listed [], is.root ∙ sym none)
-  place_fit u (inr h) = let at = place_of c g least is u h in (at.0, at.2, at.3)
+  place_fit : (u : Word) → IsFit R u → (i : ℕ) × (i < length least) × (word_at least i ≡ u)
+  place_fit u (inl none) = (0, some, is.root ∙ sym none)
+  place_fit u (inr h) = let at = least_place R empty k false g least places is u h in (at.0, at.2, at.3)
 
-  normal_is : (u : Word) → IsElement c.presentation.is_monoid c.presentation.letters u → IsNormal (SameClass c) u (normal_of g least u)
-  normal_is u element = (normal_word c g least is u (node_of g u) element refl).1
+  normal_is : (u : Word) → IsElement empty k u → IsNormal R u (normal_of g places least u)
+  normal_is u element = (normal_word R empty k false g least places is u (place_of g places u) element refl).1
 
   -- the words that do not fall are fit
-  fit_stays : (u : Word) → IsFit c u → Falls g least u → ⊥
-  fit_stays u (inl none) falls = greater_full u (normal_of g least u) falls none
-  fit_stays u (inr h) falls = h.none_less (normal_of g least u) (normal_is u h.element.left).related falls
+  fit_stays : (u : Word) → IsFit R u → Falls g places least u → ⊥
+  fit_stays u (inl none) falls = greater_full u (normal_of g places least u) falls none
+  fit_stays u (inr h) falls = h.none_less (normal_of g places least u) (normal_is u (is.among u u h.element).0).related falls
 
-  stays_fit : (u : Word) → IsOver c.presentation.letters u → (Falls g least u → ⊥) → IsFit c u
+  stays_fit : (u : Word) → IsOver k u → (Falls g places least u → ⊥) → IsFit R u
   stays_fit u over stays = elim (empty_or_not u) [
     | inl none ↦ inl none
     | inr some ↦
-        let n = normal_is u (nonempty_element c.presentation.is_monoid c.presentation.letters u over some) in
-        elim (order_cases (normal_of g least u) u) [
+        let n = normal_is u (nonempty_element empty k u over some) in
+        elim (order_cases (normal_of g places least u) u) [
           | inl less ↦ absurd (stays less)
-          | inr (inl e) ↦ inr (subst (IsLeast (SameClass c)) e n.least)
-          | inr (inr more) ↦ absurd (n.least.none_less u ((same_class_equivalence c).symmetric u (normal_of g least u) n.related) more)
+          | inr (inl e) ↦ inr (subst (IsLeast R) e n.least)
+          | inr (inr more) ↦ absurd (n.least.none_less u (law.symmetric u (normal_of g places least u) n.related) more)
         ]
   ]
 
-  rule_reduced : IsTwoSided c → (j b : ℕ) (rule : Word × Word) → j < length least → b < c.presentation.letters → IsRuleAt g least j b rule
-      → IsReducedRule (SameClass c) rule.0 rule.1
-  rule_reduced two j b rule within letter at =
-      let over : IsOver c.presentation.letters rule.0 =
-      subst (λ w. IsOver c.presentation.letters w) (sym at.left) (over_append c.presentation.letters (word_at least j) (b ∷ []) (is.over j within) (letter, tt)) in
-      let element = nonempty_element c.presentation.is_monoid c.presentation.letters rule.0 over (greater_full rule.0 rule.1 at.falls) in
-      let rest = stays_fit (drop 1 rule.0) (over_rest c.presentation.letters rule.0 over) at.rest in
+  rule_reduced : (j b : ℕ) (rule : Word × Word) → j < length least → b < k → IsRuleAt g places least j b rule
+      → IsReducedRule R rule.0 rule.1
+  rule_reduced j b rule within letter at =
+      let over : IsOver k rule.0 =
+      subst (λ w. IsOver k w) (sym at.left) (over_append k (word_at least j) (b ∷ []) (is.over j within) (letter, tt)) in
+      let element = nonempty_element empty k rule.0 over (greater_full rule.0 rule.1 at.falls) in
+      let rest = stays_fit (drop 1 rule.0) (over_rest k rule.0 over) at.rest in
       record {
-        normal = subst (IsNormal (SameClass c) rule.0) (sym at.right) (normal_is rule.0 element);
+        normal = subst (IsNormal R rule.0) (sym at.right) (normal_is rule.0 element);
         falls = at.falls;
         factors = λ f proper same.
-            factor_least c two rule.0 (word_at least j) b at.left (fit_place j within) rest f proper.factor.before proper.factor.after same
+            factor_least R k (λ u r. element_over empty k u (is.among u u r).0) kept rule.0 (word_at least j) b at.left (fit_place j within) rest f proper.factor.before proper.factor.after same
             proper.factor.is proper.proper;
       }
 
-  reduced_rule : (rule : Word × Word) → IsReducedRule (SameClass c) rule.0 rule.1
-      → (j b : ℕ) × (j < length least) × (b < c.presentation.letters) × IsRuleAt g least j b rule
+  reduced_rule : (rule : Word × Word) → IsReducedRule R rule.0 rule.1
+      → (j b : ℕ) × (j < length least) × (b < k) × IsRuleAt g places least j b rule
   reduced_rule rule h = elim (last_letter rule.0) [
     | inl none ↦ absurd (greater_full rule.0 rule.1 h.falls none)
     | inr l ↦
         let shorter : l.0 ≢ rule.0 = λ e. omega (arith, ap length e, ap length l.2, length-append l.0 (l.1 ∷ [])) in
-        let at = place_fit l.0 (fit_factor c rule.0 rule.1 h l.0 [] (l.1 ∷ []) l.2 shorter) in
-        let over : IsOver c.presentation.letters (l.0 ++ l.1 ∷ []) =
-        subst (λ w. IsOver c.presentation.letters w) l.2 (element_over c.presentation.is_monoid c.presentation.letters rule.0 h.normal.related.left) in (
+        let at = place_fit l.0 (fit_factor R empty k every is.among rule.0 rule.1 h l.0 [] (l.1 ∷ []) l.2 shorter) in
+        let over : IsOver k (l.0 ++ l.1 ∷ []) =
+        subst (λ w. IsOver k w) l.2 (element_over empty k rule.0 (is.among rule.0 rule.1 h.normal.related).0) in (
           at.0,
           l.1,
           at.1,
-          (over_right c.presentation.letters l.0 (l.1 ∷ []) over).0,
+          (over_right k l.0 (l.1 ∷ []) over).0,
           record {
             left = l.2 ∙ ap (λ w. w ++ l.1 ∷ []) (sym at.2);
-            right = same_normal c rule.0 rule.1 (normal_of g least rule.0) h.normal (normal_is rule.0 h.normal.related.left);
+            right = normal_unique R law.symmetric law.transitive rule.0 rule.1 (normal_of g places least rule.0) h.normal (normal_is rule.0 (is.among rule.0 rule.1 h.normal.related).0);
             falls = h.falls;
-            rest = fit_stays (drop 1 rule.0) (fit_rest c rule.0 rule.1 h);
+            rest = fit_stays (drop 1 rule.0) (fit_rest R empty k every is.among rule.0 rule.1 h);
           },
         )
   ]
 
   -- the rules of all places are the reduced rules, in order
-  rule_list : is_two_sided c ≡ true → (rules : List (Word × Word)) → AreRulesTo c.presentation.letters g least (length least) 0 rules
-      → IsRuleList (SameClass c) rules
-  rule_list two rules are =
-      list_from_ascending (λ rule. IsReducedRule (SameClass c) rule.0 rule.1) RuleBefore (rule_order (SameClass c) (same_class_equivalence c)) None rules
+  rule_list : (rules : List (Word × Word)) → AreRulesTo k g places least (length least) 0 rules
+      → IsRuleList R rules
+  rule_list rules are =
+      list_from_ascending (λ rule. IsReducedRule R rule.0 rule.1) RuleBefore (rule_order R law) None rules
       are.ascending
-      (λ rule m. let s = are.sound rule (contains_from_in rule rules m) in rule_reduced (two_sided c two) s.0 s.1 rule s.3 s.4 s.5)
+      (λ rule m. let s = are.sound rule (contains_from_in rule rules m) in rule_reduced s.0 s.1 rule s.3 s.4 s.5)
       (λ rule h after. let at = reduced_rule rule h in
       in_from_contains rule rules (are.all at.0 at.1 rule (inl at.2) at.2 at.3 at.4))
 
   -- a graph has one number of letters
-  pub rules_reduced : is_two_sided c ≡ true → (letters : ℕ) (rules : List (Word × Word)) → IsGraph letters g
-      → AreRulesTo letters g least (length least) 0 rules → IsRuleList (SameClass c) rules
-  rules_reduced two letters rules graph are =
-      let same : letters ≡ c.presentation.letters = sym (graph.width 0 [] graph.rooted) ∙ is.graph.width 0 [] graph.rooted in
-      rule_list two rules (subst (λ k. AreRulesTo k g least (length least) 0 rules) same are)
+  pub rules_reduced : (letters : ℕ) (rules : List (Word × Word)) → IsGraph letters g
+      → AreRulesTo letters g places least (length least) 0 rules → IsRuleList R rules
+  rules_reduced letters rules graph are =
+      let same : letters ≡ k = sym (graph.width 0 [] graph.rooted) ∙ is.graph.width 0 [] graph.rooted in
+      rule_list rules (subst (λ n. AreRulesTo n g places least (length least) 0 rules) same are)

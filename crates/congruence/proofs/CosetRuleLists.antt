@@ -8,7 +8,6 @@ use Rattle.theory.specs.Listing.{IsAfter, IsAscending}
 use Rattle.theory.specs.Class.{RuleBefore}
 use Rattle.theory.specs.Graph.{Graph}
 use Rattle.theory.proofs.Counting.{IsIn, in_from_contains, contains_from_in}
-use Rattle.theory.proofs.Related.{none_contained}
 use Rattle.word_graph.specs.Walk.{IsBefore}
 use Rattle.word_graph.proofs.OrderLaws.{before_behind, letter_before}
 use Rattle.congruence.specs.Solution.{word_at, AreAscending}
@@ -19,10 +18,6 @@ ascending_push : {A : Type 0} (Less : A → A → Type 0) (cursor : Option A) (x
     → IsAfter Less cursor y → ((x : A) → IsIn x xs → Less x y) → IsAscending Less cursor (xs ++ y ∷ [])
 ascending_push Less cursor [] y up after all = (after, tt)
 ascending_push Less cursor (x ∷ xs) y up after all = (up.0, ascending_push Less (Some x) xs y up.1 (all x (inl refl)) (λ z m. all z (inr m)))
-
-none_before : (j b : ℕ) → IsBefore j b 0 0 → ⊥
-none_before j b (inl h) = omega arith
-none_before j b (inr h) = omega (arith, h.1)
 
 before_on : (j b i a : ℕ) → IsBefore j b i a → IsBefore j b i (a + 1)
 before_on j b i a (inl h) = inl h
@@ -42,10 +37,10 @@ before_row j b i k within (inl h) = elim (cases_lt j i) [ inl less ↦ inl less 
 before_row j b i k within (inr h) = absurd (omega (arith, h.1))
 
 -- a place and a letter have at most one rule
-same_rule : (g : Graph) (least : List (ℕ × Word)) (i a : ℕ) (p q : Word × Word) → IsRuleAt g least i a p → IsRuleAt g least i a q → p ≡ q
-same_rule g least i a p q h k =
+same_rule : (g : Graph) (places : List ℕ) (least : List (ℕ × Word)) (i a : ℕ) (p q : Word × Word) → IsRuleAt g places least i a p → IsRuleAt g places least i a q → p ≡ q
+same_rule g places least i a p q h k =
     let left : p.0 ≡ q.0 = h.left ∙ sym k.left in
-    let right : p.1 ≡ q.1 = h.right ∙ ap (normal_of g least) left ∙ sym k.right in
+    let right : p.1 ≡ q.1 = h.right ∙ ap (normal_of g places least) left ∙ sym k.right in
     λ t. (left t, right t)
 
 -- the left sides ascend
@@ -55,39 +50,32 @@ left_before least ascending j b i a (inl h) within = before_behind (word_at leas
 left_before least ascending j b i a (inr h) within =
     subst (λ l. (word_at least j ++ b ∷ []) ≺ (word_at least l ++ a ∷ [])) h.0 (letter_before (word_at least j) b a h.1)
 
-pub no_rules : (k : ℕ) (g : Graph) (least : List (ℕ × Word)) → AreRulesTo k g least 0 0 []
-no_rules k g least = record {
-  sound = λ rule m. absurd (none_contained rule m);
-  all = λ j b rule before within letter is. absurd (none_before j b before);
-  ascending = tt;
-}
-
-module _ (k : ℕ) (g : Graph) (least : List (ℕ × Word)) (i a : ℕ) (rules : List (Word × Word)) (are : AreRulesTo k g least i a rules) where
+module _ (k : ℕ) (g : Graph) (places : List ℕ) (least : List (ℕ × Word)) (i a : ℕ) (rules : List (Word × Word)) (are : AreRulesTo k g places least i a rules) where
   -- no rule at the letter
-  pub rule_none : ((rule : Word × Word) → IsRuleAt g least i a rule → ⊥) → AreRulesTo k g least i (a + 1) rules
+  pub rule_none : ((rule : Word × Word) → IsRuleAt g places least i a rule → ⊥) → AreRulesTo k g places least i (a + 1) rules
   rule_none none = record {
     sound = λ rule m. let s = are.sound rule m in (s.0, s.1, before_on s.0 s.1 i a s.2, s.3, s.4, s.5);
     all = λ j b rule before within letter is. elim (before_cases j b i a before) [
       | inl old ↦ are.all j b rule old within letter is
-      | inr here ↦ absurd (none rule (subst₂ (λ m l. IsRuleAt g least m l rule) here.0 here.1 is))
+      | inr here ↦ absurd (none rule (subst₂ (λ m l. IsRuleAt g places least m l rule) here.0 here.1 is))
     ];
     ascending = are.ascending;
   }
 
   -- one rule more
-  pub rule_more : (new : Word × Word) → AreAscending least → i < length least → a < k → IsRuleAt g least i a new
-      → AreRulesTo k g least i (a + 1) (rules ++ new ∷ [])
+  pub rule_more : (new : Word × Word) → AreAscending least → i < length least → a < k → IsRuleAt g places least i a new
+      → AreRulesTo k g places least i (a + 1) (rules ++ new ∷ [])
   rule_more new ascending within letter at = record {
     sound = λ rule m. elim (Contains-append_cases rules (new ∷ []) rule m) [
       | inl old ↦ let s = are.sound rule old in (s.0, s.1, before_on s.0 s.1 i a s.2, s.3, s.4, s.5)
-      | inr last ↦ (i, a, inr (refl, omega arith), within, letter, subst (λ (r : Word × Word). IsRuleAt g least i a r) (sym (only rule (in_from_contains rule (new ∷ []) last))) at)
+      | inr last ↦ (i, a, inr (refl, omega arith), within, letter, subst (λ (r : Word × Word). IsRuleAt g places least i a r) (sym (only rule (in_from_contains rule (new ∷ []) last))) at)
     ];
     all = λ j b rule before row number is. elim (before_cases j b i a before) [
       | inl old ↦ Contains-append_left rules (new ∷ []) rule (are.all j b rule old row number is)
       | inr here ↦
           Contains-append_right rules (new ∷ []) rule
           (contains_from_in rule (new ∷ [])
-          (inl (same_rule g least i a rule new (subst₂ (λ m l. IsRuleAt g least m l rule) here.0 here.1 is) at)))
+          (inl (same_rule g places least i a rule new (subst₂ (λ m l. IsRuleAt g places least m l rule) here.0 here.1 is) at)))
     ];
     ascending = ascending_push RuleBefore None rules new are.ascending tt
         (λ rule m. let s = are.sound rule (contains_from_in rule rules m) in
@@ -99,9 +87,9 @@ module _ (k : ℕ) (g : Graph) (least : List (ℕ × Word)) (i a : ℕ) (rules :
       only rule (inr m) = absurd m
 
 -- behind all letters of a place comes the next place
-pub next_place : (k : ℕ) (g : Graph) (least : List (ℕ × Word)) (i : ℕ) (rules : List (Word × Word)) → AreRulesTo k g least i k rules
-    → AreRulesTo k g least (i + 1) 0 rules
-next_place k g least i rules are = record {
+pub next_place : (k : ℕ) (g : Graph) (places : List ℕ) (least : List (ℕ × Word)) (i : ℕ) (rules : List (Word × Word)) → AreRulesTo k g places least i k rules
+    → AreRulesTo k g places least (i + 1) 0 rules
+next_place k g places least i rules are = record {
   sound = λ rule m. let s = are.sound rule m in (s.0, s.1, before_next s.0 s.1 i k s.2, s.3, s.4, s.5);
   all = λ j b rule before within letter is. are.all j b rule (before_row j b i k letter before) within letter is;
   ascending = are.ascending;

@@ -1,75 +1,131 @@
 -- The graph that coset enumeration ends with decides the congruence.
-use Rattle.std.proofs.Common.{◌≡◌, ℕ, sym, subst, List, ◌⊎◌, inl, inr}
-use Rattle.theory.specs.Word.{Word}
-use Rattle.theory.specs.Congruence.{Presentation, Congruence, IsWellFormed, IsRightSided, as_right}
+use Rattle.std.proofs.Common.{◌≡◌, ◌↔◌, ℕ, ◌<◌, Bool, not, false, List, [], ◌∷◌, length, refl, sym, ◌∙◌, ap, subst, subst₂, arith, Some}
+use Rattle.std.proofs.lemmas.Bool.{ne_eqb}
+use Rattle.theory.specs.Word.{Word, IsOver, IsElement}
+use Rattle.theory.specs.Congruence.{Congruence, IsWellFormed, IsRightSided, as_right, as_right_word}
+use Rattle.theory.specs.Chain.{Related}
 use Rattle.theory.specs.declared.Kind.{Kind}
 use Rattle.theory.specs.declared.Kind.TheVariants.{TwoSided, Right, Left}
 use Rattle.theory.specs.Facts.{AllDefined}
-use Rattle.theory.specs.Graph.{Graph, SameEnd, Shows, IsGraph}
+use Rattle.theory.specs.Graph.{Graph, path, SameEnd, Shows, IsGraph}
+use Rattle.theory.proofs.Chains.{related_congruence}
 use Rattle.theory.proofs.FelschLaws.{felsch_related}
 use Rattle.theory.proofs.HltLaws.{hlt_related}
 use Rattle.theory.proofs.KindLaws.{as_right_related, as_right_sided, as_right_well_formed}
+use Rattle.theory.proofs.Related.{element_over, nonempty_element, related_element}
 use Rattle.word_graph.specs.Standard.{IsStandardGraph}
+use Rattle.presentation.specs.Presented.{Posed}
+use Rattle.problem.specs.declared.kinds.Problem.TheVariants.{Presented}
 use Rattle.tc_felsch.specs.Stage as felsch
 use Rattle.tc_hlt.specs.Stage as hlt
-use Rattle.congruence.specs.Solution.{IsGraphOf}
+use Rattle.congruence.specs.Solution.{IsGraphFor, are_read_backwards, as_read}
+use Rattle.congruence.proofs.SolutionLaws.{path_over, read_over}
 
--- the graph that Felsch's strategy ends with
-felsch_graph : (c : Congruence) (made : ℕ) (g h : Graph) → IsWellFormed c → IsRightSided c → IsStandardGraph c.presentation.letters g
-    → Shows g (SameEnd h) → felsch.IsAtStage c made g → IsGraph c.presentation.letters g → AllDefined c.presentation.letters (SameEnd g) → IsGraphOf c g
-felsch_graph c made g h well sided standard shows at graph all = record {
-  graph = graph;
-  reached = shows.reached;
-  standard = standard;
-  decides = λ u v over.
-      let facts = felsch_related c at.words well sided (λ w o. (at.shows w w).0 (all w o)) u v over in
-      (λ r. (at.shows u v).1 (facts.1 r), λ e. facts.0 ((at.shows u v).0 e));
-}
-
--- the graph that the strategy of rows ends with
-hlt_graph : (c : Congruence) (made : ℕ) (g h : Graph) → IsWellFormed c → IsRightSided c → IsStandardGraph c.presentation.letters g
-    → Shows g (SameEnd h) → hlt.IsAtEnd c made g → IsGraph c.presentation.letters g → IsGraphOf c g
-hlt_graph c made g h well sided standard shows at graph = record {
-  graph = graph;
-  reached = shows.reached;
-  standard = standard;
-  decides = λ u v over.
-      let facts = hlt_related c at.words well sided at.all u v over in
-      (λ r. (at.shows u v).1 (facts.1 r), λ e. facts.0 ((at.shows u v).0 e));
-}
-
--- a graph that decides the right congruence that stands for a congruence decides the congruence, where its pairs are no left pairs
-same_graph : (c : Congruence) (g : Graph) → (c.kind ≡ TwoSided) ⊎ (c.kind ≡ Right) → IsGraphOf (as_right c) g → IsGraphOf c g
-same_graph c g sided is = go c.presentation c.kind c.pairs sided is
+-- the right congruence that stands for a congruence has its letters, and its empty word
+same_letters : (c : Congruence) → (as_right c).presentation.letters ≡ c.presentation.letters
+same_letters c = go c.kind c.pairs
   where
-    go : (p : Presentation) (kind : Kind) (pairs : List (Word × Word)) → (kind ≡ TwoSided) ⊎ (kind ≡ Right)
-        → IsGraphOf (as_right (record { presentation = p; kind = kind; pairs = pairs })) g
-        → IsGraphOf (record { presentation = p; kind = kind; pairs = pairs }) g
-    go p TwoSided pairs sided is = record {
-      graph = is.graph;
-      reached = is.reached;
-      standard = is.standard;
-      decides = λ u v over.
-          let same = as_right_related (record { presentation = p; kind = TwoSided; pairs = pairs }) u v in
-          (λ r. (is.decides u v over).0 (same.0 r), λ e. same.1 ((is.decides u v over).1 e));
-    }
-    go p Right pairs sided is = is
-    go p Left pairs (inl e) is = cc
-    go p Left pairs (inr e) is = cc
+    go : (kind : Kind) (pairs : List (Word × Word))
+        → (as_right (record { presentation = c.presentation; kind = kind; pairs = pairs })).presentation.letters ≡ c.presentation.letters
+    go TwoSided pairs = refl
+    go Right pairs = refl
+    go Left [] = refl
+    go Left (q ∷ pairs) = refl
+
+same_empty_word : (c : Congruence) → (as_right c).presentation.is_monoid ≡ c.presentation.is_monoid
+same_empty_word c = go c.kind c.pairs
+  where
+    go : (kind : Kind) (pairs : List (Word × Word))
+        → (as_right (record { presentation = c.presentation; kind = kind; pairs = pairs })).presentation.is_monoid ≡ c.presentation.is_monoid
+    go TwoSided pairs = refl
+    go Right pairs = refl
+    go Left [] = refl
+    go Left (q ∷ pairs) = refl
+
+-- words are read as the right congruence takes them
+same_reading : (c : Congruence) (u : Word) → as_right_word c u ≡ as_read (are_read_backwards c.kind c.pairs) u
+same_reading c u = go c.kind c.pairs
+  where
+    go : (kind : Kind) (pairs : List (Word × Word))
+        → as_right_word (record { presentation = c.presentation; kind = kind; pairs = pairs }) u ≡ as_read (are_read_backwards kind pairs) u
+    go TwoSided pairs = refl
+    go Right pairs = refl
+    go Left [] = refl
+    go Left (q ∷ pairs) = ap (λ b. as_read (not b) u) (sym (ne_eqb (length (q ∷ pairs)) 0 (λ e. omega (arith, e))))
+
+-- a standard graph whose equal paths are a right congruence
+record IsRightGraph (k : Congruence) (g : Graph) : Type 0 where
+  graph : IsGraph k.presentation.letters g
+  reached : (node : ℕ) → node < length g → (u : Word) × (path g 0 u ≡ Some node)
+  standard : IsStandardGraph k.presentation.letters g
+  decides : (u v : Word) → IsOver k.presentation.letters u → Related k u v ↔ SameEnd g u v
+
+-- in a semigroup no nonempty word is related to the empty one
+alone : (k : Congruence) (g : Graph) → IsWellFormed k → IsRightGraph k g → k.presentation.is_monoid ≡ false → (u : Word)
+    → path g 0 u ≡ Some 0 → u ≡ []
+alone k g well is semigroup [] e = refl
+alone k g well is semigroup (a ∷ u) e =
+    let over = path_over k.presentation.letters g is.graph (a ∷ u) 0 0 e in
+    let element = nonempty_element k.presentation.is_monoid k.presentation.letters (a ∷ u) over (λ e. cc) in
+    let none = related_element k well (a ∷ u) [] ((is.decides (a ∷ u) [] over).1 (0, e, refl)) element in
+    absurd ((subst (λ b. IsElement b k.presentation.letters []) semigroup none).0 refl)
+
+-- a graph that decides the right congruence that stands for a congruence decides the congruence
+graph_for : (p : Posed) (g : Graph) → IsWellFormed p.congruence → IsRightGraph (as_right p.congruence) g → IsGraphFor (Presented p) g
+graph_for p g well is = record {
+  graph = subst (λ n. IsGraph n g) letters is.graph;
+  reached = is.reached;
+  standard = subst (λ n. IsStandardGraph n g) letters is.standard;
+  defined = λ u over.
+      let ends = (is.decides u u (back u over)).0 ((related_congruence k).reflexive u) in
+      (ends.0, ends.1);
+  alone = λ semigroup. alone k g (as_right_well_formed p.congruence well) is (same_empty_word p.congruence ∙ semigroup);
+  decides = λ u v left right. (
+    λ h. (decides u v left).0 h.related,
+    λ e. record { left = left; right = right; related = (decides u v left).1 e },
+  );
+}
+  where
+    k : Congruence
+    k = as_right p.congruence
+
+    letters : (as_right p.congruence).presentation.letters ≡ p.congruence.presentation.letters
+    letters = same_letters p.congruence
+
+    back : (u : Word) → IsOver p.congruence.presentation.letters u → IsOver (as_right p.congruence).presentation.letters u
+    back u = subst (λ n. IsOver n u) (sym (same_letters p.congruence))
+
+    decides : (u v : Word) → IsElement p.congruence.presentation.is_monoid p.congruence.presentation.letters u
+        → Related p.congruence u v
+        ↔ SameEnd g (as_read (are_read_backwards p.congruence.kind p.congruence.pairs) u) (as_read (are_read_backwards p.congruence.kind p.congruence.pairs) v)
+    decides u v element =
+        let b : Bool = are_read_backwards p.congruence.kind p.congruence.pairs in
+        let over = read_over b p.congruence.presentation.letters u (element_over p.congruence.presentation.is_monoid p.congruence.presentation.letters u element) in
+        let same = subst₂ (λ x y. Related p.congruence u v ↔ Related (as_right p.congruence) x y) (same_reading p.congruence u) (same_reading p.congruence v) (as_right_related p.congruence u v) in
+        let here = is.decides (as_read b u) (as_read b v) (back (as_read b u) over) in
+        (λ h. here.0 (same.0 h), λ e. same.1 (here.1 e))
 
 -- the strategies' graphs for the right congruence that stands for a congruence
-module _ (c k : Congruence) (well : IsWellFormed c) (sided : (c.kind ≡ TwoSided) ⊎ (c.kind ≡ Right)) (task : k ≡ as_right c) (made : ℕ) (g h : Graph)
+module _ (p : Posed) (k : Congruence) (well : IsWellFormed p.congruence) (task : k ≡ as_right p.congruence) (made : ℕ) (g h : Graph)
     (standard : IsStandardGraph k.presentation.letters g) (shows : Shows g (SameEnd h)) (graph : IsGraph k.presentation.letters g) where
   is_well_formed : IsWellFormed k
-  is_well_formed = subst IsWellFormed (sym task) (as_right_well_formed c well)
+  is_well_formed = subst IsWellFormed (sym task) (as_right_well_formed p.congruence well)
 
   is_right_sided : IsRightSided k
-  is_right_sided = subst IsRightSided (sym task) (as_right_sided c)
+  is_right_sided = subst IsRightSided (sym task) (as_right_sided p.congruence)
 
-  pub by_definitions : felsch.IsAtStage k made g → AllDefined k.presentation.letters (SameEnd g) → IsGraphOf c g
-  by_definitions at all =
-      same_graph c g sided (subst (λ (r : Congruence). IsGraphOf r g) task (felsch_graph k made g h is_well_formed is_right_sided standard shows at graph all))
+  by_right_graph : ((u v : Word) → IsOver k.presentation.letters u → Related k u v ↔ SameEnd g u v) → IsGraphFor (Presented p) g
+  by_right_graph decides =
+      graph_for p g well
+      (subst (λ r. IsRightGraph r g) task
+      (record { graph = graph; reached = shows.reached; standard = standard; decides = decides }))
 
-  pub by_rows : hlt.IsAtEnd k made g → IsGraphOf c g
-  by_rows at =
-      same_graph c g sided (subst (λ (r : Congruence). IsGraphOf r g) task (hlt_graph k made g h is_well_formed is_right_sided standard shows at graph))
+  pub by_definitions : felsch.IsAtStage k made g → AllDefined k.presentation.letters (SameEnd g) → IsGraphFor (Presented p) g
+  by_definitions at all = by_right_graph (λ u v over.
+      let facts = felsch_related k at.words is_well_formed is_right_sided (λ w o. (at.shows w w).0 (all w o)) u v over in
+      (λ r. (at.shows u v).1 (facts.1 r), λ e. facts.0 ((at.shows u v).0 e)))
+
+  pub by_rows : hlt.IsAtEnd k made g → IsGraphFor (Presented p) g
+  by_rows at = by_right_graph (λ u v over.
+      let facts = hlt_related k at.words is_well_formed is_right_sided at.all u v over in
+      (λ r. (at.shows u v).1 (facts.1 r), λ e. facts.0 ((at.shows u v).0 e)))

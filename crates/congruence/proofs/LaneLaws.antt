@@ -1,5 +1,5 @@
--- What the lanes of a race for a congruence know at its start and at its end.
-use Rattle.std.proofs.Common.{◌≡◌, ℕ, zero, suc, refl, sym, ◌∙◌, ap, ap₂, subst, inl, inr, Bool, true, false, cond, List, [], ◌∷◌, ◌++◌, length, Some}
+-- What the lanes of a race for a problem know at its start and at its end.
+use Rattle.std.proofs.Common.{◌≡◌, ℕ, zero, suc, refl, sym, ◌∙◌, ap, ap₂, subst, inl, inr, Bool, true, false, cond, List, [], ◌∷◌, ◌++◌, Some}
 use Rattle.std.specs.Prelude.{slice_get}
 use Rattle.theory.specs.Word.{Word}
 use Rattle.theory.specs.Congruence.{Presentation, Congruence, IsTwoSided, as_right, is_two_sided}
@@ -7,16 +7,20 @@ use Rattle.theory.specs.Completion.{CompletionEnds}
 use Rattle.theory.specs.declared.Kind.{Kind}
 use Rattle.theory.specs.declared.Kind.TheVariants.{TwoSided, Right, Left}
 use Rattle.problem.specs.declared.budgets.Budgets.{Budgets}
-use Rattle.problem.specs.Problem.{IsCongruenceDecided}
+use Rattle.presentation.specs.Presented.{Posed}
+use Rattle.problem.specs.declared.kinds.Problem.{Problem}
+use Rattle.problem.specs.declared.kinds.Problem.TheVariants as problem
+use Rattle.problem.specs.Problem.{IsCongruenceDecided, IsDecided, IsUndecided, no_matrix, no_truncated_matrix}
 use Rattle.race.specs.Lanes.{fresh}
-use Rattle.race.specs.Machine.{EndsAs, LaneFits, Starts, Tells, tasks}
+use Rattle.race.specs.Machine.{EndsAs, IsSpent, LaneFits, Starts, Tells, tasks}
+use Rattle.race.specs.declared.engines.Progress.TheVariants as Progress
 use Rattle.race.specs.declared.lanes.Lane.{Lane}
 use Rattle.race.specs.declared.lanes.LaneState.TheVariants.{Running}
 use Rattle.race.specs.declared.playing.Outcome.{Outcome}
 use Rattle.race.specs.declared.playing.Outcome.TheVariants.{Won, AllSpent}
 use Rattle.congruence.proofs.RewrittenRules.{two_sided}
 use Rattle.congruence.specs.declared.engine.Engine.{Engine}
-use Rattle.congruence.specs.Engines.{EngineTask, Definitions, Rows, Rewriting, HasDecided, IsEndOf, IsTaskFor, as_racer, ends_within, related_presentation, task_of, tasks_for}
+use Rattle.congruence.specs.Engines.{EngineTask, Definitions, Rows, Rewriting, Transformations, PartialPermutations, BooleanMatrices, TruncatedMatrices, HasDecided, HasMoreElements, IsEndOf, IsTaskFor, as_racer, congruence_tasks, ends_within, pairs_task, related_presentation, said_of, task_of, tasks_for}
 
 test_from_two_sided : (c : Congruence) → IsTwoSided c → is_two_sided c ≡ true
 test_from_two_sided c = go c.presentation c.kind c.pairs
@@ -63,10 +67,10 @@ module _ (none one two : List (Lane Engine)) (a b : Lane Engine) (f h : Engine) 
       subst (λ (ls : List (Lane Engine)). Starts as_racer ls)
       (sym (same ∙ third ∙ ap₂ (λ (ls : List (Lane Engine)) (m : Lane Engine). ls ++ m ∷ []) two_are at_two)) (three_start f h k)
 
--- a task of the congruence within the budgets
-record IsTaskWithin (c : Congruence) (b : Budgets) (t : EngineTask) : Type 0 where
-  pub task : IsTaskFor c t
-  pub ends : ends_within t → IsCongruenceDecided c b
+-- a task of the problem within the budgets
+record IsTaskWithin (p : Problem) (b : Budgets) (t : EngineTask) : Type 0 where
+  pub task : IsTaskFor p t
+  pub ends : ends_within t → IsDecided p b
 
 -- the task of a list that has it where the test holds
 where_test : (test : Bool) (r t : EngineTask) (i : ℕ) → slice_get (cond test (r ∷ []) []) i ≡ Some t → (test ≡ true) × (r ≡ t)
@@ -74,16 +78,32 @@ where_test true r t zero at = (refl, cc)
 where_test true r t (suc i) at = cc
 where_test false r t i at = cc
 
-each_task : (c : Congruence) (b : Budgets) (t : EngineTask) (i : ℕ) → slice_get (tasks_for c b) i ≡ Some t → IsTaskWithin c b t
-each_task c b t zero at =
-    subst (λ s. IsTaskWithin c b s) (let e : Definitions (record { congruence = as_right c; budget = b.defs }) ≡ t = cc in e)
+congruence_task : (p : Posed) (b : Budgets) (t : EngineTask) (i : ℕ) → slice_get (congruence_tasks p.congruence b) i ≡ Some t → IsTaskWithin (problem.Presented p) b t
+congruence_task p b t zero at =
+    subst (λ s. IsTaskWithin (problem.Presented p) b s) (let e : Definitions (record { congruence = as_right p.congruence; budget = b.defs }) ≡ t = cc in e)
     (record { task = refl; ends = λ h. inl (inl h) })
-each_task c b t (suc zero) at =
-    subst (λ s. IsTaskWithin c b s) (let e : Rows (record { congruence = as_right c; budget = b.rows }) ≡ t = cc in e)
+congruence_task p b t (suc zero) at =
+    subst (λ s. IsTaskWithin (problem.Presented p) b s) (let e : Rows (record { congruence = as_right p.congruence; budget = b.rows }) ≡ t = cc in e)
     (record { task = refl; ends = λ h. inl (inr h) })
-each_task c b t (suc (suc i)) at =
-    let found = where_test (is_two_sided c) (Rewriting (record { presentation = related_presentation c; length = b.length })) t i at in
-    subst (λ s. IsTaskWithin c b s) found.1 (record { task = (found.0, refl); ends = λ h. inr (two_sided c found.0, h) })
+congruence_task p b t (suc (suc i)) at =
+    let found = where_test (is_two_sided p.congruence) (Rewriting (record { presentation = related_presentation p.congruence; length = b.length })) t i at in
+    subst (λ s. IsTaskWithin (problem.Presented p) b s) found.1 (record { task = (found.0, refl); ends = λ h. inr (two_sided p.congruence found.0, h) })
+
+-- the task of a list of one
+one_task : (s t : EngineTask) (i : ℕ) → slice_get (s ∷ []) i ≡ Some t → s ≡ t
+one_task s t zero at = cc
+one_task s t (suc i) at = cc
+
+each_task : (p : Problem) (b : Budgets) (t : EngineTask) (i : ℕ) → slice_get (tasks_for p b) i ≡ Some t → IsTaskWithin p b t
+each_task (problem.Presented p) b t i at = congruence_task p b t i at
+each_task (problem.Transf p) b t i at =
+    subst (λ s. IsTaskWithin (problem.Transf p) b s) (one_task (Transformations (pairs_task p b.elements)) t i at) (record { task = refl; ends = λ h. h [] })
+each_task (problem.PPerm p) b t i at =
+    subst (λ s. IsTaskWithin (problem.PPerm p) b s) (one_task (PartialPermutations (pairs_task p b.elements)) t i at) (record { task = refl; ends = λ h. h [] })
+each_task (problem.BMat p) b t i at =
+    subst (λ s. IsTaskWithin (problem.BMat p) b s) (one_task (BooleanMatrices (pairs_task p b.elements)) t i at) (record { task = refl; ends = λ h. h no_matrix })
+each_task (problem.MaxPlus p) b t i at =
+    subst (λ s. IsTaskWithin (problem.MaxPlus p) b s) (one_task (TruncatedMatrices (pairs_task p b.elements)) t i at) (record { task = refl; ends = λ h. h no_truncated_matrix })
 
 -- the task of a lane stands in the list of tasks
 task_at : (ls : List (Lane Engine)) (i : ℕ) (l : Lane Engine) → slice_get ls i ≡ Some l → slice_get (tasks as_racer ls) i ≡ Some (task_of l.racer)
@@ -98,34 +118,70 @@ lane_at [] i t at = cc
 lane_at (m ∷ ls) zero t at = (m, refl, cc)
 lane_at (m ∷ ls) (suc i) t at = lane_at ls i t at
 
-module _ (c : Congruence) (b : Budgets) (lanes : List (Lane Engine)) (same : tasks as_racer lanes ≡ tasks_for c b) where
-  of_lane : (i : ℕ) (l : Lane Engine) → slice_get lanes i ≡ Some l → IsTaskWithin c b (task_of l.racer)
-  of_lane i l at = each_task c b (task_of l.racer) i (subst (λ ts. slice_get ts i ≡ Some (task_of l.racer)) same (task_at lanes i l at))
+-- the tasks of the lanes are those of the problem
+module _ (p : Problem) (b : Budgets) (lanes : List (Lane Engine)) (same : tasks as_racer lanes ≡ tasks_for p b) where
+  of_lane : (i : ℕ) (l : Lane Engine) → slice_get lanes i ≡ Some l → IsTaskWithin p b (task_of l.racer)
+  of_lane i l at = each_task p b (task_of l.racer) i (subst (λ ts. slice_get ts i ≡ Some (task_of l.racer)) same (task_at lanes i l at))
 
-  -- the lane that has won has decided the congruence
-  pub won_decided : (i : ℕ) → Tells as_racer (Won i) lanes → HasDecided c lanes i
+  -- the lane that has won has decided the problem
+  pub won_decided : (i : ℕ) → Tells as_racer (Won i) lanes → HasDecided p lanes i
   won_decided i (l, at, state, decided) = record { lane = l; at = at; decided = decided.answered; task = (of_lane i l at).task }
 
-  pub won_ends : (i : ℕ) → Tells as_racer (Won i) lanes → IsCongruenceDecided c b
+  pub won_ends : (i : ℕ) → Tells as_racer (Won i) lanes → IsDecided p b
   won_ends i (l, at, state, decided) = (of_lane i l at).ends decided.holds
 
-  -- where each lane is spent, no engine decides
-  fails_at : (i : ℕ) (t : EngineTask) → Tells as_racer AllSpent lanes → slice_get (tasks_for c b) i ≡ Some t → ends_within t → ⊥
-  fails_at i t told at ends =
+  -- where each lane is spent, so is the one of this task
+  spent_at : (i : ℕ) (t : EngineTask) → Tells as_racer AllSpent lanes → slice_get (tasks_for p b) i ≡ Some t
+      → (l : Lane Engine) × (slice_get lanes i ≡ Some l) × (task_of l.racer ≡ t) × IsSpent as_racer l.racer
+  spent_at i t told at =
       let found = lane_at lanes i t (subst (λ ts. slice_get ts i ≡ Some t) (sym same) at) in
-      (told i found.0 found.1).1.fails (subst ends_within (sym found.2) ends)
+      (found.0, found.1, found.2, (told i found.0 found.1).1)
 
-  rewriting_fails : Tells as_racer AllSpent lanes → is_two_sided c ≡ true → CompletionEnds (related_presentation c) b.length → ⊥
-  rewriting_fails told test ends =
-      let task : EngineTask = Rewriting (record { presentation = related_presentation c; length = b.length }) in
-      fails_at 2 task told (ap (λ two. slice_get (cond two (task ∷ []) []) 0) test) ends
+  -- and no engine decides
+  fails_at : (i : ℕ) (t : EngineTask) → Tells as_racer AllSpent lanes → slice_get (tasks_for p b) i ≡ Some t → ends_within t → ⊥
+  fails_at i t told at ends =
+      let found = spent_at i t told at in
+      found.3.fails (subst ends_within (sym found.2) ends)
 
-  pub spent_never : Tells as_racer AllSpent lanes → IsCongruenceDecided c b → ⊥
-  spent_never told (inl (inl ends)) = fails_at 0 (Definitions (record { congruence = as_right c; budget = b.defs })) told refl ends
-  spent_never told (inl (inr ends)) = fails_at 1 (Rows (record { congruence = as_right c; budget = b.rows })) told refl ends
-  spent_never told (inr (two, ends)) = rewriting_fails told (test_from_two_sided c two) ends
+  -- the first lane, which lists elements, tells that there are more
+  more_at : (t : EngineTask) → Tells as_racer AllSpent lanes → slice_get (tasks_for p b) 0 ≡ Some t
+      → ((l : Lane Engine) → slice_get lanes 0 ≡ Some l → said_of l.racer ≡ Progress.Spent → HasMoreElements (task_of l.racer)) → HasMoreElements t
+  more_at t told at more =
+      let found = spent_at 0 t told at in
+      subst HasMoreElements found.2 (more found.0 found.1 found.3.answered)
 
--- lanes that have ended are those of the congruence, at an end
-pub end_of : (c : Congruence) (b : Budgets) (old new : List (Lane Engine)) (outcome : Outcome) → tasks as_racer old ≡ tasks_for c b → EndsAs as_racer old outcome new
-    → IsEndOf c b outcome new
-end_of c b old new outcome same ends = record { tasks = ends.kept ∙ same; word = ends.word; sound = ends.sound; ended = ends.ended; is = ends.outcome_is }
+-- where each lane is spent, the problem is undecided
+pub spent_never : (p : Problem) (b : Budgets) (lanes : List (Lane Engine)) → tasks as_racer lanes ≡ tasks_for p b → Tells as_racer AllSpent lanes
+    → ((l : Lane Engine) → slice_get lanes 0 ≡ Some l → said_of l.racer ≡ Progress.Spent → HasMoreElements (task_of l.racer)) → IsUndecided p b
+spent_never (problem.Presented p) b lanes same told more = no_engine
+  where
+    rewriting_fails : is_two_sided p.congruence ≡ true → CompletionEnds (related_presentation p.congruence) b.length → ⊥
+    rewriting_fails test ends =
+        let task : EngineTask = Rewriting (record { presentation = related_presentation p.congruence; length = b.length }) in
+        fails_at (problem.Presented p) b lanes same 2 task told (ap (λ two. slice_get (cond two (task ∷ []) []) 0) test) ends
+
+    no_engine : IsCongruenceDecided p.congruence b → ⊥
+    no_engine (inl (inl ends)) = fails_at (problem.Presented p) b lanes same 0 (Definitions (record { congruence = as_right p.congruence; budget = b.defs })) told refl ends
+    no_engine (inl (inr ends)) = fails_at (problem.Presented p) b lanes same 1 (Rows (record { congruence = as_right p.congruence; budget = b.rows })) told refl ends
+    no_engine (inr (two, ends)) = rewriting_fails (test_from_two_sided p.congruence two) ends
+spent_never (problem.Transf p) b lanes same told more =
+    more_at (problem.Transf p) b lanes same (Transformations (pairs_task p b.elements)) told refl more []
+spent_never (problem.PPerm p) b lanes same told more =
+    more_at (problem.PPerm p) b lanes same (PartialPermutations (pairs_task p b.elements)) told refl more []
+spent_never (problem.BMat p) b lanes same told more =
+    more_at (problem.BMat p) b lanes same (BooleanMatrices (pairs_task p b.elements)) told refl more no_matrix
+spent_never (problem.MaxPlus p) b lanes same told more =
+    more_at (problem.MaxPlus p) b lanes same (TruncatedMatrices (pairs_task p b.elements)) told refl more no_truncated_matrix
+
+-- lanes that have ended are those of the problem, at an end
+pub end_of : (p : Problem) (b : Budgets) (old new : List (Lane Engine)) (outcome : Outcome) → tasks as_racer old ≡ tasks_for p b → EndsAs as_racer old outcome new
+    → IsEndOf p b outcome new
+end_of p b old new outcome same ends = record { tasks = ends.kept ∙ same; word = ends.word; sound = ends.sound; ended = ends.ended; is = ends.outcome_is }
+
+-- one lane that has had no turn
+pub one_start : (f : Engine) (lanes : List (Lane Engine)) → lanes ≡ fresh 0 f ∷ [] → Starts as_racer lanes
+one_start f lanes are = subst (λ (ls : List (Lane Engine)). Starts as_racer ls) (sym are) start
+  where
+    start : Starts as_racer (fresh 0 f ∷ [])
+    start zero l at = let e : fresh 0 f ≡ l = cc in fresh_fits 0 f l e
+    start (suc i) l at = cc

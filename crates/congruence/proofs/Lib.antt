@@ -1,5 +1,6 @@
 pub mod OrderedWords
 pub mod SolutionLaws
+pub mod ReversedWords
 pub mod ViewLaws
 pub mod AnswerLaws
 pub mod PlaceLaws
@@ -10,3 +11,7 @@ pub mod RewrittenWords
 pub mod RewrittenCounts
 pub mod CosetRuleLists
 pub mod CosetRuleLaws
+pub mod ClassGraphs
+pub mod ElementClasses
+pub mod DrawnRows
+pub mod EngineGraphs

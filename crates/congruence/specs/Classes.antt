@@ -1,9 +1,10 @@
--- How the classes of a congruence are known.
-use Rattle.theory.specs.Congruence.{Congruence}
+-- How the classes of a problem are known.
+use Rattle.problem.specs.declared.kinds.Problem.{Problem}
+use Rattle.problem.specs.declared.kinds.Problem.TheVariants.{Presented}
 use Rattle.congruence.specs.declared.answers.Classes.{Classes}
 use Rattle.congruence.specs.declared.answers.Classes.TheVariants.{Cosets, Reduced}
 
--- the congruence whose classes they are
-abbrev pub congruence_of : Classes → Congruence
-congruence_of (Cosets c) = c
-congruence_of (Reduced c) = c
+-- the problem whose classes they are
+abbrev pub problem_of : Classes → Problem
+problem_of (Cosets p) = p
+problem_of (Reduced c) = Presented c

@@ -1,50 +1,93 @@
--- The engines of a race for a congruence, and the ends of such races.
-use Rattle.std.specs.Prelude.{◌≡◌, ℕ, true, cond, List, [], ◌∷◌, Some, slice_get}
+-- The engines of a race for a problem, and the ends of such races.
+use Rattle.std.specs.Prelude.{◌≡◌, ℕ, true, cond, ◌==◌, List, [], ◌∷◌, Option, Some, slice_get}
+use Rattle.std.specs.Cmp.Lexicographic.{pointwise}
+use Rattle.std.specs.Option.{option_eq}
 use Rattle.theory.specs.Congruence.{Congruence, Presentation, as_right, with_relations, is_two_sided}
 use Rattle.theory.specs.Felsch.{FelschEnds}
 use Rattle.theory.specs.Hlt.{HltEnds}
 use Rattle.theory.specs.Completion.{CompletionEnds}
+use Rattle.elements.specs.Transf.{composed}
+use Rattle.elements.specs.PPerm.{partially_composed}
+use Rattle.elements.specs.BMat.{BooleanMatrix, boolean_product}
+use Rattle.elements.specs.BMatLaws.{boolean_matrix_eq}
+use Rattle.elements.specs.MaxPlus.{TruncatedMatrix, truncated_product}
+use Rattle.elements.specs.MaxPlusLaws.{truncated_matrix_eq}
+use Rattle.problem.specs.Posed.{PosedOf}
 use Rattle.problem.specs.declared.budgets.Budgets.{Budgets}
+use Rattle.problem.specs.declared.kinds.Problem.{Problem}
+use Rattle.problem.specs.declared.kinds.Problem.TheVariants as problem
 use Rattle.race.specs.declared.engines.Progress.{Progress}
 use Rattle.race.specs.declared.engines.Progress.TheVariants.{Decided, More}
 use Rattle.race.specs.declared.engines.Racer.{Ghosts}
 use Rattle.race.specs.declared.lanes.Lane.{Lane}
 use Rattle.race.specs.declared.playing.Outcome.{Outcome}
 use Rattle.race.specs.Machine.{IsEnd, IsSound, outcome_of, state_at, tasks}
+use Rattle.cayley.specs.Run.{PairsTask, HasFew, HasMore}
+use Rattle.cayley.specs.Run as pairs
 use Rattle.tc_felsch.specs.Stage.{FelschTask}
 use Rattle.tc_felsch.specs.Stage as felsch
 use Rattle.tc_hlt.specs.Stage.{HltTask}
 use Rattle.tc_hlt.specs.Stage as hlt
 use Rattle.knuth_bendix.specs.Runs.{CompletionRun, CompletionTask}
 use Rattle.congruence.specs.declared.engine.Engine.{Engine}
-use Rattle.congruence.specs.declared.engine.Engine.TheVariants.{Felsch, Hlt, Completion}
+use Rattle.congruence.specs.declared.engine.Engine.TheVariants.{Felsch, Hlt, Completion, Transf, PPerm, BMat, MaxPlus}
 
 -- whether a strategy ends for a right congruence within a budget, or completion of a presentation
--- within a length
+-- within a length, or generators of a kind have so many values
 pub data EngineTask : Type 0 where
   Definitions : FelschTask → EngineTask
   Rows : HltTask → EngineTask
   Rewriting : CompletionTask → EngineTask
+  Transformations : PairsTask (List ℕ) → EngineTask
+  PartialPermutations : PairsTask (List (Option ℕ)) → EngineTask
+  BooleanMatrices : PairsTask BooleanMatrix → EngineTask
+  TruncatedMatrices : PairsTask TruncatedMatrix → EngineTask
 
 abbrev pub ends_within : EngineTask → Type 0
 ends_within (Definitions t) = FelschEnds t.congruence t.budget
 ends_within (Rows t) = HltEnds t.congruence t.budget
 ends_within (Rewriting t) = CompletionEnds t.presentation t.length
+ends_within (Transformations t) = HasFew composed (pointwise ◌==◌) t
+ends_within (PartialPermutations t) = HasFew partially_composed (pointwise (option_eq ◌==◌)) t
+ends_within (BooleanMatrices t) = HasFew boolean_product boolean_matrix_eq t
+ends_within (TruncatedMatrices t) = HasFew truncated_product truncated_matrix_eq t
+
+-- the generators of a kind have more values than the bound
+abbrev pub HasMoreElements : EngineTask → Type 0
+HasMoreElements (Definitions t) = Unit {0}
+HasMoreElements (Rows t) = Unit {0}
+HasMoreElements (Rewriting t) = Unit {0}
+HasMoreElements (Transformations t) = HasMore composed (pointwise ◌==◌) t
+HasMoreElements (PartialPermutations t) = HasMore partially_composed (pointwise (option_eq ◌==◌)) t
+HasMoreElements (BooleanMatrices t) = HasMore boolean_product boolean_matrix_eq t
+HasMoreElements (TruncatedMatrices t) = HasMore truncated_product truncated_matrix_eq t
 
 abbrev pub task_of : Engine → EngineTask
 task_of (Felsch f) = Definitions (record { congruence = f.congruence; budget = f.budget })
 task_of (Hlt h) = Rows (record { congruence = h.congruence; budget = h.budget })
 task_of (Completion k) = Rewriting (record { presentation = k.presentation; length = k.length })
+task_of (Transf r) = Transformations r.task
+task_of (PPerm r) = PartialPermutations r.task
+task_of (BMat r) = BooleanMatrices r.task
+task_of (MaxPlus r) = TruncatedMatrices r.task
 
 abbrev pub said_of : Engine → Progress
 said_of (Felsch f) = f.said
 said_of (Hlt h) = h.said
 said_of (Completion k) = k.said
+said_of (Transf r) = r.said
+said_of (PPerm r) = r.said
+said_of (BMat r) = r.said
+said_of (MaxPlus r) = r.said
 
 abbrev pub left_of : Engine → ℕ
 left_of (Felsch f) = felsch.left_of f
 left_of (Hlt h) = hlt.left_of h
 left_of (Completion k) = k.left
+left_of (Transf r) = pairs.left_of r
+left_of (PPerm r) = pairs.left_of r
+left_of (BMat r) = pairs.left_of r
+left_of (MaxPlus r) = pairs.left_of r
 
 abbrev pub as_racer : Ghosts Engine
 as_racer = record {
@@ -59,21 +102,45 @@ as_racer = record {
 abbrev pub related_presentation : Congruence → Presentation
 related_presentation c = with_relations c.presentation c.pairs
 
--- the tasks of the lanes for a congruence: Felsch's strategy, the strategy of rows, and completion
--- where it is two-sided
-abbrev pub tasks_for : Congruence → Budgets → List EngineTask
-tasks_for c b =
+-- the tasks for a congruence on a presentation: Felsch's strategy, the strategy of rows, and
+-- completion where it is two-sided
+abbrev pub congruence_tasks : Congruence → Budgets → List EngineTask
+congruence_tasks c b =
     Definitions (record { congruence = as_right c; budget = b.defs })
     ∷ Rows (record { congruence = as_right c; budget = b.rows })
     ∷ cond (is_two_sided c)
     (Rewriting (record { presentation = related_presentation c; length = b.length }) ∷ [])
     []
 
+-- the search for the classes of at most so many elements
+abbrev pub pairs_task : {V : Type 0} → PosedOf V → ℕ → PairsTask V
+pairs_task p bound =
+    record { generators = p.generators; kind = p.kind; pairs = p.pairs; bound = bound }
+
+-- the tasks of the lanes for a problem
+abbrev pub tasks_for : Problem → Budgets → List EngineTask
+tasks_for (problem.Presented p) b = congruence_tasks p.congruence b
+tasks_for (problem.Transf p) b = Transformations (pairs_task p b.elements) ∷ []
+tasks_for (problem.PPerm p) b = PartialPermutations (pairs_task p b.elements) ∷ []
+tasks_for (problem.BMat p) b = BooleanMatrices (pairs_task p b.elements) ∷ []
+tasks_for (problem.MaxPlus p) b = TruncatedMatrices (pairs_task p b.elements) ∷ []
+
 -- the task is one for the congruence, within some budget
-abbrev pub IsTaskFor : Congruence → EngineTask → Type 0
-IsTaskFor c (Definitions t) = t.congruence ≡ as_right c
-IsTaskFor c (Rows t) = t.congruence ≡ as_right c
-IsTaskFor c (Rewriting t) = (is_two_sided c ≡ true) × (t.presentation ≡ related_presentation c)
+abbrev pub IsCongruenceTask : Congruence → EngineTask → Type 0
+IsCongruenceTask c (Definitions t) = t.congruence ≡ as_right c
+IsCongruenceTask c (Rows t) = t.congruence ≡ as_right c
+IsCongruenceTask c (Rewriting t) =
+    (is_two_sided c ≡ true) × (t.presentation ≡ related_presentation c)
+IsCongruenceTask c t = ⊥
+
+-- the task is one for the problem, within some budget
+abbrev pub IsTaskFor : Problem → EngineTask → Type 0
+IsTaskFor (problem.Presented p) t = IsCongruenceTask p.congruence t
+IsTaskFor (problem.Transf p) (Transformations t) = t ≡ pairs_task p t.bound
+IsTaskFor (problem.PPerm p) (PartialPermutations t) = t ≡ pairs_task p t.bound
+IsTaskFor (problem.BMat p) (BooleanMatrices t) = t ≡ pairs_task p t.bound
+IsTaskFor (problem.MaxPlus p) (TruncatedMatrices t) = t ≡ pairs_task p t.bound
+IsTaskFor p t = ⊥
 
 -- a completion that has made no turn, for the congruence within a length
 pub record IsCompletionFor (c : Congruence) (L : ℕ) (k : CompletionRun) : Type 0 where
@@ -81,22 +148,22 @@ pub record IsCompletionFor (c : Congruence) (L : ℕ) (k : CompletionRun) : Type
   pub length : k.length ≡ L
   pub said : k.said ≡ More
 
--- the lanes are those for the congruence, within some budgets
-abbrev pub HasTasksFor : Congruence → List (Lane Engine) → Type 0
-HasTasksFor c lanes = (b : Budgets) × (tasks as_racer lanes ≡ tasks_for c b)
+-- the lanes are those for the problem, within some budgets
+abbrev pub HasTasksFor : Problem → List (Lane Engine) → Type 0
+HasTasksFor p lanes = (b : Budgets) × (tasks as_racer lanes ≡ tasks_for p b)
 
--- the lanes for a congruence, at the end of a race with this outcome
-pub record IsEndOf (c : Congruence) (b : Budgets) (outcome : Outcome)
+-- the lanes for a problem, at the end of a race with this outcome
+pub record IsEndOf (p : Problem) (b : Budgets) (outcome : Outcome)
     (lanes : List (Lane Engine)) : Type 0 where
-  pub tasks : tasks as_racer lanes ≡ tasks_for c b
+  pub tasks : tasks as_racer lanes ≡ tasks_for p b
   pub word : ℕ
   pub sound : IsSound as_racer (state_at word lanes)
   pub ended : IsEnd (state_at word lanes)
   pub is : outcome ≡ outcome_of (state_at word lanes)
 
--- the lane of this number has decided the congruence
-pub record HasDecided (c : Congruence) (lanes : List (Lane Engine)) (number : ℕ) : Type 0 where
+-- the lane of this number has decided the problem
+pub record HasDecided (p : Problem) (lanes : List (Lane Engine)) (number : ℕ) : Type 0 where
   pub lane : Lane Engine
   pub at : slice_get lanes number ≡ Some lane
   pub decided : said_of lane.racer ≡ Decided
-  pub task : IsTaskFor c (task_of lane.racer)
+  pub task : IsTaskFor p (task_of lane.racer)

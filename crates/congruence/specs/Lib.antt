@@ -5,3 +5,5 @@ pub mod Verdicts
 pub mod Rewriting
 pub mod Classes
 pub mod CosetRules
+pub mod CayleyGraphs
+pub mod ElementGraphs

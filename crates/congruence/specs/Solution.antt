@@ -1,64 +1,129 @@
--- Graphs that decide congruences, and the least words of their nodes.
-use Rattle.std.specs.Prelude.{◌↔◌, ◌≡◌, ℕ, ◌<◌, ◌≤◌, Bool, List, [], length, slice_index_or, cond, Option, Some, unwrap_or}
+-- Graphs that decide the relation of elements, and the least words of their nodes.
+use Rattle.std.specs.Prelude.{◌↔◌, ◌≡◌, ℕ, ◌<◌, ◌≤◌, Bool, true, false, not, ◌==◌, List, [], length, reverse, slice_index, slice_index_or, cond, Option, Some, unwrap_or}
+use Rattle.theory.specs.declared.Kind.{Kind}
+use Rattle.theory.specs.declared.Kind.TheVariants.{TwoSided, Right, Left}
 use Rattle.theory.specs.Word.{Word, IsOver, IsElement}
 use Rattle.theory.specs.ShortLex.{◌≺◌}
-use Rattle.theory.specs.Congruence.{Congruence}
-use Rattle.theory.specs.Chain.{Related}
-use Rattle.theory.specs.Class.{SameClass, IsLeast}
+use Rattle.theory.specs.Class.{IsLeast}
 use Rattle.theory.specs.Listing.{IsAfter}
 use Rattle.theory.specs.Graph.{Graph, path, SameEnd, IsGraph}
+use Rattle.problem.specs.declared.kinds.Problem.{Problem}
+use Rattle.problem.specs.Problem.{SameClassOf, count_of, has_empty_word, kind_of, pairs_of}
 use Rattle.word_graph.specs.Standard.{IsStandardGraph}
 use Rattle.race.specs.declared.lanes.Lane.{Lane}
 use Rattle.congruence.specs.declared.engine.Engine.{Engine}
 
--- what is known of a congruence, and the lanes that raced for it
+-- what is known of a problem, and the lanes that raced for it
 pub record Solution : Type 0 where
-  pub congruence : Congruence
+  pub problem : Problem
   pub lanes : List (Lane Engine)
 
--- a standard graph whose equal paths are the congruence
-pub record IsGraphOf (c : Congruence) (g : Graph) : Type 0 where
-  pub graph : IsGraph c.presentation.letters g
+-- a word as a graph reads it: forwards, or backwards
+abbrev pub as_read : (backwards : Bool) → Word → Word
+as_read true u = reverse u
+as_read false u = u
+
+-- a standard graph over k letters whose equal paths are the relation of the elements; where the
+-- empty word is none, it alone leads to the root
+pub record IsGraphOf (R : Word → Word → Type 0) (empty : Bool) (k : ℕ) (backwards : Bool)
+    (g : Graph) : Type 0 where
+  pub graph : IsGraph k g
   pub reached : (node : ℕ) → node < length g → (u : Word) × (path g 0 u ≡ Some node)
-  pub standard : IsStandardGraph c.presentation.letters g
-  pub decides : (u v : Word) → IsOver c.presentation.letters u → Related c u v ↔ SameEnd g u v
+  pub standard : IsStandardGraph k g
+  pub defined : (u : Word) → IsOver k u → (node : ℕ) × (path g 0 u ≡ Some node)
+  pub alone : empty ≡ false → (u : Word) → path g 0 u ≡ Some 0 → u ≡ []
+  pub decides : (u v : Word) → IsElement empty k u → IsElement empty k v
+      → R u v ↔ SameEnd g (as_read backwards u) (as_read backwards v)
+
+-- with left pairs words are read backwards
+abbrev pub are_read_backwards : Kind → List (Word × Word) → Bool
+are_read_backwards TwoSided pairs = false
+are_read_backwards Right pairs = false
+are_read_backwards Left pairs = not (length pairs == 0)
+
+abbrev pub reads_backwards : Problem → Bool
+reads_backwards p = are_read_backwards (kind_of p) (pairs_of p)
+
+-- a graph that decides the problem
+abbrev pub IsGraphFor : Problem → Graph → Type 0
+IsGraphFor p = IsGraphOf (SameClassOf p) (has_empty_word p) (count_of p) (reads_backwards p)
 
 -- the word of the node at a place
 abbrev pub word_at : List (ℕ × Word) → ℕ → Word
 word_at least place = (slice_index_or least place (0, [])).1
 
--- the first node that is a class: in a semigroup the root is none
+-- and the node
+abbrev pub node_at : List (ℕ × Word) → ℕ → ℕ
+node_at least place = (slice_index_or least place (0, [])).0
+
+-- the first place of a class: in a semigroup the root is none
 abbrev pub first_class : Bool → ℕ
-first_class is_monoid = cond is_monoid 0 1
+first_class empty = cond empty 0 1
 
 -- the words of the places ascend
 abbrev pub AreAscending : List (ℕ × Word) → Type 0
 AreAscending least = (i j : ℕ) → i < j → j < length least → word_at least i ≺ word_at least j
 
--- the node to which a word leads, or the root
-abbrev pub node_of : Graph → Word → ℕ
-node_of g u = unwrap_or (path g 0 u) 0
+-- each node with the least word that leads to it, as the graph reads words, in the order of these
+-- words
+pub record AreOrderedWords (g : Graph) (backwards : Bool) (least : List (ℕ × Word)) : Type 0 where
+  pub count : length least ≡ length g
+  pub ascending : AreAscending least
+  pub nodes : (i : ℕ) → i < length least → node_at least i < length g
+  pub all : (node : ℕ) → node < length g → (i : ℕ) × (i < length least) × (node_at least i ≡ node)
+  pub leads : (i : ℕ) → i < length least
+      → path g 0 (as_read backwards (word_at least i)) ≡ Some (node_at least i)
+  pub none_less : (i : ℕ) (v : Word) → i < length least
+      → path g 0 (as_read backwards v) ≡ Some (node_at least i) → v ≺ word_at least i → ⊥
+
+-- each word with its number
+pub record AreNumberedWords (words : List Word) (pairs : List (ℕ × Word)) : Type 0 where
+  pub count : length pairs ≡ length words
+  pub nodes : (i : ℕ) → i < length words → node_at pairs i ≡ i
+  pub each : (i : ℕ) → i < length words → word_at pairs i ≡ slice_index_or words i []
+
+-- the nodes are as many numbers from 0 on, each once
+pub record ArePlaced (least : List (ℕ × Word)) : Type 0 where
+  pub nodes : (i : ℕ) → i < length least → node_at least i < length least
+  pub once : (i j : ℕ) → i < length least → j < length least
+      → node_at least i ≡ node_at least j → i ≡ j
+
+-- the place of each node
+pub record ArePlacesOf (least : List (ℕ × Word)) (places : List ℕ) : Type 0 where
+  pub count : length places ≡ length least
+  pub each : (i : ℕ) → i < length least → slice_index places (node_at least i) ≡ i
+
+-- the place of the node to which a word leads, or of the root
+abbrev pub place_of : Graph → List ℕ → Word → ℕ
+place_of g places u = slice_index places (unwrap_or (path g 0 u) 0)
 
 -- the nodes to which words lead have places
-abbrev pub AreListed : Graph → List (ℕ × Word) → Type 0
-AreListed g least = (u : Word) → node_of g u < length least
+abbrev pub AreListed : Graph → List ℕ → List (ℕ × Word) → Type 0
+AreListed g places least = (u : Word)
+    → (unwrap_or (path g 0 u) 0 < length places) × (place_of g places u < length least)
 
--- the graph decides the congruence, and from the first class on the words are the least of all
--- classes, in order
-pub record IsSolution (c : Congruence) (g : Graph) (least : List (ℕ × Word)) : Type 0 where
-  pub graph : IsGraph c.presentation.letters g
+-- the graph decides the relation, which is one of elements, and from the first class on the words
+-- are the least of all classes, in order
+pub record IsSolution (R : Word → Word → Type 0) (empty : Bool) (k : ℕ) (backwards : Bool)
+    (g : Graph) (least : List (ℕ × Word)) (places : List ℕ) : Type 0 where
+  pub graph : IsGraph k g
+  pub among : (u v : Word) → R u v → IsElement empty k u × IsElement empty k v
   pub root : word_at least 0 ≡ []
-  pub listed : AreListed g least
-  pub over : (i : ℕ) → i < length least → IsOver c.presentation.letters (word_at least i)
-  pub decides : (u v : Word) → IsOver c.presentation.letters u → Related c u v ↔ SameEnd g u v
-  pub some : first_class c.presentation.is_monoid ≤ length least
+  pub listed : AreListed g places least
+  pub over : (i : ℕ) → i < length least → IsOver k (word_at least i)
+  pub defined : (u : Word) → IsOver k u → (node : ℕ) × (path g 0 u ≡ Some node)
+  pub decides : (u v : Word) → IsElement empty k u → IsElement empty k v
+      → R u v ↔ SameEnd g (as_read backwards u) (as_read backwards v)
+  pub some : first_class empty ≤ length least
   pub ascending : AreAscending least
-  pub classes : (i : ℕ) → first_class c.presentation.is_monoid ≤ i → i < length least
-      → IsLeast (SameClass c) (word_at least i)
-  pub reached : (u : Word) (node : ℕ)
-      → IsElement c.presentation.is_monoid c.presentation.letters u → path g 0 u ≡ Some node
-      → (first_class c.presentation.is_monoid ≤ node) × (node < length least)
-      × SameClass c u (word_at least node)
+  pub classes : (i : ℕ) → first_class empty ≤ i → i < length least → IsLeast R (word_at least i)
+  pub reached : (u : Word) → IsElement empty k u
+      → let place : ℕ = place_of g places (as_read backwards u) in
+      (first_class empty ≤ place) × (place < length least) × R u (word_at least place)
+
+-- the graph of a problem, and the least words of its nodes
+abbrev pub IsSolutionFor : Problem → Graph → List (ℕ × Word) → List ℕ → Type 0
+IsSolutionFor p = IsSolution (SameClassOf p) (has_empty_word p) (count_of p) (reads_backwards p)
 
 -- of the words from the first class on, those from the place on come after the cursor, and those
 -- before it do not

@@ -1,17 +1,20 @@
-// Answers about a congruence that was decided.
-ghost use Rattle.std.specs.Prelude.{◌≡◌, ◌↔◌, true, IfOk, IsTrue, MatchOption};
+// Answers about a problem that was decided.
+ghost use Rattle.std.specs.Prelude.{◌≡◌, ◌↔◌, true, false, IfOk, IsTrue, MatchOption};
 ghost use Rattle.std.specs.Option.{option_copied};
 ghost use Rattle.theory.specs.Word.{IsElement};
 ghost use Rattle.theory.specs.ShortLex.{◌≺◌};
-ghost use Rattle.theory.specs.Class.{SameClass, IsLeast, IsNormal, IsRuleList};
+ghost use Rattle.theory.specs.Class.{IsLeast, IsNormal, IsRuleList};
 ghost use Rattle.theory.specs.Listing.{IsLast, IsNext, GoesOnOrEnds};
-ghost use Rattle.theory.specs.Congruence.{is_two_sided};
+ghost use Rattle.problem.specs.Problem.{SameClassOf, allows_rules, count_of, has_empty_word, is_presented};
+ghost use Rattle.congruence.specs.CayleyGraphs.{AreTablesFor};
+ghost use Rattle.congruence.specs.Classes.{problem_of};
+ghost use Rattle.congruence.specs.Engines.{HasDecided};
 ghost use Rattle.congruence.specs.Indexes.{IsIndexWithin};
-ghost use Rattle.congruence.specs.Classes.{congruence_of};
 
 use crate::cosets::CosetClasses;
 use crate::engine::Ended;
 use crate::reduced_words::ReducedClasses;
+use froidure_pin::CayleyTables;
 use ports::NoMemory;
 use reduced_automaton::Rules;
 use std::marker::Model;
@@ -36,32 +39,41 @@ pub enum Classes {
     Reduced(ReducedClasses),
 }
 
-/// What is known of a congruence that was decided (libsemigroups, `Congruence`). The empty word
+/// What is known of a problem that was decided (libsemigroups, `Congruence`). The empty word
 /// counts as a class of a monoid, and is no element of a semigroup.
 #[derive(Drop)]
 pub struct Solved {
     classes: Classes,
     lanes: Ended,
+    winner: usize,
 }
 
 impl Model for Solved {
-    ghost use Rattle.congruence.specs.Classes.{congruence_of};
+    ghost use Rattle.congruence.specs.Classes.{problem_of};
+    ghost use Rattle.congruence.specs.Engines.{HasDecided};
     ghost use Rattle.congruence.specs.Solution.{Solution};
 
     ghost Value = { Solution };
 
-    ghost view = { λ s. record { congruence = congruence_of s.classes; lanes = s.lanes } };
+    ghost view = { λ s. record { problem = problem_of s.classes; lanes = s.lanes } };
+
+    ghost invariant = { λ s. HasDecided (problem_of s.classes) s.lanes s.winner };
 }
 
 impl Solved {
-    // The answers by the classes that an engine gave, with the lanes of the race.
-    pub(crate) fn new(classes: Classes, lanes: Ended) -> Solved
-        ensures { result ≡ record { congruence = congruence_of classes; lanes = lanes } }
+    // The answers by the classes that the winner gave, with the lanes of the race.
+    pub(crate) fn new(classes: Classes, lanes: Ended, winner: usize) -> Solved
+        requires { HasDecided (problem_of classes) lanes winner }
+        ensures { result ≡ record { problem = problem_of classes; lanes = lanes } }
     {
-        Solved { classes, lanes }
+        Solved {
+            classes,
+            lanes,
+            winner,
+        }
     }
 
-    /// The lanes of the race for the congruence, as it left them.
+    /// The lanes of the race for the problem, as it left them.
     pub fn lanes(&self) -> &Ended
         ensures { result.now ≡ self.now.lanes }
     {
@@ -70,7 +82,7 @@ impl Solved {
 
     /// The number of classes, if it is at most the bound. Refused only where memory is wanting.
     pub fn index(&self, bound: usize) -> Result<Index, NoMemory>
-        ensures { IfOk result (IsIndexWithin (SameClass self.now.congruence) bound) }
+        ensures { IfOk result (IsIndexWithin (SameClassOf self.now.problem) bound) }
     {
         match &self.classes {
             Classes::Cosets(classes) => classes.index(bound),
@@ -81,11 +93,11 @@ impl Solved {
     /// Whether the two words, which are elements, are of one class. Refused only where memory is
     /// wanting.
     pub fn equal(&self, u: &Word, v: &Word) -> Result<bool, NoMemory>
-        requires left { IsElement self.now.congruence.presentation.is_monoid
-            self.now.congruence.presentation.letters u.now }
-        requires right { IsElement self.now.congruence.presentation.is_monoid
-            self.now.congruence.presentation.letters v.now }
-        ensures { IfOk result (λ same. IsTrue same ↔ SameClass self.now.congruence u.now v.now) }
+        requires left { IsElement (has_empty_word self.now.problem) (count_of self.now.problem)
+            u.now }
+        requires right { IsElement (has_empty_word self.now.problem) (count_of self.now.problem)
+            v.now }
+        ensures { IfOk result (λ same. IsTrue same ↔ SameClassOf self.now.problem u.now v.now) }
     {
         match &self.classes {
             Classes::Cosets(classes) => classes.equal(u, v),
@@ -96,9 +108,8 @@ impl Solved {
     /// The normal form of the word, which is an element: the least word of its class in short-lex
     /// order. Refused only where memory is wanting.
     pub fn normal(&self, u: &Word) -> Result<Word, NoMemory>
-        requires { IsElement self.now.congruence.presentation.is_monoid
-            self.now.congruence.presentation.letters u.now }
-        ensures { IfOk result (IsNormal (SameClass self.now.congruence) u.now) }
+        requires { IsElement (has_empty_word self.now.problem) (count_of self.now.problem) u.now }
+        ensures { IfOk result (IsNormal (SameClassOf self.now.problem) u.now) }
     {
         match &self.classes {
             Classes::Cosets(classes) => classes.normal(u),
@@ -108,13 +119,13 @@ impl Solved {
 
     /// The first least word of a class after the cursor, or the first at all; `None` where there is
     /// none. The cursor need not be the least word of its class. What holds of every decided
-    /// congruence is told here: after each cursor comes a next class, or none. Refused only where
+    /// problem is told here: after each cursor comes a next class, or none. Refused only where
     /// memory is wanting.
     pub fn next_after(&self, after: Option<&Word>) -> Result<Option<Word>, NoMemory>
-        ensures goes_on { GoesOnOrEnds (IsLeast (SameClass self.now.congruence)) ◌≺◌ }
+        ensures goes_on { GoesOnOrEnds (IsLeast (SameClassOf self.now.problem)) ◌≺◌ }
         ensures next { IfOk result (λ next. MatchOption next
-            (IsLast (IsLeast (SameClass self.now.congruence)) ◌≺◌ (option_copied after.entry))
-            (IsNext (IsLeast (SameClass self.now.congruence)) ◌≺◌ (option_copied after.entry))) }
+            (IsLast (IsLeast (SameClassOf self.now.problem)) ◌≺◌ (option_copied after.entry))
+            (IsNext (IsLeast (SameClassOf self.now.problem)) ◌≺◌ (option_copied after.entry))) }
     {
         match &self.classes {
             Classes::Cosets(classes) => classes.next_after(after),
@@ -125,12 +136,20 @@ impl Solved {
     /// The reduced rules of a two-sided congruence, in short-lex order of their left sides
     /// (Froidure and Pin 1997). Refused only where memory is wanting.
     pub fn rules(&self) -> Result<Rules, NoMemory>
-        requires { is_two_sided self.now.congruence ≡ true }
-        ensures { IfOk result (IsRuleList (SameClass self.now.congruence)) }
+        requires { allows_rules self.now.problem ≡ true }
+        ensures { IfOk result (IsRuleList (SameClassOf self.now.problem)) }
     {
         match &self.classes {
             Classes::Cosets(classes) => classes.rules(),
             Classes::Reduced(classes) => classes.rules(),
         }
+    }
+    /// The words of the elements, and their Cayley graphs; the problem is given by generators. They
+    /// are those of the elements, whatever the pairs are (Froidure and Pin 1997).
+    pub fn tables(&self) -> &CayleyTables
+        requires { is_presented self.now.problem ≡ false }
+        ensures { AreTablesFor self.now.problem result.now }
+    {
+        self.lanes.lanes()[self.winner].racer().tables()
     }
 }

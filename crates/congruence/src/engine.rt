@@ -1,23 +1,30 @@
-// The engines that race for a congruence.
-ghost use Rattle.std.specs.Prelude.{◌≡◌, IfOk};
-ghost use Rattle.theory.specs.Congruence.{IsWellFormed};
-ghost use Rattle.problem.specs.Problem.{IsSolvable};
-ghost use Rattle.congruence.specs.Engines.{IsTaskFor, said_of, task_of};
-ghost use Rattle.congruence.specs.Classes.{congruence_of};
+// The engines that race for a problem.
+ghost use Rattle.std.specs.Prelude.{◌≡◌, false, IfOk};
+ghost use Rattle.problem.specs.Problem.{is_presented};
+ghost use Rattle.problem.specs.declared.kinds.Problem.{Problem};
+ghost use Rattle.congruence.specs.CayleyGraphs.{AreTablesFor};
+ghost use Rattle.congruence.specs.Classes.{problem_of};
+ghost use Rattle.congruence.specs.Solution.{IsGraphFor};
+ghost use Rattle.congruence.specs.Engines.{HasMoreElements, IsTaskFor, said_of, task_of};
 
 use crate::answers::Classes;
 use crate::cosets::CosetClasses;
+use crate::element_graphs::class_graph;
 use crate::reduced_words::ReducedClasses;
+use cayley::PairsRacer;
+use elements::{BMat, MaxPlusTrunc, PPerm, Transf};
+use froidure_pin::CayleyTables;
 use knuth_bendix::Completion;
 use ports::NoMemory;
-use presentation::Congruence;
+use problem::Problem;
 use race::{Lane, Progress, Racer};
 use std::alloc::Global;
 use std::marker::Model;
 use tc_felsch::Felsch;
 use tc_hlt::Hlt;
+use word_graph::WordGraph;
 
-/// An engine that decides a congruence within a budget.
+/// An engine that decides a problem within a budget.
 #[derive(Drop)]
 pub enum Engine {
     /// Coset enumeration by Felsch's strategy.
@@ -26,6 +33,14 @@ pub enum Engine {
     Hlt(Hlt),
     /// Completion by rewriting rules, of a two-sided congruence.
     Completion(Completion),
+    /// The classes of the elements that transformations generate.
+    Transf(PairsRacer<Transf>),
+    /// The classes of the elements that partial permutations generate.
+    PPerm(PairsRacer<PPerm>),
+    /// The classes of the elements that Boolean matrices generate.
+    BMat(PairsRacer<BMat>),
+    /// The classes of the elements that truncated max-plus matrices generate.
+    MaxPlus(PairsRacer<MaxPlusTrunc>),
 }
 
 impl Racer for Engine {
@@ -47,36 +62,93 @@ impl Racer for Engine {
             Engine::Felsch(felsch) => felsch.advance(),
             Engine::Hlt(hlt) => hlt.advance(),
             Engine::Completion(completion) => completion.advance(),
+            Engine::Transf(search) => search.advance(),
+            Engine::PPerm(search) => search.advance(),
+            Engine::BMat(search) => search.advance(),
+            Engine::MaxPlus(search) => search.advance(),
         }
     }
 }
 
+// The classes that a graph gives.
+fn by_graph(alloc: Global, problem: &Problem, graph: WordGraph) -> Result<Classes, NoMemory>
+    requires { IsGraphFor problem.now graph }
+    ensures { IfOk result (λ classes. problem_of classes ≡ problem.now) }
+{
+    let cosets = CosetClasses::new(alloc, problem, graph)?;
+    Ok(Classes::Cosets(cosets))
+}
+
+// The classes that the rules of a completion give.
+fn by_rules(alloc: Global, problem: &Problem, completion: &Completion) -> Result<Classes, NoMemory>
+    requires decided { completion.now.said ≡ Progress.Decided }
+    requires task { IsTaskFor problem.now (task_of (Engine.Completion completion.now)) }
+    ensures { IfOk result (λ classes. problem_of classes ≡ problem.now) }
+{
+    let Problem::Presented(congruence) = problem else {
+        unreachable!()
+    };
+    let words = ReducedClasses::new(alloc, congruence, &completion.rules()?)?;
+    Ok(Classes::Reduced(words))
+}
+
 impl Engine {
-    // The classes of the congruence that the engine has decided.
-    pub(crate) fn classes(
-        &self,
-        alloc: Global,
-        congruence: &Congruence,
-    ) -> Result<Classes, NoMemory>
+    // The classes of the problem that the engine has decided.
+    pub(crate) fn classes(&self, alloc: Global, problem: &Problem) -> Result<Classes, NoMemory>
         requires decided { said_of self.now ≡ Progress.Decided }
-        requires well_formed { IsWellFormed congruence.now.congruence }
-        requires solvable { IsSolvable congruence.now.congruence }
-        requires task { IsTaskFor congruence.now.congruence (task_of self.now) }
-        ensures { IfOk result (λ classes. congruence_of classes ≡ congruence.now.congruence) }
+        requires task { IsTaskFor problem.now (task_of self.now) }
+        ensures { IfOk result (λ classes. problem_of classes ≡ problem.now) }
+    {
+        let _letters = problem.alphabet().len();
+        let graph = match self {
+            Engine::Completion(completion) => return by_rules(alloc, problem, completion),
+            Engine::Felsch(felsch) => felsch.graph()?,
+            Engine::Hlt(hlt) => hlt.graph()?,
+            Engine::Transf(search) => {
+                class_graph(alloc, problem, search.tables(), search.classes())?
+            }
+            Engine::PPerm(search) => {
+                class_graph(alloc, problem, search.tables(), search.classes())?
+            }
+            Engine::BMat(search) => {
+                class_graph(alloc, problem, search.tables(), search.classes())?
+            }
+            Engine::MaxPlus(search) => {
+                class_graph(alloc, problem, search.tables(), search.classes())?
+            }
+        };
+        by_graph(alloc, problem, graph)
+    }
+
+    // Whether a search for elements is spent, and what it tells then: there are more elements than
+    // its bound.
+    pub(crate) fn has_more_elements(&self) -> bool
+        ensures { said_of self.now ≡ Progress.Spent → HasMoreElements (task_of self.now) }
     {
         match self {
-            Engine::Felsch(felsch) => {
-                let cosets = CosetClasses::new(alloc, congruence, felsch.graph()?)?;
-                Ok(Classes::Cosets(cosets))
-            }
-            Engine::Hlt(hlt) => {
-                let cosets = CosetClasses::new(alloc, congruence, hlt.graph()?)?;
-                Ok(Classes::Cosets(cosets))
-            }
-            Engine::Completion(completion) => {
-                let words = ReducedClasses::new(alloc, congruence, &completion.rules()?)?;
-                Ok(Classes::Reduced(words))
-            }
+            Engine::Felsch(_) | Engine::Hlt(_) | Engine::Completion(_) => false,
+            Engine::Transf(search) => search.is_spent(),
+            Engine::PPerm(search) => search.is_spent(),
+            Engine::BMat(search) => search.is_spent(),
+            Engine::MaxPlus(search) => search.is_spent(),
+        }
+    }
+
+    // The tables of the elements, where the engine has decided a problem that is given by
+    // generators.
+    pub(crate) fn tables(&self) -> &CayleyTables
+        requires decided { said_of self.now ≡ Progress.Decided }
+        requires generated { (p : Problem) × (is_presented p ≡ false)
+            × IsTaskFor p (task_of self.now) }
+        ensures { (p : Problem) → is_presented p ≡ false → IsTaskFor p (task_of self.now)
+            → AreTablesFor p result.now }
+    {
+        match self {
+            Engine::Transf(search) => search.tables(),
+            Engine::PPerm(search) => search.tables(),
+            Engine::BMat(search) => search.tables(),
+            Engine::MaxPlus(search) => search.tables(),
+            Engine::Felsch(_) | Engine::Hlt(_) | Engine::Completion(_) => unreachable!(),
         }
     }
 }

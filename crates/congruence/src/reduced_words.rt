@@ -28,12 +28,12 @@ pub struct ReducedClasses {
 }
 
 impl Model for ReducedClasses {
-    ghost use Rattle.theory.specs.Congruence.{Congruence as Related};
+    ghost use Rattle.presentation.specs.Presented.{Posed};
     ghost use Rattle.congruence.specs.Rewriting.{DecidesBy};
 
-    ghost Value = { Related };
+    ghost Value = { Posed };
 
-    ghost view = { λ s. s.congruence.congruence };
+    ghost view = { λ s. s.congruence };
 
     ghost invariant = { λ s. DecidesBy s.congruence.congruence s.automaton };
 }
@@ -47,7 +47,7 @@ impl ReducedClasses {
         rules: &Rules,
     ) -> Result<ReducedClasses, NoMemory>
         requires { AreRulesOf congruence.now.congruence rules.now }
-        ensures { IfOk result (λ s. s ≡ congruence.now.congruence) }
+        ensures { IfOk result (λ s. s ≡ congruence.now) }
     {
         let presentation = congruence.presentation();
         let automaton = Automaton::build(alloc, presentation.letters(), rules)?;
@@ -61,7 +61,7 @@ impl ReducedClasses {
 
     /// The number of classes, if it is at most the bound. Refused only where memory is wanting.
     pub fn index(&self, bound: usize) -> Result<Index, NoMemory>
-        ensures { IfOk result (IsIndexWithin (SameClass self.now) bound) }
+        ensures { IfOk result (IsIndexWithin (SameClass self.now.congruence) bound) }
     {
         if self.automaton.is_infinite() {
             return Ok(Index::Infinite);
@@ -72,8 +72,8 @@ impl ReducedClasses {
     // The number of classes, if it is at most the bound, where they are finitely many. Refused only
     // where memory is wanting.
     fn count(&self, bound: usize) -> Result<Index, NoMemory>
-        requires { (n : ℕ) × HasIndex (SameClass self.now) n }
-        ensures { IfOk result (IsIndexWithin (SameClass self.now) bound) }
+        requires { (n : ℕ) × HasIndex (SameClass self.now.congruence) n }
+        ensures { IfOk result (IsIndexWithin (SameClass self.now.congruence) bound) }
     {
         let mut count = 0;
         let mut next = self.next_after(None)?;
@@ -90,11 +90,11 @@ impl ReducedClasses {
     /// Whether the two words, which are elements, are of one class. Refused only where memory is
     /// wanting.
     pub fn equal(&self, u: &Word, v: &Word) -> Result<bool, NoMemory>
-        requires left { IsElement self.now.presentation.is_monoid self.now.presentation.letters
-            u.now }
-        requires right { IsElement self.now.presentation.is_monoid self.now.presentation.letters
-            v.now }
-        ensures { IfOk result (λ same. IsTrue same ↔ SameClass self.now u.now v.now) }
+        requires left { IsElement self.now.congruence.presentation.is_monoid
+            self.now.congruence.presentation.letters u.now }
+        requires right { IsElement self.now.congruence.presentation.is_monoid
+            self.now.congruence.presentation.letters v.now }
+        ensures { IfOk result (λ same. IsTrue same ↔ SameClass self.now.congruence u.now v.now) }
     {
         let left = self.automaton.reduce(u)?;
         let right = self.automaton.reduce(v)?;
@@ -104,8 +104,9 @@ impl ReducedClasses {
     /// The normal form of the word, which is an element: the least word of its class in short-lex
     /// order. Refused only where memory is wanting.
     pub fn normal(&self, u: &Word) -> Result<Word, NoMemory>
-        requires { IsElement self.now.presentation.is_monoid self.now.presentation.letters u.now }
-        ensures { IfOk result (IsNormal (SameClass self.now) u.now) }
+        requires { IsElement self.now.congruence.presentation.is_monoid
+            self.now.congruence.presentation.letters u.now }
+        ensures { IfOk result (IsNormal (SameClass self.now.congruence) u.now) }
     {
         self.automaton.reduce(u)
     }
@@ -115,10 +116,10 @@ impl ReducedClasses {
     /// congruence is told here: after each cursor comes a next class, or none. Refused only where
     /// memory is wanting.
     pub fn next_after(&self, after: Option<&Word>) -> Result<Option<Word>, NoMemory>
-        ensures goes_on { GoesOnOrEnds (IsLeast (SameClass self.now)) ◌≺◌ }
+        ensures goes_on { GoesOnOrEnds (IsLeast (SameClass self.now.congruence)) ◌≺◌ }
         ensures next { IfOk result (λ next. MatchOption next
-            (IsLast (IsLeast (SameClass self.now)) ◌≺◌ (option_copied after.entry))
-            (IsNext (IsLeast (SameClass self.now)) ◌≺◌ (option_copied after.entry))) }
+            (IsLast (IsLeast (SameClass self.now.congruence)) ◌≺◌ (option_copied after.entry))
+            (IsNext (IsLeast (SameClass self.now.congruence)) ◌≺◌ (option_copied after.entry))) }
     {
         match after {
             Some(cursor) => self.automaton.next_after(Some(cursor)),
@@ -136,8 +137,8 @@ impl ReducedClasses {
     /// The reduced rules of a two-sided congruence, in short-lex order of their left sides
     /// (Froidure and Pin 1997). Refused only where memory is wanting.
     pub fn rules(&self) -> Result<Rules, NoMemory>
-        requires { is_two_sided self.now ≡ true }
-        ensures { IfOk result (IsRuleList (SameClass self.now)) }
+        requires { is_two_sided self.now.congruence ≡ true }
+        ensures { IfOk result (IsRuleList (SameClass self.now.congruence)) }
     {
         self.automaton.rules().copy(self.alloc)
     }

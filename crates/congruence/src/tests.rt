@@ -1,8 +1,8 @@
 // Congruences on the symmetric group of degree three, on a semilattice, on a cyclic group and on
 // the bicyclic monoid.
-ghost use Rattle.std.specs.Prelude.{◌≡◌, ◌⊎◌, true, length, IfOk, IfSome};
+ghost use Rattle.std.specs.Prelude.{◌≡◌, true, length, IfOk, IfSome};
 ghost use Rattle.theory.specs.Word.{IsOver};
-ghost use Rattle.theory.specs.Congruence.{is_two_sided};
+ghost use Rattle.problem.specs.Problem.{allows_rules, count_of, has_empty_word};
 
 use super::*;
 use crate::solving::decide;
@@ -72,9 +72,8 @@ fn known<R: Abort + Threads + Sync>(
     congruence: Congruence,
     budgets: &Budgets,
 ) -> Result<Option<Solved>, Fail>
-    requires { (congruence.congruence.kind ≡ Kind.TwoSided)
-        ⊎ (congruence.congruence.kind ≡ Kind.Right) }
-    ensures { IfOk result (λ known. IfSome known (λ s. s.congruence ≡ congruence.congruence)) }
+    ensures { IfOk result (λ known. IfSome known (λ s.
+        s.problem ≡ Problem.Presented congruence)) }
 {
     assert!(rt; congruence.presentation().relations().len() < 10);
     assert!(rt; congruence.pairs().len() < 10);
@@ -129,8 +128,8 @@ fn collapsed(rt: &impl Abort, alloc: Global, kind: Kind) -> Result<Congruence, F
 
 // The first letter a is left out at the front.
 fn check_words(rt: &impl Abort, alloc: Global, solved: &Solved) -> Result<(), Fail>
-    requires monoid { solved.now.congruence.presentation.is_monoid ≡ true }
-    requires letters { solved.now.congruence.presentation.letters ≡ 2 }
+    requires monoid { has_empty_word solved.now.problem ≡ true }
+    requires letters { count_of solved.now.problem ≡ 2 }
 {
     let alphabet = Alphabet::new(alloc, b"ab")?;
     let long = word(alloc, &alphabet, "aba")?;
@@ -170,6 +169,16 @@ fn right_pairs_hold_at_the_front(rt: HostRuntime) -> Result<(), Fail> {
         panic!(rt; "undecided");
     }
     Ok(())
+}
+
+#[test]
+fn left_pairs_hold_at_the_end(rt: HostRuntime) -> Result<(), Fail> {
+    let alloc = rt.alloc();
+    let congruence = collapsed(&rt, alloc, Kind::Left)?;
+    match known(&rt, alloc, congruence, &budgets(50, 50, 9))? {
+        Some(solved) => check_classes(&rt, alloc, &solved, &["1", "b", "ab"]),
+        None => panic!(rt; "undecided"),
+    }
 }
 
 #[test]
@@ -218,7 +227,7 @@ fn decided<R: Abort + Threads + Sync>(
     presentation: Presentation,
     budgets: &Budgets,
 ) -> Result<Option<Solved>, Fail>
-    ensures { IfOk result (λ known. IfSome known (λ s. is_two_sided s.congruence ≡ true)) }
+    ensures { IfOk result (λ known. IfSome known (λ s. allows_rules s.problem ≡ true)) }
 {
     let congruence = Congruence::new(presentation, Kind::TwoSided, Pairs::new(alloc));
     known(rt, alloc, congruence, budgets)
@@ -243,7 +252,7 @@ fn check_rules(
     solved: &Solved,
     texts: &[(&str, &str)],
 ) -> Result<(), Fail>
-    requires { is_two_sided solved.now.congruence ≡ true }
+    requires { allows_rules solved.now.problem ≡ true }
 {
     let alphabet = Alphabet::new(alloc, b"ab")?;
     let rules = solved.rules()?.into_vec();
@@ -256,7 +265,7 @@ fn check_rules(
 
 // The classes and the reduced rules are those of the symmetric group of degree three.
 fn check_symmetric(rt: &impl Abort, alloc: Global, solved: &Solved) -> Result<(), Fail>
-    requires { is_two_sided solved.now.congruence ≡ true }
+    requires { allows_rules solved.now.problem ≡ true }
 {
     let rules = [
         ("aa", ""),
@@ -294,7 +303,8 @@ fn no_schedule_changes_an_answer(rt: HostRuntime) -> Result<(), Fail> {
         let congruence = Congruence::new(presentation, Kind::TwoSided, Pairs::new(alloc));
         assert!(rt; congruence.presentation().relations().len() < 10);
         let turns = schedule.to_vec(alloc)?;
-        match decide(alloc, &congruence, &budgets(10_000, 1_000, 12), &turns)? {
+        let problem = Problem::Presented(congruence);
+        match decide(alloc, &problem, &budgets(10_000, 1_000, 12), &turns)? {
             Verdict::Known(solved) => check_symmetric(&rt, alloc, &solved)?,
             Verdict::Undecided(_) => panic!(rt; "undecided"),
         }
@@ -334,7 +344,7 @@ fn long_overlaps_end_no_completion(rt: HostRuntime) -> Result<(), Fail> {
 
 // There are infinitely many classes, and the one rule leads from ab to the empty word.
 fn check_bicyclic(rt: &impl Abort, alloc: Global, solved: &Solved) -> Result<(), Fail>
-    requires { is_two_sided solved.now.congruence ≡ true }
+    requires { allows_rules solved.now.problem ≡ true }
 {
     assert_eq!(rt; solved.index(0)?, Index::Infinite);
     assert_eq!(rt; solved.index(3)?, Index::Infinite);
@@ -410,12 +420,14 @@ fn completion_wins_or_is_spent(rt: HostRuntime) -> Result<(), Fail> {
 }
 
 #[test]
-fn completion_is_no_lane_for_right_pairs(rt: HostRuntime) -> Result<(), Fail> {
+fn completion_is_no_lane_for_one_sided_pairs(rt: HostRuntime) -> Result<(), Fail> {
     let alloc = rt.alloc();
-    let congruence = collapsed(&rt, alloc, Kind::Right)?;
-    match known(&rt, alloc, congruence, &budgets(50, 50, 9))? {
-        Some(solved) => assert_eq!(rt; solved.lanes().lanes().len(), 2),
-        None => panic!(rt; "undecided"),
+    for kind in [Kind::Right, Kind::Left] {
+        let congruence = collapsed(&rt, alloc, kind)?;
+        match known(&rt, alloc, congruence, &budgets(50, 50, 9))? {
+            Some(solved) => assert_eq!(rt; solved.lanes().lanes().len(), 2),
+            None => panic!(rt; "undecided"),
+        }
     }
     Ok(())
 }

@@ -1,18 +1,18 @@
 use Rattle.std.proofs.Common.{subst, IfOk}
-use Rattle.theory.specs.Congruence.{Congruence}
-use Rattle.theory.specs.Class.{SameClass}
+use Rattle.problem.specs.declared.kinds.Problem.{Problem}
+use Rattle.problem.specs.Problem.{SameClassOf}
 use Rattle.congruence.specs.Indexes.{IsIndexWithin}
 use Rattle.congruence.proofs.ViewLaws.{of_cosets, of_reduced}
 use Rattle.congruence.proofs.answers.Solved.index.Goals as goal
 
 pub returns-in-Cosets : goal.returns-in-Cosets
 returns-in-Cosets c =
-    subst (λ (k : Congruence). IfOk c.index.result (IsIndexWithin (SameClass k) c.args.bound))
+    subst (λ (k : Problem). IfOk c.index.result (IsIndexWithin (SameClassOf k) c.args.bound))
     (of_cosets c.args.self.now c.self.inside.classes c.self.inside.lanes c.self.view_is c.in-Cosets.classes c.in-Cosets.is)
     c.index.ensures
 
 pub returns-in-Reduced : goal.returns-in-Reduced
 returns-in-Reduced c =
-    subst (λ (k : Congruence). IfOk c.index-in-Reduced.result (IsIndexWithin (SameClass k) c.args.bound))
+    subst (λ (k : Problem). IfOk c.index-in-Reduced.result (IsIndexWithin (SameClassOf k) c.args.bound))
     (of_reduced c.args.self.now c.self.inside.classes c.self.inside.lanes c.self.view_is c.in-Reduced.classes c.in-Reduced.is)
     c.index-in-Reduced.ensures

@@ -1,35 +1,36 @@
 use Rattle.std.proofs.Common.{subst, IfOk, MatchOption, Option}
 use Rattle.std.specs.Option.{option_copied}
 use Rattle.theory.specs.Word.{Word as Letters}
-use Rattle.theory.specs.Congruence.{Congruence}
+use Rattle.problem.specs.declared.kinds.Problem.{Problem}
+use Rattle.problem.specs.Problem.{SameClassOf}
 use Rattle.theory.specs.ShortLex.{◌≺◌}
-use Rattle.theory.specs.Class.{SameClass, IsLeast}
+use Rattle.theory.specs.Class.{IsLeast}
 use Rattle.theory.specs.Listing.{IsLast, IsNext, GoesOnOrEnds}
 use Rattle.congruence.proofs.ViewLaws.{of_cosets, of_reduced}
 use Rattle.congruence.proofs.answers.Solved.next_after.Goals as goal
 
 pub returns-in-Cosets-clause-goes_on : goal.returns-in-Cosets-clause-goes_on
 returns-in-Cosets-clause-goes_on c =
-    subst (λ (k : Congruence). GoesOnOrEnds (IsLeast (SameClass k)) ◌≺◌)
+    subst (λ (k : Problem). GoesOnOrEnds (IsLeast (SameClassOf k)) ◌≺◌)
     (of_cosets c.args.self.now c.self.inside.classes c.self.inside.lanes c.self.view_is c.in-Cosets.classes c.in-Cosets.is)
     c.next_after.ensures.goes_on
 
 pub returns-in-Cosets-clause-next : goal.returns-in-Cosets-clause-next
 returns-in-Cosets-clause-next c =
-    subst (λ (k : Congruence). IfOk c.next_after.result (λ (next : Option Letters). MatchOption next
-    (IsLast (IsLeast (SameClass k)) ◌≺◌ (option_copied c.args.after)) (IsNext (IsLeast (SameClass k)) ◌≺◌ (option_copied c.args.after))))
+    subst (λ (k : Problem). IfOk c.next_after.result (λ (next : Option Letters). MatchOption next
+    (IsLast (IsLeast (SameClassOf k)) ◌≺◌ (option_copied c.args.after)) (IsNext (IsLeast (SameClassOf k)) ◌≺◌ (option_copied c.args.after))))
     (of_cosets c.args.self.now c.self.inside.classes c.self.inside.lanes c.self.view_is c.in-Cosets.classes c.in-Cosets.is)
     c.next_after.ensures.next
 
 pub returns-in-Reduced-clause-goes_on : goal.returns-in-Reduced-clause-goes_on
 returns-in-Reduced-clause-goes_on c =
-    subst (λ (k : Congruence). GoesOnOrEnds (IsLeast (SameClass k)) ◌≺◌)
+    subst (λ (k : Problem). GoesOnOrEnds (IsLeast (SameClassOf k)) ◌≺◌)
     (of_reduced c.args.self.now c.self.inside.classes c.self.inside.lanes c.self.view_is c.in-Reduced.classes c.in-Reduced.is)
     c.next_after-in-Reduced.ensures.goes_on
 
 pub returns-in-Reduced-clause-next : goal.returns-in-Reduced-clause-next
 returns-in-Reduced-clause-next c =
-    subst (λ (k : Congruence). IfOk c.next_after-in-Reduced.result (λ (next : Option Letters). MatchOption next
-    (IsLast (IsLeast (SameClass k)) ◌≺◌ (option_copied c.args.after)) (IsNext (IsLeast (SameClass k)) ◌≺◌ (option_copied c.args.after))))
+    subst (λ (k : Problem). IfOk c.next_after-in-Reduced.result (λ (next : Option Letters). MatchOption next
+    (IsLast (IsLeast (SameClassOf k)) ◌≺◌ (option_copied c.args.after)) (IsNext (IsLeast (SameClassOf k)) ◌≺◌ (option_copied c.args.after))))
     (of_reduced c.args.self.now c.self.inside.classes c.self.inside.lanes c.self.view_is c.in-Reduced.classes c.in-Reduced.is)
     c.next_after-in-Reduced.ensures.next

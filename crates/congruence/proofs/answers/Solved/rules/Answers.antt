@@ -1,17 +1,18 @@
 use Rattle.std.proofs.Common.{subst, IfOk}
-use Rattle.theory.specs.Congruence.{Congruence}
-use Rattle.theory.specs.Class.{SameClass, IsRuleList}
+use Rattle.problem.specs.declared.kinds.Problem.{Problem}
+use Rattle.problem.specs.Problem.{SameClassOf}
+use Rattle.theory.specs.Class.{IsRuleList}
 use Rattle.congruence.proofs.ViewLaws.{of_cosets, of_reduced}
 use Rattle.congruence.proofs.answers.Solved.rules.Goals as goal
 
 pub returns-in-Cosets : goal.returns-in-Cosets
 returns-in-Cosets c =
-    subst (λ (k : Congruence). IfOk c.rules.result (IsRuleList (SameClass k)))
+    subst (λ (k : Problem). IfOk c.rules.result (IsRuleList (SameClassOf k)))
     (of_cosets c.args.self.now c.self.inside.classes c.self.inside.lanes c.self.view_is c.in-Cosets.classes c.in-Cosets.is)
     c.rules.ensures
 
 pub returns-in-Reduced : goal.returns-in-Reduced
 returns-in-Reduced c =
-    subst (λ (k : Congruence). IfOk c.rules-in-Reduced.result (IsRuleList (SameClass k)))
+    subst (λ (k : Problem). IfOk c.rules-in-Reduced.result (IsRuleList (SameClassOf k)))
     (of_reduced c.args.self.now c.self.inside.classes c.self.inside.lanes c.self.view_is c.in-Reduced.classes c.in-Reduced.is)
     c.rules-in-Reduced.ensures

@@ -6,22 +6,22 @@ use Rattle.congruence.proofs.reduced_words.ReducedClasses.count.Goals as goal
 
 pub returns-then-count-bound : goal.returns-then-count-bound
 returns-then-count-bound c =
-    let less : c.loop-next.count < c.requires.0 = count_over c.args.self.now c.loop-next.count c.requires.0 c.in-Some.word
-    (subst (λ (o : Option Letters). IsCountTo (SameClass c.args.self.now) c.loop-next.count o) c.in-Some.is c.loop-next.invariant.is) c.requires.1 in
+    let less : c.loop-next.count < c.requires.0 = count_over c.args.self.now.congruence c.loop-next.count c.requires.0 c.in-Some.word
+    (subst (λ (o : Option Letters). IsCountTo (SameClass c.args.self.now.congruence) c.loop-next.count o) c.in-Some.is c.loop-next.invariant.is) c.requires.1 in
     (c.requires.0, c.requires.1, omega (arith, c.if-count-bound.true))
 
 pub loop-next-preserved : goal.loop-next-preserved
 loop-next-preserved c =
     record {
       within = omega (arith, c.loop-next.invariant.within, c.if-count-bound.false);
-      is = count_step (SameClass c.args.self.now) c.loop-next.count c.in-Some.word c.in_ok-next-2.next
-          (subst (λ (o : Option Letters). IsCountTo (SameClass c.args.self.now) c.loop-next.count o) c.in-Some.is c.loop-next.invariant.is)
+      is = count_step (SameClass c.args.self.now.congruence) c.loop-next.count c.in-Some.word c.in_ok-next-2.next
+          (subst (λ (o : Option Letters). IsCountTo (SameClass c.args.self.now.congruence) c.loop-next.count o) c.in-Some.is c.loop-next.invariant.is)
           c.in_ok-next-2.ensures.next;
     }
 
 pub returns : goal.returns
 returns c = (
-  count_end (SameClass c.args.self.now) c.loop-next.count
-      (subst (λ (o : Option Letters). IsCountTo (SameClass c.args.self.now) c.loop-next.count o) c.in_default.is c.loop-next.invariant.is),
+  count_end (SameClass c.args.self.now.congruence) c.loop-next.count
+      (subst (λ (o : Option Letters). IsCountTo (SameClass c.args.self.now.congruence) c.loop-next.count o) c.in_default.is c.loop-next.invariant.is),
   c.loop-next.invariant.within,
 )

@@ -4,7 +4,7 @@ use Rattle.congruence.proofs.RewrittenCounts.{IsCountTo}
 use Rattle.congruence.proofs.reduced_words.ReducedClasses.count.Given as goal
 
 abbrev pub invariant-loop-next : goal.invariant-loop-next
-invariant-loop-next l = record { within : l.count ≤ l.bound; is : IsCountTo (SameClass l.self) l.count l.next }
+invariant-loop-next l = record { within : l.count ≤ l.bound; is : IsCountTo (SameClass l.self.congruence) l.count l.next }
 
 abbrev pub decreases-loop-next : goal.decreases-loop-next
 decreases-loop-next l = l.bound - l.count

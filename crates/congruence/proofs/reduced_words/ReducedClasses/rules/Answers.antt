@@ -2,13 +2,13 @@ use Rattle.std.proofs.Common.{List, ◌∙◌, sym, subst}
 use Rattle.std.proofs.lemmas.Result.{IfOk-weaker}
 use Rattle.theory.specs.Word.{Word as Letters}
 use Rattle.theory.specs.Class.{SameClass, IsRuleList}
-use Rattle.theory.specs.Congruence.{Congruence}
+use Rattle.presentation.specs.Presented.{Posed}
 use Rattle.congruence.specs.Rewriting.{DecidesBy}
 use Rattle.congruence.proofs.reduced_words.ReducedClasses.rules.Goals as goal
 
 pub returns : goal.returns
 returns c =
-    let decided : DecidesBy c.args.self.now c.self.inside.automaton = subst (λ (k : Congruence). DecidesBy k c.self.inside.automaton) c.self.view_is c.self.invariant in
+    let decided : DecidesBy c.args.self.now.congruence c.self.inside.automaton = subst (λ (k : Posed). DecidesBy k.congruence c.self.inside.automaton) c.self.view_is c.self.invariant in
     IfOk-weaker c.copy.result _ _
-    (λ rules e. subst (λ (rs : List (Letters × Letters)). IsRuleList (SameClass c.args.self.now) rs) (sym (e ∙ c.rules.ensures)) decided.list)
+    (λ rules e. subst (λ (rs : List (Letters × Letters)). IsRuleList (SameClass c.args.self.now.congruence) rs) (sym (e ∙ c.rules.ensures)) decided.list)
     c.copy.ensures

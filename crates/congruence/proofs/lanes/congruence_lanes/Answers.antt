@@ -1,8 +1,8 @@
 use Rattle.std.proofs.Common.{ap}
 use Rattle.congruence.specs.declared.engine.Engine.TheVariants.{Felsch, Hlt, Completion}
 use Rattle.congruence.proofs.LaneLaws.{two_pushed, three_pushed}
-use Rattle.congruence.proofs.solving.lanes_for.Goals as goal
-use Rattle.congruence.proofs.solving.lanes_for.Goals.{then-is_two_sided+in_ok-completion+in_ok-push-3, else-is_two_sided}
+use Rattle.congruence.proofs.lanes.congruence_lanes.Goals as goal
+use Rattle.congruence.proofs.lanes.congruence_lanes.Goals.{then-is_two_sided+in_ok-completion+in_ok-push-3, else-is_two_sided}
 
 pub returns-clause-starts : goal.returns-clause-starts
 returns-clause-starts c =

@@ -1,0 +1,136 @@
+// The lanes of a race for a problem.
+ghost use Rattle.std.specs.Prelude.{◌≡◌, ◌≤◌, [], ◌∷◌, None, length, IfOk};
+ghost use Rattle.theory.specs.Congruence.{as_right, IsWellFormed};
+ghost use Rattle.problem.specs.Problem.{IsPosable, IsSolvable};
+ghost use Rattle.race.specs.Lanes.{fresh};
+ghost use Rattle.race.specs.Machine.{Starts, tasks};
+ghost use Rattle.congruence.specs.Engines.{as_racer, congruence_tasks, pairs_task, tasks_for, IsCompletionFor};
+
+use crate::engine::Engine;
+use cayley::PairsRacer;
+use elements::Element;
+use knuth_bendix::Completion;
+use ports::NoMemory;
+use presentation::{Congruence, Kind, Pairs};
+use problem::{Budgets, Posed, Problem};
+use race::{Lane, Progress};
+use std::alloc::Global;
+use tc_felsch::Felsch;
+use tc_hlt::Hlt;
+
+// The right congruence that stands for the congruence: two-sided pairs become relations, and with
+// left pairs all is read backwards.
+fn as_right(alloc: Global, congruence: &Congruence) -> Result<Congruence, NoMemory>
+    requires { IsSolvable congruence.now.congruence }
+    ensures congruence { IfOk result (λ c. c.congruence ≡ as_right congruence.now.congruence) }
+    ensures well_formed { IsWellFormed congruence.now.congruence }
+{
+    let presentation = congruence.presentation();
+    let pairs = congruence.pairs();
+    match congruence.kind() {
+        Kind::TwoSided => {
+            let relations = presentation.with_pairs(alloc, pairs)?;
+            Ok(Congruence::new(relations, Kind::Right, Pairs::new(alloc)))
+        }
+        Kind::Right => congruence.copy(alloc),
+        Kind::Left => {
+            if pairs.is_empty() {
+                let relations = presentation.copy(alloc)?;
+                return Ok(Congruence::new(relations, Kind::Right, Pairs::new(alloc)));
+            }
+            let relations = presentation.reversed(alloc)?;
+            Ok(Congruence::new(relations, Kind::Right, pairs.reversed(alloc)?))
+        }
+    }
+}
+
+// The completion of the presentation with the pairs as relations.
+fn completion_of(
+    alloc: Global,
+    congruence: &Congruence,
+    length: usize,
+) -> Result<Completion, NoMemory>
+    requires { IsSolvable congruence.now.congruence }
+    ensures { IfOk result (IsCompletionFor congruence.now.congruence length) }
+{
+    let presentation = congruence.presentation();
+    let relations = presentation.with_pairs(alloc, congruence.pairs())?;
+    Completion::new(alloc, &relations, length)
+}
+
+// The lanes for a congruence on a presentation: Felsch's strategy, the strategy of rows, and
+// completion where it is two-sided.
+fn congruence_lanes(
+    alloc: Global,
+    congruence: &Congruence,
+    budgets: &Budgets,
+) -> Result<Vec<Lane<Engine>>, NoMemory>
+    requires { IsSolvable congruence.now.congruence }
+    ensures starts { IfOk result (λ lanes. Starts as_racer lanes.items) }
+    ensures count { IfOk result (λ lanes. length lanes.items ≤ 64) }
+    ensures tasks { IfOk result (λ lanes. tasks as_racer lanes.items
+        ≡ congruence_tasks congruence.now.congruence budgets.now) }
+{
+    let task = as_right(alloc, congruence)?;
+    let felsch = Felsch::new(alloc, &task, budgets.defs)?;
+    let hlt = Hlt::new(alloc, &task, budgets.rows)?;
+    let mut lanes = Vec::new(alloc);
+    lanes.push(Lane::new(0, Engine::Felsch(felsch)))?;
+    lanes.push(Lane::new(1, Engine::Hlt(hlt)))?;
+    if congruence.is_two_sided() {
+        let completion = completion_of(alloc, congruence, budgets.length)?;
+        lanes.push(Lane::new(2, Engine::Completion(completion)))?;
+    }
+    Ok(lanes)
+}
+
+// The search for the classes of at most so many elements.
+fn search_of<E: Element>(
+    alloc: Global,
+    posed: &Posed<E>,
+    bound: usize,
+) -> Result<PairsRacer<E>, NoMemory>
+    ensures { IfOk result (λ search. search ≡ record {
+      task = pairs_task posed.now bound;
+      tables = None;
+      classes = None;
+      said = Progress.More;
+    }) }
+{
+    let _some = posed.generators();
+    let generators = posed.copied_generators(alloc)?;
+    let pairs = posed.pairs().copy(alloc)?;
+    Ok(PairsRacer::new(alloc, generators, posed.kind(), pairs, bound))
+}
+
+// One lane.
+fn one_lane(alloc: Global, engine: Engine) -> Result<Vec<Lane<Engine>>, NoMemory>
+    ensures { IfOk result (λ lanes. lanes.items ≡ fresh 0 engine ∷ []) }
+{
+    let mut lanes = Vec::new(alloc);
+    lanes.push(Lane::new(0, engine))?;
+    Ok(lanes)
+}
+
+/// The lanes for the problem. Refused only where memory is wanting.
+pub fn lanes_for(
+    alloc: Global,
+    problem: &Problem,
+    budgets: &Budgets,
+) -> Result<Vec<Lane<Engine>>, NoMemory>
+    requires { IsPosable problem.now }
+    ensures starts { IfOk result (λ lanes. Starts as_racer lanes.items) }
+    ensures count { IfOk result (λ lanes. length lanes.items ≤ 64) }
+    ensures tasks { IfOk result (λ lanes. tasks as_racer lanes.items
+        ≡ tasks_for problem.now budgets.now) }
+{
+    let bound = budgets.elements;
+    let engine = match problem {
+        Problem::Presented(congruence) => return congruence_lanes(alloc, congruence, budgets),
+        Problem::Transf(posed) => Engine::Transf(search_of(alloc, posed, bound)?),
+        Problem::PPerm(posed) => Engine::PPerm(search_of(alloc, posed, bound)?),
+        Problem::BMat(posed) => Engine::BMat(search_of(alloc, posed, bound)?),
+        Problem::MaxPlus(posed) => Engine::MaxPlus(search_of(alloc, posed, bound)?),
+    };
+    one_lane(alloc, engine)
+}
