@@ -1,8 +1,7 @@
 pub mod Alike
-pub mod ClosureLemmas
+pub mod Elements
 pub mod ListingLemmas
-pub mod CayleyLemmas
-pub mod PageLemmas
+pub mod GraphLemmas
 pub mod AnswerLemmas
 pub mod AnswerBytes
 pub mod UniqueAnswer

@@ -2,7 +2,7 @@
 use Rattle.std.proofs.Common.{◌≡◌, ℕ, zero, suc, ◌+◌, ◌<◌, ◌≤◌, List, [], ◌∷◌, ◌++◌, length, get_or, take, drop, Result, Ok, Err, sym, ap, ◌∙◌, arith, append-nil, codes, decimal, map}
 use Rattle.std.specs.List.{flat_map, range_with_len}
 use Rattle.std.proofs.Math.Seq.{drop-cons}
-use Rattle.std.proofs.lemmas.List.{take_more, take_all, take-append-drop, append_assoc, get_or-take, get_or-drop}
+use Rattle.std.proofs.lemmas.List.{take_more, take_all, take-append-drop, append_assoc}
 use Rattle.std.proofs.lemmas.Grind.{flat_map-append}
 use Rattle.ports.specs.declared.sink.Sink.{Ghosts}
 use Rattle.ports.specs.declared.fault.WriteFault.{WriteFault}
@@ -44,10 +44,6 @@ module _ {A : Type 0} (f : A → List ℕ) (xs : List A) where
     -- all lines
     pub lines_done : length xs ≤ i → WritesBytes sink (flat_map f xs) old mid (Ok (tt {0}))
     lines_done all = same_bytes sink _ _ old mid _ (ap (flat_map f) (take_all i xs all)) before
-
--- what stands at a place of a part of a list
-pub get_part : {A : Type 0} (xs : List A) (start count i : ℕ) (d : A) → i < count → get_or (take count (drop start xs)) i d ≡ get_or xs (start + i) d
-get_part xs start count i d h = get_or-take count (drop start xs) i d h ∙ get_or-drop start xs i d
 
 range_suc : (a n : ℕ) → range_with_len a (suc n) ≡ range_with_len a n ++ (a + n) ∷ []
 range_suc a zero = ap (λ b. b ∷ []) (let e : a ≡ a + 0 = omega arith in e)

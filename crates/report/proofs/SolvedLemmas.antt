@@ -1,109 +1,96 @@
--- The answers that a solved congruence gives.
-use Rattle.std.proofs.Common.{◌≡◌, ◌↔◌, All, ℕ, Bool, true, false, IsTrue, true≢false, inl, inr, if◌then◌else◌, List, [], ◌∷◌, ◌++◌, map, length, Option, None, Some, Result, refl, sym, ap, subst, ◌∙◌, arith}
+-- The answers where the problem is decided.
+use Rattle.std.proofs.Common.{◌≡◌, ◌↔◌, All, ℕ, Bool, true, false, IsTrue, true≢false, inl, inr, if◌then◌else◌, List, [], ◌∷◌, ◌++◌, map, length, Option, Result, refl, sym, ap, subst, ◌∙◌}
 use Rattle.std.proofs.lemmas.Bool.{le-leb, lt-leb}
 use Rattle.ports.specs.declared.sink.Sink.{Ghosts}
 use Rattle.ports.specs.declared.fault.WriteFault.{WriteFault}
 use Rattle.ports.specs.Writes.{Writes}
 use Rattle.ports.proofs.WriteLemmas.{meant_weaker}
-use Rattle.std.proofs.lemmas.List.Elements.{All-cons}
-use Rattle.theory.specs.Word.{Word, IsElement, IsOver}
+use Rattle.theory.specs.Word.{Word, IsOver}
 use Rattle.theory.specs.ShortLex.{◌≺◌}
-use Rattle.theory.specs.Listing.{IsPage, IsListOf}
-use Rattle.theory.specs.Congruence.{Congruence}
-use Rattle.theory.specs.Class.{SameClass, IsLeast, IsNormal, HasIndex, IsInfinite, IsReducedRule, RuleBefore, IsRuleList}
+use Rattle.theory.specs.Listing.{IsPage}
+use Rattle.theory.specs.Class.{IsLeast, IsNormal, HasIndex, IsInfinite, IsRuleList}
+use Rattle.froidure_pin.specs.declared.tables.CayleyTables.{CayleyTables}
+use Rattle.cayley.specs.Tables.{edge}
 use Rattle.problem.specs.declared.kinds.Problem.{Problem}
-use Rattle.problem.specs.declared.kinds.Problem.TheVariants as problem
-use Rattle.problem.specs.declared.budgets.Budgets.{Budgets}
-use Rattle.problem.specs.Problem.{SameClassOf, IsDecided, letters_of, count_of}
-use Rattle.congruence.specs.declared.answers.Solved.{Solved}
-use Rattle.congruence.specs.declared.solving.Verdict.{Verdict}
-use Rattle.congruence.specs.declared.solving.Verdict.TheVariants.{Known}
+use Rattle.problem.specs.Problem.{SameClassOf, SameValueOf, IsWellPosed, count_of, is_presented, letters_of}
+use Rattle.problem.proofs.RelatedByValue.{related_by_value}
 use Rattle.congruence.specs.declared.answers.Index.{Index}
 use Rattle.congruence.specs.declared.answers.Index.TheVariants.{Finite, Infinite, Over}
+use Rattle.congruence.specs.CayleyGraphs.{AreTablesFor}
 use Rattle.congruence.specs.Indexes.{IsIndexWithin}
-use Rattle.congruence.specs.Verdicts.{IsCongruenceIn, IsVerdictOf}
 use Rattle.query_lang.specs.declared.script.Query.{Query}
 use Rattle.query_lang.specs.declared.script.Query.TheVariants as query
-use Rattle.report.specs.Answer.{AreLines}
+use Rattle.query_lang.specs.Query.{IsQueryOf, needs_generators, is_cayley}
+use Rattle.report.specs.Answer.{AreLines, cayley_lines}
 use Rattle.report.specs.Gains.{AreBytesOf, ArePageLines}
 use Rattle.report.specs.Lines.{count_line, over_line, infinite_line, equal_line, normal_line, page_lines, rule_line, end_line}
+use Rattle.report.proofs.Alike.{graphs_alike}
+use Rattle.report.proofs.Elements.{class_over, rules_over, one_shape}
 
--- what holds of the congruence's classes holds of the problem's
-of_problem : (p : Problem) (c : Congruence) → IsCongruenceIn p c → (P : (Word → Word → Type 0) → Type 0) → P (SameClass c) → P (SameClassOf p)
-of_problem (problem.Presented q) c e P h = subst (λ d. P (SameClass d)) e h
-of_problem (problem.Transf q) c e P h = absurd e
-of_problem (problem.PPerm q) c e P h = absurd e
-of_problem (problem.BMat q) c e P h = absurd e
-of_problem (problem.MaxPlus q) c e P h = absurd e
+-- s is what was solved, and p the problem that is asked about
+module _ (p s : Problem) (solved : s ≡ p) where
+  -- what holds of the classes of the one holds of those of the other
+  of_problem : (P : (Word → Word → Type 0) → Type 0) → P (SameClassOf s) → P (SameClassOf p)
+  of_problem P h = subst (λ x. P (SameClassOf x)) solved h
 
--- a known verdict decides the problem, and its congruence is that of the problem
-pub solved_verdict : (p : Problem) (b : Budgets) (v : Verdict) (solved : Solved) → v ≡ Known solved → IsVerdictOf p b v → IsDecided p b × IsCongruenceIn p solved.congruence
-solved_verdict p b v solved e h = known p (subst (IsVerdictOf p b) e h)
+  -- a least word is over the letters
+  pub normal_over : (letters : List ℕ) (w : Word) → letters ≡ letters_of p → count_of p ≡ length (letters_of p) → IsLeast (SameClassOf s) w → IsOver (length letters) w
+  normal_over letters w over one_each least = subst (λ k. IsOver k w) (one_each ∙ sym (ap length over)) (class_over p w w (of_problem (λ R. R w w) least.element))
+
+  -- the sides of rules are over the letters
+  pub solved_rules_over : (letters : List ℕ) (rules : List (Word × Word)) → letters ≡ letters_of p → count_of p ≡ length (letters_of p) → IsRuleList (SameClassOf s) rules
+      → All (λ r. IsOver (length letters) r.0 × IsOver (length letters) r.1) rules
+  solved_rules_over letters rules over one_each h =
+      subst (λ k. All (λ r. IsOver k r.0 × IsOver k r.1) rules) (one_each ∙ sym (ap length over)) (rules_over p rules (of_problem (λ R. IsRuleList R rules) h))
+
+  module _ (bound : ℕ) where
+    pub solved_count : (i : Index) (n : ℕ) → i ≡ Finite n → IsIndexWithin (SameClassOf s) bound i → AreLines p bound query.Index (count_line n ∷ [])
+    solved_count i n e within =
+        let h = subst (IsIndexWithin (SameClassOf s) bound) e within in
+        inl (n, of_problem (λ R. HasIndex R n) h.0, ap (λ least. (if least then count_line n else over_line bound) ∷ []) (sym (le-leb n bound h.1)))
+
+    pub solved_over : (i : Index) → i ≡ Over → IsIndexWithin (SameClassOf s) bound i → AreLines p bound query.Index (over_line bound ∷ [])
+    solved_over i e within =
+        let h = subst (IsIndexWithin (SameClassOf s) bound) e within in
+        inl (h.0, of_problem (λ R. HasIndex R h.0) h.1, ap (λ least. (if least then count_line h.0 else over_line bound) ∷ []) (sym (lt-leb h.0 bound h.2)))
+
+    pub solved_infinite : (i : Index) → i ≡ Infinite → IsIndexWithin (SameClassOf s) bound i → AreLines p bound query.Index (infinite_line ∷ [])
+    solved_infinite i e within = inr (of_problem IsInfinite (subst (IsIndexWithin (SameClassOf s) bound) e within), refl)
+
+    pub solved_rules : (rules : List (Word × Word)) → IsRuleList (SameClassOf s) rules
+        → AreLines p bound query.RuleList (map (rule_line (letters_of p)) rules ++ end_line false ∷ [])
+    solved_rules rules h = (rules, of_problem (λ R. IsRuleList R rules) h, refl)
+
+    pub solved_equal : (u v : Word) (same : Bool) → IsTrue same ↔ SameClassOf s u v → AreLines p bound (query.Equal u v) (equal_line same ∷ [])
+    solved_equal u v true h = inl (of_problem (λ R. R u v) (h.0 refl), refl)
+    solved_equal u v false h = inr (of_problem (λ R. R u v → ⊥) (λ related. true≢false (sym (h.1 related))), refl)
+
+    pub solved_normal : (u w : Word) → IsNormal (SameClassOf s) u w → AreLines p bound (query.Normal u) (normal_line (letters_of p) w ∷ [])
+    solved_normal u w h = (w, of_problem (λ R. IsNormal R u w) h, refl)
+
+    -- a page of the classes
+    page : (q : Query) (count : ℕ) (after asked : Option Word) (letters : List ℕ) → q ≡ query.Classes count after → asked ≡ after → letters ≡ letters_of p → (lines : List (List ℕ)) → ArePageLines (SameClassOf s) letters asked count lines → AreLines p bound q lines
+    page q count after asked letters is same over lines h =
+        let here = subst (λ cursor. IsPage (IsLeast (SameClassOf s)) ◌≺◌ cursor count h.words h.more) same h.is_page in
+        subst (λ s. AreLines p bound s lines) (sym is)
+        (h.words, h.more, of_problem (λ R. IsPage (IsLeast R) ◌≺◌ after count h.words h.more) here, h.are_lines ∙ ap (λ ls. page_lines ls h.words h.more) over)
+
+    module _ (q : Query) (count : ℕ) (after asked : Option Word) (letters : List ℕ) (is : q ≡ query.Classes count after) (same : asked ≡ after) (over : letters ≡ letters_of p) where
+      pub solved_page : {K : Type 0} (sink : Ghosts K) (old new : K) (r : Result (Unit {0}) WriteFault) → Writes sink (λ _. AreBytesOf (ArePageLines (SameClassOf s) letters asked count)) old new r → Writes sink (λ _. AreBytesOf (AreLines p bound q)) old new r
+      solved_page sink old new r = meant_weaker sink old new r (λ _ bytes h. record { lines = h.lines; are_such = page q count after asked letters is same over h.lines h.are_such; are_bytes = h.are_bytes })
+
+-- what asks for generators is there only where they are given
+is_generated : (p : Problem) (q r : Query) → q ≡ r → needs_generators r ≡ true → IsQueryOf p q → is_presented p ≡ false
+is_generated p q r is needs asked = generated (is_presented p) asked.there
   where
-    known : (q : Problem) → IsVerdictOf q b (Known solved) → IsDecided q b × IsCongruenceIn q solved.congruence
-    known (problem.Presented q) d = (d.0, d.1)
-    known (problem.Transf q) d = absurd d
-    known (problem.PPerm q) d = absurd d
-    known (problem.BMat q) d = absurd d
-    known (problem.MaxPlus q) d = absurd d
+    generated : (presented : Bool) → (presented ≡ true → needs_generators q ≡ false) → presented ≡ false
+    generated true there = absurd (true≢false (sym needs ∙ sym (ap needs_generators is) ∙ there refl))
+    generated false there = refl
 
-element_over : (empty : Bool) (k : ℕ) (u : Word) → IsElement empty k u → IsOver k u
-element_over true k u h = h
-element_over false k u h = h.1
-
-letters_counted : (p : Problem) (c : Congruence) → IsCongruenceIn p c → c.presentation.letters ≡ count_of p
-letters_counted (problem.Presented q) c e = ap (λ d. d.presentation.letters) e
-letters_counted (problem.Transf q) c e = absurd e
-letters_counted (problem.PPerm q) c e = absurd e
-letters_counted (problem.BMat q) c e = absurd e
-letters_counted (problem.MaxPlus q) c e = absurd e
-
--- the sides of the rules of a congruence are over the letters of the problem
-pub solved_rules_over : (p : Problem) (c : Congruence) → IsCongruenceIn p c → (rules : List (Word × Word)) (letters : List ℕ) → IsRuleList (SameClass c) rules → letters ≡ letters_of p → count_of p ≡ length (letters_of p)
-    → All (λ r. IsOver (length letters) r.0 × IsOver (length letters) r.1) rules
-solved_rules_over p c solved rules letters listed same one_each = sides None rules listed
-  where
-    over : (u : Word) → IsElement c.presentation.is_monoid c.presentation.letters u → IsOver (length letters) u
-    over u h = subst (λ k. IsOver k u) (letters_counted p c solved ∙ (one_each ∙ sym (ap length same))) (element_over c.presentation.is_monoid c.presentation.letters u h)
-
-    sides : (cursor : Option (Word × Word)) (ps : List (Word × Word)) → IsListOf (λ r. IsReducedRule (SameClass c) r.0 r.1) RuleBefore cursor ps → All (λ r. IsOver (length letters) r.0 × IsOver (length letters) r.1) ps
-    sides cursor [] h = λ i d l. absurd (omega arith)
-    sides cursor (r ∷ ps) h =
-        let related = h.0.has.normal.related in
-        All-cons (λ r. IsOver (length letters) r.0 × IsOver (length letters) r.1) r ps (over r.0 related.left, over r.1 related.right) (sides (Some r) ps h.1)
-
-module _ (p : Problem) (c : Congruence) (solved : IsCongruenceIn p c) (bound : ℕ) where
-  pub solved_count : (i : Index) (n : ℕ) → i ≡ Finite n → IsIndexWithin (SameClass c) bound i → AreLines p bound query.Index (count_line n ∷ [])
-  solved_count i n e within =
-      let h = subst (IsIndexWithin (SameClass c) bound) e within in
-      inl (n, of_problem p c solved (λ R. HasIndex R n) h.0, ap (λ least. (if least then count_line n else over_line bound) ∷ []) (sym (le-leb n bound h.1)))
-
-  pub solved_over : (i : Index) → i ≡ Over → IsIndexWithin (SameClass c) bound i → AreLines p bound query.Index (over_line bound ∷ [])
-  solved_over i e within =
-      let h = subst (IsIndexWithin (SameClass c) bound) e within in
-      inl (h.0, of_problem p c solved (λ R. HasIndex R h.0) h.1, ap (λ least. (if least then count_line h.0 else over_line bound) ∷ []) (sym (lt-leb h.0 bound h.2)))
-
-  pub solved_infinite : (i : Index) → i ≡ Infinite → IsIndexWithin (SameClass c) bound i → AreLines p bound query.Index (infinite_line ∷ [])
-  solved_infinite i e within = inr (of_problem p c solved IsInfinite (subst (IsIndexWithin (SameClass c) bound) e within), refl)
-
-  pub solved_rules : (rules : List (Word × Word)) → IsRuleList (SameClass c) rules
-      → AreLines p bound query.RuleList (map (rule_line (letters_of p)) rules ++ end_line false ∷ [])
-  solved_rules rules h = (rules, of_problem p c solved (λ R. IsRuleList R rules) h, refl)
-
-  pub solved_equal : (u v : Word) (same : Bool) → IsTrue same ↔ SameClass c u v → AreLines p bound (query.Equal u v) (equal_line same ∷ [])
-  solved_equal u v true h = inl (of_problem p c solved (λ R. R u v) (h.0 refl), refl)
-  solved_equal u v false h = inr (of_problem p c solved (λ R. R u v → ⊥) (λ related. true≢false (sym (h.1 related))), refl)
-
-  pub solved_normal : (u w : Word) → IsNormal (SameClass c) u w → AreLines p bound (query.Normal u) (normal_line (letters_of p) w ∷ [])
-  solved_normal u w h = (w, of_problem p c solved (λ R. IsNormal R u w) h, refl)
-
-  -- a page of the congruence's classes
-  page : (q : Query) (count : ℕ) (after asked : Option Word) (letters : List ℕ) → q ≡ query.Classes count after → asked ≡ after → letters ≡ letters_of p → (lines : List (List ℕ)) → ArePageLines (SameClass c) letters asked count lines → AreLines p bound q lines
-  page q count after asked letters is same over lines h =
-      let here = subst (λ cursor. IsPage (IsLeast (SameClass c)) ◌≺◌ cursor count h.words h.more) same h.is_page in
-      subst (λ s. AreLines p bound s lines) (sym is)
-      (h.words, h.more, of_problem p c solved (λ R. IsPage (IsLeast R) ◌≺◌ after count h.words h.more) here, h.are_lines ∙ ap (λ ls. page_lines ls h.words h.more) over)
-
-  module _ (q : Query) (count : ℕ) (after asked : Option Word) (letters : List ℕ) (is : q ≡ query.Classes count after) (same : asked ≡ after) (over : letters ≡ letters_of p) where
-    pub solved_page : {K : Type 0} (sink : Ghosts K) (old new : K) (r : Result (Unit {0}) WriteFault) → Writes sink (λ _. AreBytesOf (ArePageLines (SameClass c) letters asked count)) old new r → Writes sink (λ _. AreBytesOf (AreLines p bound q)) old new r
-    solved_page sink old new r = meant_weaker sink old new r (λ _ bytes h. record { lines = h.lines; are_such = page q count after asked letters is same over h.lines h.are_such; are_bytes = h.are_bytes })
+-- without pairs the Cayley graphs are those of the elements
+pub solved_cayley : (p : Problem) (bound : ℕ) (q : Query) (t : CayleyTables) → q ≡ query.Cayley → IsWellPosed p → IsQueryOf p q → AreTablesFor p t
+    → AreLines p bound query.Cayley (cayley_lines (letters_of p) (count_of p) t.words (edge t.right) (edge t.left) ++ end_line false ∷ [])
+solved_cayley p bound q t is posed asked tables =
+    let shape = one_shape p (is_generated p q query.Cayley is refl asked) posed in
+    let alike = related_by_value p shape (asked.unpaired (ap is_cayley is)) in
+    (t.words, edge t.right, edge t.left, graphs_alike (SameValueOf p) (SameClassOf p) (λ u v. ((alike u v).1, (alike u v).0)) (count_of p) t.words (edge t.right) (edge t.left) tables.graphs, refl)

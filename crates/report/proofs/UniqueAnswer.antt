@@ -1,5 +1,5 @@
 -- A query has one answer.
-use Rattle.std.proofs.Common.{◌≡◌, ℕ, zero, suc, ◌+◌, ◌<◌, ◌≤◌, Bool, true, false, inl, inr, List, [], ◌∷◌, ◌++◌, length, get_or, map, None, Some, Option, refl, sym, ap, ap₂, subst, ◌∙◌, arith}
+use Rattle.std.proofs.Common.{◌≡◌, ℕ, zero, suc, ◌+◌, ◌<◌, ◌≤◌, Bool, true, false, inl, inr, List, [], ◌∷◌, ◌++◌, length, get_or, map, None, refl, sym, ap, ap₂, subst, ◌∙◌, arith}
 use Rattle.std.specs.Prelude.{codes, decimal}
 use Rattle.std.specs.List.{flat_map, range_with_len}
 use Rattle.std.proofs.lemmas.Bool.{cases_lt}
@@ -7,11 +7,11 @@ use Rattle.std.proofs.lemmas.List.Concat.{flat_map_single}
 use Rattle.std.proofs.Math.Nat.{eq-or-lt_of_le}
 use Rattle.theory.specs.Word.{Word}
 use Rattle.theory.specs.ShortLex.{◌≺◌}
-use Rattle.theory.specs.Listing.{IsListOf, IsStartOf}
 use Rattle.theory.specs.Class.{IsLeast, HasIndex, IsClassList, IsInfinite, IsReducedRule, RuleBefore}
-use Rattle.theory.specs.Value.{IsProduct, HasAtMostValues, HasMoreValues}
-use Rattle.theory.specs.declared.Kind.TheVariants.{TwoSided}
+use Rattle.theory.specs.Value.{IsProduct, SameValue, SameElement, HasAtMostValues, HasMoreValues}
+use Rattle.theory.specs.declared.Kind.{Kind}
 use Rattle.theory.proofs.Words.{before_irrefl}
+use Rattle.theory.proofs.Chains.{joined_congruence}
 use Rattle.theory.proofs.Listings.{list_unique, page_unique, start_no_longer}
 use Rattle.theory.proofs.Completeness.{normal_unique}
 use Rattle.theory.proofs.ClassLaws.{IsPartialEquivalence, same_class_equivalence, shortlex_strict, rule_order}
@@ -21,21 +21,17 @@ use Rattle.elements.specs.TransfLaws.{composed_products}
 use Rattle.elements.specs.PPermLaws.{partial_products}
 use Rattle.elements.specs.BMatLaws.{boolean_products}
 use Rattle.elements.specs.MaxPlusLaws.{truncated_products}
-use Rattle.froidure_pin.proofs.Starts.{in_at, start_ascending, start_has, ascending_between}
+use Rattle.froidure_pin.proofs.Starts.{start_ascending, ascending_between}
 use Rattle.problem.specs.declared.budgets.Budgets.{Budgets}
 use Rattle.problem.specs.declared.kinds.Problem.{Problem}
 use Rattle.problem.specs.declared.kinds.Problem.TheVariants as problem
 use Rattle.problem.specs.Problem.{SameClassOf, IsDecided, IsUndecided, letters_of, count_of, no_matrix, no_truncated_matrix}
+use Rattle.congruence.specs.CayleyGraphs.{IsNumbered, AreCayleyGraphs}
 use Rattle.query_lang.specs.declared.script.Query.{Query}
 use Rattle.query_lang.specs.declared.script.Query.TheVariants.{Index, Equal, Normal, Classes, RuleList, ElementOf, Cayley}
-use Rattle.report.specs.Graph.{IsNumbered, AreCayleyGraphs}
 use Rattle.report.specs.Lines.{index_line, end_line, normal_line, word_line, rule_line, numbers_text, cayley_line}
 use Rattle.report.specs.Answer.{cayley_lines, AreLines, IsAnswer}
-use Rattle.report.proofs.ClosureLemmas.{element_equivalence}
-
-list_start : (P : Word → Type 0) (cursor : Option Word) (words : List Word) → IsListOf P ◌≺◌ cursor words → IsStartOf P ◌≺◌ cursor words
-list_start P cursor [] h = tt
-list_start P cursor (w ∷ words) h = (h.0, list_start P (Some w) words h.1)
+use Rattle.report.proofs.Elements.{list_start, listed_least}
 
 joined_same : {A : Type 0} (f g : ℕ → List A) (from n : ℕ) → ((i : ℕ) → from ≤ i → i < from + n → f i ≡ g i) → flat_map f (range_with_len from n) ≡ flat_map g (range_with_len from n)
 joined_same f g from zero h = refl
@@ -65,7 +61,7 @@ module _ (R : Word → Word → Type 0) (known : IsPartialEquivalence R) where
   one_number : (words : List Word) → IsClassList R words → (i j : ℕ) (u : Word) → IsNumbered R words i u → IsNumbered R words j u → i ≡ j
   one_number words listed i j u p q =
       let start = list_start (IsLeast R) None words listed in
-      let least : (n : ℕ) → n < length words → IsLeast R (get_or words n []) = λ n h. start_has (IsLeast R) None words start (get_or words n []) (in_at words n [] h) in
+      let least = listed_least R words listed in
       let same : get_or words i [] ≡ get_or words j [] = normal_unique R known.symmetric known.transitive u (get_or words i []) (get_or words j []) (record { related = p.1; least = least i p.0 }) (record { related = q.1; least = least j q.0 }) in
       let up : (m n : ℕ) → m < n → n < length words → get_or words m [] ≺ get_or words n [] = ascending_between None words (start_ascending (IsLeast R) None words start) in
       elim (cases_lt i j) [
@@ -92,12 +88,25 @@ module _ {V : Type 0} {product : V → V → V} {equal : V → V → Bool} (gene
       → HasAtMostValues (length generators) equal (value_by product generators unused) n → HasMoreValues (length generators) equal (value_by product generators unused) n → ⊥
   values_not_both {HasShape} laws n few more = let less = values_bound HasShape product equal laws (length generators) (value_by product generators unused) n n few more in omega arith
 
+  -- chains join as an equivalence, whatever the pairs are
+  element_equivalence : {HasShape : V → Type 0} → IsProduct HasShape product equal → (kind : Kind) (pairs : List (Word × Word))
+      → IsPartialEquivalence (SameElement (length generators) equal (value_by product generators unused) kind pairs)
+  element_equivalence laws kind pairs =
+      let value_of : Word → V = value_by product generators unused in
+      let chains =
+      joined_congruence (SameValue (length generators) equal value_of) kind pairs
+      (λ u v h. record { left = h.right; right = h.left; related = laws.symmetric (value_of u) (value_of v) h.related }) in
+      record {
+        symmetric = λ u v h. record { left = h.right; right = h.left; related = chains.symmetric u v h.related };
+        transitive = λ u v w h g. record { left = h.left; right = g.right; related = chains.transitive u v w h.related g.related };
+      }
+
 problem_equivalence : (p : Problem) → IsPartialEquivalence (SameClassOf p)
 problem_equivalence (problem.Presented p) = same_class_equivalence p.congruence
-problem_equivalence (problem.Transf p) = element_equivalence p.generators [] (composed_products (0, 0)) TwoSided []
-problem_equivalence (problem.PPerm p) = element_equivalence p.generators [] (partial_products (0, 0)) TwoSided []
-problem_equivalence (problem.BMat p) = element_equivalence p.generators no_matrix (boolean_products (0, 0)) TwoSided []
-problem_equivalence (problem.MaxPlus p) = element_equivalence p.generators no_truncated_matrix (truncated_products (0, 0)) TwoSided []
+problem_equivalence (problem.Transf p) = element_equivalence p.generators [] (composed_products (0, 0)) p.kind p.pairs
+problem_equivalence (problem.PPerm p) = element_equivalence p.generators [] (partial_products (0, 0)) p.kind p.pairs
+problem_equivalence (problem.BMat p) = element_equivalence p.generators no_matrix (boolean_products (0, 0)) p.kind p.pairs
+problem_equivalence (problem.MaxPlus p) = element_equivalence p.generators no_truncated_matrix (truncated_products (0, 0)) p.kind p.pairs
 
 not_both : (p : Problem) (budgets : Budgets) → IsDecided p budgets → IsUndecided p budgets → ⊥
 not_both (problem.Presented p) budgets ends never = never ends

@@ -11,7 +11,7 @@ use Rattle.problem.specs.declared.kinds.Problem.{Problem}
 use Rattle.problem.specs.Problem.{SameClassOf, IsDecided, IsUndecided, letters_of, count_of, value_text}
 use Rattle.query_lang.specs.declared.script.Query.{Query}
 use Rattle.query_lang.specs.declared.script.Query.TheVariants.{Index, Equal, Normal, Classes, RuleList, ElementOf, Cayley}
-use Rattle.report.specs.Graph.{AreCayleyGraphs}
+use Rattle.congruence.specs.CayleyGraphs.{AreCayleyGraphs}
 use Rattle.report.specs.Lines.{undecided_line, index_line, infinite_line, equal_line, element_line, end_line, normal_line, word_line, rule_line, cayley_line}
 
 -- the lines of all rows of the Cayley graphs

@@ -1,22 +1,19 @@
 // The answers of queries.
-ghost use Rattle.std.specs.Prelude.{◌≡◌, ◌<◌, [], length, slice_index_or, false, IfSome, IsTrue, MatchOption};
+ghost use Rattle.std.specs.Prelude.{◌≡◌, ◌<◌, length, false, IfSome, IsTrue, MatchOption};
 ghost use Rattle.ports.specs.Writes.{Writes, WritesBytes};
 ghost use Rattle.theory.specs.Word.{IsElement};
-ghost use Rattle.problem.specs.Problem.{count_of, is_presented, letters_of, value_text};
+ghost use Rattle.problem.specs.Problem.{is_presented, letters_of, value_text};
+ghost use Rattle.congruence.specs.Verdicts.{IsVerdictOf};
 ghost use Rattle.query_lang.specs.Query.{IsQueryOf};
-ghost use Rattle.report.specs.Answer.{AreLines, waits};
-ghost use Rattle.report.specs.Closed.{IsClosureOf, number_in, words_of};
-ghost use Rattle.report.specs.Gains.{AreAnswerBytes, AreBytesOf};
-ghost use Rattle.report.specs.Kept.{IsVerdictOf, KeepsSettings};
-ghost use Rattle.report.specs.Lines.{element_line, index_line, normal_line};
+ghost use Rattle.report.specs.Answer.{waits};
+ghost use Rattle.report.specs.Gains.{AreAnswerBytes};
+ghost use Rattle.report.specs.Kept.{KeepsSettings};
+ghost use Rattle.report.specs.Lines.{element_line};
 
-use crate::cayley::write_cayley;
-use crate::classes::write_solved;
-use crate::closure::Closure;
 use crate::line::Line;
-use crate::listings::{page_start, write_page, write_rules};
-use crate::single::{write_count, write_equal, write_normal_form, write_over};
-use crate::state::{State, Verdict};
+use crate::solved::write_solved;
+use crate::state::State;
+use congruence::Verdict;
 use ports::{Gate, Sink, WriteFault, write_all};
 use problem::Problem;
 use query_lang::{Query, Script};
@@ -31,40 +28,6 @@ pub enum Answered {
     Defined,
     /// The problem is not decided within the budgets; the line `undecided` was written.
     Undecided,
-}
-
-// Writes how many classes there are, or that there are more than the bound.
-fn write_index<O: Sink>(
-    alloc: Global,
-    count: usize,
-    bound: usize,
-    sink: &mut O,
-) -> Result<(), WriteFault>
-    ensures { WritesBytes O.Sink (index_line bound count) sink.old sink.new result }
-{
-    if count <= bound {
-        write_count(alloc, count, sink)
-    } else {
-        write_over(alloc, bound, sink)
-    }
-}
-
-// Writes the normal form of a word.
-fn write_normal<O: Sink>(
-    alloc: Global,
-    problem: &Problem,
-    closure: &Closure,
-    word: &Word,
-    sink: &mut O,
-) -> Result<(), WriteFault>
-    requires closure { IsClosureOf problem.now closure.now }
-    requires word { IsElement false (count_of problem.now) word.now }
-    ensures { WritesBytes O.Sink (normal_line (letters_of problem.now)
-        (slice_index_or (words_of closure.now) (number_in closure.now word.now) []))
-        sink.old sink.new result }
-{
-    let normal = closure.word(closure.index_of(word))?;
-    write_normal_form(alloc, problem.alphabet(), &normal, sink)
 }
 
 // Writes the entries of a word's value, where generators are given.
@@ -85,38 +48,6 @@ fn write_element<O: Sink>(
     line.write(sink)
 }
 
-// Writes the answer of a query of a problem whose elements are all known.
-fn write_known<O: Sink>(
-    alloc: Global,
-    problem: &Problem,
-    closure: &Closure,
-    query: &Query,
-    bound: usize,
-    sink: &mut O,
-) -> Result<(), WriteFault>
-    requires closure { IsClosureOf problem.now closure.now }
-    requires query { IsQueryOf problem.now query.now }
-    ensures { Writes O.Sink (λ _. AreBytesOf (AreLines problem.now bound query.now))
-        sink.old sink.new result }
-{
-    let alphabet = problem.alphabet();
-    match query {
-        Query::Index => write_index(alloc, closure.len(), bound, sink),
-        Query::Equal(left, right) => write_equal(
-            closure.index_of(left) == closure.index_of(right),
-            sink,
-        ),
-        Query::Normal(word) => write_normal(alloc, problem, closure, word, sink),
-        Query::Classes { count, after } => {
-            let start = page_start(problem, closure, after.as_ref())?;
-            write_page(alloc, problem, closure, start, *count, sink)
-        }
-        Query::RuleList => write_rules(alloc, alphabet, &closure.rules()?, sink),
-        Query::ElementOf(word) => write_element(alloc, problem, word, sink),
-        Query::Cayley => write_cayley(alloc, problem, closure, sink),
-    }
-}
-
 // Writes the answer of a query that waits for the problem's decision.
 fn write_decided<O: Sink>(
     alloc: Global,
@@ -132,15 +63,11 @@ fn write_decided<O: Sink>(
         query.now) sink.old sink.new result }
 {
     match state.verdict() {
-        Some(Verdict::Known(closure)) => {
-            write_known(alloc, problem, closure, query, state.classes(), sink)?;
-            Ok(Answered::Defined)
-        }
-        Some(Verdict::Solved(solved)) => {
+        Some(Verdict::Known(solved)) => {
             write_solved(alloc, problem, solved, query, state.classes(), sink)?;
             Ok(Answered::Defined)
         }
-        Some(Verdict::Undecided) => {
+        Some(Verdict::Undecided(_)) => {
             write_all(sink, b"undecided\n")?;
             Ok(Answered::Undecided)
         }
@@ -150,9 +77,9 @@ fn write_decided<O: Sink>(
 
 /// Writes the answer of a query of the script, each line as one piece, and tells whether it is
 /// defined. The value of a word is told whatever the budgets are; the other queries are answered
-/// where the problem is decided within them, and else with the line `undecided`. A problem by
-/// relations is decided with the number of workers of the state, at least one, which changes no
-/// answer; with more than one each turn of their race is behind the gate.
+/// where the problem is decided within them, and else with the line `undecided`. It is decided with
+/// the number of workers of the state, at least one, which changes no answer; with more than one
+/// each turn of their race is behind the gate.
 ///
 /// `Failed` comes only where the sink failed, and `NoMemory` for want of memory; the sink has then
 /// gained a prefix of the answer. What the state keeps is of this script's problem, and what it

@@ -1,15 +1,13 @@
-//! The answers of a script's queries, as lines: from all elements of a semigroup that is given by
-//! generators, or from the congruence on one that is given by relations.
+//! The answers of a script's queries, as lines, from what is known of its problem.
 #![tactic(auto)]
 
 mod answers;
-mod cayley;
-mod classes;
-mod closure;
 mod facts;
+mod graphs;
 mod line;
 mod listings;
 mod single;
+mod solved;
 mod state;
 #[cfg(test)]
 mod tests;

@@ -1,25 +1,14 @@
 // What is known while the queries of a script are answered.
-ghost use Rattle.std.specs.Prelude.{◌≡◌, ◌<◌, None, Some, true, false, OnOk, IfOk, IfSome, MatchOption};
-ghost use Rattle.problem.specs.Problem.{IsPosable, is_presented};
-ghost use Rattle.report.specs.Kept.{IsVerdictOf, KeepsSettings};
+ghost use Rattle.std.specs.Prelude.{◌≡◌, ◌<◌, None, Some, OnOk, IfSome, MatchOption};
+ghost use Rattle.problem.specs.Problem.{IsPosable};
+ghost use Rattle.congruence.specs.Verdicts.{IsVerdictOf};
+ghost use Rattle.report.specs.Kept.{KeepsSettings};
 
-use super::closure::Closure;
-use congruence::{Solved, Verdict as Outcome, solve};
+use congruence::{Verdict, solve};
 use ports::{Gate, NoMemory};
 use problem::{Budgets, Problem};
 use std::alloc::Global;
 use std::thread::Threads;
-
-/// What was found of a problem.
-#[derive(Drop)]
-pub enum Verdict {
-    /// All its elements, where generators are given.
-    Known(Closure),
-    /// Its congruence, where relations are given.
-    Solved(Solved),
-    /// The budgets did not suffice.
-    Undecided,
-}
 
 /// What the queries of one script are answered with: its budgets, the bound up to which an index is
 /// written out, how many workers may be at it, and what was found of the problem so far.
@@ -63,7 +52,7 @@ impl State {
         ensures found { OnOk result (MatchOption self.new.verdict ⊥ (λ _. Unit {0})) }
     {
         if self.verdict.is_none() {
-            let verdict = verdict_of(rt, alloc, problem, self.budgets, self.workers, gate)?;
+            let verdict = solve(rt, alloc, problem, &self.budgets, self.workers, gate)?;
             self.verdict = Some(verdict);
         }
         Ok(())
@@ -82,56 +71,5 @@ impl State {
         ensures { result ≡ self.now.classes }
     {
         self.classes
-    }
-}
-
-// What is found of a problem within the budgets, by a number of workers, each turn behind the gate.
-fn verdict_of<R: Threads + Sync, G: Gate + Sync>(
-    rt: &R,
-    alloc: Global,
-    problem: &Problem,
-    budgets: Budgets,
-    workers: usize,
-    gate: &G,
-) -> Result<Verdict, NoMemory>
-    requires posable { IsPosable problem.now }
-    requires workers { 0 < workers }
-    ensures { IfOk result (IsVerdictOf problem.now budgets) }
-{
-    if problem.is_presented() {
-        solved_of(rt, alloc, problem, budgets, workers, gate)
-    } else {
-        known_of(alloc, problem, budgets)
-    }
-}
-
-// What is found of a problem by relations.
-fn solved_of<R: Threads + Sync, G: Gate + Sync>(
-    rt: &R,
-    alloc: Global,
-    problem: &Problem,
-    budgets: Budgets,
-    workers: usize,
-    gate: &G,
-) -> Result<Verdict, NoMemory>
-    requires presented { is_presented problem.now ≡ true }
-    requires posable { IsPosable problem.now }
-    requires workers { 0 < workers }
-    ensures { IfOk result (IsVerdictOf problem.now budgets) }
-{
-    match solve(rt, alloc, problem, &budgets, workers, gate)? {
-        Outcome::Known(solved) => Ok(Verdict::Solved(solved)),
-        Outcome::Undecided(_) => Ok(Verdict::Undecided),
-    }
-}
-
-// What is found of a problem by generators.
-fn known_of(alloc: Global, problem: &Problem, budgets: Budgets) -> Result<Verdict, NoMemory>
-    requires { is_presented problem.now ≡ false }
-    ensures { IfOk result (IsVerdictOf problem.now budgets) }
-{
-    match Closure::of(alloc, problem, budgets.elements)? {
-        Some(closure) => Ok(Verdict::Known(closure)),
-        None => Ok(Verdict::Undecided),
     }
 }

@@ -2,10 +2,10 @@ use Rattle.std.proofs.Common.{◌≡◌, Option, Some, MatchOption, refl, subst}
 use Rattle.ports.proofs.WriteLemmas.{handed_on}
 use Rattle.problem.specs.declared.budgets.Budgets.{Budgets}
 use Rattle.problem.specs.declared.kinds.Problem.{Problem}
+use Rattle.congruence.specs.declared.solving.Verdict.{Verdict}
+use Rattle.congruence.specs.declared.solving.Verdict.TheVariants.{Known, Undecided}
+use Rattle.congruence.specs.Verdicts.{IsVerdictOf}
 use Rattle.report.specs.declared.answers.Answered.TheVariants as answered
-use Rattle.report.specs.declared.state.Verdict.{Verdict}
-use Rattle.report.specs.declared.state.Verdict.TheVariants.{Known, Solved, Undecided}
-use Rattle.report.specs.Kept.{IsVerdictOf}
 use Rattle.report.specs.Lines.{undecided_line}
 use Rattle.report.proofs.AnswerBytes.{defined_told, defined_begun, line_told, line_begun}
 use Rattle.report.proofs.answers.write_decided.Goals as goal
@@ -14,33 +14,27 @@ use Rattle.report.proofs.answers.write_decided.Goals as goal
 kept_verdict : (p : Problem) (b : Budgets) (found : Option Verdict) (v w : Verdict) → found ≡ Some v → v ≡ w → MatchOption found ⊥ (IsVerdictOf p b) → IsVerdictOf p b w
 kept_verdict p b found v w e is h = subst (IsVerdictOf p b) is (subst (λ o. MatchOption o ⊥ (IsVerdictOf p b)) e h)
 
-pub returns-in_err-write_known-in-Some-Known : goal.returns-in_err-write_known-in-Some-Known
-returns-in_err-write_known-in-Some-Known g c =
-    let kept = kept_verdict c.args.problem.now c.args.state.now.budgets c.args.state.now.verdict c.in-Some-Known.field-0.now (Known c.in-Some-Known.closure) c.in-Some-Known.ensures c.in-Some-Known.field-0-is c.requires.kept in
-    handed_on g.O.Sink _ _ _ _ c.from_residual.ensures.1 (defined_begun g.O.Sink _ _ _ _ _ _ kept.0 _ c.classes.ensures _ c.in_err-write_known-in-Some-Known.ensures)
+pub write_solved-requires-clause-solved : goal.write_solved-requires-clause-solved
+write_solved-requires-clause-solved g c =
+    (kept_verdict c.args.problem.now c.args.state.now.budgets c.args.state.now.verdict c.in-Some-Known.field-0.now (Known c.in-Some-Known.solved) c.in-Some-Known.ensures c.in-Some-Known.field-0-is c.requires.kept).1
 
-pub returns-in_ok-write_known-in-Some-Known : goal.returns-in_ok-write_known-in-Some-Known
-returns-in_ok-write_known-in-Some-Known g c =
-    let kept = kept_verdict c.args.problem.now c.args.state.now.budgets c.args.state.now.verdict c.in-Some-Known.field-0.now (Known c.in-Some-Known.closure) c.in-Some-Known.ensures c.in-Some-Known.field-0-is c.requires.kept in
-    defined_told g.O.Sink _ _ _ _ _ _ kept.0 _ c.classes.ensures _ c.in_ok-write_known-in-Some-Known.ensures
+pub returns-in_err-write_solved-in-Some-Known : goal.returns-in_err-write_solved-in-Some-Known
+returns-in_err-write_solved-in-Some-Known g c =
+    let kept = kept_verdict c.args.problem.now c.args.state.now.budgets c.args.state.now.verdict c.in-Some-Known.field-0.now (Known c.in-Some-Known.solved) c.in-Some-Known.ensures c.in-Some-Known.field-0-is c.requires.kept in
+    handed_on g.O.Sink _ _ _ _ c.from_residual.ensures.1 (defined_begun g.O.Sink _ _ _ _ _ _ kept.0 _ c.classes.ensures _ c.in_err-write_solved-in-Some-Known.ensures)
 
-pub returns-in_err-write_solved-in-Some-Solved : goal.returns-in_err-write_solved-in-Some-Solved
-returns-in_err-write_solved-in-Some-Solved g c =
-    let kept = kept_verdict c.args.problem.now c.args.state.now.budgets c.args.state.now.verdict c.in-Some-Solved.field-0.now (Solved c.in-Some-Solved.solved) c.in-Some-Solved.ensures c.in-Some-Solved.field-0-is c.requires.kept in
-    handed_on g.O.Sink _ _ _ _ c.from_residual-in_err-write_solved-in-Some-Solved.ensures.1 (defined_begun g.O.Sink _ _ _ _ _ _ kept.0 _ c.classes-in-Some-Solved.ensures _ c.in_err-write_solved-in-Some-Solved.ensures)
-
-pub returns-in_ok-write_solved-in-Some-Solved : goal.returns-in_ok-write_solved-in-Some-Solved
-returns-in_ok-write_solved-in-Some-Solved g c =
-    let kept = kept_verdict c.args.problem.now c.args.state.now.budgets c.args.state.now.verdict c.in-Some-Solved.field-0.now (Solved c.in-Some-Solved.solved) c.in-Some-Solved.ensures c.in-Some-Solved.field-0-is c.requires.kept in
-    defined_told g.O.Sink _ _ _ _ _ _ kept.0 _ c.classes-in-Some-Solved.ensures _ c.in_ok-write_solved-in-Some-Solved.ensures
+pub returns-in_ok-write_solved-in-Some-Known : goal.returns-in_ok-write_solved-in-Some-Known
+returns-in_ok-write_solved-in-Some-Known g c =
+    let kept = kept_verdict c.args.problem.now c.args.state.now.budgets c.args.state.now.verdict c.in-Some-Known.field-0.now (Known c.in-Some-Known.solved) c.in-Some-Known.ensures c.in-Some-Known.field-0-is c.requires.kept in
+    defined_told g.O.Sink _ _ _ _ _ _ kept.0 _ c.classes.ensures _ c.in_ok-write_solved-in-Some-Known.ensures
 
 pub returns-in_err-write_all-in-Some-Undecided : goal.returns-in_err-write_all-in-Some-Undecided
 returns-in_err-write_all-in-Some-Undecided g c =
-    let kept = kept_verdict c.args.problem.now c.args.state.now.budgets c.args.state.now.verdict c.in-Some-Undecided.field-0.now Undecided c.in-Some-Undecided.ensures c.in-Some-Undecided.field-0-is c.requires.kept in
+    let kept = kept_verdict c.args.problem.now c.args.state.now.budgets c.args.state.now.verdict c.in-Some-Undecided.field-0.now (Undecided c.in-Some-Undecided.field-0-0) c.in-Some-Undecided.ensures c.in-Some-Undecided.field-0-is c.requires.kept in
     handed_on g.O.Sink _ _ _ _ c.from_residual-in_err-write_all-in-Some-Undecided.ensures.1
-    (line_begun g.O.Sink _ _ _ _ _ _ answered.Undecided undecided_line (record { waiting = c.requires.waits; undecided = kept; line = refl }) _ c.in_err-write_all-in-Some-Undecided.ensures.bytes)
+    (line_begun g.O.Sink _ _ _ _ _ _ answered.Undecided undecided_line (record { waiting = c.requires.waits; undecided = kept.0; line = refl }) _ c.in_err-write_all-in-Some-Undecided.ensures.bytes)
 
 pub returns-in_ok-write_all-in-Some-Undecided : goal.returns-in_ok-write_all-in-Some-Undecided
 returns-in_ok-write_all-in-Some-Undecided g c =
-    let kept = kept_verdict c.args.problem.now c.args.state.now.budgets c.args.state.now.verdict c.in-Some-Undecided.field-0.now Undecided c.in-Some-Undecided.ensures c.in-Some-Undecided.field-0-is c.requires.kept in
-    line_told g.O.Sink _ _ _ _ _ _ answered.Undecided undecided_line (record { waiting = c.requires.waits; undecided = kept; line = refl }) _ c.in_ok-write_all-in-Some-Undecided.ensures.bytes
+    let kept = kept_verdict c.args.problem.now c.args.state.now.budgets c.args.state.now.verdict c.in-Some-Undecided.field-0.now (Undecided c.in-Some-Undecided.field-0-0) c.in-Some-Undecided.ensures c.in-Some-Undecided.field-0-is c.requires.kept in
+    line_told g.O.Sink _ _ _ _ _ _ answered.Undecided undecided_line (record { waiting = c.requires.waits; undecided = kept.0; line = refl }) _ c.in_ok-write_all-in-Some-Undecided.ensures.bytes

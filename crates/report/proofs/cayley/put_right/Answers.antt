@@ -1,9 +1,0 @@
-use Rattle.std.proofs.Common.{ap, ◌∙◌}
-use Rattle.report.specs.Closed.{right_of}
-use Rattle.report.proofs.ListingLemmas.{numbers_more}
-use Rattle.report.proofs.cayley.put_right.Goals as goal
-
-pub loop-letter-preserved : goal.loop-letter-preserved
-loop-letter-preserved c =
-    numbers_more (right_of c.args.closure.now c.args.number) c.loop-letter.letter c.loop-letter.line c.text.new.self c.number.new.self c.right.result (c.right.ensures ∙ ap (right_of c.args.closure.now c.args.number) c.new.ensures)
-    c.in_ok-text.ensures c.in_ok-number.ensures c.args.line.now c.loop-letter.invariant

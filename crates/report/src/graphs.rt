@@ -1,0 +1,72 @@
+// The Cayley graphs, as lines.
+ghost use Rattle.std.specs.Prelude.{◌≡◌, ◌<◌, ◌++◌, ◌∷◌, [], length, slice_index, slice_index_or, OnOk, IfOk, codes, false};
+ghost use Rattle.ports.specs.Writes.{WritesBytes};
+ghost use Rattle.cayley.specs.Tables.{edge};
+ghost use Rattle.congruence.specs.CayleyGraphs.{AreTablesFor};
+ghost use Rattle.problem.specs.Problem.{count_of, letters_of};
+ghost use Rattle.report.specs.Answer.{cayley_lines};
+ghost use Rattle.report.specs.Gains.{bytes_of};
+ghost use Rattle.report.specs.Lines.{cayley_line, end_line, numbers_text};
+
+use crate::line::Line;
+use crate::listings::write_end;
+use froidure_pin::CayleyTables;
+use ports::{NoMemory, Sink, WriteFault};
+use problem::Problem;
+use std::alloc::Global;
+
+// Puts numbers at the end of a line, each after a space.
+fn put_numbers(numbers: &[usize], line: &mut Line) -> Result<(), NoMemory>
+    ensures { OnOk result (line.new
+        ≡ line.old ++ numbers_text (length numbers.now) (slice_index numbers.now)) }
+{
+    for number in numbers {
+        line.text(b" ")?;
+        line.number(*number)?;
+    }
+    Ok(())
+}
+
+// The line of an element, without its end.
+fn row_of(
+    alloc: Global,
+    problem: &Problem,
+    tables: &CayleyTables,
+    number: usize,
+) -> Result<Line, NoMemory>
+    requires tables { AreTablesFor problem.now tables.now }
+    requires number { number < length tables.now.words }
+    ensures { IfOk result (λ line. line ++ codes "\n"
+        ≡ cayley_line (letters_of problem.now) (count_of problem.now) number
+        (slice_index_or tables.now.words number [])
+        (edge tables.now.right number) (edge tables.now.left number)) }
+{
+    let mut line = Line::starting(alloc, b"")?;
+    line.number(number)?;
+    line.text(b" ")?;
+    line.word(alloc, problem.alphabet(), &tables.words.as_slice()[number])?;
+    line.text(b" right")?;
+    put_numbers(tables.right.as_slice()[number].as_slice(), &mut line)?;
+    line.text(b" left")?;
+    put_numbers(tables.left.as_slice()[number].as_slice(), &mut line)?;
+    Ok(line)
+}
+
+/// Writes a line for each element, and the end of the list: its number and its least word, and the
+/// numbers of its products by each letter on the right and on the left.
+pub fn write_cayley<O: Sink>(
+    alloc: Global,
+    problem: &Problem,
+    tables: &CayleyTables,
+    sink: &mut O,
+) -> Result<(), WriteFault>
+    requires { AreTablesFor problem.now tables.now }
+    ensures { WritesBytes O.Sink (bytes_of (cayley_lines (letters_of problem.now)
+        (count_of problem.now) tables.now.words (edge tables.now.right) (edge tables.now.left)
+        ++ end_line false ∷ [])) sink.old sink.new result }
+{
+    for number in 0..tables.words.as_slice().len() {
+        row_of(alloc, problem, tables, number)?.write(sink)?;
+    }
+    write_end(false, sink)
+}

@@ -1,0 +1,96 @@
+// The answers where the problem is decided.
+ghost use Rattle.std.specs.Prelude.{◌≡◌, length, IfOk, IsTrue};
+ghost use Rattle.std.specs.Option.{option_copied};
+ghost use Rattle.ports.specs.Writes.{Writes};
+ghost use Rattle.problem.specs.Problem.{SameClassOf, count_of, letters_of};
+ghost use Rattle.query_lang.specs.Query.{IsQueryOf};
+ghost use Rattle.report.specs.Answer.{AreLines, waits};
+ghost use Rattle.report.specs.Gains.{AreBytesOf, ArePageLines};
+
+use crate::graphs::write_cayley;
+use crate::listings::{write_end, write_rules, write_word};
+use crate::single::{write_count, write_equal, write_infinite, write_normal_form, write_over};
+use congruence::{Index, Solved};
+use ports::{NoMemory, Sink, WriteFault};
+use problem::Problem;
+use query_lang::Query;
+use std::alloc::Global;
+use words::{Alphabet, Word};
+
+// The cursor in memory of its own.
+fn copied(alloc: Global, cursor: Option<&Word>) -> Result<Option<Word>, NoMemory>
+    ensures { IfOk result (λ copy. copy ≡ option_copied cursor.entry) }
+{
+    match cursor {
+        Some(word) => Ok(Some(word.copy(alloc)?)),
+        None => Ok(None),
+    }
+}
+
+// Writes a page: at most so many least words after a cursor, each as it is found, and whether there
+// are more.
+fn write_classes<O: Sink>(
+    alloc: Global,
+    alphabet: &Alphabet,
+    solved: &Solved,
+    count: usize,
+    after: Option<&Word>,
+    sink: &mut O,
+) -> Result<(), WriteFault>
+    requires letters { letters_of solved.now.problem ≡ alphabet.now }
+    requires one_each { count_of solved.now.problem ≡ length alphabet.now }
+    ensures { Writes O.Sink (λ _. AreBytesOf (ArePageLines (SameClassOf solved.now.problem)
+        alphabet.now (option_copied after.entry) count)) sink.old sink.new result }
+{
+    let mut cursor = copied(alloc, after)?;
+    for _ in 0..count {
+        match solved.next_after(cursor.as_ref())? {
+            Some(word) => {
+                write_word(alloc, alphabet, &word, sink)?;
+                cursor = Some(word);
+            }
+            None => return write_end(false, sink),
+        }
+    }
+    let next = solved.next_after(cursor.as_ref())?;
+    write_end(next.is_some(), sink)
+}
+
+/// Writes the answer of a query that waits for the problem's decision, from what is known of it.
+pub fn write_solved<O: Sink>(
+    alloc: Global,
+    problem: &Problem,
+    solved: &Solved,
+    query: &Query,
+    bound: usize,
+    sink: &mut O,
+) -> Result<(), WriteFault>
+    requires solved { solved.now.problem ≡ problem.now }
+    requires query { IsQueryOf problem.now query.now }
+    requires waits { IsTrue (waits query.now) }
+    ensures { Writes O.Sink (λ _. AreBytesOf (AreLines problem.now bound query.now))
+        sink.old sink.new result }
+{
+    let alphabet = problem.alphabet();
+    match query {
+        Query::Index => match solved.index(bound)? {
+            Index::Finite(count) => write_count(alloc, count, sink),
+            Index::Infinite => write_infinite(sink),
+            Index::Over => write_over(alloc, bound, sink),
+        },
+        Query::Equal(left, right) => write_equal(solved.equal(left, right)?, sink),
+        Query::Normal(word) => {
+            let normal = solved.normal(word)?;
+            write_normal_form(alloc, alphabet, &normal, sink)
+        }
+        Query::Classes { count, after } => {
+            write_classes(alloc, alphabet, solved, *count, after.as_ref(), sink)
+        }
+        Query::RuleList => {
+            let rules = solved.rules()?.into_vec();
+            write_rules(alloc, alphabet, &rules, sink)
+        }
+        Query::Cayley => write_cayley(alloc, problem, solved.tables(), sink),
+        Query::ElementOf(_) => unreachable!(),
+    }
+}
