@@ -16,7 +16,7 @@ use Rattle.query_lang.specs.LineCauses.{AreScript}
 use Rattle.report.specs.declared.state.State.{State}
 use Rattle.report.specs.Answer.{IsAnswer}
 use Rattle.report.specs.Gains.{bytes_of}
-use Rattle.report.specs.Kept.{IsVerdictOf}
+use Rattle.congruence.specs.Verdicts.{IsVerdictOf}
 use Rattle.settings.specs.declared.Settings.{Settings}
 use Rattle.semi.specs.declared.fault.Fault.{Fault}
 use Rattle.semi.specs.declared.fault.Fault.TheVariants.{TooLong, Script, Arguments, Read, Write, NoMemory}

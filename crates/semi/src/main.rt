@@ -11,6 +11,8 @@ mod adapters;
 mod failing_tests;
 mod fault;
 #[cfg(test)]
+mod pair_tests;
+#[cfg(test)]
 mod tests;
 mod top;
 mod whole;
