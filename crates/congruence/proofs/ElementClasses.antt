@@ -1,11 +1,12 @@
 -- The tables and classes that a search over elements finds are those of its problem.
-use Rattle.std.proofs.Common.{◌≡◌, ℕ, ◌<◌, ◌≤◌, ◌==◌, Bool, true, false, not, List, [], ◌∷◌, ◌++◌, length, refl, sym, ◌∙◌, ap, subst, subst₂, append-nil, arith, Option, slice_index, get_or}
+use Rattle.std.proofs.Common.{◌≡◌, ℕ, ◌<◌, ◌≤◌, ◌==◌, Bool, true, false, not, List, [], ◌∷◌, ◌++◌, length, refl, sym, ◌∙◌, ap, subst, subst₂, append-nil, arith, Option, None, slice_index, get_or}
 use Rattle.std.specs.Cmp.Lexicographic.{pointwise}
 use Rattle.std.specs.Option.{option_eq}
 use Rattle.std.proofs.lemmas.Bool.{eqb-true}
 use Rattle.std.proofs.lemmas.List.Sums.{fold-append}
 use Rattle.theory.specs.Word.{Word, IsElement}
 use Rattle.theory.specs.Congruence.{AreElements}
+use Rattle.theory.specs.Class.{IsLeast}
 use Rattle.theory.specs.Value.{IsProduct, SameValue, SameElement}
 use Rattle.theory.specs.declared.Kind.{Kind}
 use Rattle.theory.specs.declared.Kind.TheVariants.{TwoSided, Right, Left}
@@ -30,6 +31,7 @@ use Rattle.cayley.specs.Tables.{edge, number_in, word_at}
 use Rattle.cayley.specs.Whole.{AreTablesOf, AreClassesOf}
 use Rattle.congruence.specs.CayleyGraphs.{AreCayleyGraphs, AreTablesFor}
 use Rattle.congruence.specs.Solution.{are_read_backwards}
+use Rattle.congruence.proofs.ListedWords.{listed_ascend, listed_at}
 use Rattle.congruence.specs.ElementGraphs.{AreClassesIn, AreClassesFor, rows_read, with_letter}
 use Rattle.congruence.specs.Engines.{Transformations, PartialPermutations, BooleanMatrices, TruncatedMatrices, IsTaskFor}
 
@@ -129,6 +131,11 @@ module _ {V : Type 0} {shape : V → ℕ × ℕ} {product : V → V → V} {equa
       own = are.own;
       elements = tables.numbered.elements;
       numbers = own_number;
+      ascending = λ i j less h. listed_ascend (IsLeast Same) None t.words tables.listed i j less h;
+      least = λ u e less.
+          let found = tables.every u e in
+          (listed_at (IsLeast Same) None t.words tables.listed (number_in t u) found.0).0.none_less u
+          (same_symm (λ x. shape x ≡ one) product equal (laws one) (length generators) generator unused each_shaped u (word_at t (number_in t u)) found.1) less;
       within = λ u e. (tables.every u e).0;
       first = λ a h. refl;
       further = number_further (are_read_backwards kind pairs);

@@ -11,12 +11,12 @@ use Rattle.tc_felsch.specs.Stage as felsch
 use Rattle.tc_hlt.specs.Stage.{HltTask}
 use Rattle.tc_hlt.specs.Stage as hlt
 use Rattle.congruence.specs.Engines.{Definitions, Rows, IsTaskFor}
-use Rattle.congruence.specs.Solution.{IsGraphFor}
+use Rattle.congruence.specs.Solution.{IsStandardGraphFor}
 use Rattle.congruence.proofs.GraphLaws.{by_definitions, by_rows}
 
 pub definitions_graph : (p : Problem) (t : FelschTask) (made : ℕ) (g h : Graph) → IsWellPosed p → IsTaskFor p (Definitions t)
     → IsStandardGraph t.congruence.presentation.letters g → Shows g (SameEnd h) → IsGraph t.congruence.presentation.letters g
-    → felsch.IsAtStage t.congruence made g → AllDefined t.congruence.presentation.letters (SameEnd g) → IsGraphFor p g
+    → felsch.IsAtStage t.congruence made g → AllDefined t.congruence.presentation.letters (SameEnd g) → IsStandardGraphFor p g
 definitions_graph (Presented p) t made g h posed task standard shows graph at all = by_definitions p t.congruence posed.well_formed task made g h standard shows graph at all
 definitions_graph (Transf p) t made g h posed task standard shows graph at all = absurd task
 definitions_graph (PPerm p) t made g h posed task standard shows graph at all = absurd task
@@ -25,7 +25,7 @@ definitions_graph (MaxPlus p) t made g h posed task standard shows graph at all 
 
 pub rows_graph : (p : Problem) (t : HltTask) (made : ℕ) (g h : Graph) → IsWellPosed p → IsTaskFor p (Rows t)
     → IsStandardGraph t.congruence.presentation.letters g → Shows g (SameEnd h) → IsGraph t.congruence.presentation.letters g
-    → hlt.IsAtEnd t.congruence made g → IsGraphFor p g
+    → hlt.IsAtEnd t.congruence made g → IsStandardGraphFor p g
 rows_graph (Presented p) t made g h posed task standard shows graph at = by_rows p t.congruence posed.well_formed task made g h standard shows graph at
 rows_graph (Transf p) t made g h posed task standard shows graph at = absurd task
 rows_graph (PPerm p) t made g h posed task standard shows graph at = absurd task

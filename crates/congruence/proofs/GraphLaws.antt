@@ -18,7 +18,7 @@ use Rattle.presentation.specs.Presented.{Posed}
 use Rattle.problem.specs.declared.kinds.Problem.TheVariants.{Presented}
 use Rattle.tc_felsch.specs.Stage as felsch
 use Rattle.tc_hlt.specs.Stage as hlt
-use Rattle.congruence.specs.Solution.{IsGraphFor, are_read_backwards, as_read}
+use Rattle.congruence.specs.Solution.{IsStandardGraphFor, are_read_backwards, as_read}
 use Rattle.congruence.proofs.SolutionLaws.{path_over, read_over}
 
 -- the right congruence that stands for a congruence has its letters, and its empty word
@@ -71,20 +71,22 @@ alone k g well is semigroup (a ∷ u) e =
     absurd ((subst (λ b. IsElement b k.presentation.letters []) semigroup none).0 refl)
 
 -- a graph that decides the right congruence that stands for a congruence decides the congruence
-graph_for : (p : Posed) (g : Graph) → IsWellFormed p.congruence → IsRightGraph (as_right p.congruence) g → IsGraphFor (Presented p) g
-graph_for p g well is = record {
-  graph = subst (λ n. IsGraph n g) letters is.graph;
-  reached = is.reached;
-  standard = subst (λ n. IsStandardGraph n g) letters is.standard;
-  defined = λ u over.
-      let ends = (is.decides u u (back u over)).0 ((related_congruence k).reflexive u) in
-      (ends.0, ends.1);
-  alone = λ semigroup. alone k g (as_right_well_formed p.congruence well) is (same_empty_word p.congruence ∙ semigroup);
-  decides = λ u v left right. (
-    λ h. (decides u v left).0 h.related,
-    λ e. record { left = left; right = right; related = (decides u v left).1 e },
-  );
-}
+graph_for : (p : Posed) (g : Graph) → IsWellFormed p.congruence → IsRightGraph (as_right p.congruence) g → IsStandardGraphFor (Presented p) g
+graph_for p g well is = (
+  record {
+    graph = subst (λ n. IsGraph n g) letters is.graph;
+    reached = is.reached;
+    defined = λ u over.
+        let ends = (is.decides u u (back u over)).0 ((related_congruence k).reflexive u) in
+        (ends.0, ends.1);
+    alone = λ semigroup. alone k g (as_right_well_formed p.congruence well) is (same_empty_word p.congruence ∙ semigroup);
+    decides = λ u v left right. (
+      λ h. (decides u v left).0 h.related,
+      λ e. record { left = left; right = right; related = (decides u v left).1 e },
+    );
+  },
+  subst (λ n. IsStandardGraph n g) letters is.standard,
+)
   where
     k : Congruence
     k = as_right p.congruence
@@ -114,18 +116,18 @@ module _ (p : Posed) (k : Congruence) (well : IsWellFormed p.congruence) (task :
   is_right_sided : IsRightSided k
   is_right_sided = subst IsRightSided (sym task) (as_right_sided p.congruence)
 
-  by_right_graph : ((u v : Word) → IsOver k.presentation.letters u → Related k u v ↔ SameEnd g u v) → IsGraphFor (Presented p) g
+  by_right_graph : ((u v : Word) → IsOver k.presentation.letters u → Related k u v ↔ SameEnd g u v) → IsStandardGraphFor (Presented p) g
   by_right_graph decides =
       graph_for p g well
       (subst (λ r. IsRightGraph r g) task
       (record { graph = graph; reached = shows.reached; standard = standard; decides = decides }))
 
-  pub by_definitions : felsch.IsAtStage k made g → AllDefined k.presentation.letters (SameEnd g) → IsGraphFor (Presented p) g
+  pub by_definitions : felsch.IsAtStage k made g → AllDefined k.presentation.letters (SameEnd g) → IsStandardGraphFor (Presented p) g
   by_definitions at all = by_right_graph (λ u v over.
       let facts = felsch_related k at.words is_well_formed is_right_sided (λ w o. (at.shows w w).0 (all w o)) u v over in
       (λ r. (at.shows u v).1 (facts.1 r), λ e. facts.0 ((at.shows u v).0 e)))
 
-  pub by_rows : hlt.IsAtEnd k made g → IsGraphFor (Presented p) g
+  pub by_rows : hlt.IsAtEnd k made g → IsStandardGraphFor (Presented p) g
   by_rows at = by_right_graph (λ u v over.
       let facts = hlt_related k at.words is_well_formed is_right_sided at.all u v over in
       (λ r. (at.shows u v).1 (facts.1 r), λ e. facts.0 ((at.shows u v).0 e)))

@@ -11,6 +11,9 @@ pub mod RewrittenWords
 pub mod RewrittenCounts
 pub mod CosetRuleLists
 pub mod CosetRuleLaws
+pub mod ListedWords
+pub mod PlacedClasses
+pub mod RootWords
 pub mod ClassGraphs
 pub mod ElementClasses
 pub mod DrawnRows

@@ -52,6 +52,16 @@ ends_within (PartialPermutations t) = HasFew partially_composed (pointwise (opti
 ends_within (BooleanMatrices t) = HasFew boolean_product boolean_matrix_eq t
 ends_within (TruncatedMatrices t) = HasFew truncated_product truncated_matrix_eq t
 
+-- whether the task is a search for elements
+abbrev pub SearchesElements : EngineTask → Type 0
+SearchesElements (Definitions t) = ⊥
+SearchesElements (Rows t) = ⊥
+SearchesElements (Rewriting t) = ⊥
+SearchesElements (Transformations t) = Unit {0}
+SearchesElements (PartialPermutations t) = Unit {0}
+SearchesElements (BooleanMatrices t) = Unit {0}
+SearchesElements (TruncatedMatrices t) = Unit {0}
+
 -- the generators of a kind have more values than the bound
 abbrev pub HasMoreElements : EngineTask → Type 0
 HasMoreElements (Definitions t) = Unit {0}

@@ -23,13 +23,12 @@ abbrev pub as_read : (backwards : Bool) → Word → Word
 as_read true u = reverse u
 as_read false u = u
 
--- a standard graph over k letters whose equal paths are the relation of the elements; where the
--- empty word is none, it alone leads to the root
+-- a graph over k letters whose equal paths are the relation of the elements; where the empty word
+-- is none, it alone leads to the root
 pub record IsGraphOf (R : Word → Word → Type 0) (empty : Bool) (k : ℕ) (backwards : Bool)
     (g : Graph) : Type 0 where
   pub graph : IsGraph k g
   pub reached : (node : ℕ) → node < length g → (u : Word) × (path g 0 u ≡ Some node)
-  pub standard : IsStandardGraph k g
   pub defined : (u : Word) → IsOver k u → (node : ℕ) × (path g 0 u ≡ Some node)
   pub alone : empty ≡ false → (u : Word) → path g 0 u ≡ Some 0 → u ≡ []
   pub decides : (u v : Word) → IsElement empty k u → IsElement empty k v
@@ -47,6 +46,10 @@ reads_backwards p = are_read_backwards (kind_of p) (pairs_of p)
 -- a graph that decides the problem
 abbrev pub IsGraphFor : Problem → Graph → Type 0
 IsGraphFor p = IsGraphOf (SameClassOf p) (has_empty_word p) (count_of p) (reads_backwards p)
+
+-- and one that is standard
+abbrev pub IsStandardGraphFor : Problem → Graph → Type 0
+IsStandardGraphFor p g = IsGraphFor p g × IsStandardGraph (count_of p) g
 
 -- the word of the node at a place
 abbrev pub word_at : List (ℕ × Word) → ℕ → Word

@@ -8,7 +8,7 @@ ghost use Rattle.theory.specs.Graph.{path};
 ghost use Rattle.theory.specs.Listing.{IsLast, IsNext, GoesOnOrEnds};
 ghost use Rattle.problem.specs.Problem.{SameClassOf, allows_rules, count_of, has_empty_word};
 ghost use Rattle.congruence.specs.Indexes.{IsIndexWithin};
-ghost use Rattle.congruence.specs.Solution.{IsGraphFor, reads_backwards, as_read, word_at, first_class, place_of, AreNumberedWords, AreOrderedWords, ArePlaced, ArePlacesOf, AreListed, AreAscending, IsPlaceAfter};
+ghost use Rattle.congruence.specs.Solution.{IsGraphFor, IsStandardGraphFor, reads_backwards, as_read, word_at, first_class, place_of, AreNumberedWords, AreOrderedWords, ArePlaced, ArePlacesOf, AreListed, AreAscending, IsPlaceAfter};
 ghost use Rattle.congruence.specs.CosetRules.{normal_of, Falls, IsRuleOf, AreRulesTo};
 
 use crate::answers::Index;
@@ -44,14 +44,15 @@ impl Model for CosetClasses {
     ghost invariant = { λ s. IsSolutionFor s.problem s.graph s.least.items s.places.items };
 }
 
-// Each node with the least word that leads to it, as the graph reads words, in the order of these
-// words. The nodes of a standard graph are in the order of the words that are read forwards.
-fn ordered_words(
+/// Each node with the least word that leads to it, as the graph reads words, in the order of these
+/// words. The nodes of a standard graph are in the order of the words that are read forwards.
+/// Refused only where memory is wanting.
+pub fn ordered_words(
     alloc: Global,
     problem: &Problem,
     graph: &WordGraph,
 ) -> Result<Vec<(usize, Word)>, NoMemory>
-    requires { IsGraphFor problem.now graph.now }
+    requires { IsStandardGraphFor problem.now graph.now }
     ensures { IfOk result (λ least.
         AreOrderedWords graph.now (reads_backwards problem.now) least.items) }
 {
@@ -278,13 +279,18 @@ fn all_rules(
 }
 
 impl CosetClasses {
-    /// The classes that a graph gives whose equal paths are the relation of the elements. Refused
-    /// only where memory is wanting.
-    pub fn new(alloc: Global, problem: &Problem, graph: WordGraph) -> Result<CosetClasses, NoMemory>
-        requires { IsGraphFor problem.now graph }
+    /// The classes that a graph gives whose equal paths are the relation of the elements, with the
+    /// least words of its nodes, in order. Refused only where memory is wanting.
+    pub fn new(
+        alloc: Global,
+        problem: &Problem,
+        graph: WordGraph,
+        least: Vec<(usize, Word)>,
+    ) -> Result<CosetClasses, NoMemory>
+        requires graph { IsGraphFor problem.now graph }
+        requires words { AreOrderedWords graph (reads_backwards problem.now) least.items }
         ensures { IfOk result (λ s. s ≡ problem.now) }
     {
-        let least = ordered_words(alloc, problem, &graph)?;
         let places = places_of(alloc, least.as_slice())?;
         Ok(CosetClasses {
             alloc,

@@ -1,17 +1,18 @@
 // The engines that race for a problem.
-ghost use Rattle.std.specs.Prelude.{◌≡◌, false, IfOk};
+ghost use Rattle.std.specs.Prelude.{◌≡◌, ◌↔◌, false, IfOk, IsTrue};
 ghost use Rattle.problem.specs.Problem.{is_presented};
 ghost use Rattle.problem.specs.declared.kinds.Problem.{Problem};
 ghost use Rattle.congruence.specs.CayleyGraphs.{AreTablesFor};
 ghost use Rattle.congruence.specs.Classes.{problem_of};
-ghost use Rattle.congruence.specs.Solution.{IsGraphFor};
-ghost use Rattle.congruence.specs.Engines.{HasMoreElements, IsTaskFor, said_of, task_of};
+ghost use Rattle.congruence.specs.ElementGraphs.{AreClassesFor};
+ghost use Rattle.congruence.specs.Solution.{IsStandardGraphFor};
+ghost use Rattle.congruence.specs.Engines.{HasMoreElements, IsTaskFor, SearchesElements, said_of, task_of};
 
 use crate::answers::Classes;
-use crate::cosets::CosetClasses;
+use crate::cosets::{CosetClasses, ordered_words};
 use crate::element_graphs::class_graph;
 use crate::reduced_words::ReducedClasses;
-use cayley::PairsRacer;
+use cayley::{Classes as ElementClasses, PairsRacer};
 use elements::{BMat, MaxPlusTrunc, PPerm, Transf};
 use froidure_pin::CayleyTables;
 use knuth_bendix::Completion;
@@ -70,12 +71,28 @@ impl Racer for Engine {
     }
 }
 
-// The classes that a graph gives.
-fn by_graph(alloc: Global, problem: &Problem, graph: WordGraph) -> Result<Classes, NoMemory>
-    requires { IsGraphFor problem.now graph }
+// The classes that a standard graph gives.
+fn by_cosets(alloc: Global, problem: &Problem, graph: WordGraph) -> Result<Classes, NoMemory>
+    requires { IsStandardGraphFor problem.now graph }
     ensures { IfOk result (λ classes. problem_of classes ≡ problem.now) }
 {
-    let cosets = CosetClasses::new(alloc, problem, graph)?;
+    let least = ordered_words(alloc, problem, &graph)?;
+    let cosets = CosetClasses::new(alloc, problem, graph, least)?;
+    Ok(Classes::Cosets(cosets))
+}
+
+// The classes that the tables and classes of elements give.
+fn by_elements(
+    alloc: Global,
+    problem: &Problem,
+    tables: &CayleyTables,
+    classes: &ElementClasses,
+) -> Result<Classes, NoMemory>
+    requires { AreClassesFor problem.now tables.now classes.now }
+    ensures { IfOk result (λ classes. problem_of classes ≡ problem.now) }
+{
+    let (graph, least) = class_graph(alloc, problem, tables, classes)?;
+    let cosets = CosetClasses::new(alloc, problem, graph, least)?;
     Ok(Classes::Cosets(cosets))
 }
 
@@ -100,30 +117,31 @@ impl Engine {
         ensures { IfOk result (λ classes. problem_of classes ≡ problem.now) }
     {
         let _letters = problem.alphabet().len();
-        let graph = match self {
-            Engine::Completion(completion) => return by_rules(alloc, problem, completion),
-            Engine::Felsch(felsch) => felsch.graph()?,
-            Engine::Hlt(hlt) => hlt.graph()?,
+        match self {
+            Engine::Felsch(felsch) => by_cosets(alloc, problem, felsch.graph()?),
+            Engine::Hlt(hlt) => by_cosets(alloc, problem, hlt.graph()?),
+            Engine::Completion(completion) => by_rules(alloc, problem, completion),
             Engine::Transf(search) => {
-                class_graph(alloc, problem, search.tables(), search.classes())?
+                by_elements(alloc, problem, search.tables(), search.classes())
             }
             Engine::PPerm(search) => {
-                class_graph(alloc, problem, search.tables(), search.classes())?
+                by_elements(alloc, problem, search.tables(), search.classes())
             }
             Engine::BMat(search) => {
-                class_graph(alloc, problem, search.tables(), search.classes())?
+                by_elements(alloc, problem, search.tables(), search.classes())
             }
             Engine::MaxPlus(search) => {
-                class_graph(alloc, problem, search.tables(), search.classes())?
+                by_elements(alloc, problem, search.tables(), search.classes())
             }
-        };
-        by_graph(alloc, problem, graph)
+        }
     }
 
-    // Whether a search for elements is spent, and what it tells then: there are more elements than
+    // Whether the engine is a search for elements that is spent. There are then more elements than
     // its bound.
     pub(crate) fn has_more_elements(&self) -> bool
-        ensures { said_of self.now ≡ Progress.Spent → HasMoreElements (task_of self.now) }
+        ensures is { IsTrue result ↔ ((said_of self.now ≡ Progress.Spent)
+            × SearchesElements (task_of self.now)) }
+        ensures more { said_of self.now ≡ Progress.Spent → HasMoreElements (task_of self.now) }
     {
         match self {
             Engine::Felsch(_) | Engine::Hlt(_) | Engine::Completion(_) => false,

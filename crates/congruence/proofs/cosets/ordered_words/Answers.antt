@@ -13,7 +13,7 @@ returns-then-not-reads_backwards c =
     IfOk-weaker c.least_words.result (λ least. AreLeastWords c.args.graph.now least.items)
     (λ least. AreOrderedWords c.args.graph.now (reads_backwards c.args.problem.now) least.items)
     (λ least are. subst (λ b. AreOrderedWords c.args.graph.now b least.items) (sym forwards)
-    (ordered_forwards (count_of c.args.problem.now) c.args.graph.now c.requires.graph c.requires.standard c.requires.reached least.items are))
+    (ordered_forwards (count_of c.args.problem.now) c.args.graph.now c.requires.0.graph c.requires.1 c.requires.0.reached least.items are))
     c.least_words.ensures
 
 pub returns : goal.returns
@@ -21,5 +21,5 @@ returns c =
     let backwards : reads_backwards c.args.problem.now ≡ true = search rules in
     subst (λ b. AreOrderedWords c.args.graph.now b c.sort_by.new.self.items) (sym backwards)
     (ordered_backwards (count_of c.args.problem.now) c.args.graph.now c.in_ok-least_reversed.field-0.items c.in_ok-least.least.items
-    c.sort_by.new.self.items c.requires.graph c.in_ok-least_reversed.ensures c.in_ok-least.ensures c.in_ok-sort_by.ensures.permutation
+    c.sort_by.new.self.items c.requires.0.graph c.in_ok-least_reversed.ensures c.in_ok-least.ensures c.in_ok-sort_by.ensures.permutation
     (sorted_by_words c.sort_by.new.self.items c.in_ok-sort_by.ensures.sorted (λ a r q k. search rules)))

@@ -1,23 +1,20 @@
-use Rattle.std.proofs.Common.{◌≡◌, ℕ, List, Result, Ok, Err, IfOk, sym, ◌∙◌, ap, subst}
+use Rattle.std.proofs.Common.{◌≡◌, List, ℕ, sym, ◌∙◌, ap, subst}
 use Rattle.congruence.specs.Solution.{reads_backwards}
-use Rattle.congruence.specs.ElementGraphs.{IsClassGraph, rows_read}
-use Rattle.congruence.proofs.ClassGraphs.{standard_class_graph}
+use Rattle.congruence.specs.ElementGraphs.{AreRootWords, AreRowsOf, IsClassGraph, rows_read}
+use Rattle.congruence.proofs.ClassGraphs.{class_graph_for, root_words_for, rows_of_classes}
 use Rattle.congruence.proofs.element_graphs.class_graph.Goals as goal
-use Rattle.congruence.proofs.element_graphs.class_graph.Goals.{then-reads_backwards, else-reads_backwards}
 
-both_ok : {A E : Type 0} {P Q R S : A → Type 0} (r : Result A E) → ((x : A) → P x → Q x → R x → S x) → IfOk r P → IfOk r Q → IfOk r R → IfOk r S
-both_ok (Ok x) f p q r = f x p q r
-both_ok (Err e) f p q r = tt
+pub returns-clause-graph : goal.returns-clause-graph
+returns-clause-graph c =
+    class_graph_for c.args.problem.now c.args.tables.now c.args.classes.now c.in_ok-roots.roots.items c.in_ok-roots.places.items c.in_ok-graph.graph c.requires c.in_ok-roots.ensures
+    (subst (λ (rows : List (List ℕ)). IsClassGraph c.args.tables.now rows c.in_ok-roots.roots.items c.in_ok-roots.places.items c.in_ok-graph.graph) c.rows_read-rows.ensures
+    (subst (λ (roots : List ℕ). IsClassGraph c.args.tables.now c.rows_read-rows.result.now roots c.in_ok-roots.places.items c.in_ok-graph.graph) c.as_slice.ensures.value
+    (subst (λ (places : List ℕ). IsClassGraph c.args.tables.now c.rows_read-rows.result.now c.as_slice.result.now places c.in_ok-graph.graph) c.as_slice-2.ensures.value c.in_ok-graph.ensures)))
 
-pub returns : goal.returns
-returns c =
-    let backwards : c.reads_backwards.result ≡ reads_backwards c.args.problem.now = c.reads_backwards.ensures in
-    let rows : c.if-reads_backwards.rows.now ≡ rows_read (reads_backwards c.args.problem.now) c.args.tables.now =
-    elim c.if-reads_backwards.branch [
-      | then-reads_backwards w ↦ ap (λ b. b.now) w.rows-is ∙ ap (λ b. rows_read b c.args.tables.now) (sym w.if-reads_backwards.true ∙ backwards)
-      | else-reads_backwards w ↦ ap (λ b. b.now) w.rows-is ∙ ap (λ b. rows_read b c.args.tables.now) (sym w.if-reads_backwards.false ∙ backwards)
-    ] in
-    both_ok c.standardise-2.result
-    (λ h shows graph standard. standard_class_graph c.args.problem.now c.args.tables.now c.args.classes.now c.in_ok-graph_of.field-0 h c.requires
-    (subst (λ (rs : List (List ℕ)). IsClassGraph c.args.tables.now rs c.args.classes.now c.in_ok-graph_of.field-0) rows c.in_ok-graph_of.ensures) shows graph standard)
-    c.standardise-2.ensures.shows c.standardise-2.ensures.graph c.standardise-2.ensures.standard
+pub returns-clause-words : goal.returns-clause-words
+returns-clause-words c =
+    root_words_for c.args.problem.now c.args.tables.now c.args.classes.now c.in_ok-roots.roots.items c.in_ok-roots.places.items c.in_ok-graph.graph c.requires c.in_ok-roots.ensures
+    (subst (λ (rows : List (List ℕ)). IsClassGraph c.args.tables.now rows c.in_ok-roots.roots.items c.in_ok-roots.places.items c.in_ok-graph.graph) c.rows_read-rows.ensures
+    (subst (λ (roots : List ℕ). IsClassGraph c.args.tables.now c.rows_read-rows.result.now roots c.in_ok-roots.places.items c.in_ok-graph.graph) c.as_slice.ensures.value
+    (subst (λ (places : List ℕ). IsClassGraph c.args.tables.now c.rows_read-rows.result.now c.as_slice.result.now places c.in_ok-graph.graph) c.as_slice-2.ensures.value c.in_ok-graph.ensures)))
+    c.in_ok-least.least.items (subst (λ (roots : List ℕ). AreRootWords c.args.tables.now roots c.in_ok-least.least.items) c.as_slice-3.ensures.value c.in_ok-least.ensures)

@@ -42,7 +42,7 @@ returns-in-AllSpent c = λ b end. (
       (λ l at spent.
       let first : c.racer.result.now ≡ l.racer = c.racer.ensures ∙ ap (λ (m : Lane Engine). m.racer) (c.index.ensures ∙ get_or_from_slice_get c.args.lanes.items 0 l c.index.result.now at) in
       subst (λ (e : Engine). HasMoreElements (task_of e)) first
-      (c.has_more_elements-more.ensures (ap said_of first ∙ spent))),
+      (c.has_more_elements-more.ensures.more (ap said_of first ∙ spent))),
   subst (IsEndOf c.args.problem.now b AllSpent) (sym c.new.ensures)
       (end_with c.args.problem.now b c.args.lanes.items c.args.outcome AllSpent c.in-AllSpent.is end),
 )

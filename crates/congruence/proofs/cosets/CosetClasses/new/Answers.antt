@@ -8,10 +8,10 @@ use Rattle.congruence.proofs.cosets.CosetClasses.new.Goals as goal
 pub places_of-requires : goal.places_of-requires
 places_of-requires c =
     subst (λ (l : List (ℕ × Letters)). ArePlaced l) (sym c.as_slice.ensures.value)
-    (ordered_once c.args.graph (reads_backwards c.args.problem.now) c.in_ok-least.least.items c.in_ok-least.ensures)
+    (ordered_once c.args.graph (reads_backwards c.args.problem.now) c.args.least.items c.requires.words)
 
 pub invariant_of-result : goal.invariant_of-result
 invariant_of-result c =
-    subst (λ (p : Problem). IsSolutionFor p c.args.graph c.in_ok-least.least.items c.in_ok-places.places.items) (sym c.in_ok-copy.ensures)
-    (solution_for c.args.problem.now c.args.graph c.in_ok-least.least.items c.in_ok-places.places.items c.requires c.in_ok-least.ensures
+    subst (λ (p : Problem). IsSolutionFor p c.args.graph c.args.least.items c.in_ok-places.places.items) (sym c.in_ok-copy.ensures)
+    (solution_for c.args.problem.now c.args.graph c.args.least.items c.in_ok-places.places.items c.requires.graph c.requires.words
     (subst (λ (l : List (ℕ × Letters)). ArePlacesOf l c.in_ok-places.places.items) c.as_slice.ensures.value c.in_ok-places.ensures))
