@@ -1,9 +1,10 @@
 -- Searching after a cursor.
-use Rattle.std.proofs.Common.{◌≡◌, ℕ, suc, ◌*◌, ◌<◌, ◌≤◌, List, [], ◌∷◌, ◌++◌, length, refl, sym, ◌∙◌, ap, subst, subst₂, arith, inl, inr, append-nil, append_assoc}
+use Rattle.std.proofs.Common.{◌≡◌, ℕ, suc, ◌*◌, ◌<◌, ◌≤◌, List, [], ◌∷◌, ◌++◌, length, get_or, refl, sym, ◌∙◌, ap, subst, subst₂, arith, inl, inr, append-nil, append_assoc, length-append}
+use Rattle.std.proofs.Math.Seq.{get_or-append_seam}
 use Rattle.std.proofs.lemmas.Bool.{cases_lt}
 use Rattle.theory.specs.Congruence.{Presentation}
 use Rattle.sims_one.specs.Targets.{seen, IsFront, AreAllowed, IsTable, IsWithin, IsBeyond}
-use Rattle.sims_one.specs.Search.{Before, IsLeastWithin, NoneWithin, IsLeastBeyond, NoneBeyond, IsLeastAfter, NoneAfter}
+use Rattle.sims_one.specs.Search.{Before, IsLeastWithin, NoneWithin, IsLeastBeyond, NoneBeyond, IsLeastAfter, NoneAfter, NoneFrom}
 use Rattle.sims_one.proofs.FrontLaws.{allowed_front, full_ends, before_itself, before_both, before_heads, common_front, Compared, compared}
 use Rattle.sims_one.proofs.FrontLaws.Compared.{begins, below, above}
 
@@ -23,21 +24,17 @@ module _ (p : Presentation) (n : ℕ) where
   pub first_none : NoneWithin p n [] → NoneAfter p n []
   first_none none u table after = none u table (record { rest = u; is = refl })
 
-  -- no table after the cursor goes on behind t
-  abbrev pub NoneFrom : List ℕ → List ℕ → Type 0
-  NoneFrom cursor t = (u : List ℕ) → IsTable p n u → IsWithin t u → Before cursor u → ⊥
-
-  pub from_start : (cursor : List ℕ) → p.letters * seen cursor ≤ length cursor → NoneFrom cursor cursor
+  pub from_start : (cursor : List ℕ) → p.letters * seen cursor ≤ length cursor → NoneFrom p n cursor cursor
   from_start cursor full u table w after = go w.rest w.is
     where
       go : (rest : List ℕ) → u ≡ cursor ++ rest → ⊥
       go [] e = before_itself cursor (subst (λ (xs : List ℕ). Before cursor xs) (e ∙ append-nil cursor) after)
       go (m ∷ rest) e = full_ends p.letters cursor m rest (subst (λ (xs : List ℕ). IsFront p.letters xs) e table.front) full
 
-  pub from_end : (cursor : List ℕ) → NoneFrom cursor [] → NoneAfter p n cursor
+  pub from_end : (cursor : List ℕ) → NoneFrom p n cursor [] → NoneAfter p n cursor
   from_end cursor none u table after = none u table (record { rest = u; is = refl }) after
 
-  module _ (cursor t : List ℕ) (l : ℕ) (rest : List ℕ) (is : cursor ≡ t ++ l ∷ rest) (none : NoneFrom cursor (t ++ l ∷ [])) where
+  module _ (cursor t : List ℕ) (l : ℕ) (rest : List ℕ) (is : cursor ≡ t ++ l ∷ rest) (none : NoneFrom p n cursor (t ++ l ∷ [])) where
     -- what comes after the cursor behind t has a greater target
     beyond : (u : List ℕ) → IsTable p n u → IsWithin t u → Before cursor u → IsBeyond t (suc l) u
     beyond u table w after = go w.rest w.is
@@ -58,7 +55,7 @@ module _ (p : Presentation) (n : ℕ) where
           ]
         ]
 
-    pub from_more : NoneBeyond p n t (suc l) → NoneFrom cursor t
+    pub from_more : NoneBeyond p n t (suc l) → NoneFrom p n cursor t
     from_more past u table w after = past u table (beyond u table w after)
 
     pub from_found : (found : List ℕ) → IsLeastBeyond p n t (suc l) found → IsLeastAfter p n cursor found
@@ -80,8 +77,29 @@ module _ (p : Presentation) (n : ℕ) where
   none_beyond t first not u table b =
       not (allowed_front p n t (b.target ∷ b.rest) (subst (λ (xs : List ℕ). AreAllowed p n xs) b.is table.allowed))
 
-pub popped_within : (cursor s t : List ℕ) (l : ℕ) → (w : IsWithin s cursor) → s ≡ t ++ l ∷ [] → cursor ≡ t ++ l ∷ w.rest
-popped_within cursor s t l w e = w.is ∙ ap (λ (xs : List ℕ). xs ++ w.rest) e ∙ append_assoc t (l ∷ []) w.rest
+-- the next target of the cursor
+pub next_within : (t cursor : List ℕ) (place target : ℕ) → (w : IsWithin t cursor) → place ≡ length t → place < length cursor → target ≡ get_or cursor place 0 → IsWithin (t ++ target ∷ []) cursor
+next_within t cursor place target w here within is = go w.rest w.is
+  where
+    go : (rest : List ℕ) → cursor ≡ t ++ rest → IsWithin (t ++ target ∷ []) cursor
+    go [] e = absurd (omega (arith, within, here, ap length (e ∙ append-nil t)))
+    go (m ∷ rest) e =
+        let at : get_or cursor place 0 ≡ m = ap (λ (xs : List ℕ). get_or xs place 0) e ∙ ap (λ i. get_or (t ++ m ∷ rest) i 0) here ∙ get_or-append_seam t m rest 0 in
+        record { rest = rest; is = e ∙ ap (λ z. t ++ z ∷ rest) (sym at ∙ sym is) ∙ sym (append_assoc t (target ∷ []) rest) }
+
+-- all of the cursor
+pub whole_within : (t cursor : List ℕ) → IsWithin t cursor → length cursor ≤ length t → t ≡ cursor
+whole_within t cursor w long = go w.rest w.is
+  where
+    go : (rest : List ℕ) → cursor ≡ t ++ rest → t ≡ cursor
+    go [] e = sym (e ∙ append-nil t)
+    go (m ∷ rest) e = absurd (omega (arith, long, ap length e, length-append t (m ∷ rest)))
+
+pub along : (cursor t : List ℕ) (target : ℕ) → (w : IsWithin (t ++ target ∷ []) cursor) → cursor ≡ t ++ target ∷ w.rest
+along cursor t target w = w.is ∙ append_assoc t (target ∷ []) w.rest
+
+pub within_long : (t cursor : List ℕ) (m : ℕ) → IsWithin (t ++ m ∷ []) cursor → length t < length cursor
+within_long t cursor m w = omega (arith, ap length w.is, length-append (t ++ m ∷ []) w.rest, length-append t (m ∷ []))
 
 pub nothing_left : (s : List ℕ) → length s ≡ 0 → s ≡ []
 nothing_left [] h = refl

@@ -1,5 +1,5 @@
 -- Front parts of the targets of tables, and the order of dictionaries.
-use Rattle.std.proofs.Common.{◌≡◌, ℕ, ◌+◌, ◌*◌, ◌<◌, ◌≤◌, max, List, [], ◌∷◌, ◌++◌, length, take, All, refl, sym, ◌∙◌, ap, ap₂, subst, arith, ◌⊎◌, inl, inr, append-nil, nat_cmp, Less, Equal, length-append}
+use Rattle.std.proofs.Common.{◌≡◌, ℕ, ◌+◌, ◌*◌, ◌<◌, ◌≤◌, max, Bool, true, false, List, [], ◌∷◌, ◌++◌, length, take, All, refl, sym, ◌∙◌, ap, ap₂, subst, arith, ◌⊎◌, inl, inr, append-nil, nat_cmp, Less, Equal, length-append}
 use Rattle.std.proofs.Math.Nat.{mul-le-mul_left}
 use Rattle.std.specs.Ordering.{ordering_then}
 use Rattle.std.specs.Cmp.Lexicographic.{slice_cmp}
@@ -86,6 +86,14 @@ module _ (p : Presentation) (n : ℕ) where
 
   pub allowed_below : (b : ℕ) (t : List ℕ) → AreAllowed p n t → most_nodes p.is_monoid n ≤ b → All (λ m. m < b) t
   allowed_below b t all h = λ i d lt. omega (arith, all i d lt, h)
+
+pub most_few : (is_monoid : Bool) (n : ℕ) → n ≤ 16 → most_nodes is_monoid n ≤ 17
+most_few true n h = omega arith
+most_few false n h = omega arith
+
+-- as many nodes as may be
+pub few_seen : (p : Presentation) (n : ℕ) (t : List ℕ) → AreAllowed p n t → n ≤ 16 → seen t ≤ 17
+few_seen p n t allowed few = let h = max_below 17 0 t (omega arith) (allowed_below p n 17 t allowed (most_few p.is_monoid n few)) in omega (arith, h)
 
 -- the order of dictionaries
 pub before_itself : (t : List ℕ) → Before t t → ⊥

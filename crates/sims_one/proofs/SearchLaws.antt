@@ -58,8 +58,12 @@ module _ (p : Presentation) (n : ℕ) (t : List ℕ) where
   abbrev pub NoneBetween : ℕ → ℕ → Type 0
   NoneBetween first f = (u : List ℕ) → IsTable p n u → (b : IsBeyond t first u) → b.target < f → ⊥
 
-  pub between_start : (first : ℕ) → NoneBetween first first
-  between_start first u table b h = omega (arith, b.from, h)
+  within_beyond_any : (first : ℕ) (u : List ℕ) → IsBeyond t first u → IsWithin t u
+  within_beyond_any first u b = record { rest = b.target ∷ b.rest; is = b.is }
+
+  -- the tables have no lesser target than the least one that is tried
+  pub between_least : (first f : ℕ) → ((u : List ℕ) → IsTable p n u → (b : IsBeyond t first u) → IsWithin t u → f ≤ b.target) → NoneBetween first f
+  between_least first f least u table b h = omega (arith, least u table b (within_beyond_any first u b), h)
 
   within_pushed : (first f : ℕ) (u : List ℕ) → (b : IsBeyond t first u) → b.target ≡ f → IsWithin (t ++ f ∷ []) u
   within_pushed first f u b e = record {
@@ -73,11 +77,12 @@ module _ (p : Presentation) (n : ℕ) (t : List ℕ) where
     | inr most ↦ within u table (within_pushed first f u b (omega arith))
   ]
 
-  pub between_end : (first f limit : ℕ) → NoneBetween first f → limit ≤ f → ((m : ℕ) → m < most_nodes p.is_monoid n → m ≤ seen t → m < limit) → NoneBeyond p n t first
+  pub between_end : (first f limit : ℕ) → NoneBetween first f → limit ≤ f
+      → ((u : List ℕ) → IsTable p n u → (b : IsBeyond t first u) → IsWithin t u → b.target < most_nodes p.is_monoid n → b.target ≤ seen t → b.target < limit) → NoneBeyond p n t first
   between_end first f limit none past all u table b =
       let front : IsFront p.letters (t ++ b.target ∷ b.rest) = subst (λ (xs : List ℕ). IsFront p.letters xs) b.is table.front in
       let allowed : AreAllowed p n (t ++ b.target ∷ b.rest) = subst (λ (xs : List ℕ). AreAllowed p n xs) b.is table.allowed in
-      none u table b (omega (arith, past, all b.target (allowed_next p n t b.target b.rest allowed).1 (front_next p.letters t b.target b.rest front)))
+      none u table b (omega (arith, past, all u table b (within_beyond_any first u b) (allowed_next p n t b.target b.rest allowed).1 (front_next p.letters t b.target b.rest front)))
 
   pub between_found : (first f : ℕ) (found : List ℕ) → NoneBetween first f → first ≤ f → IsLeastWithin p n (t ++ f ∷ []) found → IsLeastBeyond p n t first found
   between_found first f found none from l = record {

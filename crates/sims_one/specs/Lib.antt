@@ -1,3 +1,4 @@
 pub mod Targets
 pub mod Search
+pub mod Known
 pub mod Graphs

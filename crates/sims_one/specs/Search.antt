@@ -44,6 +44,10 @@ pub record IsLeastAfter (p : Presentation) (n : ℕ) (cursor found : List ℕ) :
 abbrev pub NoneAfter : Presentation → ℕ → List ℕ → Type 0
 NoneAfter p n cursor = (u : List ℕ) → IsTable p n u → Before cursor u → ⊥
 
+-- no table after the cursor goes on behind t
+abbrev pub NoneFrom : Presentation → ℕ → List ℕ → List ℕ → Type 0
+NoneFrom p n cursor t = (u : List ℕ) → IsTable p n u → IsWithin t u → Before cursor u → ⊥
+
 -- the targets of a standard table, or none
 pub record IsCursor (k : ℕ) (targets : List ℕ) : Type 0 where
   pub front : IsFront k targets

@@ -4,7 +4,9 @@
 //! *Computation with finitely presented groups*, 1994, 5.6; libsemigroups, `Sims1`).
 #![tactic(auto)]
 
+mod deductions;
 pub mod facts;
+mod known;
 mod paths;
 mod search;
 mod sims;

@@ -3,10 +3,13 @@ use Rattle.sims_one.proofs.SearchLaws.{NoneBetween}
 use Rattle.sims_one.proofs.search.+search.Given as goal
 
 abbrev pub decreases-search : goal.decreases-search
-decreases-search l = 2 * (l.presentation.now.presentation.letters * 17 - length l.targets.now.items) + 1
+decreases-search l = 3 * (l.presentation.now.presentation.letters * 17 - length l.targets.now.items) + 2
 
 abbrev pub decreases-search_from : goal.decreases-search_from
-decreases-search_from l = 2 * (l.presentation.now.presentation.letters * 17 - length l.targets.now.items)
+decreases-search_from l = 3 * (l.presentation.now.presentation.letters * 17 - length l.targets.now.items) + 1
+
+abbrev pub decreases-search_with : goal.decreases-search_with
+decreases-search_with l = 3 * (l.presentation.now.presentation.letters * 17 - length l.targets.now.items)
 
 abbrev pub invariant-search_from-loop-target : goal.invariant-search_from-loop-target
 invariant-search_from-loop-target l = record {

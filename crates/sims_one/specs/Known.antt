@@ -1,0 +1,30 @@
+-- Edges that each table behind a front part has, known before their rows are filled.
+use Rattle.std.specs.Prelude.{◌≡◌, ℕ, ◌<◌, ◌≤◌, Bool, List, length, slice_index, slice_get, IsTrue, Some}
+use Rattle.theory.specs.Congruence.{Presentation}
+use Rattle.sims_one.specs.declared.known.Known.{Known}
+use Rattle.sims_one.specs.Targets.{seen, IsTable, IsWithin}
+
+-- the targets u have the known edges; 17 stands for a target that is not known
+abbrev pub HasEdges : List ℕ → List ℕ → Type 0
+HasEdges known u = (place : ℕ) → place < length known → slice_index known place < 17
+    → slice_get u place ≡ Some (slice_index known place)
+
+-- the targets u have the nodes and edges that are known
+pub record Fits (known : Known) (u : List ℕ) : Type 0 where
+  pub nodes : known.nodes ≤ seen u
+  pub edges : HasEdges known.targets u
+
+-- a table that has what was known has what is known now, and there is none where it failed
+abbrev pub Keeps : Presentation → Known → Known → Bool → Type 0
+Keeps p old new holds = (n : ℕ) (u : List ℕ) → IsTable p n u → Fits old u
+    → IsTrue holds × Fits new u
+
+-- the same of tables with this target at the place
+abbrev pub Extends : Presentation → Known → ℕ → ℕ → Known → Bool → Type 0
+Extends p old place target new holds = (n : ℕ) (u : List ℕ) → IsTable p n u → Fits old u
+    → slice_get u place ≡ Some target → IsTrue holds × Fits new u
+
+-- the nodes of t, and edges that each table behind t has
+pub record IsKnown (p : Presentation) (n : ℕ) (t : List ℕ) (known : Known) : Type 0 where
+  pub nodes : known.nodes ≡ seen t
+  pub edges : (u : List ℕ) → IsTable p n u → IsWithin t u → HasEdges known.targets u
