@@ -2,6 +2,7 @@ pub mod FrontLaws
 pub mod PathLaws
 pub mod EdgeLaws
 pub mod KnownLaws
+pub mod BranchLaws
 pub mod SearchLaws
 pub mod CursorLaws
 pub mod LowIndexLaws

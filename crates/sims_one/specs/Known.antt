@@ -1,8 +1,8 @@
 -- Edges that each table behind a front part has, known before their rows are filled.
-use Rattle.std.specs.Prelude.{◌≡◌, ℕ, ◌<◌, ◌≤◌, Bool, List, length, slice_index, slice_get, IsTrue, Some}
+use Rattle.std.specs.Prelude.{◌≡◌, ℕ, ◌<◌, ◌≤◌, Bool, List, length, suc, take, slice_index, slice_get, IsTrue, Some}
 use Rattle.theory.specs.Congruence.{Presentation}
 use Rattle.sims_one.specs.declared.known.Known.{Known}
-use Rattle.sims_one.specs.Targets.{seen, IsTable, IsWithin}
+use Rattle.sims_one.specs.Targets.{seen, IsTable, IsFront, AreAllowed, IsWithin}
 
 -- the targets u have the known edges; 17 stands for a target that is not known
 abbrev pub HasEdges : List ℕ → List ℕ → Type 0
@@ -28,3 +28,11 @@ Extends p old place target new holds = (n : ℕ) (u : List ℕ) → IsTable p n 
 pub record IsKnown (p : Presentation) (n : ℕ) (t : List ℕ) (known : Known) : Type 0 where
   pub nodes : known.nodes ≡ seen t
   pub edges : (u : List ℕ) → IsTable p n u → IsWithin t u → HasEdges known.targets u
+
+-- front parts of tables, and what is known behind each front part of t, the first without targets
+pub record IsBranch (p : Presentation) (n : ℕ) (t : List ℕ) (levels : List Known) : Type 0 where
+  pub front : IsFront p.letters t
+  pub allowed : AreAllowed p n t
+  pub long : length levels ≡ suc (length t)
+  pub known : (d : ℕ) (known : Known) → slice_get levels d ≡ Some known
+      → IsKnown p n (take d t) known

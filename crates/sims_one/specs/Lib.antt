@@ -1,4 +1,4 @@
 pub mod Targets
-pub mod Search
 pub mod Known
+pub mod Search
 pub mod Graphs

@@ -1,5 +1,5 @@
 -- What a search among the tables that go on behind a list of targets finds.
-use Rattle.std.specs.Prelude.{◌≡◌, ℕ, ◌*◌, List, [], length, ◌⊎◌, Bool, Option, Some}
+use Rattle.std.specs.Prelude.{◌≡◌, ℕ, ◌*◌, ◌<◌, List, [], length, ◌⊎◌, Bool, Option, Some}
 use Rattle.std.specs.Ordering.{nat_cmp}
 use Rattle.std.specs.declared.cmp.Ordering.TheVariants.{Less}
 use Rattle.std.specs.Cmp.Lexicographic.{slice_cmp}
@@ -7,6 +7,8 @@ use Rattle.theory.specs.Congruence.{Presentation}
 use Rattle.theory.specs.Listing.{IsNext}
 use Rattle.theory.specs.Graph.{Graph}
 use Rattle.theory.specs.LowIndex.{Rows, graph_of, IsLowIndex, TableLess}
+use Rattle.sims_one.specs.declared.known.Known.{Known}
+use Rattle.sims_one.specs.Known.{IsBranch}
 use Rattle.sims_one.specs.Targets.{IsTable, IsFront, IsWithin, IsBeyond, seen, cursor_of}
 
 -- the targets come before in the order of dictionaries
@@ -53,6 +55,12 @@ pub record IsCursor (k : ℕ) (targets : List ℕ) : Type 0 where
   pub front : IsFront k targets
   pub full : (targets ≡ []) ⊎ (length targets ≡ k * seen targets)
 
+-- the branch of the least table after the cursor
+pub record IsFoundBranch (p : Presentation) (n : ℕ) (cursor targets : List ℕ)
+    (levels : List Known) : Type 0 where
+  pub least : IsLeastAfter p n cursor targets
+  pub branch : IsBranch p n targets levels
+
 -- a search for the tables of at most so many classes, and the last table found, or the cursor
 pub record Search : Type 0 where
   pub presentation : Presentation
@@ -60,13 +68,15 @@ pub record Search : Type 0 where
   pub after : Option Rows
   pub failed : Bool
 
--- the next table as a graph, and its targets
-pub record IsFound (s : Search) (targets : List ℕ) (g : Graph) : Type 0 where
+-- the next table as a graph, its targets, and what is known on its branch
+pub record IsFound (s : Search) (targets : List ℕ) (levels : List Known) (g : Graph) : Type 0 where
   pub rows : Rows
   pub is : g ≡ graph_of rows
   pub next : IsNext (IsLowIndex s.presentation s.classes) TableLess s.after rows
   pub cursor : IsCursor s.presentation.letters targets
   pub after : cursor_of s.presentation.letters targets ≡ Some rows
+  pub branch : IsBranch s.presentation s.classes targets levels
+  pub some : 0 < length targets
 
 -- the next table as a graph
 pub record IsNextGraph (p : Presentation) (n : ℕ) (after : Option Rows) (g : Graph)

@@ -4,6 +4,7 @@
 //! *Computation with finitely presented groups*, 1994, 5.6; libsemigroups, `Sims1`).
 #![tactic(auto)]
 
+mod branch;
 mod deductions;
 pub mod facts;
 mod known;

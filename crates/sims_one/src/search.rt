@@ -1,10 +1,11 @@
 // Searching for tables, a target at a time.
-ghost use Rattle.std.specs.Prelude.{◌≡◌, ℕ, suc, ◌+◌, ◌*◌, ◌<◌, ◌≤◌, ◌↔◌, List, [], ◌∷◌, ◌++◌, length, slice_get, Some, IsTrue, IfOk, true, false, MatchOption};
+ghost use Rattle.std.specs.Prelude.{◌≡◌, ℕ, suc, ◌+◌, ◌*◌, ◌<◌, ◌≤◌, ◌↔◌, List, [], ◌∷◌, ◌++◌, length, slice_get, Some, IsTrue, IfOk, IfSome, true, false, MatchOption};
 ghost use Rattle.sims_one.specs.Targets.{seen, least_target, most_nodes, IsFront, AreAllowed, IsWithin};
-ghost use Rattle.sims_one.specs.Known.{HasEdges, IsKnown};
-ghost use Rattle.sims_one.specs.Search.{IsLeastWithin, NoneWithin, IsLeastBeyond, NoneBeyond, IsLeastAfter, NoneAfter, NoneFrom, IsCursor};
+ghost use Rattle.sims_one.specs.Known.{HasEdges, IsBranch};
+ghost use Rattle.sims_one.specs.Search.{IsLeastWithin, NoneWithin, IsLeastBeyond, NoneBeyond, IsLeastAfter, NoneAfter, NoneFrom, IsCursor, IsFoundBranch};
 
-use crate::deductions::{Edge, extend};
+use crate::branch::Branch;
+use crate::deductions::extend;
 use crate::known::{Known, MOST_EDGES};
 use crate::paths::is_sound;
 use crate::sims::MOST_CLASSES;
@@ -77,221 +78,297 @@ fn candidate_limit(
     }
 }
 
-/// Makes of the targets those of the least table of at most so many classes that goes on behind
-/// them, and tells that there is one; else leaves them as they are. Refused only where memory is
-/// wanting, and then the targets are any.
+// Puts the target behind those of the branch, and tells that tables may have it; else no table has
+// it, and the targets are left as they are. Refused only where memory is wanting, and then the branch
+// is any.
+fn enter(
+    presentation: &Presentation,
+    classes: usize,
+    branch: &mut Branch,
+    target: usize,
+) -> Result<bool, NoMemory>
+    requires classes { classes ≤ MOST_CLASSES }
+    requires branch { IsBranch presentation.now.presentation classes
+        branch.old.targets.items branch.old.levels.items }
+    requires front { IsFront presentation.now.presentation.letters
+        (branch.old.targets.items ++ target ∷ []) }
+    requires allowed { AreAllowed presentation.now.presentation classes
+        (branch.old.targets.items ++ target ∷ []) }
+    ensures entered { IfOk result (λ b. b ≡ true
+        → branch.new.targets.items ≡ branch.old.targets.items ++ target ∷ []) }
+    ensures none { IfOk result (λ b. b ≡ false → NoneWithin presentation.now.presentation classes
+        (branch.old.targets.items ++ target ∷ [])) }
+    ensures branch { IfOk result (λ _. IsBranch presentation.now.presentation classes
+        branch.new.targets.items branch.new.levels.items) }
+    ensures same { IfOk result (λ b. b ≡ false
+        → branch.new.targets.items ≡ branch.old.targets.items) }
+{
+    let mut known = *branch.known();
+    let place = branch.targets.len();
+    if !extend(presentation, &mut known, &mut branch.fresh, place, target)? {
+        return Ok(false);
+    }
+    branch.push(target, known)?;
+    Ok(true)
+}
+
+/// Makes of the branch that of the least table of at most so many classes that goes on behind its
+/// targets, and tells that there is one; else leaves the targets as they are. Refused only where
+/// memory is wanting, and then the branch is any.
 #[cycle(search)]
 pub fn search(
     presentation: &Presentation,
     classes: usize,
-    targets: &mut Vec<usize>,
-    known: &Known,
-    fresh: &mut Vec<Edge>,
+    branch: &mut Branch,
 ) -> Result<bool, NoMemory>
     requires classes { classes ≤ MOST_CLASSES }
-    requires front { IsFront presentation.now.presentation.letters targets.old.items }
-    requires allowed { AreAllowed presentation.now.presentation classes targets.old.items }
-    requires known { IsKnown presentation.now.presentation classes targets.old.items known.now }
-    ensures found { IfOk result (λ b. b ≡ true
-        → IsLeastWithin presentation.now.presentation classes targets.old.items targets.new.items) }
+    requires branch { IsBranch presentation.now.presentation classes
+        branch.old.targets.items branch.old.levels.items }
+    ensures found { IfOk result (λ b. b ≡ true → IsLeastWithin presentation.now.presentation classes
+        branch.old.targets.items branch.new.targets.items) }
     ensures none { IfOk result (λ b. b ≡ false
-        → NoneWithin presentation.now.presentation classes targets.old.items) }
-    ensures same { IfOk result (λ b. b ≡ false → targets.new.items ≡ targets.old.items) }
+        → NoneWithin presentation.now.presentation classes branch.old.targets.items) }
+    ensures branch { IfOk result (λ _. IsBranch presentation.now.presentation classes
+        branch.new.targets.items branch.new.levels.items) }
+    ensures same { IfOk result (λ b. b ≡ false
+        → branch.new.targets.items ≡ branch.old.targets.items) }
 {
-    if presentation.letters() * known.nodes <= targets.len() {
-        return Ok(is_sound(presentation, targets));
+    if presentation.letters() * branch.known().nodes <= branch.targets.len() {
+        return Ok(is_sound(presentation, &branch.targets));
     }
-    search_from(
-        presentation,
-        classes,
-        targets,
-        known,
-        fresh,
-        least_target(presentation),
-    )
+    search_from(presentation, classes, branch, least_target(presentation))
 }
 
-/// Makes of the targets those of the least table of at most so many classes that goes on behind
-/// them with a target that is not below the first, and tells that there is one; else leaves them as
-/// they are. A target is wanting in the rows of the nodes seen. Refused only where memory is
-/// wanting, and then the targets are any.
+/// Makes of the branch that of the least table of at most so many classes that goes on behind its
+/// targets with one that is not below the first, and tells that there is one; else leaves the
+/// targets as they are. A target is wanting in the rows of the nodes seen. Refused only where memory
+/// is wanting, and then the branch is any.
 #[cycle(search)]
 pub fn search_from(
     presentation: &Presentation,
     classes: usize,
-    targets: &mut Vec<usize>,
-    known: &Known,
-    fresh: &mut Vec<Edge>,
+    branch: &mut Branch,
     first: usize,
 ) -> Result<bool, NoMemory>
     requires classes { classes ≤ MOST_CLASSES }
-    requires front { IsFront presentation.now.presentation.letters targets.old.items }
-    requires allowed { AreAllowed presentation.now.presentation classes targets.old.items }
-    requires known { IsKnown presentation.now.presentation classes targets.old.items known.now }
-    requires wanting { length targets.old.items
-        < presentation.now.presentation.letters * seen targets.old.items }
+    requires branch { IsBranch presentation.now.presentation classes
+        branch.old.targets.items branch.old.levels.items }
+    requires wanting { length branch.old.targets.items
+        < presentation.now.presentation.letters * seen branch.old.targets.items }
     requires first { least_target presentation.now.presentation.is_monoid ≤ first }
-    ensures found { IfOk result (λ b. b ≡ true
-        → IsLeastBeyond presentation.now.presentation classes
-        targets.old.items first targets.new.items) }
+    ensures found { IfOk result (λ b. b ≡ true → IsLeastBeyond presentation.now.presentation classes
+        branch.old.targets.items first branch.new.targets.items) }
     ensures none { IfOk result (λ b. b ≡ false
-        → NoneBeyond presentation.now.presentation classes targets.old.items first) }
-    ensures same { IfOk result (λ b. b ≡ false → targets.new.items ≡ targets.old.items) }
+        → NoneBeyond presentation.now.presentation classes branch.old.targets.items first) }
+    ensures branch { IfOk result (λ _. IsBranch presentation.now.presentation classes
+        branch.new.targets.items branch.new.levels.items) }
+    ensures same { IfOk result (λ b. b ≡ false
+        → branch.new.targets.items ≡ branch.old.targets.items) }
 {
     let _letters = presentation.letters();
-    let place = targets.len();
+    let place = branch.targets.len();
+    let known = branch.known();
     let least = least_candidate(known, place, first);
     let limit = candidate_limit(presentation, classes, known, place);
     for target in least..limit {
-        if search_with(presentation, classes, targets, known, fresh, target)? {
+        if search_with(presentation, classes, branch, target)? {
             return Ok(true);
         }
     }
     Ok(false)
 }
 
-/// The search behind the targets with one target more.
+/// The search behind the targets with one more.
 #[cycle(search)]
 pub fn search_with(
     presentation: &Presentation,
     classes: usize,
-    targets: &mut Vec<usize>,
-    known: &Known,
-    fresh: &mut Vec<Edge>,
+    branch: &mut Branch,
     target: usize,
 ) -> Result<bool, NoMemory>
     requires classes { classes ≤ MOST_CLASSES }
+    requires branch { IsBranch presentation.now.presentation classes
+        branch.old.targets.items branch.old.levels.items }
     requires front { IsFront presentation.now.presentation.letters
-        (targets.old.items ++ target ∷ []) }
+        (branch.old.targets.items ++ target ∷ []) }
     requires allowed { AreAllowed presentation.now.presentation classes
-        (targets.old.items ++ target ∷ []) }
-    requires known { IsKnown presentation.now.presentation classes targets.old.items known.now }
+        (branch.old.targets.items ++ target ∷ []) }
     ensures found { IfOk result (λ b. b ≡ true → IsLeastWithin presentation.now.presentation classes
-        (targets.old.items ++ target ∷ []) targets.new.items) }
+        (branch.old.targets.items ++ target ∷ []) branch.new.targets.items) }
     ensures none { IfOk result (λ b. b ≡ false → NoneWithin presentation.now.presentation classes
-        (targets.old.items ++ target ∷ [])) }
-    ensures same { IfOk result (λ b. b ≡ false → targets.new.items ≡ targets.old.items) }
+        (branch.old.targets.items ++ target ∷ [])) }
+    ensures branch { IfOk result (λ _. IsBranch presentation.now.presentation classes
+        branch.new.targets.items branch.new.levels.items) }
+    ensures same { IfOk result (λ b. b ≡ false
+        → branch.new.targets.items ≡ branch.old.targets.items) }
 {
-    let mut deeper = *known;
-    if !extend(presentation, &mut deeper, fresh, targets.len(), target)? {
+    if !enter(presentation, classes, branch, target)? {
         return Ok(false);
     }
-    targets.push(target)?;
-    if search(presentation, classes, targets, &deeper, fresh)? {
+    if search(presentation, classes, branch)? {
         return Ok(true);
     }
-    targets.pop();
+    branch.pop();
     Ok(false)
 }
 
-/// Makes of the targets those of the least table of at most so many classes after the cursor, and
-/// tells that there is one; else leaves them as they are, and no table after the cursor goes on
-/// behind them. They are the first targets of the cursor. Refused only where memory is wanting, and
-/// then the targets are any.
+/// Makes of the branch that of the least table of at most so many classes after the cursor, and
+/// tells that there is one; else leaves the targets as they are, and no table after the cursor goes
+/// on behind them. They are the first targets of the cursor. Refused only where memory is wanting,
+/// and then the branch is any.
 #[cycle(search_after)]
 pub fn search_after(
     presentation: &Presentation,
     classes: usize,
     cursor: &[usize],
-    targets: &mut Vec<usize>,
-    known: &Known,
-    fresh: &mut Vec<Edge>,
+    branch: &mut Branch,
 ) -> Result<bool, NoMemory>
     requires classes { classes ≤ MOST_CLASSES }
     requires cursor { IsFront presentation.now.presentation.letters cursor.now }
     requires full { length cursor.now ≡ presentation.now.presentation.letters * seen cursor.now }
-    requires within { IsWithin targets.old.items cursor.now }
-    requires allowed { AreAllowed presentation.now.presentation classes targets.old.items }
-    requires known { IsKnown presentation.now.presentation classes targets.old.items known.now }
-    ensures found { IfOk result (λ b. b ≡ true
-        → IsLeastAfter presentation.now.presentation classes cursor.now targets.new.items) }
-    ensures none { IfOk result (λ b. b ≡ false
-        → NoneFrom presentation.now.presentation classes cursor.now targets.old.items) }
-    ensures same { IfOk result (λ b. b ≡ false → targets.new.items ≡ targets.old.items) }
+    requires within { IsWithin branch.old.targets.items cursor.now }
+    requires branch { IsBranch presentation.now.presentation classes
+        branch.old.targets.items branch.old.levels.items }
+    ensures found { IfOk result (λ b. b ≡ true → IsLeastAfter presentation.now.presentation classes
+        cursor.now branch.new.targets.items) }
+    ensures none { IfOk result (λ b. b ≡ false → NoneFrom presentation.now.presentation classes
+        cursor.now branch.old.targets.items) }
+    ensures branch { IfOk result (λ _. IsBranch presentation.now.presentation classes
+        branch.new.targets.items branch.new.levels.items) }
+    ensures same { IfOk result (λ b. b ≡ false
+        → branch.new.targets.items ≡ branch.old.targets.items) }
 {
-    let place = targets.len();
+    let place = branch.targets.len();
     if cursor.len() <= place {
         return Ok(false);
     }
     let target = cursor[place];
-    if search_along(presentation, classes, cursor, targets, known, fresh, target)? {
+    if search_along(presentation, classes, cursor, branch, target)? {
         return Ok(true);
     }
-    search_from(presentation, classes, targets, known, fresh, target + 1)
+    search_from(presentation, classes, branch, target + 1)
 }
 
-/// The search after the cursor behind the targets with one target of the cursor more.
+/// The search after the cursor behind the targets with one of the cursor more.
 #[cycle(search_after)]
 pub fn search_along(
     presentation: &Presentation,
     classes: usize,
     cursor: &[usize],
-    targets: &mut Vec<usize>,
-    known: &Known,
-    fresh: &mut Vec<Edge>,
+    branch: &mut Branch,
     target: usize,
 ) -> Result<bool, NoMemory>
     requires classes { classes ≤ MOST_CLASSES }
     requires cursor { IsFront presentation.now.presentation.letters cursor.now }
     requires full { length cursor.now ≡ presentation.now.presentation.letters * seen cursor.now }
-    requires within { IsWithin (targets.old.items ++ target ∷ []) cursor.now }
-    requires allowed { AreAllowed presentation.now.presentation classes targets.old.items }
-    requires known { IsKnown presentation.now.presentation classes targets.old.items known.now }
-    ensures found { IfOk result (λ b. b ≡ true
-        → IsLeastAfter presentation.now.presentation classes cursor.now targets.new.items) }
+    requires within { IsWithin (branch.old.targets.items ++ target ∷ []) cursor.now }
+    requires branch { IsBranch presentation.now.presentation classes
+        branch.old.targets.items branch.old.levels.items }
+    ensures found { IfOk result (λ b. b ≡ true → IsLeastAfter presentation.now.presentation classes
+        cursor.now branch.new.targets.items) }
     ensures none { IfOk result (λ b. b ≡ false → NoneFrom presentation.now.presentation classes
-        cursor.now (targets.old.items ++ target ∷ [])) }
-    ensures same { IfOk result (λ b. b ≡ false → targets.new.items ≡ targets.old.items) }
+        cursor.now (branch.old.targets.items ++ target ∷ [])) }
+    ensures branch { IfOk result (λ _. IsBranch presentation.now.presentation classes
+        branch.new.targets.items branch.new.levels.items) }
+    ensures same { IfOk result (λ b. b ≡ false
+        → branch.new.targets.items ≡ branch.old.targets.items) }
 {
     if !is_allowed(presentation, classes, target) {
         return Ok(false);
     }
-    let mut deeper = *known;
-    if !extend(presentation, &mut deeper, fresh, targets.len(), target)? {
+    if !enter(presentation, classes, branch, target)? {
         return Ok(false);
     }
-    targets.push(target)?;
-    if search_after(presentation, classes, cursor, targets, &deeper, fresh)? {
+    if search_after(presentation, classes, cursor, branch)? {
         return Ok(true);
     }
-    targets.pop();
+    branch.pop();
     Ok(false)
 }
 
-/// The targets of the least table of at most so many classes after the cursor, or of the least
-/// table of all where the cursor has no target. `None` exactly where there is none. Refused only
-/// where memory is wanting.
+// Makes of the branch of a table that of the least table of at most so many classes after it, and
+// tells that there is one. Refused only where memory is wanting.
+fn search_next(
+    presentation: &Presentation,
+    classes: usize,
+    branch: &mut Branch,
+) -> Result<bool, NoMemory>
+    requires classes { classes ≤ MOST_CLASSES }
+    requires branch { IsBranch presentation.now.presentation classes
+        branch.old.targets.items branch.old.levels.items }
+    requires full { presentation.now.presentation.letters * seen branch.old.targets.items
+        ≤ length branch.old.targets.items }
+    ensures found { IfOk result (λ b. b ≡ true → IsLeastAfter presentation.now.presentation classes
+        branch.old.targets.items branch.new.targets.items) }
+    ensures none { IfOk result (λ b. b ≡ false
+        → NoneAfter presentation.now.presentation classes branch.old.targets.items) }
+    ensures branch { IfOk result (λ b. b ≡ true → IsBranch presentation.now.presentation classes
+        branch.new.targets.items branch.new.levels.items) }
+{
+    while let Some(target) = branch.pop() {
+        if search_from(presentation, classes, branch, target + 1)? {
+            return Ok(true);
+        }
+    }
+    Ok(false)
+}
+
+// The branch of the least table of at most so many classes after the cursor, or of the least table
+// of all where the cursor has no target. Refused only where memory is wanting.
+fn find_after(
+    alloc: Global,
+    presentation: &Presentation,
+    classes: usize,
+    cursor: &[usize],
+) -> Result<Option<Branch>, NoMemory>
+    requires classes { classes ≤ MOST_CLASSES }
+    requires cursor { IsCursor presentation.now.presentation.letters cursor.now }
+    ensures { IfOk result (λ found. MatchOption found
+        (NoneAfter presentation.now.presentation classes cursor.now)
+        (λ b. IsFoundBranch presentation.now.presentation classes cursor.now
+        b.targets.items b.levels.items)) }
+{
+    let _letters = presentation.letters();
+    let mut branch = Branch::new(alloc)?;
+    if cursor.is_empty() {
+        if search(presentation, classes, &mut branch)? {
+            return Ok(Some(branch));
+        }
+        return Ok(None);
+    }
+    if search_after(presentation, classes, cursor, &mut branch)? {
+        return Ok(Some(branch));
+    }
+    Ok(None)
+}
+
+/// The branch of the least table of at most so many classes after the cursor, or of the least table
+/// of all where the cursor has no target. `None` exactly where there is no table. The branch of the
+/// cursor, where there is one, spares the way to it. Refused only where memory is wanting.
 pub fn find_next(
     alloc: Global,
     presentation: &Presentation,
     classes: usize,
     cursor: &[usize],
-) -> Result<Option<Vec<usize>>, NoMemory>
+    branch: Option<Branch>,
+) -> Result<Option<Branch>, NoMemory>
     requires classes { classes ≤ MOST_CLASSES }
     requires cursor { IsCursor presentation.now.presentation.letters cursor.now }
+    requires branch { IfSome branch (λ b. IsBranch presentation.now.presentation classes
+        b.targets.items b.levels.items) }
+    requires same { IfSome branch (λ b. (b.targets.items ≡ cursor.now)
+        × (0 < length b.targets.items)) }
     ensures { IfOk result (λ found. MatchOption found
         (NoneAfter presentation.now.presentation classes cursor.now)
-        (λ targets. IsLeastAfter presentation.now.presentation classes cursor.now targets.items)) }
+        (λ b. IsFoundBranch presentation.now.presentation classes cursor.now
+        b.targets.items b.levels.items)) }
 {
-    let _letters = presentation.letters();
-    let known = Known::new();
-    let mut targets = Vec::new(alloc);
-    let mut fresh = Vec::new(alloc);
-    if cursor.is_empty() {
-        if search(presentation, classes, &mut targets, &known, &mut fresh)? {
-            return Ok(Some(targets));
-        }
-        return Ok(None);
+    let Some(mut branch) = branch else {
+        return find_after(alloc, presentation, classes, cursor);
+    };
+    if search_next(presentation, classes, &mut branch)? {
+        Ok(Some(branch))
+    } else {
+        Ok(None)
     }
-    if search_after(
-        presentation,
-        classes,
-        cursor,
-        &mut targets,
-        &known,
-        &mut fresh,
-    )? {
-        return Ok(Some(targets));
-    }
-    Ok(None)
 }

@@ -1,5 +1,5 @@
 // The search for the tables of a presentation, one after another.
-ghost use Rattle.std.specs.Prelude.{◌≡◌, ◌≢◌, ℕ, ◌<◌, ◌≤◌, List, [], IfOk, OnOk, OnErr, IsErr, true, false, Option, None, Some, MatchOption};
+ghost use Rattle.std.specs.Prelude.{◌≡◌, ◌≢◌, ℕ, ◌<◌, ◌≤◌, List, [], IfOk, IfSome, OnOk, OnErr, IsErr, true, false, Option, None, Some, MatchOption};
 ghost use Rattle.theory.specs.Congruence.{Presentation as Relations};
 ghost use Rattle.theory.specs.Listing.{IsNext, IsLast};
 ghost use Rattle.theory.specs.Graph.{Graph};
@@ -8,6 +8,7 @@ ghost use Rattle.word_graph.specs.Standard.{IsStandardGraph};
 ghost use Rattle.sims_one.specs.Targets.{cursor_of, table_of};
 ghost use Rattle.sims_one.specs.Search.{Search, IsNextGraph, IsFound, IsCursor};
 
+use crate::branch::Branch;
 use crate::paths::greatest;
 use crate::search::find_next;
 use ports::NoMemory;
@@ -18,6 +19,14 @@ use word_graph::WordGraph;
 
 /// The most classes of the tables that are searched for.
 pub const MOST_CLASSES: usize = 16;
+
+// A table that was found, its targets, and its branch.
+#[derive(Drop)]
+struct Found {
+    targets: Vec<usize>,
+    graph: WordGraph,
+    branch: Branch,
+}
 
 /// A search for the standard tables of at most so many classes at which the relations of a
 /// presentation hold, in the order of their rows (libsemigroups, `Sims1`). In a semigroup the root
@@ -31,12 +40,14 @@ pub struct Sims {
     presentation: Presentation,
     classes: usize,
     last: Vec<usize>,
+    branch: Option<Branch>,
     failed: bool,
 }
 
 impl Model for Sims {
-    ghost use Rattle.std.specs.Prelude.{◌≤◌};
+    ghost use Rattle.std.specs.Prelude.{◌≡◌, ◌<◌, ◌≤◌, length, IfSome};
     ghost use Rattle.sims_one.specs.Targets.{cursor_of};
+    ghost use Rattle.sims_one.specs.Known.{IsBranch};
     ghost use Rattle.sims_one.specs.Search.{Search, IsCursor};
 
     ghost Value = { Search };
@@ -51,6 +62,10 @@ impl Model for Sims {
     ghost invariant = { λ s. record {
       few : s.classes ≤ 16;
       cursor : IsCursor s.presentation.presentation.letters s.last.items;
+      branch : IfSome s.branch (λ b. IsBranch s.presentation.presentation s.classes
+          b.targets.items b.levels.items);
+      same : IfSome s.branch (λ b. (b.targets.items ≡ s.last.items)
+          × (0 < length b.targets.items));
     } };
 }
 
@@ -71,6 +86,7 @@ impl Sims {
             presentation,
             classes: n,
             last: Vec::new(alloc),
+            branch: None,
             failed: false,
         })
     }
@@ -91,6 +107,7 @@ impl Sims {
         match table.targets(self.alloc) {
             Ok(targets) => {
                 self.last = targets;
+                self.branch = None;
                 Ok(())
             }
             Err(fault) => {
@@ -100,26 +117,36 @@ impl Sims {
         }
     }
 
-    // The next table, and its targets.
-    fn find(&self) -> Result<Option<(Vec<usize>, WordGraph)>, NoMemory>
-        ensures { IfOk result (λ found. MatchOption found
-            (IsLast (IsLowIndex self.now.presentation self.now.classes) TableLess self.now.after)
-            (λ f. IsFound self.now f.0.items f.1)) }
+    // The next table, found from the branch of the last one where it is there, and that is taken.
+    fn find(&mut self) -> Result<Option<Found>, NoMemory>
+        ensures same { self.new ≡ self.old }
+        ensures found { IfOk result (λ found. MatchOption found
+            (IsLast (IsLowIndex self.old.presentation self.old.classes) TableLess self.old.after)
+            (λ f. IsFound self.old f.targets.items f.branch.levels.items f.graph)) }
+        ensures branch { IfOk result (λ found. IfSome found
+            (λ f. f.branch.targets.items ≡ f.targets.items)) }
     {
         let letters = self.presentation.letters();
         let _relations = self.presentation.relations();
-        let Some(targets) = find_next(
+        let branch = self.branch.take();
+        let Some(branch) = find_next(
             self.alloc,
             &self.presentation,
             self.classes,
             self.last.as_slice(),
+            branch,
         )?
         else {
             return Ok(None);
         };
+        let targets = Vec::from_slice(self.alloc, branch.targets.as_slice())?;
         let nodes = greatest(targets.as_slice()) + 1;
         let graph = WordGraph::of_targets(self.alloc, letters, nodes, targets.as_slice())?;
-        Ok(Some((targets, graph)))
+        Ok(Some(Found {
+            targets,
+            graph,
+            branch,
+        }))
     }
 
     /// The next table: the least of those after the last one, or after the table of `resume`.
@@ -140,8 +167,9 @@ impl Sims {
         }
         match self.find() {
             Ok(Some(found)) => {
-                self.last = found.0;
-                Ok(Some(found.1))
+                self.last = found.targets;
+                self.branch = Some(found.branch);
+                Ok(Some(found.graph))
             }
             Ok(None) => Ok(None),
             Err(fault) => {

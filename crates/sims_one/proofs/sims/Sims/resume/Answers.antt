@@ -14,7 +14,7 @@ invariant_of-self c =
     let some : 0 < k = omega (arith, c.letters-letters.ensures.letters, c.letters-letters.ensures.some) in
     let standard : IsStandard k c.requires.rows = subst (λ (s : Search). IsStandard s.presentation.letters c.requires.rows) (sym c.self.view_is) c.requires.standard in
     let flat : c.in-Ok.targets.items ≡ entries c.requires.rows = c.in-Ok.ensures ∙ ap (λ (g : Graph). targets_of g) c.requires.is ∙ targets_entries c.requires.rows in
-    record { few = c.self.invariant.few; cursor = subst (λ (xs : List ℕ). IsCursor k xs) (sym flat) (standard_cursor k some c.requires.rows standard) }
+    record { few = c.self.invariant.few; cursor = subst (λ (xs : List ℕ). IsCursor k xs) (sym flat) (standard_cursor k some c.requires.rows standard); branch = tt; same = tt }
 
 pub returns-in-Ok-clause-ok : goal.returns-in-Ok-clause-ok
 returns-in-Ok-clause-ok c = λ rows is.
