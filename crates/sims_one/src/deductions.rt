@@ -16,24 +16,26 @@ pub struct Edge {
     letter: usize,
 }
 
-// The edge leads to the target from now on, and what follows from it is still to be read.
+// The edge of the letter leads from the node to the target from now on, and what follows from it is
+// still to be read.
 fn deduce(
     letters: usize,
     known: &mut Known,
     fresh: &mut Vec<Edge>,
-    edge: Edge,
+    node: usize,
+    letter: usize,
     target: usize,
 ) -> Result<(), NoMemory>
     requires letters { letters ≤ 26 }
-    requires node { edge.node < MOST_NODES }
-    requires letter { edge.letter < letters }
+    requires node { node < MOST_NODES }
+    requires letter { letter < letters }
     requires target { target < MOST_NODES }
     ensures nodes { known.new.nodes ≡ known.old.nodes }
     ensures targets { known.new.targets
-        ≡ slice_set known.old.targets (edge.node * letters + edge.letter) target }
+        ≡ slice_set known.old.targets (node * letters + letter) target }
 {
-    known.set(edge.node * letters + edge.letter, target);
-    fresh.push(edge)?;
+    known.set(node * letters + letter, target);
+    fresh.push(Edge { node, letter })?;
     Ok(())
 }
 
@@ -62,30 +64,12 @@ fn read(
     }
     if left.length == pair.0.len() && right.length + 1 == pair.1.len() {
         let letter = pair.1.letter(right.length).number();
-        deduce(
-            letters,
-            known,
-            fresh,
-            Edge {
-                node: right.node,
-                letter,
-            },
-            left.node,
-        )?;
+        deduce(letters, known, fresh, right.node, letter, left.node)?;
         return Ok(true);
     }
     if right.length == pair.1.len() && left.length + 1 == pair.0.len() {
         let letter = pair.0.letter(left.length).number();
-        deduce(
-            letters,
-            known,
-            fresh,
-            Edge {
-                node: left.node,
-                letter,
-            },
-            right.node,
-        )?;
+        deduce(letters, known, fresh, left.node, letter, right.node)?;
         return Ok(true);
     }
     Ok(true)
