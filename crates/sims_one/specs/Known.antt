@@ -29,7 +29,7 @@ pub record IsKnown (p : Presentation) (n : ℕ) (t : List ℕ) (known : Known) :
   pub nodes : known.nodes ≡ seen t
   pub edges : (u : List ℕ) → IsTable p n u → IsWithin t u → HasEdges known.targets u
 
--- front parts of tables, and what is known behind each front part of t, the first without targets
+-- t is a front part of allowed targets, and level d is what is known behind its first d targets
 pub record IsBranch (p : Presentation) (n : ℕ) (t : List ℕ) (levels : List Known) : Type 0 where
   pub front : IsFront p.letters t
   pub allowed : AreAllowed p n t

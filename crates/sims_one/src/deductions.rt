@@ -101,9 +101,10 @@ fn read_back(
             Ok(true)
         };
     }
+    let letters = presentation.letters();
     let letter = side.letter(count - 1).number();
     for start in 0..known.nodes {
-        if known.target(start * presentation.letters() + letter) == Some(node)
+        if known.target(start * letters + letter) == Some(node)
             && !read_back(presentation, known, fresh, relation, side, count - 1, start)?
         {
             return Ok(false);

@@ -10,8 +10,8 @@ pub target-requires : goal.target-requires
 target-requires t c =
     let p = c.args.presentation.now.presentation in
     let over = letter_over p.letters c.args.side.now (c.args.count - 1) c.letter.result c.requires.side c.letter.ensures in
-    place_within c.letters.result c.loop-start.start c.number-letter.result c.letters.ensures.few
-    (omega (arith, c.loop-start-test.true, c.requires.few)) (omega (arith, over, c.number-letter.ensures, c.letters.ensures.letters))
+    place_within c.letters-letters.result c.loop-start.start c.number-letter.result c.letters-letters.ensures.few
+    (omega (arith, c.loop-start-test.true, c.requires.few)) (omega (arith, over, c.number-letter.ensures, c.letters-letters.ensures.letters))
 
 pub returns-then-not-branch-clause-keeps : goal.returns-then-not-branch-clause-keeps
 returns-then-not-branch-clause-keeps t c =
