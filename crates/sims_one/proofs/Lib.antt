@@ -7,3 +7,4 @@ pub mod SearchLaws
 pub mod CursorLaws
 pub mod LowIndexLaws
 pub mod GraphLaws
+pub mod GoingOn
