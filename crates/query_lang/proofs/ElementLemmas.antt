@@ -1,7 +1,7 @@
 -- The causes of the lines of element scripts as the reader gives them.
-use Rattle.std.proofs.Common.{◌≡◌, ℕ, ◌==◌, Bool, true, false, not, ◌&&◌, if◌then◌else◌, List, [], ◌∷◌, length, map, codes, Option, Some, None, Result, Ok, Err, refl, sym, ap, ◌∙◌}
+use Rattle.std.proofs.Common.{◌≡◌, ℕ, ◌==◌, Bool, true, false, not, ◌&&◌, if◌then◌else◌, List, [], ◌∷◌, length, map, codes, Option, Some, None, Result, Ok, Err, refl, sym, ap, ◌∙◌, true≢false}
 use Rattle.std.specs.Option.{ok_or}
-use Rattle.problem.specs.Problem.{has_empty_word, is_presented, letters_of, pairs_of}
+use Rattle.problem.specs.Problem.{is_presented, pairs_of}
 use Rattle.problem.specs.declared.kinds.Problem.{Problem}
 use Rattle.query_lang.specs.declared.cause.Cause.{Cause}
 use Rattle.query_lang.specs.declared.cause.Cause.TheVariants as cause
@@ -12,41 +12,27 @@ use Rattle.query_lang.specs.Script.{Asking}
 use Rattle.query_lang.specs.Outcome.{and_then}
 use Rattle.query_lang.specs.Fields.{field_of}
 use Rattle.query_lang.specs.Token.{Token, is_word}
-use Rattle.query_lang.specs.QueryLines.{NameOf, query_of, is_name_barred, name_needs_generators, name_takes}
-use Rattle.query_lang.specs.Script.{asked, common_line, with_asked, element_line, finished, query_line}
+use Rattle.query_lang.specs.QueryLines.{NameOf, is_name_there, query_name_of}
+use Rattle.query_lang.specs.Script.{asked, common_line, element_line, finished, is_presentation, query_line}
 use Rattle.query_lang.specs.Grammar.{Partial, lacks_generator, is_empty, script_in}
 use Rattle.query_lang.specs.Forms.{Form, Index, Equal, Normal, Classes, Rules, Element, Cayley, forms_of}
 use Rattle.query_lang.specs.LineCauses.{first_of, cause_in, form_among, form_causes, generator_causes, line_causes, named_causes}
-use Rattle.query_lang.proofs.FormLemmas.{lift, lacking_cause, pair_cause, pick_pair, never-late, same-cause, query_cause, index_cause, equal_cause, normal_cause, classes_cause, rules_cause, element_cause, cayley_cause}
+use Rattle.query_lang.proofs.FormLemmas.{form_of, lift, lacking_cause, pair_cause, pick_pair, never-late, same-cause, index_cause, equal_cause, normal_cause, classes_cause, rules_cause, element_cause, cayley_cause}
 use Rattle.query_lang.proofs.GeneratorLemmas.{GeneratorCauses}
 use Rattle.query_lang.proofs.FoldLemmas.{partial, reader_of}
-use Rattle.query_lang.proofs.ReaderLemmas.{Come, asking, posed, lacking, come_of}
-
-abbrev pub form_of : NameOf → Form
-form_of name.Index = Index
-form_of name.Equal = Equal
-form_of name.Normal = Normal
-form_of name.Classes = Classes
-form_of name.Rules = Rules
-form_of name.Element = Element
-form_of name.Cayley = Cayley
-
-known : (p : Partial) (name : NameOf) (tokens : List Token) → is_presented p.problem ≡ false → cause_in (asked (script_in p) name tokens) ≡ query_cause p name tokens
-known p name tokens h =
-    ap (λ b. cause_in
-    (if b && name_needs_generators name then Err cause.UnknownLine else if not (name_takes name tokens) then Err cause.WrongNumberOfWords else if is_name_barred p.problem name then Err cause.QueryNotAllowed
-    else and_then (λ q. Ok (with_asked (script_in p) q)) (query_of (letters_of p.problem) (has_empty_word p.problem) name tokens))) h
+use Rattle.query_lang.proofs.ReaderLemmas.{Come, asking, posed, lacking, come_of, presentation_kept}
 
 -- a query behind a generator has the cause that is said
-query_in_elements : (p : Partial) (name : NameOf) (tokens : List Token) → is_presented p.problem ≡ false → lacks_generator p ≡ false
+query_in_elements : (p : Partial) (name : NameOf) (tokens : List Token) → lacks_generator p ≡ false → is_name_there false name ≡ true
     → cause_in (asked (script_in p) name tokens) ≡ first_of (form_causes p (form_of name) tokens)
-query_in_elements p name.Index tokens h l = known p name.Index tokens h ∙ index_cause p tokens ∙ lift _ _ _ _ (never-late (is_empty p.queries) (length (pairs_of p.problem) == 0)) l
-query_in_elements p name.Equal tokens h l = known p name.Equal tokens h ∙ equal_cause p tokens ∙ lift _ _ _ _ (never-late (is_empty p.queries) (length (pairs_of p.problem) == 0)) l
-query_in_elements p name.Normal tokens h l = known p name.Normal tokens h ∙ normal_cause p tokens ∙ lift _ _ _ _ (never-late (is_empty p.queries) (length (pairs_of p.problem) == 0)) l
-query_in_elements p name.Classes tokens h l = known p name.Classes tokens h ∙ classes_cause p tokens ∙ lift _ _ _ _ (never-late (is_empty p.queries) (length (pairs_of p.problem) == 0)) l
-query_in_elements p name.Rules tokens h l = known p name.Rules tokens h ∙ rules_cause p tokens ∙ lift _ _ _ _ (never-late (is_empty p.queries) (length (pairs_of p.problem) == 0)) l
-query_in_elements p name.Element tokens h l = known p name.Element tokens h ∙ element_cause p tokens ∙ lift _ _ _ _ (never-late (is_empty p.queries) (length (pairs_of p.problem) == 0)) l
-query_in_elements p name.Cayley tokens h l = known p name.Cayley tokens h ∙ cayley_cause p tokens ∙ lift _ _ _ _ (never-late (is_empty p.queries) (length (pairs_of p.problem) == 0)) l
+query_in_elements p name.Index tokens l there = index_cause p tokens ∙ lift _ _ _ _ (never-late (is_empty p.queries) (length (pairs_of p.problem) == 0)) l
+query_in_elements p name.Equal tokens l there = equal_cause p tokens ∙ lift _ _ _ _ (never-late (is_empty p.queries) (length (pairs_of p.problem) == 0)) l
+query_in_elements p name.Normal tokens l there = normal_cause p tokens ∙ lift _ _ _ _ (never-late (is_empty p.queries) (length (pairs_of p.problem) == 0)) l
+query_in_elements p name.Classes tokens l there = classes_cause p tokens ∙ lift _ _ _ _ (never-late (is_empty p.queries) (length (pairs_of p.problem) == 0)) l
+query_in_elements p name.Rules tokens l there = rules_cause p tokens ∙ lift _ _ _ _ (never-late (is_empty p.queries) (length (pairs_of p.problem) == 0)) l
+query_in_elements p name.Element tokens l there = element_cause p tokens ∙ lift _ _ _ _ (never-late (is_empty p.queries) (length (pairs_of p.problem) == 0)) l
+query_in_elements p name.Cayley tokens l there = cayley_cause p tokens ∙ lift _ _ _ _ (never-late (is_empty p.queries) (length (pairs_of p.problem) == 0)) l
+query_in_elements p name.LowIndex tokens l there = absurd (true≢false (sym there))
 
 -- a query before any generator
 lacking-of : (p : Partial) (name : NameOf) (tokens : List Token) → lacks_generator p ≡ true → Some cause.NoGenerator ≡ first_of (form_causes p (form_of name) tokens)
@@ -57,43 +43,45 @@ lacking-of p name.Classes tokens l = lacking_cause _ _ _ (never-late (is_empty p
 lacking-of p name.Rules tokens l = lacking_cause _ _ _ (never-late (is_empty p.queries) (length (pairs_of p.problem) == 0)) l
 lacking-of p name.Element tokens l = lacking_cause _ _ _ (never-late (is_empty p.queries) (length (pairs_of p.problem) == 0)) l
 lacking-of p name.Cayley tokens l = lacking_cause _ _ _ (never-late (is_empty p.queries) (length (pairs_of p.problem) == 0)) l
+lacking-of p name.LowIndex tokens l = lacking_cause _ _ _ (never-late (is_empty p.queries) (length (pairs_of p.problem) == 0)) l
 
-each-query : (r : ReaderOf) (p : Partial) (name : NameOf) (tokens : List Token) → is_presented p.problem ≡ false → Come r p
+each-query : (r : ReaderOf) (p : Partial) (name : NameOf) (tokens : List Token) → is_name_there false name ≡ true → Come r p
     → cause_in (and_then (λ script. and_then (λ s. Ok (Asking s)) (asked script name tokens)) (finished r)) ≡ first_of (form_causes p (form_of name) tokens)
-each-query r p name tokens h (asking f e l late) =
-    ap (λ x. cause_in (and_then (λ script. and_then (λ s. Ok (Asking s)) (asked script name tokens)) x)) f ∙ same-cause (λ s. Asking s) (asked (script_in p) name tokens) ∙ query_in_elements p name tokens h l
-each-query r p name tokens h (posed f e l early) =
-    ap (λ x. cause_in (and_then (λ script. and_then (λ s. Ok (Asking s)) (asked script name tokens)) x)) f ∙ same-cause (λ s. Asking s) (asked (script_in p) name tokens) ∙ query_in_elements p name tokens h l
-each-query r p name tokens h (lacking f e l early) =
+each-query r p name tokens there (asking f e l late) =
+    ap (λ x. cause_in (and_then (λ script. and_then (λ s. Ok (Asking s)) (asked script name tokens)) x)) f ∙ same-cause (λ s. Asking s) (asked (script_in p) name tokens) ∙ query_in_elements p name tokens l there
+each-query r p name tokens there (posed f e l early) =
+    ap (λ x. cause_in (and_then (λ script. and_then (λ s. Ok (Asking s)) (asked script name tokens)) x)) f ∙ same-cause (λ s. Asking s) (asked (script_in p) name tokens) ∙ query_in_elements p name tokens l there
+each-query r p name tokens there (lacking f e l early) =
     ap (λ x. cause_in (and_then (λ script. and_then (λ s. Ok (Asking s)) (asked script name tokens)) x)) f
     ∙ lacking-of p name tokens l
 
 pick-seven : (given : Result NameOf Cause → Option Cause) (said : Option Form → Option Cause) → given (Err cause.UnknownLine) ≡ said None
-    → ((name : NameOf) → given (Ok name) ≡ said (Some (form_of name))) → (i e n c r l y : Bool)
+    → ((name : NameOf) → is_name_there false name ≡ true → given (Ok name) ≡ said (Some (form_of name))) → (i e n c r l y : Bool)
     → given (ok_or (if i then Some name.Index else if e then Some name.Equal else if n then Some name.Normal else if c then Some name.Classes else if r then Some name.Rules else if l then Some name.Element else if y then Some name.Cayley else None) cause.UnknownLine)
     ≡ said (if i then Some Index else if e then Some Equal else if n then Some Normal else if c then Some Classes else if r then Some Rules else if l then Some Element else if y then Some Cayley else None)
-pick-seven given said none each true e n c r l y = each name.Index
-pick-seven given said none each false true n c r l y = each name.Equal
-pick-seven given said none each false false true c r l y = each name.Normal
-pick-seven given said none each false false false true r l y = each name.Classes
-pick-seven given said none each false false false false true l y = each name.Rules
-pick-seven given said none each false false false false false true y = each name.Element
-pick-seven given said none each false false false false false false true = each name.Cayley
+pick-seven given said none each true e n c r l y = each name.Index refl
+pick-seven given said none each false true n c r l y = each name.Equal refl
+pick-seven given said none each false false true c r l y = each name.Normal refl
+pick-seven given said none each false false false true r l y = each name.Classes refl
+pick-seven given said none each false false false false true l y = each name.Rules refl
+pick-seven given said none each false false false false false true y = each name.Element refl
+pick-seven given said none each false false false false false false true = each name.Cayley refl
 pick-seven given said none each false false false false false false false = none
 
-named-query : (r : ReaderOf) (p : Partial) (first : Token) (tokens : List Token) → is_presented p.problem ≡ false → Come r p
+named-query : (r : ReaderOf) (p : Partial) (first : Token) (tokens : List Token) → is_presentation r ≡ false → Come r p
     → cause_in (query_line r first tokens) ≡ first_of (named_causes p (form_among (Index ∷ Equal ∷ Normal ∷ Classes ∷ Rules ∷ Element ∷ Cayley ∷ []) first) tokens)
-named-query r p first tokens h come =
-    pick-seven (λ x. cause_in (and_then (λ name. and_then (λ script. and_then (λ s. Ok (Asking s)) (asked script name tokens)) (finished r)) x)) (λ form. first_of (named_causes p form tokens)) refl
-    (λ name. each-query r p name tokens h come)
+named-query r p first tokens kind come =
+    ap (λ b. cause_in (and_then (λ name. and_then (λ script. and_then (λ s. Ok (Asking s)) (asked script name tokens)) (finished r)) (ok_or (query_name_of b first) cause.UnknownLine))) kind
+    ∙ pick-seven (λ x. cause_in (and_then (λ name. and_then (λ script. and_then (λ s. Ok (Asking s)) (asked script name tokens)) (finished r)) x)) (λ form. first_of (named_causes p form tokens)) refl
+    (λ name there. each-query r p name tokens there come)
     (is_word (codes "index") first) (is_word (codes "equal") first) (is_word (codes "normal") first) (is_word (codes "classes") first) (is_word (codes "rules") first) (is_word (codes "element") first) (is_word (codes "cayley") first)
 
 -- a pair or a query
-named-line : (r : ReaderOf) (p : Partial) (first : Token) (tokens : List Token) → is_presented p.problem ≡ false → Come r p
+named-line : (r : ReaderOf) (p : Partial) (first : Token) (tokens : List Token) → is_presentation r ≡ false → Come r p
     → cause_in (common_line r first tokens) ≡ first_of (named_causes p (form_among (forms_of false) first) tokens)
-named-line r p first tokens h come =
+named-line r p first tokens kind come =
     pick_pair (is_word (codes "twosided") first) (is_word (codes "right") first) (is_word (codes "left") first) r first tokens (λ form. first_of (named_causes p form tokens)) _
-    (λ kind. pair_cause r p kind tokens come) (named-query r p first tokens h come)
+    (λ kind. pair_cause r p kind tokens come) (named-query r p first tokens kind come)
 
 either : (sign : Bool) (G Q : Result ReaderOf Cause) (gs qs : List (Option Cause)) → cause_in G ≡ first_of gs → cause_in Q ≡ first_of qs → cause_in (if sign then G else Q) ≡ first_of (if sign then gs else qs)
 either true G Q gs qs g q = g
@@ -104,8 +92,8 @@ pub elements_cause : (sizes : ℕ × ℕ) (problem : Problem) (queries : List Qu
     → cause_in (element_line (reader_of (partial sizes problem queries)) (first ∷ tokens)) ≡ first_of (line_causes (partial sizes problem queries) (first ∷ tokens))
 elements_cause sizes problem queries first [] h g =
     let p : Partial = partial sizes problem queries in
-    named-line (reader_of p) p first [] h (come_of sizes problem queries) ∙ ap (λ b. first_of (named_causes p (form_among (forms_of b) first) [])) (sym h)
+    named-line (reader_of p) p first [] (presentation_kept sizes problem queries ∙ h) (come_of sizes problem queries) ∙ ap (λ b. first_of (named_causes p (form_among (forms_of b) first) [])) (sym h)
 elements_cause sizes problem queries first (second ∷ tokens) h g =
     let p : Partial = partial sizes problem queries in
-    either (is_word (codes "=") second) _ _ _ _ (g first tokens) (named-line (reader_of p) p first (second ∷ tokens) h (come_of sizes problem queries))
+    either (is_word (codes "=") second) _ _ _ _ (g first tokens) (named-line (reader_of p) p first (second ∷ tokens) (presentation_kept sizes problem queries ∙ h) (come_of sizes problem queries))
     ∙ ap (λ b. first_of (if not b && is_word (codes "=") second then generator_causes p first (map field_of tokens) else named_causes p (form_among (forms_of b) first) (second ∷ tokens))) (sym h)

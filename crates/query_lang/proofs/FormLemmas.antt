@@ -1,5 +1,6 @@
 -- The causes of lines as the reader gives them.
-use Rattle.std.proofs.Common.{◌≡◌, ℕ, ◌==◌, nat_lt, Bool, true, false, not, ◌&&◌, ◌||◌, if◌then◌else◌, List, [], ◌∷◌, length, Option, Some, None, Result, Ok, Err, is_none, codes, refl, sym, ap, ◌∙◌}
+use Rattle.std.proofs.Common.{◌≡◌, ℕ, ◌==◌, nat_lt, Bool, true, false, not, ◌&&◌, ◌||◌, if◌then◌else◌, List, [], ◌∷◌, length, Option, Some, None, Result, Ok, Err, is_none, codes, refl, sym, ap, ◌∙◌, true≢false}
+use Rattle.theory.specs.Graph.{Graph}
 use Rattle.theory.specs.Word.{Word}
 use Rattle.presentation.specs.Presented.{Posed}
 use Rattle.problem.specs.declared.kinds.Problem.{Problem}
@@ -9,7 +10,7 @@ use Rattle.query_lang.specs.declared.cause.Cause.TheVariants as cause
 use Rattle.query_lang.specs.Script.{ReaderOf}
 use Rattle.query_lang.specs.Script.{Relating, Pairing, Asking}
 use Rattle.query_lang.specs.Outcome.{and_then}
-use Rattle.std.specs.Option.{ok_or}
+use Rattle.std.specs.Option.{ok_or, unwrap_or}
 use Rattle.theory.specs.declared.Kind.{Kind}
 use Rattle.theory.specs.declared.Kind.TheVariants.{TwoSided, Right, Left}
 use Rattle.problem.specs.Problem.{allows_rules, has_empty_word, kind_of, letters_of, pairs_of, with_pair}
@@ -17,17 +18,18 @@ use Rattle.query_lang.specs.QueryLines as name
 use Rattle.query_lang.specs.declared.script.Query.{Query}
 use Rattle.query_lang.specs.declared.script.Query.TheVariants as query
 use Rattle.query_lang.specs.Asked.{ScriptOf}
-use Rattle.query_lang.specs.QueryLines.{NameOf, is_name_barred, name_takes, query_of}
+use Rattle.query_lang.specs.QueryLines.{NameOf, is_name_barred, is_name_there, name_takes, query_name_of, query_of}
+use Rattle.query_lang.specs.Tables.{table_of}
 use Rattle.query_lang.specs.Token.{Token, is_word, number_within}
 use Rattle.query_lang.specs.LineWords.{element_of}
 use Rattle.query_lang.specs.Relations.{add_relation, most_relations}
 use Rattle.query_lang.specs.Pairing.{add_pair, is_same_kind, most_pairs}
-use Rattle.query_lang.specs.Script.{asked, finished, pair_line, pair_or_query, presentation_line, query_line, relation_line, with_asked}
+use Rattle.query_lang.specs.Script.{asked, finished, is_presentation, pair_line, pair_or_query, presentation_line, query_line, relation_line, with_asked}
 use Rattle.query_lang.specs.Grammar.{Partial, is_empty, script_in}
-use Rattle.query_lang.specs.Forms.{Form, Relation, Pair, Index, Equal, Normal, Classes, Rules, Element, Cayley, forms_of, shapes_of}
+use Rattle.query_lang.specs.Forms.{Form, Relation, Pair, Index, Equal, Normal, Classes, Rules, Element, Cayley, LowIndex, forms_of, shapes_of}
 use Rattle.query_lang.specs.LineCauses.{when, first_of, cause_in, form_among, form_causes, named_causes, is_barred, is_pair_too_many, is_relation_too_many, mixes_kinds, shape_for, shape_causes}
 use Rattle.query_lang.proofs.FoldLemmas.{partial, reader_of}
-use Rattle.query_lang.proofs.ReaderLemmas.{Come, asking, posed, lacking, come_of, finished_by}
+use Rattle.query_lang.proofs.ReaderLemmas.{Come, asking, posed, lacking, come_of, finished_by, presentation_kept}
 
 -- what stands behind a cause that does not apply, or one that does
 
@@ -182,6 +184,41 @@ pub cayley_cause : (p : Partial) (tokens : List Token) → query_cause p name.Ca
 cayley_cause p [] = not-barred _ (length (pairs_of p.problem) == 0)
 cayley_cause p (t ∷ tokens) = refl
 
+search-first : (p : Partial) (barred : Bool) (n m : Option ℕ)
+    → cause_in (if barred then Err cause.QueryNotAllowed else and_then (λ q. Ok (with_asked (script_in p) q))
+    (and_then (λ (l : ℕ × ℕ). Ok (query.LowIndex l.0 l.1 None)) (and_then (λ n. and_then (λ m. Ok (n, m)) (ok_or m cause.BadNumber)) (ok_or n cause.BadNumber))))
+    ≡ first_of (when cause.QueryNotAllowed barred ∷ when cause.BadNumber (is_none n) ∷ when cause.BadNumber (is_none m) ∷ [])
+search-first p true n m = refl
+search-first p false None m = refl
+search-first p false (Some n) None = refl
+search-first p false (Some n) (Some m) = refl
+
+search-behind : (p : Partial) (barred : Bool) (n m : Option ℕ) (after : Bool) (table : ℕ → Result Graph Cause)
+    → cause_in (if barred then Err cause.QueryNotAllowed else and_then (λ q. Ok (with_asked (script_in p) q))
+    (and_then (λ (l : ℕ × ℕ). and_then (λ g. Ok (query.LowIndex l.0 l.1 (Some g))) (if after then table l.0 else Err cause.AfterExpected))
+    (and_then (λ n. and_then (λ m. Ok (n, m)) (ok_or m cause.BadNumber)) (ok_or n cause.BadNumber))))
+    ≡ first_of (when cause.QueryNotAllowed barred ∷ when cause.BadNumber (is_none n) ∷ when cause.BadNumber (is_none m)
+    ∷ when cause.AfterExpected (not after) ∷ cause_in (table (unwrap_or n 0)) ∷ [])
+search-behind p true n m after table = refl
+search-behind p false None m after table = refl
+search-behind p false (Some n) None after table = refl
+search-behind p false (Some n) (Some m) false table = refl
+search-behind p false (Some n) (Some m) true table = found (table n)
+  where
+    found : (r : Result Graph Cause) → cause_in (and_then (λ q. Ok (with_asked (script_in p) q)) (and_then (λ g. Ok (query.LowIndex n m (Some g))) r)) ≡ first_of (cause_in r ∷ [])
+    found (Ok g) = refl
+    found (Err c) = refl
+
+pub lowindex_cause : (p : Partial) (tokens : List Token) → query_cause p name.LowIndex tokens ≡ first_of (query_causes p LowIndex tokens)
+lowindex_cause p [] = refl
+lowindex_cause p (s ∷ []) = refl
+lowindex_cause p (s ∷ t ∷ []) = search-first p (not (length (pairs_of p.problem) == 0)) (number_within 1 16 s) (number_within 0 1000000 t)
+lowindex_cause p (s ∷ t ∷ u ∷ []) = refl
+lowindex_cause p (s ∷ t ∷ u ∷ v ∷ []) =
+    search-behind p (not (length (pairs_of p.problem) == 0)) (number_within 1 16 s) (number_within 0 1000000 t) (is_word (codes "after") u)
+    (λ n. table_of (has_empty_word p.problem) (length (letters_of p.problem)) n v)
+lowindex_cause p (s ∷ t ∷ u ∷ v ∷ w ∷ tokens) = refl
+
 pub lift : (late lacks : Bool) (w : Option Cause) (cs : List (Option Cause)) → late ≡ false → lacks ≡ false
     → first_of (w ∷ cs) ≡ first_of (when cause.LineOutOfOrder late ∷ when cause.NoGenerator lacks ∷ w ∷ None ∷ None ∷ None ∷ cs)
 lift late lacks None cs h k = behind late lacks (None ∷ None ∷ None ∷ None ∷ cs) h k
@@ -192,26 +229,28 @@ never-late true true = refl
 never-late true false = refl
 never-late false no_pair = refl
 
--- the forms of queries in a presentation
-abbrev pub form_in_presentation : NameOf → Option Form
-form_in_presentation name.Index = Some Index
-form_in_presentation name.Equal = Some Equal
-form_in_presentation name.Normal = Some Normal
-form_in_presentation name.Classes = Some Classes
-form_in_presentation name.Rules = Some Rules
-form_in_presentation name.Element = None
-form_in_presentation name.Cayley = None
+-- the forms of queries
+abbrev pub form_of : NameOf → Form
+form_of name.Index = Index
+form_of name.Equal = Equal
+form_of name.Normal = Normal
+form_of name.Classes = Classes
+form_of name.Rules = Rules
+form_of name.Element = Element
+form_of name.Cayley = Cayley
+form_of name.LowIndex = LowIndex
 
 -- a query in a presentation has the cause that is said
-pub query_in_presentation : (sizes : ℕ × ℕ) (o : Posed) (queries : List Query) (name : NameOf) (tokens : List Token)
-    → cause_in (asked (script_in (partial sizes (Presented o) queries)) name tokens) ≡ first_of (named_causes (partial sizes (Presented o) queries) (form_in_presentation name) tokens)
-query_in_presentation sizes o queries name.Index tokens = index_cause (partial sizes (Presented o) queries) tokens ∙ lift _ _ _ _ (never-late (is_empty queries) (length o.congruence.pairs == 0)) refl
-query_in_presentation sizes o queries name.Equal tokens = equal_cause (partial sizes (Presented o) queries) tokens ∙ lift _ _ _ _ (never-late (is_empty queries) (length o.congruence.pairs == 0)) refl
-query_in_presentation sizes o queries name.Normal tokens = normal_cause (partial sizes (Presented o) queries) tokens ∙ lift _ _ _ _ (never-late (is_empty queries) (length o.congruence.pairs == 0)) refl
-query_in_presentation sizes o queries name.Classes tokens = classes_cause (partial sizes (Presented o) queries) tokens ∙ lift _ _ _ _ (never-late (is_empty queries) (length o.congruence.pairs == 0)) refl
-query_in_presentation sizes o queries name.Rules tokens = rules_cause (partial sizes (Presented o) queries) tokens ∙ lift _ _ _ _ (never-late (is_empty queries) (length o.congruence.pairs == 0)) refl
-query_in_presentation sizes o queries name.Element tokens = refl
-query_in_presentation sizes o queries name.Cayley tokens = refl
+pub query_in_presentation : (sizes : ℕ × ℕ) (o : Posed) (queries : List Query) (name : NameOf) (tokens : List Token) → is_name_there true name ≡ true
+    → cause_in (asked (script_in (partial sizes (Presented o) queries)) name tokens) ≡ first_of (form_causes (partial sizes (Presented o) queries) (form_of name) tokens)
+query_in_presentation sizes o queries name.Index tokens there = index_cause (partial sizes (Presented o) queries) tokens ∙ lift _ _ _ _ (never-late (is_empty queries) (length o.congruence.pairs == 0)) refl
+query_in_presentation sizes o queries name.Equal tokens there = equal_cause (partial sizes (Presented o) queries) tokens ∙ lift _ _ _ _ (never-late (is_empty queries) (length o.congruence.pairs == 0)) refl
+query_in_presentation sizes o queries name.Normal tokens there = normal_cause (partial sizes (Presented o) queries) tokens ∙ lift _ _ _ _ (never-late (is_empty queries) (length o.congruence.pairs == 0)) refl
+query_in_presentation sizes o queries name.Classes tokens there = classes_cause (partial sizes (Presented o) queries) tokens ∙ lift _ _ _ _ (never-late (is_empty queries) (length o.congruence.pairs == 0)) refl
+query_in_presentation sizes o queries name.Rules tokens there = rules_cause (partial sizes (Presented o) queries) tokens ∙ lift _ _ _ _ (never-late (is_empty queries) (length o.congruence.pairs == 0)) refl
+query_in_presentation sizes o queries name.LowIndex tokens there = lowindex_cause (partial sizes (Presented o) queries) tokens ∙ lift _ _ _ _ (never-late (is_empty queries) (length o.congruence.pairs == 0)) refl
+query_in_presentation sizes o queries name.Element tokens there = absurd (true≢false (sym there))
+query_in_presentation sizes o queries name.Cayley tokens there = absurd (true≢false (sym there))
 
 pub same-cause : {A B : Type 0} (f : A → B) (r : Result A Cause) → cause_in (and_then (λ x. Ok (f x)) r) ≡ cause_in r
 same-cause f (Ok x) = refl
@@ -219,17 +258,16 @@ same-cause f (Err c) = refl
 
 -- the query by its name
 pick-query : (given : Result NameOf Cause → Option Cause) (said : Option Form → Option Cause) → given (Err cause.UnknownLine) ≡ said None
-    → ((name : NameOf) → given (Ok name) ≡ said (form_in_presentation name)) → (i e n c r l y : Bool)
-    → given (ok_or (if i then Some name.Index else if e then Some name.Equal else if n then Some name.Normal else if c then Some name.Classes else if r then Some name.Rules else if l then Some name.Element else if y then Some name.Cayley else None) cause.UnknownLine)
-    ≡ said (if i then Some Index else if e then Some Equal else if n then Some Normal else if c then Some Classes else if r then Some Rules else None)
-pick-query given said none each true e n c r l y = each name.Index
-pick-query given said none each false true n c r l y = each name.Equal
-pick-query given said none each false false true c r l y = each name.Normal
-pick-query given said none each false false false true r l y = each name.Classes
-pick-query given said none each false false false false true l y = each name.Rules
-pick-query given said none each false false false false false true y = each name.Element
-pick-query given said none each false false false false false false true = each name.Cayley
-pick-query given said none each false false false false false false false = none
+    → ((name : NameOf) → is_name_there true name ≡ true → given (Ok name) ≡ said (Some (form_of name))) → (i e n c r l : Bool)
+    → given (ok_or (if i then Some name.Index else if e then Some name.Equal else if n then Some name.Normal else if c then Some name.Classes else if r then Some name.Rules else if l then Some name.LowIndex else None) cause.UnknownLine)
+    ≡ said (if i then Some Index else if e then Some Equal else if n then Some Normal else if c then Some Classes else if r then Some Rules else if l then Some LowIndex else None)
+pick-query given said none each true e n c r l = each name.Index refl
+pick-query given said none each false true n c r l = each name.Equal refl
+pick-query given said none each false false true c r l = each name.Normal refl
+pick-query given said none each false false false true r l = each name.Classes refl
+pick-query given said none each false false false false true l = each name.Rules refl
+pick-query given said none each false false false false false true = each name.LowIndex refl
+pick-query given said none each false false false false false false = none
 
 -- the pair by its kind, or the query
 pub pick_pair : (t g l : Bool) (r : ReaderOf) (first : Token) (tokens : List Token) (said : Option Form → Option Cause) (f : Option Form)
@@ -245,12 +283,13 @@ pick-line : (r : Bool) (R C : Result ReaderOf Cause) (said : Option Form → Opt
 pick-line true R C said f hr hc = hr
 pick-line false R C said f hr hc = hc
 
-query-by-name : (r : ReaderOf) (sizes : ℕ × ℕ) (o : Posed) (queries : List Query) (first : Token) (tokens : List Token) → finished r ≡ Ok (script_in (partial sizes (Presented o) queries))
-    → cause_in (query_line r first tokens) ≡ first_of (named_causes (partial sizes (Presented o) queries) (form_among (Index ∷ Equal ∷ Normal ∷ Classes ∷ Rules ∷ []) first) tokens)
-query-by-name r sizes o queries first tokens h =
-    pick-query (λ x. cause_in (and_then (λ name. and_then (λ script. and_then (λ s. Ok (Asking s)) (asked script name tokens)) (finished r)) x)) (λ form. first_of (named_causes (partial sizes (Presented o) queries) form tokens)) refl
-    (λ name. ap (λ x. cause_in (and_then (λ script. and_then (λ s. Ok (Asking s)) (asked script name tokens)) x)) h ∙ same-cause (λ s. Asking s) (asked (script_in (partial sizes (Presented o) queries)) name tokens) ∙ query_in_presentation sizes o queries name tokens)
-    (is_word (codes "index") first) (is_word (codes "equal") first) (is_word (codes "normal") first) (is_word (codes "classes") first) (is_word (codes "rules") first) (is_word (codes "element") first) (is_word (codes "cayley") first)
+query-by-name : (r : ReaderOf) (sizes : ℕ × ℕ) (o : Posed) (queries : List Query) (first : Token) (tokens : List Token) → is_presentation r ≡ true → finished r ≡ Ok (script_in (partial sizes (Presented o) queries))
+    → cause_in (query_line r first tokens) ≡ first_of (named_causes (partial sizes (Presented o) queries) (form_among (Index ∷ Equal ∷ Normal ∷ Classes ∷ Rules ∷ LowIndex ∷ []) first) tokens)
+query-by-name r sizes o queries first tokens kind h =
+    ap (λ b. cause_in (and_then (λ name. and_then (λ script. and_then (λ s. Ok (Asking s)) (asked script name tokens)) (finished r)) (ok_or (query_name_of b first) cause.UnknownLine))) kind
+    ∙ pick-query (λ x. cause_in (and_then (λ name. and_then (λ script. and_then (λ s. Ok (Asking s)) (asked script name tokens)) (finished r)) x)) (λ form. first_of (named_causes (partial sizes (Presented o) queries) form tokens)) refl
+    (λ name there. ap (λ x. cause_in (and_then (λ script. and_then (λ s. Ok (Asking s)) (asked script name tokens)) x)) h ∙ same-cause (λ s. Asking s) (asked (script_in (partial sizes (Presented o) queries)) name tokens) ∙ query_in_presentation sizes o queries name tokens there)
+    (is_word (codes "index") first) (is_word (codes "equal") first) (is_word (codes "normal") first) (is_word (codes "classes") first) (is_word (codes "rules") first) (is_word (codes "lowindex") first)
 
 -- a line of a presentation has the cause that is said
 pub presentation_cause : (sizes : ℕ × ℕ) (o : Posed) (queries : List Query) (first : Token) (tokens : List Token)
@@ -260,4 +299,4 @@ presentation_cause sizes o queries first tokens =
     let come = come_of sizes (Presented o) queries in
     pick-line (is_word (codes "rel") first) _ _ (λ form. first_of (named_causes p form tokens)) _ (relation_cause sizes o queries tokens)
     (pick_pair (is_word (codes "twosided") first) (is_word (codes "right") first) (is_word (codes "left") first) (reader_of p) first tokens (λ form. first_of (named_causes p form tokens)) _
-    (λ kind. pair_cause (reader_of p) p kind tokens come) (query-by-name (reader_of p) sizes o queries first tokens (finished_by (reader_of p) p come refl)))
+    (λ kind. pair_cause (reader_of p) p kind tokens come) (query-by-name (reader_of p) sizes o queries first tokens (presentation_kept sizes (Presented o) queries) (finished_by (reader_of p) p come refl)))

@@ -1,3 +1,4 @@
+pub mod TableLemmas
 pub mod EntryLemmas
 pub mod InjectiveLemmas
 pub mod KindLemmas

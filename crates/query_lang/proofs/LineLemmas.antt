@@ -1,18 +1,25 @@
 -- Query lines.
-use Rattle.std.proofs.Common.{◌≡◌, ◌≢◌, ℕ, ◌-◌, ◌<◌, ◌≤◌, ◌⊎◌, inl, inr, Bool, true, false, not, ◌==◌, if◌then◌else◌, List, [], ◌∷◌, length, take, drop, Some, Ok, Err, Bor, get_or, codes, refl, sym, ap, ◌∙◌, arith, true≢false}
+use Rattle.std.proofs.Common.{◌≡◌, ◌≢◌, ℕ, ◌-◌, ◌<◌, ◌≤◌, ◌⊎◌, inl, inr, Bool, true, false, not, ◌&&◌, ◌==◌, if◌then◌else◌, List, [], ◌∷◌, length, take, drop, Some, None, Result, Ok, Err, Bor, get_or, codes, refl, sym, ap, ◌∙◌, arith, true≢false}
+use Rattle.std.specs.Option.{ok_or}
 use Rattle.std.proofs.lemmas.List.{take_all}
 use Rattle.std.proofs.lemmas.Bool.{eqb-true}
 use Rattle.problem.specs.declared.kinds.Problem.{Problem}
-use Rattle.problem.specs.Problem.{allows_rules, pairs_of}
+use Rattle.problem.specs.declared.kinds.Problem.TheVariants.{Presented, Transf, PPerm, BMat, MaxPlus}
+use Rattle.problem.specs.Problem.{allows_rules, is_presented, pairs_of}
 use Rattle.query_lang.specs.declared.cause.Cause.{Cause}
-use Rattle.query_lang.specs.declared.cause.Cause.TheVariants.{WrongNumberOfWords}
+use Rattle.query_lang.specs.declared.cause.Cause.TheVariants.{WrongNumberOfWords, UnknownLine}
+use Rattle.query_lang.specs.declared.script.Query.{Query}
 use Rattle.query_lang.specs.declared.script.Query.TheVariants as query
+use Rattle.query_lang.specs.Asked.{ScriptOf}
+use Rattle.query_lang.specs.Draft as draft
+use Rattle.query_lang.specs.Draft.{AnyDraft, posed_of}
 use Rattle.query_lang.specs.Outcome.{and_then}
+use Rattle.query_lang.specs.Query.{is_rule_list, needs_generators, needs_no_pairs, needs_relations}
 use Rattle.query_lang.specs.Texts.{texts}
-use Rattle.query_lang.specs.Token.{is_word}
-use Rattle.query_lang.specs.Script.{ReaderOf}
-use Rattle.query_lang.specs.Script.{common_line, element_line, generator_line}
-use Rattle.query_lang.specs.QueryLines.{NameOf, Index, Equal, Normal, Classes, Rules, Element, Cayley, count_of, cursor_of, is_name_barred, name_asks_cayley, name_asks_rules, page_of}
+use Rattle.query_lang.specs.Token.{Token, is_word}
+use Rattle.query_lang.specs.Script.{ReaderOf, Posing, Relating, Pairing, Asking}
+use Rattle.query_lang.specs.Script.{common_line, element_line, finished, generator_line, is_presentation}
+use Rattle.query_lang.specs.QueryLines.{NameOf, Index, Equal, Normal, Classes, Rules, Element, Cayley, LowIndex, count_of, cursor_of, is_name_barred, is_name_there, limits_of, page_of, query_name, query_name_of, search_of, table_cursor_of}
 
 pub no_page : (letters : List ℕ) (allow_empty : Bool) (tokens : List (Bor (List ℕ))) → length tokens ≢ 1 → length tokens ≢ 3 → page_of letters allow_empty (texts tokens) ≡ Err WrongNumberOfWords
 no_page letters allow_empty [] h k = refl
@@ -46,24 +53,115 @@ allowed : (b : Bool) → not b ≡ false → b ≡ true
 allowed true h = refl
 allowed false h = absurd (true≢false h)
 
-pub rules_allowed : (p : Problem) (name : NameOf) → is_name_barred p name ≡ false → name_asks_rules name ≡ true → allows_rules p ≡ true
-rules_allowed p Rules h e = allowed (allows_rules p) h
-rules_allowed p Index h e = absurd (true≢false (sym e))
-rules_allowed p Equal h e = absurd (true≢false (sym e))
-rules_allowed p Normal h e = absurd (true≢false (sym e))
-rules_allowed p Classes h e = absurd (true≢false (sym e))
-rules_allowed p Element h e = absurd (true≢false (sym e))
-rules_allowed p Cayley h e = absurd (true≢false (sym e))
+pub rules_allowed : (p : Problem) (q : Query) → is_name_barred p (query_name q) ≡ false → is_rule_list q ≡ true → allows_rules p ≡ true
+rules_allowed p query.RuleList h e = allowed (allows_rules p) h
+rules_allowed p query.Index h e = absurd (true≢false (sym e))
+rules_allowed p (query.Equal u v) h e = absurd (true≢false (sym e))
+rules_allowed p (query.Normal u) h e = absurd (true≢false (sym e))
+rules_allowed p (query.Classes count after) h e = absurd (true≢false (sym e))
+rules_allowed p (query.ElementOf u) h e = absurd (true≢false (sym e))
+rules_allowed p query.Cayley h e = absurd (true≢false (sym e))
+rules_allowed p (query.LowIndex classes count after) h e = absurd (true≢false (sym e))
 
-no_pairs : {A : Type 0} (xs : List A) → length xs ≡ 0 → xs ≡ []
+no_pairs : {A : Type 0} (xs : List A) → not (length xs == 0) ≡ false → xs ≡ []
 no_pairs [] h = refl
-no_pairs (x ∷ xs) h = absurd (omega arith)
+no_pairs (x ∷ xs) h = let none : length (x ∷ xs) ≡ 0 = eqb-true (length (x ∷ xs)) 0 (allowed (length (x ∷ xs) == 0) h) in absurd (omega arith)
 
-pub cayley_allowed : (p : Problem) (name : NameOf) → is_name_barred p name ≡ false → name_asks_cayley name ≡ true → pairs_of p ≡ []
-cayley_allowed p Cayley h e = no_pairs (pairs_of p) (eqb-true (length (pairs_of p)) 0 (allowed (length (pairs_of p) == 0) h))
-cayley_allowed p Index h e = absurd (true≢false (sym e))
-cayley_allowed p Equal h e = absurd (true≢false (sym e))
-cayley_allowed p Normal h e = absurd (true≢false (sym e))
-cayley_allowed p Classes h e = absurd (true≢false (sym e))
-cayley_allowed p Rules h e = absurd (true≢false (sym e))
-cayley_allowed p Element h e = absurd (true≢false (sym e))
+pub without_pairs : (p : Problem) (q : Query) → is_name_barred p (query_name q) ≡ false → needs_no_pairs q ≡ true → pairs_of p ≡ []
+without_pairs p query.Cayley h e = no_pairs (pairs_of p) h
+without_pairs p (query.LowIndex classes count after) h e = no_pairs (pairs_of p) h
+without_pairs p query.RuleList h e = absurd (true≢false (sym e))
+without_pairs p query.Index h e = absurd (true≢false (sym e))
+without_pairs p (query.Equal u v) h e = absurd (true≢false (sym e))
+without_pairs p (query.Normal u) h e = absurd (true≢false (sym e))
+without_pairs p (query.Classes count after) h e = absurd (true≢false (sym e))
+without_pairs p (query.ElementOf u) h e = absurd (true≢false (sym e))
+
+-- a query that the script's kind has
+
+absent : {A : Type 0} (b : Bool) → not b ≡ true → b ≡ true → A
+absent true h e = absurd (true≢false (sym h))
+absent false h e = absurd (true≢false (sym e))
+
+pub needs_none_generated : (b : Bool) (q : Query) → is_name_there b (query_name q) ≡ true → b ≡ true → needs_generators q ≡ false
+needs_none_generated b query.Index h e = refl
+needs_none_generated b (query.Equal u v) h e = refl
+needs_none_generated b (query.Normal u) h e = refl
+needs_none_generated b (query.Classes count after) h e = refl
+needs_none_generated b query.RuleList h e = refl
+needs_none_generated b (query.ElementOf u) h e = absent b h e
+needs_none_generated b query.Cayley h e = absent b h e
+needs_none_generated b (query.LowIndex classes count after) h e = refl
+
+pub relations_given : (b : Bool) (q : Query) → is_name_there b (query_name q) ≡ true → needs_relations q ≡ true → b ≡ true
+relations_given b (query.LowIndex classes count after) h e = h
+relations_given b query.Index h e = absurd (true≢false (sym e))
+relations_given b (query.Equal u v) h e = absurd (true≢false (sym e))
+relations_given b (query.Normal u) h e = absurd (true≢false (sym e))
+relations_given b (query.Classes count after) h e = absurd (true≢false (sym e))
+relations_given b query.RuleList h e = absurd (true≢false (sym e))
+relations_given b (query.ElementOf u) h e = absurd (true≢false (sym e))
+relations_given b query.Cayley h e = absurd (true≢false (sym e))
+
+-- a name that a line has is one that its kind of script has
+pub name_is_there : (b : Bool) (t : Token) (name : NameOf) → ok_or (query_name_of b t) UnknownLine ≡ Ok name → is_name_there b name ≡ true
+name_is_there b t name =
+    go b (is_word (codes "index") t) (is_word (codes "equal") t) (is_word (codes "normal") t) (is_word (codes "classes") t) (is_word (codes "rules") t)
+    (is_word (codes "lowindex") t) (is_word (codes "element") t) (is_word (codes "cayley") t)
+  where
+    there : (b : Bool) (one : NameOf) → is_name_there b one ≡ true → ◌≡◌ {A = Result NameOf Cause} (Ok one) (Ok name) → is_name_there b name ≡ true
+    there b one h e = let same : one ≡ name = cc in ap (is_name_there b) (sym same) ∙ h
+
+    go : (b i e n c r l y z : Bool)
+        → ok_or (if i then Some Index else if e then Some Equal else if n then Some Normal else if c then Some Classes else if r then Some Rules
+        else if b && l then Some LowIndex else if not b && y then Some Element else if not b && z then Some Cayley else None) UnknownLine ≡ Ok name
+        → is_name_there b name ≡ true
+    go b true e n c r l y z h = there b Index refl h
+    go b false true n c r l y z h = there b Equal refl h
+    go b false false true c r l y z h = there b Normal refl h
+    go b false false false true r l y z h = there b Classes refl h
+    go b false false false false true l y z h = there b Rules refl h
+    go true false false false false false true y z h = there true LowIndex refl h
+    go true false false false false false false y z h = absurd (cc)
+    go false false false false false false l true z h = there false Element refl h
+    go false false false false false false l false true h = there false Cayley refl h
+    go false false false false false false l false false h = absurd (cc)
+
+-- what is posed so far is of the script's kind
+
+generated : {A : Type 0} (made : A → Problem) → ((x : A) → is_presented (made x) ≡ false) → (r : Result A Cause) {s : ScriptOf}
+    → and_then (λ p. Ok (record { problem = p; queries = [] })) (and_then (λ x. Ok (made x)) r) ≡ Ok s → is_presented s.problem ≡ false
+generated made kind (Err c) h = absurd (cc)
+generated made kind (Ok x) {s} h = let same : record { problem = made x; queries = [] } ≡ s = cc in ap (λ (s : ScriptOf). is_presented s.problem) (sym same) ∙ kind x
+
+kind_of_draft : (d : AnyDraft) (s : ScriptOf) → finished (Posing d) ≡ Ok s → is_presented s.problem ≡ false
+kind_of_draft (draft.Transf d) s h = generated (λ p. Transf p) (λ p. refl) (posed_of d) h
+kind_of_draft (draft.PPerm d) s h = generated (λ p. PPerm p) (λ p. refl) (posed_of d) h
+kind_of_draft (draft.BMat d) s h = generated (λ p. BMat p) (λ p. refl) (posed_of d) h
+kind_of_draft (draft.MaxPlus d) s h = generated (λ p. MaxPlus p) (λ p. refl) (posed_of d) h
+
+pub kind_kept : (r : ReaderOf) (s : ScriptOf) → finished r ≡ Ok s → is_presented s.problem ≡ is_presentation r
+kind_kept (Posing d) s h = kind_of_draft d s h
+kind_kept (Relating o) s h = let same : record { problem = Presented o; queries = [] } ≡ s = cc in ap (λ (s : ScriptOf). is_presented s.problem) (sym same)
+kind_kept (Pairing p) s h = let same : record { problem = p; queries = [] } ≡ s = cc in ap (λ (s : ScriptOf). is_presented s.problem) (sym same)
+kind_kept (Asking t) s h = let same : t ≡ s = cc in ap (λ (s : ScriptOf). is_presented s.problem) (sym same)
+
+-- a search whose tokens are refused
+
+pub no_search : (letters : List ℕ) (is_monoid : Bool) (tokens : List (Bor (List ℕ))) → length tokens ≢ 2 → length tokens ≢ 4 → search_of letters is_monoid (texts tokens) ≡ Err WrongNumberOfWords
+no_search letters is_monoid [] h k = refl
+no_search letters is_monoid (s ∷ []) h k = refl
+no_search letters is_monoid (s ∷ t ∷ []) h k = absurd (h refl)
+no_search letters is_monoid (s ∷ t ∷ u ∷ []) h k = refl
+no_search letters is_monoid (s ∷ t ∷ u ∷ v ∷ []) h k = absurd (k refl)
+no_search letters is_monoid (s ∷ t ∷ u ∷ v ∷ w ∷ ts) h k = refl
+
+pub limits_refused : (letters : List ℕ) (is_monoid : Bool) (tokens : List (Bor (List ℕ))) (none other : Bor (List ℕ)) (cause : Cause) → length tokens ≡ 4
+    → limits_of (get_or tokens 0 none).now (get_or tokens 1 other).now ≡ Err cause → search_of letters is_monoid (texts tokens) ≡ Err cause
+limits_refused letters is_monoid [] none other cause n h = absurd (omega arith)
+limits_refused letters is_monoid (s ∷ []) none other cause n h = absurd (omega arith)
+limits_refused letters is_monoid (s ∷ t ∷ []) none other cause n h = absurd (omega arith)
+limits_refused letters is_monoid (s ∷ t ∷ u ∷ []) none other cause n h = absurd (omega arith)
+limits_refused letters is_monoid (s ∷ t ∷ u ∷ v ∷ []) none other cause n h =
+    ap (and_then (λ (l : ℕ × ℕ). and_then (λ g. Ok (query.LowIndex l.0 l.1 (Some g))) (table_cursor_of letters is_monoid l.0 u.now v.now))) h
+limits_refused letters is_monoid (s ∷ t ∷ u ∷ v ∷ w ∷ ts) none other cause n h = absurd (omega arith)

@@ -32,7 +32,7 @@ use Rattle.query_lang.specs.Outcome.{and_then}
 use Rattle.query_lang.specs.Relations.{add_relation, free_over, most_relations, relations_of}
 use Rattle.query_lang.specs.Outline.{unless_fault}
 use Rattle.query_lang.specs.Pairing.{is_same_kind, most_pairs, pair_kind_of, paired, takes_kind}
-use Rattle.query_lang.specs.QueryLines.{NameOf, cursor_of, is_name_barred, name_needs_generators, name_takes, query_name_of, query_of}
+use Rattle.query_lang.specs.QueryLines.{NameOf, cursor_of, is_name_barred, limits_of, name_takes, query_name_of, query_of, table_cursor_of}
 use Rattle.query_lang.specs.Script.{asked, common_line, element_line, finished, generator_line, header_line, is_presentation, pair_or_query, presentation_line, read_line, relation_line, with_asked, with_line}
 use Rattle.query_lang.specs.Token.{Token, Line, is_word, letter_of, number_within}
 use Rattle.query_lang.specs.Forms.{name_of, Pair}
@@ -40,6 +40,7 @@ use Rattle.query_lang.specs.Grammar.{AreEntries, HasGenerator, HeaderReads, IsQu
 use Rattle.query_lang.specs.Grammar as grammar
 use Rattle.query_lang.proofs.FoldLemmas.{Sound, opened, partial, reader_of, readers}
 use Rattle.query_lang.proofs.PairingLemmas.{has_pairs}
+use Rattle.query_lang.proofs.TableLemmas.{is_taken}
 use Rattle.query_lang.proofs.ReaderLemmas.{come_of, finished_by, pair_in_order, paired_by, presentation_kept}
 
 -- numbers in the header
@@ -240,67 +241,79 @@ record IsOtherName (first : Token) : Type 0 where
   no_rel : is_word (codes "rel") first ≡ false
   no_pair : pair_kind_of first ≡ None
 
-asked_read : (s : ScriptOf) (name : NameOf) (tokens : List Token) (q : Query) → (is_presented s.problem && name_needs_generators name) ≡ false
-    → name_takes name tokens ≡ true → is_name_barred s.problem name ≡ false
+asked_read : (s : ScriptOf) (name : NameOf) (tokens : List Token) (q : Query) → name_takes name tokens ≡ true → is_name_barred s.problem name ≡ false
     → query_of (letters_of s.problem) (has_empty_word s.problem) name tokens ≡ Ok q → asked s name tokens ≡ Ok (with_asked s q)
-asked_read s name tokens q there taken allowed is =
+asked_read s name tokens q taken allowed is =
     let last : Result ScriptOf Cause = and_then (λ q. Ok (with_asked s q)) (query_of (letters_of s.problem) (has_empty_word s.problem) name tokens) in
-    ap (λ b. if b then Err cause.UnknownLine else if not (name_takes name tokens) then Err cause.WrongNumberOfWords else if is_name_barred s.problem name then Err cause.QueryNotAllowed else last) there
-    ∙ ap (λ b. if not b then Err cause.WrongNumberOfWords else if is_name_barred s.problem name then Err cause.QueryNotAllowed else last) taken
+    ap (λ b. if not b then Err cause.WrongNumberOfWords else if is_name_barred s.problem name then Err cause.QueryNotAllowed else last) taken
     ∙ ap (λ b. if b then Err cause.QueryNotAllowed else last) allowed
     ∙ ap (and_then (λ q. Ok (with_asked s q))) is
-
-and_false : (b : Bool) → (b && false) ≡ false
-and_false true = refl
-and_false false = refl
 
 -- a line that is a query of this name
 asked_line : (sizes : ℕ × ℕ) (problem : Problem) (queries : List Query) (name : NameOf) (line : Line) (first : Token) (tokens : List Token) (q : Query)
     → lacks_generator (partial sizes problem queries) ≡ false → is_generator_line (partial sizes problem queries) line ≡ false
-    → line ≡ first ∷ tokens → IsOtherName first → query_name_of first ≡ Some name → (is_presented problem && name_needs_generators name) ≡ false
+    → line ≡ first ∷ tokens → IsOtherName first → query_name_of (is_presented problem) first ≡ Some name
     → name_takes name tokens ≡ true → is_name_barred problem name ≡ false
     → query_of (letters_of problem) (has_empty_word problem) name tokens ≡ Ok q
     → with_line (reader_of (partial sizes problem queries)) line ≡ Ok (reader_of (more_asked (partial sizes problem queries) q))
-asked_line sizes problem queries name line first tokens q some sign is other named there taken allowed read =
+asked_line sizes problem queries name line first tokens q some sign is other named taken allowed read =
     let p : Partial = partial sizes problem queries in
     ap (with_line (reader_of p)) is
     ∙ common_line_read (reader_of p) (is_presented problem) first tokens (presentation_kept sizes problem queries) (sym (ap (is_generator_line p) is) ∙ sign) other.no_rel
     ∙ ap (λ k. pair_or_query (reader_of p) k first tokens) other.no_pair
-    ∙ ap (λ o. and_then (λ name. and_then (λ script. and_then (λ s. Ok (Asking s)) (asked script name tokens)) (finished (reader_of p))) (ok_or o cause.UnknownLine)) named
+    ∙ ap (λ o. and_then (λ name. and_then (λ script. and_then (λ s. Ok (Asking s)) (asked script name tokens)) (finished (reader_of p))) (ok_or o cause.UnknownLine)) (ap (λ b. query_name_of b first) (presentation_kept sizes problem queries) ∙ named)
     ∙ ap (and_then (λ script. and_then (λ s. Ok (Asking s)) (asked script name tokens))) (finished_read sizes problem queries some)
-    ∙ ap (and_then (λ s. Ok (Asking s))) (asked_read (script_in p) name tokens q there taken allowed read)
+    ∙ ap (and_then (λ s. Ok (Asking s))) (asked_read (script_in p) name tokens q taken allowed read)
     ∙ ap (λ r. Ok r) (asking_kept sizes problem queries q)
 
 other : (first : Token) → is_word (codes "rel") first ≡ false → pair_kind_of first ≡ None → IsOtherName first
 other first a b = record { no_rel = a; no_pair = b }
+
+-- the limits of a search
+
+limits_read : (N M : Token) (n m : ℕ) → number_within 1 16 N ≡ Some n → number_within 0 1000000 M ≡ Some m → limits_of N M ≡ Ok (n, m)
+limits_read N M n m h k =
+    ap (λ o. and_then (λ n. and_then (λ m. Ok (n, m)) (ok_or (number_within 0 1000000 M) cause.BadNumber)) (ok_or o cause.BadNumber)) h
+    ∙ ap (λ o. and_then (λ m. Ok (n, m)) (ok_or o cause.BadNumber)) k
 
 -- a query
 query_read : (sizes : ℕ × ℕ) (problem : Problem) (queries : List Query) (line : Line) (q : Query) → lacks_generator (partial sizes problem queries) ≡ false
     → is_generator_line (partial sizes problem queries) line ≡ false → IsQuery (partial sizes problem queries) line q
     → with_line (reader_of (partial sizes problem queries)) line ≡ Ok (reader_of (more_asked (partial sizes problem queries) q))
 query_read sizes problem queries line q some sign (grammar.index is) =
-    asked_line sizes problem queries name.Index line (codes "index") [] q some sign is (other (codes "index") refl refl) refl (and_false (is_presented problem)) refl refl refl
+    asked_line sizes problem queries name.Index line (codes "index") [] q some sign is (other (codes "index") refl refl) refl refl refl refl
 query_read sizes problem queries line q some sign (grammar.equal {U} {V} {u} {v} is h k) =
-    asked_line sizes problem queries name.Equal line (codes "equal") (U ∷ V ∷ []) q some sign is (other (codes "equal") refl refl) refl (and_false (is_presented problem)) refl refl
+    asked_line sizes problem queries name.Equal line (codes "equal") (U ∷ V ∷ []) q some sign is (other (codes "equal") refl refl) refl refl refl
     (ap (and_then (λ (p : Word × Word). Ok (query.Equal p.0 p.1))) (both_read (letters_of problem) (has_empty_word problem) U V u v h k))
 query_read sizes problem queries line q some sign (grammar.normal {U} {u} is h) =
-    asked_line sizes problem queries name.Normal line (codes "normal") (U ∷ []) q some sign is (other (codes "normal") refl refl) refl (and_false (is_presented problem)) refl refl
+    asked_line sizes problem queries name.Normal line (codes "normal") (U ∷ []) q some sign is (other (codes "normal") refl refl) refl refl refl
     (ap (and_then (λ u. Ok (query.Normal u))) (element_read (letters_of problem) (has_empty_word problem) U u h))
 query_read sizes problem queries line q some sign (grammar.classes {N} {n} is h) =
-    asked_line sizes problem queries name.Classes line (codes "classes") (N ∷ []) q some sign is (other (codes "classes") refl refl) refl (and_false (is_presented problem)) refl refl
+    asked_line sizes problem queries name.Classes line (codes "classes") (N ∷ []) q some sign is (other (codes "classes") refl refl) refl refl refl
     (ap (λ o. and_then (λ n. Ok (query.Classes n None)) (ok_or o cause.BadNumber)) h)
 query_read sizes problem queries line q some sign (grammar.classes_after {N} {U} {n} {u} is h k) =
-    asked_line sizes problem queries name.Classes line (codes "classes") (N ∷ codes "after" ∷ U ∷ []) q some sign is (other (codes "classes") refl refl) refl (and_false (is_presented problem)) refl refl
+    asked_line sizes problem queries name.Classes line (codes "classes") (N ∷ codes "after" ∷ U ∷ []) q some sign is (other (codes "classes") refl refl) refl refl refl
     (ap (λ o. and_then (λ n. and_then (λ u. Ok (query.Classes n (Some u))) (cursor_of (letters_of problem) (has_empty_word problem) (codes "after") U)) (ok_or o cause.BadNumber)) h
     ∙ ap (and_then (λ u. Ok (query.Classes n (Some u)))) (element_read (letters_of problem) (has_empty_word problem) U u k))
 query_read sizes problem queries line q some sign (grammar.rules is h) =
-    asked_line sizes problem queries name.Rules line (codes "rules") [] q some sign is (other (codes "rules") refl refl) refl (and_false (is_presented problem)) refl (ap not h) refl
+    asked_line sizes problem queries name.Rules line (codes "rules") [] q some sign is (other (codes "rules") refl refl) refl refl (ap not h) refl
 query_read sizes problem queries line q some sign (grammar.element {U} {u} is h k) =
-    asked_line sizes problem queries name.Element line (codes "element") (U ∷ []) q some sign is (other (codes "element") refl refl) refl (ap (λ b. b && true) h) refl refl
+    asked_line sizes problem queries name.Element line (codes "element") (U ∷ []) q some sign is (other (codes "element") refl refl) (ap (λ b. query_name_of b (codes "element")) h) refl refl
     (ap (and_then (λ u. Ok (query.ElementOf u))) (element_read (letters_of problem) (has_empty_word problem) U u k))
 query_read sizes problem queries line q some sign (grammar.cayley is h none) =
-    asked_line sizes problem queries name.Cayley line (codes "cayley") [] q some sign is (other (codes "cayley") refl refl) refl (ap (λ b. b && true) h) refl
+    asked_line sizes problem queries name.Cayley line (codes "cayley") [] q some sign is (other (codes "cayley") refl refl) (ap (λ b. query_name_of b (codes "cayley")) h) refl
     (ap (λ (ps : List (Word × Word)). not (length ps == 0)) none) refl
+query_read sizes problem queries line q some sign (grammar.lowindex {N} {M} {n} {m} is h none few most) =
+    asked_line sizes problem queries name.LowIndex line (codes "lowindex") (N ∷ M ∷ []) q some sign is (other (codes "lowindex") refl refl) (ap (λ b. query_name_of b (codes "lowindex")) h) refl
+    (ap (λ (ps : List (Word × Word)). not (length ps == 0)) none)
+    (ap (and_then (λ (l : ℕ × ℕ). Ok (query.LowIndex l.0 l.1 None))) (limits_read N M n m few most))
+query_read sizes problem queries line q some sign (grammar.lowindex_after {N} {M} {T} {n} {m} {g} is h none few most table) =
+    let letters : List ℕ = letters_of problem in
+    let is_monoid : Bool = has_empty_word problem in
+    asked_line sizes problem queries name.LowIndex line (codes "lowindex") (N ∷ M ∷ codes "after" ∷ T ∷ []) q some sign is (other (codes "lowindex") refl refl) (ap (λ b. query_name_of b (codes "lowindex")) h) refl
+    (ap (λ (ps : List (Word × Word)). not (length ps == 0)) none)
+    (ap (and_then (λ (l : ℕ × ℕ). and_then (λ g. Ok (query.LowIndex l.0 l.1 (Some g))) (table_cursor_of letters is_monoid l.0 (codes "after") T))) (limits_read N M n m few most)
+    ∙ ap (and_then (λ g. Ok (query.LowIndex n m (Some g)))) (is_taken is_monoid (length letters) n T g table))
 
 -- a line behind the header
 line_read : (sizes : ℕ × ℕ) (problem : Problem) (queries : List Query) (line : Line) (q : Partial) → LineReads (partial sizes problem queries) line q

@@ -2,22 +2,26 @@
 use Rattle.std.proofs.Common.{◌≡◌, ℕ, ◌==◌, nat_lt, Bool, true, false, not, ◌&&◌, ◌⊎◌, inl, inr, if◌then◌else◌, List, [], ◌∷◌, length, codes, Option, Some, None, Result, Ok, Err, is_none, refl, sym, ap, ◌∙◌, subst, arith, true≢false}
 use Rattle.std.proofs.lemmas.Bool.{ltb-false, eqb-true, eqb-false}
 use Rattle.std.specs.Cmp.Lexicographic.{same_text}
+use Rattle.std.specs.Option.{unwrap_or}
 use Rattle.theory.specs.Word.{Word}
 use Rattle.theory.specs.declared.Kind.{Kind}
 use Rattle.theory.specs.declared.Kind.TheVariants.{TwoSided, Right, Left}
 use Rattle.presentation.specs.Presented.{Posed}
-use Rattle.problem.specs.Problem.{is_presented}
+use Rattle.problem.specs.Problem.{has_empty_word, is_presented, letters_of}
 use Rattle.problem.specs.declared.kinds.Problem.TheVariants as problem
 use Rattle.words.specs.declared.fault.WordFault.{WordFault}
+use Rattle.theory.specs.Graph.{Graph}
 use Rattle.query_lang.specs.declared.cause.Cause.{Cause}
 use Rattle.query_lang.specs.declared.script.Query.{Query}
+use Rattle.query_lang.specs.Tables.{IsTableText}
 use Rattle.query_lang.specs.Token.{Token, Line, is_word}
 use Rattle.query_lang.specs.LineWords.{with_cause}
 use Rattle.query_lang.specs.Pairing.{is_same_kind}
 use Rattle.query_lang.specs.Grammar as grammar
 use Rattle.query_lang.specs.Grammar.{Partial, section_reached, LineReads, is_generator_line, lacks_generator}
-use Rattle.query_lang.specs.Forms.{Form, Relation, Pair, Index, Equal, Normal, Classes, Rules, Element, Cayley, name_of, shapes_of, section_of, forms_of}
+use Rattle.query_lang.specs.Forms.{Form, Relation, Pair, Index, Equal, Normal, Classes, Rules, Element, Cayley, LowIndex, name_of, shapes_of, section_of, forms_of}
 use Rattle.query_lang.specs.LineCauses.{when, first_of, cause_in, shape_for, shape_causes, is_relation_too_many, is_pair_too_many, mixes_kinds, is_barred, form_causes, form_among, named_causes}
+use Rattle.query_lang.proofs.TableLemmas.{taken_is}
 
 -- the line is read after what the lines before it say
 abbrev pub IsRead : Partial → Line → Type 0
@@ -204,6 +208,36 @@ cayley-read : (p : Partial) (first : Token) (tokens : List Token) → is_present
 cayley-read p first [] k g e c = (_, grammar.query c.has_generator g (grammar.cayley (ap (λ n. n ∷ []) e) k (no-elements _ (not-applies _ c.allowed))))
 cayley-read p first (s ∷ tokens) k g e c = absurd (true≢false c.shaped)
 
+-- a table is read where its cause does not apply
+table-read : (r : Result Graph Cause) → first_of (cause_in r ∷ []) ≡ None → (g : Graph) × (r ≡ Ok g)
+table-read (Ok g) h = (g, refl)
+table-read (Err c) h = absurd (some-is-none h)
+
+lowindex-read : (p : Partial) (first : Token) (tokens : List Token) → is_presented p.problem ≡ true → is_generator_line p (first ∷ tokens) ≡ false → FormReads p first tokens LowIndex
+lowindex-read p first [] k g e c = absurd (true≢false c.shaped)
+lowindex-read p first (s ∷ []) k g e c = absurd (true≢false c.shaped)
+lowindex-read p first (s ∷ t ∷ []) k g e c =
+    let a = passed _ _ _ c.tokens_read in
+    let n = is-some _ a.0 in
+    let m = is-some _ (passed _ _ _ a.1).0 in
+    (_, grammar.query c.has_generator g (grammar.lowindex (ap (λ n. n ∷ s ∷ t ∷ []) e) k (no-elements _ (not-applies _ c.allowed)) n.1 m.1))
+lowindex-read p first (s ∷ t ∷ w ∷ []) k g e c = absurd (true≢false c.shaped)
+lowindex-read p first (s ∷ t ∷ w ∷ x ∷ []) k g e c =
+    let a = passed _ _ _ c.tokens_read in
+    let n = is-some _ a.0 in
+    let b = passed _ _ _ a.1 in
+    let m = is-some _ b.0 in
+    let d = passed _ _ _ b.1 in
+    let after : w ≡ codes "after" = same_text w (codes "after") (sym (not-applies _ d.0)) in
+    let read = table-read _ d.1 in
+    let table = taken_is _ _ _ x read.0 read.1 in (
+      _,
+      grammar.query c.has_generator g
+          (grammar.lowindex_after (ap (λ n. n ∷ s ∷ t ∷ w ∷ x ∷ []) e ∙ ap (λ w. codes "lowindex" ∷ s ∷ t ∷ w ∷ x ∷ []) after) k (no-elements _ (not-applies _ c.allowed)) n.1 m.1
+          (subst (λ (o : Option ℕ). IsTableText (has_empty_word p.problem) (length (letters_of p.problem)) (unwrap_or o 0) x read.0) n.1 table)),
+    )
+lowindex-read p first (s ∷ t ∷ w ∷ x ∷ y ∷ tokens) k g e c = absurd (true≢false c.shaped)
+
 -- a line of a presentation
 
 pub presented-read : (sizes : ℕ × ℕ) (o : Posed) (queries : List Query) (first : Token) (tokens : List Token) →
@@ -220,7 +254,8 @@ presented-read sizes o queries first tokens =
     (also Equal (equal-read p first tokens refl)
     (also Normal (normal-read p first tokens refl)
     (also Classes (classes-read p first tokens refl)
-    (also Rules (rules-read p first tokens refl) every)))))))))
+    (also Rules (rules-read p first tokens refl)
+    (also LowIndex (lowindex-read p first tokens refl refl) every))))))))))
 
 -- a pair or a query of an element script
 pub asked-read : (p : Partial) (first : Token) (tokens : List Token) → is_presented p.problem ≡ false → is_generator_line p (first ∷ tokens) ≡ false

@@ -1,7 +1,7 @@
 -- The numbers and the texts of the causes of refusal.
 use Rattle.std.specs.Prelude.{ℕ, List, [], codes, ◌==◌, if◌then◌else◌}
 use Rattle.query_lang.specs.declared.cause.Cause.{Cause}
-use Rattle.query_lang.specs.declared.cause.Cause.TheVariants.{HeaderMissing, UnknownHeader, WrongNumberOfWords, BadNumber, NotALetter, RepeatedLetter, UnknownLine, LineOutOfOrder, NoGenerator, WrongNumberOfEntries, BadEntry, NotInjective, NotInAlphabet, WordTooLong, EmptyWord, TooManyRelations, TooManyPairs, MixedKinds, QueryNotAllowed, AfterExpected}
+use Rattle.query_lang.specs.declared.cause.Cause.TheVariants.{HeaderMissing, UnknownHeader, WrongNumberOfWords, BadNumber, NotALetter, RepeatedLetter, UnknownLine, LineOutOfOrder, NoGenerator, WrongNumberOfEntries, BadEntry, NotInjective, NotInAlphabet, WordTooLong, EmptyWord, TooManyRelations, TooManyPairs, MixedKinds, QueryNotAllowed, BadTable, AfterExpected}
 
 abbrev pub number_of_cause : Cause → ℕ
 number_of_cause HeaderMissing = 1
@@ -23,6 +23,7 @@ number_of_cause TooManyRelations = 16
 number_of_cause TooManyPairs = 17
 number_of_cause MixedKinds = 18
 number_of_cause QueryNotAllowed = 19
+number_of_cause BadTable = 20
 number_of_cause AfterExpected = 21
 
 -- the text of the cause of this number
@@ -47,5 +48,6 @@ cause_text n =
     else if n == 17 then codes "too many pairs"
     else if n == 18 then codes "mixed kinds of pairs"
     else if n == 19 then codes "query not allowed with pairs"
+    else if n == 20 then codes "bad table"
     else if n == 21 then codes "after expected"
     else []

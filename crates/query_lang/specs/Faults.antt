@@ -6,8 +6,10 @@ use Rattle.words.specs.declared.fault.AlphabetFault.{AlphabetFault}
 use Rattle.words.specs.declared.fault.AlphabetFault.TheVariants as alphabet
 use Rattle.words.specs.declared.fault.WordFault.{WordFault}
 use Rattle.words.specs.declared.fault.WordFault.TheVariants as word
+use Rattle.word_graph.specs.declared.fault.TableFault.{TableFault}
+use Rattle.word_graph.specs.declared.fault.TableFault.TheVariants as table
 use Rattle.query_lang.specs.declared.cause.Cause.{Cause}
-use Rattle.query_lang.specs.declared.cause.Cause.TheVariants.{NotALetter, RepeatedLetter, WrongNumberOfEntries, BadEntry, NotInjective, NotInAlphabet, WordTooLong, EmptyWord}
+use Rattle.query_lang.specs.declared.cause.Cause.TheVariants.{NotALetter, RepeatedLetter, WrongNumberOfEntries, BadEntry, NotInjective, NotInAlphabet, WordTooLong, EmptyWord, BadTable}
 use Rattle.query_lang.specs.declared.fault.ScriptFault.{ScriptFault}
 use Rattle.query_lang.specs.declared.fault.ScriptFault.TheVariants as script
 use Rattle.query_lang.specs.Causes.{number_of_cause}
@@ -39,6 +41,11 @@ fault_of_word word.EmptyWord = Some EmptyWord
 fault_of_word (word.NotInAlphabet place) = Some NotInAlphabet
 fault_of_word word.TooLong = Some WordTooLong
 fault_of_word word.NoMemory = None
+
+-- the fault of a line with a table that is refused
+abbrev pub fault_of_table : TableFault → Option Cause
+fault_of_table (table.BadTable place) = Some BadTable
+fault_of_table table.NoMemory = None
 
 -- the fault of a line, with its number
 abbrev pub fault_at_line : ℕ → Option Cause → ScriptFault

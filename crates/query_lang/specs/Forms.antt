@@ -9,6 +9,7 @@ pub data Place : Type 0 where
   AWord : Place
   ANumber : (low high : ℕ) → Place
   After : Place
+  ATable : Place
 
 -- the forms of lines behind the header that begin with a name, in all scripts
 pub data Form : Type 0 where
@@ -21,6 +22,7 @@ pub data Form : Type 0 where
   Rules : Form
   Element : Form
   Cayley : Form
+  LowIndex : Form
 
 -- the name of the form
 abbrev pub name_of : Form → Token
@@ -35,6 +37,7 @@ name_of Classes = codes "classes"
 name_of Rules = codes "rules"
 name_of Element = codes "element"
 name_of Cayley = codes "cayley"
+name_of LowIndex = codes "lowindex"
 
 -- what stands behind the name
 abbrev pub shapes_of : Form → List (List Place)
@@ -47,6 +50,8 @@ shapes_of Classes = (ANumber 0 1000000 ∷ []) ∷ (ANumber 0 1000000 ∷ After 
 shapes_of Rules = [] ∷ []
 shapes_of Element = (AWord ∷ []) ∷ []
 shapes_of Cayley = [] ∷ []
+shapes_of LowIndex = (ANumber 1 16 ∷ ANumber 0 1000000 ∷ [])
+    ∷ (ANumber 1 16 ∷ ANumber 0 1000000 ∷ After ∷ ATable ∷ []) ∷ []
 
 -- the section of the form
 abbrev pub section_of : Form → ℕ
@@ -59,10 +64,11 @@ section_of Classes = 4
 section_of Rules = 4
 section_of Element = 4
 section_of Cayley = 4
+section_of LowIndex = 4
 
 -- the forms that a script of this kind has: a presentation, or generators
 abbrev pub forms_of : (is_presentation : Bool) → List Form
 forms_of true = Relation ∷ Pair TwoSided ∷ Pair Right ∷ Pair Left
-    ∷ Index ∷ Equal ∷ Normal ∷ Classes ∷ Rules ∷ []
+    ∷ Index ∷ Equal ∷ Normal ∷ Classes ∷ Rules ∷ LowIndex ∷ []
 forms_of false = Pair TwoSided ∷ Pair Right ∷ Pair Left
     ∷ Index ∷ Equal ∷ Normal ∷ Classes ∷ Rules ∷ Element ∷ Cayley ∷ []

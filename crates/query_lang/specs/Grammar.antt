@@ -7,6 +7,7 @@ use Rattle.elements.specs.MaxPlus.{TruncatedMatrix}
 use Rattle.elements.specs.declared.field.Field.{Field}
 use Rattle.theory.specs.declared.Kind.{Kind}
 use Rattle.theory.specs.declared.Kind.TheVariants.{TwoSided}
+use Rattle.theory.specs.Graph.{Graph}
 use Rattle.theory.specs.Word.{Word}
 use Rattle.words.specs.Alphabet.{alphabet_fault}
 use Rattle.words.specs.WordText.{word_of}
@@ -23,6 +24,7 @@ use Rattle.query_lang.specs.Entries.{all_of, below, below_or_dash, bit, is_injec
 use Rattle.query_lang.specs.Forms.{Pair, name_of}
 use Rattle.query_lang.specs.Pairing.{most_pairs}
 use Rattle.query_lang.specs.Relations.{add_relation, free_over, most_relations, relations_of}
+use Rattle.query_lang.specs.Tables.{IsTableText}
 use Rattle.query_lang.specs.Token.{Token, Line, cut_lines, is_kept, is_word, letter_of, number_within, tokens_of}
 
 -- what the lines so far say: the numbers of the header, 0 in the place of one that it has not;
@@ -64,6 +66,11 @@ IsWordOf p t u = word_of (letters_of p.problem) (has_empty_word p.problem) t ≡
 -- the token is this number, which is in the range
 abbrev pub IsNumber : ℕ → ℕ → Token → ℕ → Type 0
 IsNumber low high t n = number_within low high t ≡ Some n
+
+-- the token is this standard table over the letters, of at most n classes
+abbrev pub IsTableOf : Partial → ℕ → Token → Graph → Type 0
+IsTableOf p n t g =
+    IsTableText (has_empty_word p.problem) (length (letters_of p.problem)) n t g
 
 -- the fields are so many entries, and these
 abbrev pub AreEntries : {A : Type 0} → ℕ → (Field → Option A) → List Field → List A → Type 0
@@ -111,6 +118,14 @@ pub data IsQuery (p : Partial) (line : Line) : Query → Type 0 where
       → is_presented p.problem ≡ false → IsWordOf p U u → IsQuery p line (ask.ElementOf u)
   cayley : line ≡ codes "cayley" ∷ [] → is_presented p.problem ≡ false
       → pairs_of p.problem ≡ [] → IsQuery p line ask.Cayley
+  lowindex : {N M : Token} {n m : ℕ} → line ≡ codes "lowindex" ∷ N ∷ M ∷ []
+      → is_presented p.problem ≡ true → pairs_of p.problem ≡ []
+      → IsNumber 1 16 N n → IsNumber 0 1000000 M m → IsQuery p line (ask.LowIndex n m None)
+  lowindex_after : {N M T : Token} {n m : ℕ} {g : Graph}
+      → line ≡ codes "lowindex" ∷ N ∷ M ∷ codes "after" ∷ T ∷ []
+      → is_presented p.problem ≡ true → pairs_of p.problem ≡ []
+      → IsNumber 1 16 N n → IsNumber 0 1000000 M m → IsTableOf p n T g
+      → IsQuery p line (ask.LowIndex n m (Some g))
 
 -- a line behind the header, and what the lines say with it
 pub data LineReads (p : Partial) (line : Line) : Partial → Type 0 where

@@ -13,6 +13,7 @@ pub mod Relations
 pub mod Outline
 pub mod Pairing
 pub mod Header
+pub mod Tables
 pub mod Query
 pub mod QueryLines
 pub mod Asked

@@ -1,6 +1,7 @@
 -- The causes of refusal of each line, in the order in which they are looked at.
 use Rattle.std.specs.Prelude.{◌≡◌, ℕ, suc, ◌+◌, ◌*◌, Bool, true, false, not, ◌&&◌, ◌==◌, nat_lt, ◌⊎◌, List, [], ◌∷◌, ◌++◌, length, map, codes, if◌then◌else◌, is_none, Option, Some, None, Result, Ok, Err}
 use Rattle.std.specs.List.{list_any}
+use Rattle.std.specs.Option.{unwrap_or}
 use Rattle.problem.specs.declared.kinds.Problem.{Problem}
 use Rattle.problem.specs.declared.kinds.Problem.TheVariants.{Presented, Transf, PPerm, BMat, MaxPlus}
 use Rattle.problem.specs.Problem.{allows_rules, has_empty_word, is_presented, kind_of, letters_of, pairs_of}
@@ -11,10 +12,11 @@ use Rattle.query_lang.specs.Asked.{ScriptOf}
 use Rattle.query_lang.specs.Entries.{all_of, below, below_or_dash, bit, is_injective}
 use Rattle.query_lang.specs.Fields.{field_of}
 use Rattle.query_lang.specs.LineWords.{element_of}
-use Rattle.query_lang.specs.Forms.{Form, Relation, Pair, Rules, Cayley, Place, AWord, ANumber, After, name_of, shapes_of, section_of, forms_of}
+use Rattle.query_lang.specs.Forms.{Form, Relation, Pair, Rules, Cayley, LowIndex, Place, AWord, ANumber, After, ATable, name_of, shapes_of, section_of, forms_of}
 use Rattle.query_lang.specs.Outline.{alphabet_of}
 use Rattle.query_lang.specs.Pairing.{is_same_kind, most_pairs}
 use Rattle.query_lang.specs.Relations.{most_relations, relations_of}
+use Rattle.query_lang.specs.Tables.{table_of}
 use Rattle.query_lang.specs.Token.{Token, Line, is_kept, is_word, letter_of, number_within}
 use Rattle.query_lang.specs.Grammar.{Partial, lacks_generator, section_reached, is_generator_line, Reads, script_in}
 
@@ -33,20 +35,27 @@ abbrev pub cause_in : {A : Type 0} → Result A Cause → Option Cause
 cause_in (Ok x) = None
 cause_in (Err cause) = Some cause
 
--- the cause of a token in its place
-abbrev pub cause_of_token : Partial → Place → Token → Option Cause
-cause_of_token p AWord t =
-    cause_in (element_of (letters_of p.problem) (has_empty_word p.problem) t)
-cause_of_token p (ANumber low high) t =
-    when cause.BadNumber (is_none (number_within low high t))
-cause_of_token p After t = when cause.AfterExpected (not (is_word (codes "after") t))
+-- how many classes a table may have by the tokens: the first is the number; 0 where it is none
+abbrev pub classes_in : List Token → ℕ
+classes_in [] = 0
+classes_in (t ∷ tokens) = unwrap_or (number_within 1 16 t) 0
 
--- the causes of the tokens, from the left
-abbrev pub token_causes : Partial → List Place → List Token → List (Option Cause)
-token_causes p [] tokens = []
-token_causes p (place ∷ places) [] = []
-token_causes p (place ∷ places) (t ∷ tokens) =
-    cause_of_token p place t ∷ token_causes p places tokens
+-- the cause of a token in its place, where these are all the tokens
+abbrev pub cause_of_token : Partial → List Token → Place → Token → Option Cause
+cause_of_token p all AWord t =
+    cause_in (element_of (letters_of p.problem) (has_empty_word p.problem) t)
+cause_of_token p all (ANumber low high) t =
+    when cause.BadNumber (is_none (number_within low high t))
+cause_of_token p all After t = when cause.AfterExpected (not (is_word (codes "after") t))
+cause_of_token p all ATable t = cause_in
+    (table_of (has_empty_word p.problem) (length (letters_of p.problem)) (classes_in all) t)
+
+-- the causes of the tokens, from the left, where these are all
+abbrev pub token_causes : Partial → List Token → List Place → List Token → List (Option Cause)
+token_causes p all [] tokens = []
+token_causes p all (place ∷ places) [] = []
+token_causes p all (place ∷ places) (t ∷ tokens) =
+    cause_of_token p all place t ∷ token_causes p all places tokens
 
 -- as many of these as of those
 abbrev pub as_many : {A B : Type 0} → List A → List B → Bool
@@ -64,7 +73,7 @@ shape_for tokens (shape ∷ shapes) =
 -- the causes of the tokens of this shape
 abbrev pub shape_causes : Partial → Option (List Place) → List Token → List (Option Cause)
 shape_causes p None tokens = []
-shape_causes p (Some places) tokens = token_causes p places tokens
+shape_causes p (Some places) tokens = token_causes p tokens places tokens
 
 -- a 4,097th relation
 abbrev pub is_relation_too_many : Partial → Form → Bool
@@ -86,6 +95,7 @@ mixes_kinds p form = false
 abbrev pub is_barred : Partial → Form → Bool
 is_barred p Rules = not (allows_rules p.problem)
 is_barred p Cayley = not (length (pairs_of p.problem) == 0)
+is_barred p LowIndex = not (length (pairs_of p.problem) == 0)
 is_barred p form = false
 
 -- a line of this form: 8, 9, 3, 16, 17, 18, 19, then its tokens from the left

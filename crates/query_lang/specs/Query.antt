@@ -1,12 +1,18 @@
--- Queries, and the words in them.
-use Rattle.std.specs.Prelude.{◌≡◌, ℕ, Bool, true, false, [], length, Some, None}
+-- Queries, and the words and tables in them.
+use Rattle.std.specs.Prelude.{◌≡◌, ℕ, ◌≤◌, Bool, true, false, [], length, Some, None}
 use Rattle.theory.specs.Word.{IsElement}
 use Rattle.problem.specs.declared.kinds.Problem.{Problem}
 use Rattle.problem.specs.Problem.{allows_rules, has_empty_word, is_presented, letters_of, pairs_of}
 use Rattle.query_lang.specs.declared.script.Query.{Query}
-use Rattle.query_lang.specs.declared.script.Query.TheVariants.{Index, Equal, Normal, Classes, RuleList, ElementOf, Cayley}
+use Rattle.query_lang.specs.declared.script.Query.TheVariants.{Index, Equal, Normal, Classes, RuleList, ElementOf, Cayley, LowIndex}
+use Rattle.query_lang.specs.Tables.{IsLowTable}
 
--- each word of the query is an element over k letters
+-- from 1 to 16 classes, and at most 1,000,000 tables
+abbrev pub AreLimits : ℕ → ℕ → Type 0
+AreLimits classes count = (1 ≤ classes) × (classes ≤ 16) × (count ≤ 1000000)
+
+-- each word of the query is an element over k letters, its table is one over them, and the limits
+-- of a search are in their ranges
 abbrev pub IsQueryOver : Bool → ℕ → Query → Type 0
 IsQueryOver empty k Index = Unit {0}
 IsQueryOver empty k (Equal u v) = IsElement empty k u × IsElement empty k v
@@ -16,6 +22,9 @@ IsQueryOver empty k (Classes count (Some u)) = IsElement empty k u
 IsQueryOver empty k RuleList = Unit {0}
 IsQueryOver empty k (ElementOf u) = IsElement empty k u
 IsQueryOver empty k Cayley = Unit {0}
+IsQueryOver empty k (LowIndex classes count None) = AreLimits classes count
+IsQueryOver empty k (LowIndex classes count (Some g)) =
+    AreLimits classes count × IsLowTable empty k classes g
 
 -- whether the query is there only where generators are given
 abbrev pub needs_generators : Query → Bool
@@ -26,6 +35,18 @@ needs_generators (Classes count after) = false
 needs_generators RuleList = false
 needs_generators (ElementOf u) = true
 needs_generators Cayley = true
+needs_generators (LowIndex classes count after) = false
+
+-- whether the query is there only where relations are given
+abbrev pub needs_relations : Query → Bool
+needs_relations Index = false
+needs_relations (Equal u v) = false
+needs_relations (Normal u) = false
+needs_relations (Classes count after) = false
+needs_relations RuleList = false
+needs_relations (ElementOf u) = false
+needs_relations Cayley = false
+needs_relations (LowIndex classes count after) = true
 
 -- whether the query asks for the rules
 abbrev pub is_rule_list : Query → Bool
@@ -36,21 +57,24 @@ is_rule_list (Classes count after) = false
 is_rule_list RuleList = true
 is_rule_list (ElementOf u) = false
 is_rule_list Cayley = false
+is_rule_list (LowIndex classes count after) = false
 
--- whether the query asks for the Cayley graphs
-abbrev pub is_cayley : Query → Bool
-is_cayley Index = false
-is_cayley (Equal u v) = false
-is_cayley (Normal u) = false
-is_cayley (Classes count after) = false
-is_cayley RuleList = false
-is_cayley (ElementOf u) = false
-is_cayley Cayley = true
+-- whether the query is there only without pairs
+abbrev pub needs_no_pairs : Query → Bool
+needs_no_pairs Index = false
+needs_no_pairs (Equal u v) = false
+needs_no_pairs (Normal u) = false
+needs_no_pairs (Classes count after) = false
+needs_no_pairs RuleList = false
+needs_no_pairs (ElementOf u) = false
+needs_no_pairs Cayley = true
+needs_no_pairs (LowIndex classes count after) = true
 
 -- the query is one of this problem: it is there for it, rules are allowed where it asks for them,
--- there are no pairs where it asks for the Cayley graphs, and each of its words is an element
+-- there are no pairs where it needs that, and its words and tables are over the letters
 pub record IsQueryOf (p : Problem) (query : Query) : Type 0 where
   pub there : is_presented p ≡ true → needs_generators query ≡ false
+  pub presented : needs_relations query ≡ true → is_presented p ≡ true
   pub allowed : is_rule_list query ≡ true → allows_rules p ≡ true
-  pub unpaired : is_cayley query ≡ true → pairs_of p ≡ []
+  pub unpaired : needs_no_pairs query ≡ true → pairs_of p ≡ []
   pub over : IsQueryOver (has_empty_word p) (length (letters_of p)) query

@@ -1,6 +1,7 @@
 -- The lines of queries.
-use Rattle.std.specs.Prelude.{ℕ, Bool, true, false, not, ◌==◌, List, [], ◌∷◌, length, codes, if◌then◌else◌, Option, Some, None, Result, Ok, Err}
+use Rattle.std.specs.Prelude.{ℕ, Bool, true, false, not, ◌&&◌, ◌==◌, List, [], ◌∷◌, length, codes, if◌then◌else◌, Option, Some, None, Result, Ok, Err}
 use Rattle.std.specs.Option.{ok_or}
+use Rattle.theory.specs.Graph.{Graph}
 use Rattle.theory.specs.Word.{Word}
 use Rattle.problem.specs.declared.kinds.Problem.{Problem}
 use Rattle.problem.specs.Problem.{allows_rules, pairs_of}
@@ -11,6 +12,7 @@ use Rattle.query_lang.specs.declared.script.Query.TheVariants as ask
 use Rattle.query_lang.specs.Outcome.{and_then}
 use Rattle.query_lang.specs.Token.{Token, is_word, number_within}
 use Rattle.query_lang.specs.LineWords.{element_of, one_word, two_words}
+use Rattle.query_lang.specs.Tables.{table_of}
 
 -- the names of queries
 pub data NameOf : Type 0 where
@@ -21,48 +23,31 @@ pub data NameOf : Type 0 where
   Rules : NameOf
   Element : NameOf
   Cayley : NameOf
+  LowIndex : NameOf
 
--- the query that a line's first token names
-abbrev pub query_name_of : Token → Option NameOf
-query_name_of t =
+-- the query that a line's first token names in a presentation, or in a script of generators
+abbrev pub query_name_of : (is_presentation : Bool) → Token → Option NameOf
+query_name_of is_presentation t =
     if is_word (codes "index") t then Some Index
     else if is_word (codes "equal") t then Some Equal
     else if is_word (codes "normal") t then Some Normal
     else if is_word (codes "classes") t then Some Classes
     else if is_word (codes "rules") t then Some Rules
-    else if is_word (codes "element") t then Some Element
-    else if is_word (codes "cayley") t then Some Cayley
+    else if is_presentation && is_word (codes "lowindex") t then Some LowIndex
+    else if not is_presentation && is_word (codes "element") t then Some Element
+    else if not is_presentation && is_word (codes "cayley") t then Some Cayley
     else None
 
--- whether a query of this name is there only where generators are given
-abbrev pub name_needs_generators : NameOf → Bool
-name_needs_generators Index = false
-name_needs_generators Equal = false
-name_needs_generators Normal = false
-name_needs_generators Classes = false
-name_needs_generators Rules = false
-name_needs_generators Element = true
-name_needs_generators Cayley = true
-
--- whether a query of this name asks for the rules
-abbrev pub name_asks_rules : NameOf → Bool
-name_asks_rules Index = false
-name_asks_rules Equal = false
-name_asks_rules Normal = false
-name_asks_rules Classes = false
-name_asks_rules Rules = true
-name_asks_rules Element = false
-name_asks_rules Cayley = false
-
--- whether a query of this name asks for the Cayley graphs
-abbrev pub name_asks_cayley : NameOf → Bool
-name_asks_cayley Index = false
-name_asks_cayley Equal = false
-name_asks_cayley Normal = false
-name_asks_cayley Classes = false
-name_asks_cayley Rules = false
-name_asks_cayley Element = false
-name_asks_cayley Cayley = true
+-- whether a presentation has a query of this name, or a script of generators
+abbrev pub is_name_there : (is_presentation : Bool) → NameOf → Bool
+is_name_there is_presentation Index = true
+is_name_there is_presentation Equal = true
+is_name_there is_presentation Normal = true
+is_name_there is_presentation Classes = true
+is_name_there is_presentation Rules = true
+is_name_there is_presentation Element = not is_presentation
+is_name_there is_presentation Cayley = not is_presentation
+is_name_there is_presentation LowIndex = is_presentation
 
 -- whether a query of this name is not there for the pairs of the problem
 abbrev pub is_name_barred : Problem → NameOf → Bool
@@ -73,8 +58,20 @@ is_name_barred p Classes = false
 is_name_barred p Rules = not (allows_rules p)
 is_name_barred p Element = false
 is_name_barred p Cayley = not (length (pairs_of p) == 0)
+is_name_barred p LowIndex = not (length (pairs_of p) == 0)
 
--- no token, one, two, or one or three
+-- the name of the query
+abbrev pub query_name : Query → NameOf
+query_name ask.Index = Index
+query_name (ask.Equal u v) = Equal
+query_name (ask.Normal u) = Normal
+query_name (ask.Classes count after) = Classes
+query_name ask.RuleList = Rules
+query_name (ask.ElementOf u) = Element
+query_name ask.Cayley = Cayley
+query_name (ask.LowIndex classes count after) = LowIndex
+
+-- no token, one, two, one or three, or two or four
 abbrev pub are_none : List Token → Bool
 are_none [] = true
 are_none (s ∷ tokens) = false
@@ -92,6 +89,11 @@ are_one_or_three (s ∷ []) = true
 are_one_or_three (s ∷ t ∷ u ∷ []) = true
 are_one_or_three tokens = false
 
+abbrev pub are_two_or_four : List Token → Bool
+are_two_or_four (s ∷ t ∷ []) = true
+are_two_or_four (s ∷ t ∷ u ∷ v ∷ []) = true
+are_two_or_four tokens = false
+
 -- whether there are as many tokens as stand behind the name
 abbrev pub name_takes : NameOf → List Token → Bool
 name_takes Index tokens = are_none tokens
@@ -101,13 +103,14 @@ name_takes Classes tokens = are_one_or_three tokens
 name_takes Rules tokens = are_none tokens
 name_takes Element tokens = are_one tokens
 name_takes Cayley tokens = are_none tokens
+name_takes LowIndex tokens = are_two_or_four tokens
 
 -- a query without words
 abbrev pub bare : Query → List Token → Result Query Cause
 bare query [] = Ok query
 bare query (t ∷ ts) = Err WrongNumberOfWords
 
--- how many classes are asked for
+-- how many classes or tables are asked for
 abbrev pub count_of : Token → Result ℕ Cause
 count_of t = ok_or (number_within 0 1000000 t) BadNumber
 
@@ -124,6 +127,27 @@ page_of letters allow_empty (count ∷ after ∷ cursor ∷ []) =
     (cursor_of letters allow_empty after cursor)) (count_of count)
 page_of letters allow_empty tokens = Err WrongNumberOfWords
 
+-- how many classes tables may have, and how many tables are asked for
+abbrev pub limits_of : Token → Token → Result (ℕ × ℕ) Cause
+limits_of classes count =
+    and_then (λ n. and_then (λ m. Ok (n, m)) (count_of count))
+    (ok_or (number_within 1 16 classes) BadNumber)
+
+-- the table behind which a search goes on
+abbrev pub table_cursor_of : List ℕ → Bool → ℕ → Token → Token → Result Graph Cause
+table_cursor_of letters is_monoid classes after t =
+    if is_word (codes "after") after then table_of is_monoid (length letters) classes t
+    else Err AfterExpected
+
+-- `N M`, or `N M after TABLE`
+abbrev pub search_of : List ℕ → Bool → List Token → Result Query Cause
+search_of letters is_monoid (classes ∷ count ∷ []) =
+    and_then (λ l. Ok (ask.LowIndex l.0 l.1 None)) (limits_of classes count)
+search_of letters is_monoid (classes ∷ count ∷ after ∷ t ∷ []) =
+    and_then (λ l. and_then (λ g. Ok (ask.LowIndex l.0 l.1 (Some g)))
+    (table_cursor_of letters is_monoid l.0 after t)) (limits_of classes count)
+search_of letters is_monoid tokens = Err WrongNumberOfWords
+
 -- the query of this name, by the tokens behind the name
 abbrev pub query_of : List ℕ → Bool → NameOf → List Token → Result Query Cause
 query_of letters allow_empty Index tokens = bare ask.Index tokens
@@ -136,3 +160,4 @@ query_of letters allow_empty Rules tokens = bare ask.RuleList tokens
 query_of letters allow_empty Element tokens = and_then (λ u. Ok (ask.ElementOf u))
     (one_word letters allow_empty tokens)
 query_of letters allow_empty Cayley tokens = bare ask.Cayley tokens
+query_of letters allow_empty LowIndex tokens = search_of letters allow_empty tokens

@@ -1,6 +1,6 @@
 -- Scripts: what each line gives after the lines before it, or its cause of refusal.
 pub use Rattle.query_lang.specs.Asked.{ScriptOf}
-use Rattle.std.specs.Prelude.{ℕ, suc, Bool, true, false, not, ◌&&◌, List, [], ◌∷◌, ◌++◌, length, map, codes, if◌then◌else◌, Option, Some, None, Result, Ok, Err}
+use Rattle.std.specs.Prelude.{ℕ, suc, Bool, true, false, not, List, [], ◌∷◌, ◌++◌, length, map, codes, if◌then◌else◌, Option, Some, None, Result, Ok, Err}
 use Rattle.std.specs.Option.{ok_or}
 use Rattle.theory.specs.declared.Kind.{Kind}
 use Rattle.presentation.specs.Presented.{Posed}
@@ -18,7 +18,7 @@ use Rattle.query_lang.specs.Generators.{draft_with, problem_of}
 use Rattle.query_lang.specs.Header.{header_of, outline_of}
 use Rattle.query_lang.specs.Outline.{with_relation}
 use Rattle.query_lang.specs.Pairing.{add_pair, pair_kind_of}
-use Rattle.query_lang.specs.QueryLines.{NameOf, is_name_barred, name_needs_generators, name_takes, query_name_of, query_of}
+use Rattle.query_lang.specs.QueryLines.{NameOf, is_name_barred, name_takes, query_name_of, query_of}
 
 -- what the lines so far have given: generators or a presentation, from the first pair on a problem,
 -- and from the first query on a script
@@ -32,11 +32,10 @@ pub data ReaderOf : Type 0 where
 abbrev pub with_asked : ScriptOf → Query → ScriptOf
 with_asked s query = record s { queries = s.queries ++ query ∷ [] }
 
--- one query more; one that needs generators is unknown in a presentation
+-- one query more
 abbrev pub asked : ScriptOf → NameOf → List Token → Result ScriptOf Cause
 asked s name tokens =
-    if is_presented s.problem && name_needs_generators name then Err UnknownLine
-    else if not (name_takes name tokens) then Err WrongNumberOfWords
+    if not (name_takes name tokens) then Err WrongNumberOfWords
     else if is_name_barred s.problem name then Err QueryNotAllowed
     else and_then (λ query. Ok (with_asked s query))
     (query_of (letters_of s.problem) (has_empty_word s.problem) name tokens)
@@ -92,7 +91,7 @@ pair_line r kind tokens = and_then
 abbrev pub query_line : ReaderOf → Token → List Token → Result ReaderOf Cause
 query_line r first tokens =
     and_then (λ name. and_then (λ script. and_then (λ s. Ok (Asking s)) (asked script name tokens))
-    (finished r)) (ok_or (query_name_of first) UnknownLine)
+    (finished r)) (ok_or (query_name_of (is_presentation r) first) UnknownLine)
 
 -- a pair of this kind, if there is one, or else a query
 abbrev pub pair_or_query : ReaderOf → Option Kind → Token → List Token → Result ReaderOf Cause

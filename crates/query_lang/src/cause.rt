@@ -44,9 +44,11 @@ pub enum Cause {
     TooManyPairs = 17,
     /// A pair is of another kind than the first one.
     MixedKinds = 18,
-    /// The rules are asked for, and the script has right or left pairs; or the Cayley graphs are,
-    /// and it has pairs.
+    /// The rules are asked for, and the script has right or left pairs; or the Cayley graphs or
+    /// tables of low index are, and it has pairs.
     QueryNotAllowed = 19,
+    /// A table is out of form, not standard, or of too many classes.
+    BadTable = 20,
     /// The token in the place of `after` is another.
     AfterExpected = 21,
 }
@@ -84,6 +86,7 @@ pub fn cause_text(number: u8) -> &'static [u8]
         17 => b"too many pairs",
         18 => b"mixed kinds of pairs",
         19 => b"query not allowed with pairs",
+        20 => b"bad table",
         21 => b"after expected",
         _ => b"",
     }

@@ -1,11 +1,13 @@
 // Laws of scripts.
-ghost use Rattle.std.specs.Prelude.{◌≡◌, ℕ, ◌↔◌, ◌⊎◌, List, Option, None, Result, Ok, Err};
+ghost use Rattle.std.specs.Prelude.{◌≡◌, ℕ, Bool, ◌↔◌, ◌⊎◌, List, Option, None, Result, Ok, Err};
+ghost use Rattle.theory.specs.Graph.{Graph};
 ghost use Rattle.query_lang.specs.declared.cause.Cause.{Cause};
 ghost use Rattle.query_lang.specs.Asked.{ScriptOf};
 ghost use Rattle.query_lang.specs.Grammar.{Partial, Step, lines_of};
 ghost use Rattle.query_lang.specs.LineCauses.{AreScript, IsFirstFault, cause_of_line};
 ghost use Rattle.query_lang.specs.Script.{script_of};
-ghost use Rattle.query_lang.specs.Token.{Line};
+ghost use Rattle.query_lang.specs.Tables.{IsTableText, table_of};
+ghost use Rattle.query_lang.specs.Token.{Line, Token};
 
 /// After whatever lines, a line is read exactly where it has no cause of refusal, and then to one
 /// partial script.
@@ -29,6 +31,13 @@ pub fn bytes_are_a_script_or_have_a_fault()
     ensures one_fault { (bytes : List ℕ) (m n : ℕ) (one other : Cause)
         → IsFirstFault (lines_of bytes) m one → IsFirstFault (lines_of bytes) n other
         → (m ≡ n) × (one ≡ other) }
+{}
+
+/// A token is taken for a table exactly where it is the text of a standard one, over so many
+/// letters and of at most so many classes.
+pub fn tables_are_read()
+    ensures { (is_monoid : Bool) (k n : ℕ) (t : Token) (g : Graph)
+        → (table_of is_monoid k n t ≡ Ok g) ↔ IsTableText is_monoid k n t g }
 {}
 
 /// What the reader makes of bytes is the script that they are, or their first fault.

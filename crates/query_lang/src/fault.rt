@@ -1,6 +1,6 @@
 // Why a script is refused.
 ghost use Rattle.std.specs.Prelude.{◌≡◌, None, Some};
-ghost use Rattle.query_lang.specs.Faults.{fault_at_line, fault_of_alphabet, fault_of_element, fault_of_word};
+ghost use Rattle.query_lang.specs.Faults.{fault_at_line, fault_of_alphabet, fault_of_element, fault_of_table, fault_of_word};
 
 use crate::cause::Cause;
 use elements::ElementFault;
@@ -8,6 +8,7 @@ use ports::NoMemory;
 use std::alloc::{AllocError, AllocFailed};
 use std::marker::Model;
 use thiserror::Error;
+use word_graph::TableFault;
 use words::{AlphabetFault, WordFault};
 
 /// Why bytes make no script.
@@ -110,6 +111,17 @@ impl From<WordFault> for LineFault {
             WordFault::NotInAlphabet(_) => LineFault::refused(Cause::NotInAlphabet),
             WordFault::TooLong => LineFault::refused(Cause::WordTooLong),
             WordFault::NoMemory => LineFault::no_memory(),
+        }
+    }
+}
+
+impl From<TableFault> for LineFault {
+    ghost from_gives = { λ fault e. e ≡ fault_of_table fault };
+
+    fn from(fault: TableFault) -> LineFault {
+        match fault {
+            TableFault::BadTable(_) => LineFault::refused(Cause::BadTable),
+            TableFault::NoMemory => LineFault::no_memory(),
         }
     }
 }

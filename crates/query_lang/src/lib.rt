@@ -15,6 +15,7 @@ mod pairing;
 mod query_line;
 mod reader;
 mod script;
+mod tables;
 mod tokens;
 
 pub use cause::{Cause, cause_text};

@@ -1,19 +1,23 @@
 // The lines of queries.
-ghost use Rattle.std.specs.Prelude.{◌≡◌, false, IfOk, IfErr, Ok, length};
+ghost use Rattle.std.specs.Prelude.{◌≡◌, ◌≤◌, IfOk, IfErr, Ok, length};
 ghost use Rattle.theory.specs.Word.{IsElement};
 ghost use Rattle.query_lang.specs.Faults.{IsLineFault};
-ghost use Rattle.query_lang.specs.Query.{IsQueryOver, is_cayley, is_rule_list, needs_generators};
-ghost use Rattle.query_lang.specs.QueryLines.{bare, count_of, cursor_of, is_name_barred, name_asks_cayley, name_asks_rules, name_needs_generators, name_takes, page_of, query_name_of, query_of};
+ghost use Rattle.query_lang.specs.Query.{AreLimits, IsQueryOver};
+ghost use Rattle.query_lang.specs.QueryLines.{bare, count_of, cursor_of, is_name_barred, limits_of, name_takes, page_of, query_name, query_name_of, query_of, search_of, table_cursor_of};
+ghost use Rattle.query_lang.specs.QueryLines as said;
+ghost use Rattle.query_lang.specs.Tables.{IsLowTable};
 ghost use Rattle.query_lang.specs.Texts.{texts};
 
 use crate::cause::Cause;
 use crate::fault::LineFault;
 use crate::line_words::{element_of, one_word, two_words};
 use crate::script::Query;
+use crate::tables::table_of;
 use crate::tokens::{is_word, number_within};
 use problem::Problem;
 use std::alloc::Global;
 use std::marker::Model;
+use word_graph::WordGraph;
 use words::{Alphabet, Word};
 
 // The names of queries.
@@ -33,6 +37,8 @@ enum Name {
     Element,
     /// `cayley`
     Cayley,
+    /// `lowindex`
+    LowIndex,
 }
 
 /// What a query line begins with. Contracts see which name it is.
@@ -56,29 +62,20 @@ impl Model for QueryName {
       | kept.Rules ↦ said.Rules
       | kept.Element ↦ said.Element
       | kept.Cayley ↦ said.Cayley
+      | kept.LowIndex ↦ said.LowIndex
     ] };
 }
 
 impl QueryName {
-    /// Whether a query of this name is there only where generators are given.
-    pub fn needs_generators(&self) -> bool
-        ensures { result ≡ name_needs_generators self.now }
-    {
-        match self.name {
-            Name::Index | Name::Equal | Name::Normal | Name::Classes | Name::Rules => false,
-            Name::Element | Name::Cayley => true,
-        }
-    }
-
     /// Whether a query of this name is not there for the pairs of the problem: the rules for right
-    /// or left pairs, the Cayley graphs for any.
+    /// or left pairs, the Cayley graphs and tables of low index for any.
     pub fn is_barred(&self, problem: &Problem) -> bool
         ensures { result ≡ is_name_barred problem.now self.now }
     {
         match self.name {
             Name::Index | Name::Equal | Name::Normal | Name::Classes | Name::Element => false,
             Name::Rules => !problem.allows_rules(),
-            Name::Cayley => !problem.pairs().is_empty(),
+            Name::Cayley | Name::LowIndex => !problem.pairs().is_empty(),
         }
     }
 
@@ -91,13 +88,14 @@ impl QueryName {
             Name::Normal | Name::Element => matches!(tokens, [_]),
             Name::Equal => matches!(tokens, [_, _]),
             Name::Classes => matches!(tokens, [_] | [_, _, _]),
+            Name::LowIndex => matches!(tokens, [_, _] | [_, _, _, _]),
         }
     }
 }
 
-/// The query that a line's first token names.
-pub fn query_name_of(first: &[u8]) -> Option<QueryName>
-    ensures { result ≡ query_name_of first.now }
+/// The query that a line's first token names in a presentation, or in a script of generators.
+pub fn query_name_of(is_presentation: bool, first: &[u8]) -> Option<QueryName>
+    ensures { result ≡ query_name_of is_presentation first.now }
 {
     let name = match first {
         text if is_word(b"index", text) => Name::Index,
@@ -105,8 +103,9 @@ pub fn query_name_of(first: &[u8]) -> Option<QueryName>
         text if is_word(b"normal", text) => Name::Normal,
         text if is_word(b"classes", text) => Name::Classes,
         text if is_word(b"rules", text) => Name::Rules,
-        text if is_word(b"element", text) => Name::Element,
-        text if is_word(b"cayley", text) => Name::Cayley,
+        text if is_presentation && is_word(b"lowindex", text) => Name::LowIndex,
+        text if !is_presentation && is_word(b"element", text) => Name::Element,
+        text if !is_presentation && is_word(b"cayley", text) => Name::Cayley,
         _ => return None,
     };
     Some(QueryName { name })
@@ -122,7 +121,7 @@ fn bare(query: Query, tokens: &[&[u8]]) -> Result<Query, Cause>
     }
 }
 
-// How many classes are asked for.
+// How many classes or tables are asked for.
 fn count_of(token: &[u8]) -> Result<usize, Cause>
     ensures { result ≡ count_of token.now }
 {
@@ -161,9 +160,7 @@ fn page_of(
     ensures ok { IfOk result (λ query. page_of alphabet.now allow_empty (texts tokens.now)
         ≡ Ok query) }
     ensures over { IfOk result (IsQueryOver allow_empty (length alphabet.now)) }
-    ensures needs { IfOk result (λ query. needs_generators query ≡ false) }
-    ensures rules { IfOk result (λ query. is_rule_list query ≡ false) }
-    ensures cayley { IfOk result (λ query. is_cayley query ≡ false) }
+    ensures name { IfOk result (λ query. query_name query ≡ said.Classes) }
     ensures err { IfErr result (IsLineFault (page_of alphabet.now allow_empty (texts tokens.now))) }
 {
     match tokens {
@@ -183,6 +180,74 @@ fn page_of(
     }
 }
 
+// How many classes tables may have, and how many tables are asked for.
+fn limits_of(classes: &[u8], count: &[u8]) -> Result<(usize, usize), Cause>
+    ensures limits { result ≡ limits_of classes.now count.now }
+    ensures allowed { IfOk result (λ limits. AreLimits limits.0 limits.1) }
+{
+    let classes = number_within(1, 16, classes).ok_or(Cause::BadNumber)?;
+    let count = count_of(count)?;
+    Ok((classes as usize, count))
+}
+
+// The table behind which a search goes on.
+fn table_cursor_of(
+    alloc: Global,
+    alphabet: &Alphabet,
+    is_monoid: bool,
+    classes: usize,
+    after: &[u8],
+    token: &[u8],
+) -> Result<WordGraph, LineFault>
+    requires { classes ≤ 16 }
+    ensures ok { IfOk result (λ table.
+        table_cursor_of alphabet.now is_monoid classes after.now token.now ≡ Ok table) }
+    ensures low { IfOk result (IsLowTable is_monoid (length alphabet.now) classes) }
+    ensures err { IfErr result (IsLineFault
+        (table_cursor_of alphabet.now is_monoid classes after.now token.now)) }
+{
+    if is_word(b"after", after) {
+        table_of(alloc, is_monoid, alphabet.len(), classes, token)
+    } else {
+        Err(LineFault::refused(Cause::AfterExpected))
+    }
+}
+
+// The search for tables that the tokens behind `lowindex` ask for.
+fn search_of(
+    alloc: Global,
+    alphabet: &Alphabet,
+    is_monoid: bool,
+    tokens: &[&[u8]],
+) -> Result<Query, LineFault>
+    ensures ok { IfOk result (λ query. search_of alphabet.now is_monoid (texts tokens.now)
+        ≡ Ok query) }
+    ensures over { IfOk result (IsQueryOver is_monoid (length alphabet.now)) }
+    ensures name { IfOk result (λ query. query_name query ≡ said.LowIndex) }
+    ensures err { IfErr result (IsLineFault (search_of alphabet.now is_monoid (texts tokens.now))) }
+{
+    match tokens {
+        [classes, count] => {
+            let (classes, count) = limits_of(classes, count)?;
+            Ok(Query::LowIndex {
+                classes,
+                count,
+                after: None,
+            })
+        }
+        [classes, count, after, table] => {
+            let (classes, count) = limits_of(classes, count)?;
+            let table = table_cursor_of(alloc, alphabet, is_monoid, classes, after, table)?;
+            Ok(Query::LowIndex {
+                classes,
+                count,
+                after: Some(table),
+            })
+        }
+        _ => Err(LineFault::refused(Cause::WrongNumberOfWords)),
+    }
+}
+
 /// The query of this name, by the tokens behind the name. Refused for their cause, or for want of
 /// memory.
 pub fn query_of(
@@ -195,9 +260,7 @@ pub fn query_of(
     ensures ok { IfOk result (λ query. query_of alphabet.now allow_empty name (texts tokens.now)
         ≡ Ok query) }
     ensures over { IfOk result (IsQueryOver allow_empty (length alphabet.now)) }
-    ensures needs { IfOk result (λ query. needs_generators query ≡ name_needs_generators name) }
-    ensures rules { IfOk result (λ query. is_rule_list query ≡ name_asks_rules name) }
-    ensures cayley { IfOk result (λ query. is_cayley query ≡ name_asks_cayley name) }
+    ensures name { IfOk result (λ query. query_name query ≡ name) }
     ensures err { IfErr result (IsLineFault
         (query_of alphabet.now allow_empty name (texts tokens.now))) }
 {
@@ -212,5 +275,6 @@ pub fn query_of(
         Name::Rules => Ok(bare(Query::RuleList, tokens)?),
         Name::Element => Ok(Query::ElementOf(one_word(alloc, alphabet, allow_empty, tokens)?)),
         Name::Cayley => Ok(bare(Query::Cayley, tokens)?),
+        Name::LowIndex => search_of(alloc, alphabet, allow_empty, tokens),
     }
 }

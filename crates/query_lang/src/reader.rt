@@ -187,7 +187,7 @@ impl Reader {
         ensures ok { IfOk result (λ next. query_line self first.now (texts tokens.now) ≡ Ok next) }
         ensures err { IfErr result (IsLineFault (query_line self first.now (texts tokens.now))) }
     {
-        let name = query_name_of(first).ok_or(Cause::UnknownLine)?;
+        let name = query_name_of(self.is_presentation(), first).ok_or(Cause::UnknownLine)?;
         let script = self.finish(alloc)?;
         Ok(asking(script.with_query(alloc, name, tokens)?))
     }

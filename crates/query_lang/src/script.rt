@@ -1,10 +1,11 @@
 // Scripts: a problem, and queries.
-ghost use Rattle.std.specs.Prelude.{◌≡◌, [], IfOk, IfErr, Ok, All};
-ghost use Rattle.problem.specs.Problem.{IsPosable};
+ghost use Rattle.std.specs.Prelude.{◌≡◌, [], true, IfOk, IfErr, Ok, All};
+ghost use Rattle.problem.specs.Problem.{IsPosable, is_presented};
 ghost use Rattle.query_lang.specs.Faults.{IsLineFault, IsScriptFault};
 ghost use Rattle.query_lang.specs.Grammar.{lines_of};
 ghost use Rattle.query_lang.specs.LineCauses.{AreScript};
 ghost use Rattle.query_lang.specs.Query.{IsQueryOf};
+ghost use Rattle.query_lang.specs.QueryLines.{is_name_there};
 ghost use Rattle.query_lang.specs.Script.{asked};
 ghost use Rattle.query_lang.specs.Texts.{texts};
 
@@ -15,9 +16,11 @@ use crate::reader::{take_line, whole_of};
 use problem::Problem;
 use std::alloc::Global;
 use std::marker::Model;
+use word_graph::WordGraph;
 use words::Word;
 
-/// A query of a script. Its words are elements, over the letters of the script's problem.
+/// A query of a script. Its words are elements, over the letters of the script's problem, and its
+/// tables are standard ones over these letters.
 #[derive(Drop)]
 pub enum Query {
     /// How many classes there are.
@@ -28,13 +31,24 @@ pub enum Query {
     Normal(Word),
     /// The first `count` least words of classes, in short-lex order; where there is a word to come
     /// `after`, of those that are greater than it.
-    Classes { count: usize, after: Option<Word> },
+    Classes {
+        count: usize,
+        after: Option<Word>,
+    },
     /// The reduced rewriting rules, where pairs are two-sided, or there are none.
     RuleList,
     /// The value of the word, where generators are given.
     ElementOf(Word),
     /// The Cayley graphs, where generators are given, and no pairs.
     Cayley,
+    /// The least `count` standard tables of right congruences of at most so many `classes`; where
+    /// there is a table to come `after`, of those that are greater than it (Sims 1994, 5.6;
+    /// libsemigroups, `Sims1`). Relations are given, and no pairs.
+    LowIndex {
+        classes: usize,
+        count: usize,
+        after: Option<WordGraph>,
+    },
 }
 
 /// A script: what it poses, and the queries. Contracts see both. The problem is one that scripts
@@ -71,13 +85,14 @@ impl Script {
         }
     }
 
-    // The query of this name and these tokens behind the others.
+    // The query of this name and these tokens behind the others. Scripts of this kind have it.
     pub(crate) fn with_query(
         self,
         alloc: Global,
         name: QueryName,
         tokens: &[&[u8]],
     ) -> Result<Script, LineFault>
+        requires { is_name_there (is_presented self.problem) name ≡ true }
         ensures ok { IfOk result (λ next. asked self name (texts tokens.now) ≡ Ok next) }
         ensures err { IfErr result (IsLineFault (asked self name (texts tokens.now))) }
     {
@@ -85,9 +100,6 @@ impl Script {
             problem,
             mut queries,
         } = self;
-        if problem.is_presented() && name.needs_generators() {
-            return Err(LineFault::refused(Cause::UnknownLine));
-        }
         if !name.takes(tokens) {
             return Err(LineFault::refused(Cause::WrongNumberOfWords));
         }

@@ -293,8 +293,80 @@ fn pairs_bar_queries(rt: HostRuntime) -> Result<(), Fail> {
         ("trans 2\na = 0 1\ntwosided a a\ncayley a\n", 4, 3),
         ("monoid ab\nleft a 1\nrules\n", 3, 19),
         ("monoid ab\nleft a 1\ncayley\n", 3, 7),
+        ("monoid ab\nleft a 1\nlowindex 0 x\n", 3, 19),
+        ("semigroup ab\ntwosided a b\nindex\nlowindex 1 1\n", 4, 19),
+        ("monoid ab\nright a 1\nlowindex 0\n", 3, 3),
+        ("trans 2\na = 0 1\nleft a a\nlowindex 1 1\n", 4, 7),
     ] {
         assert_eq!(rt; fault_of(alloc, script)?, (line, cause), "{script}");
+    }
+    Ok(())
+}
+
+#[test]
+fn searches_for_tables_are_read_or_refused(rt: HostRuntime) -> Result<(), Fail> {
+    let alloc = rt.alloc();
+    for (query, cause) in [
+        ("lowindex 1 0", 0u8),
+        ("lowindex 16 1000000", 0),
+        ("lowindex 1 5 after 0,0", 0),
+        ("lowindex 2 5 after 0,1/1,1", 0),
+        ("lowindex", 3),
+        ("lowindex 1", 3),
+        ("lowindex 17 1 after", 3),
+        ("lowindex 1 1 after 0,0 0,0", 3),
+        ("lowindex 0 1", 4),
+        ("lowindex 17 1", 4),
+        ("lowindex 1 1000001", 4),
+        ("lowindex x 1 afer 0", 4),
+        ("lowindex 1 - after 0,1", 4),
+        ("lowindex 2 1 after 0,1", 20),
+        ("lowindex 2 1 after 0,2/0,1", 20),
+        ("lowindex 2 1 after 0,1/1", 20),
+        ("lowindex 2 1 after 00,0", 20),
+        ("lowindex 2 1 after x,0", 20),
+        ("lowindex 2 1 after 0,0/0,0", 20),
+        ("lowindex 3 1 after 0,2/1,1/2,2", 20),
+        ("lowindex 1 1 after 0,1/1,1", 20),
+        ("lowindex 1 1 afer 0,1/1,1", 21),
+        ("Lowindex 1 1", 7),
+    ] {
+        let script = format!(in alloc; "monoid ab\n{query}\nindex\n")?;
+        let want = if cause == 0 { (0, 0) } else { (2, cause) };
+        assert_eq!(rt; fault_of(alloc, script.as_str())?, want, "{query}");
+    }
+    Ok(())
+}
+
+#[test]
+fn a_root_is_no_class_of_a_semigroup(rt: HostRuntime) -> Result<(), Fail> {
+    let alloc = rt.alloc();
+    for (query, cause) in [
+        ("lowindex 1 1 after 1/1", 0u8),
+        ("lowindex 2 1 after 1/2/1", 0),
+        ("lowindex 1 1 after 1/2/1", 20),
+        ("lowindex 1 1 after 0", 20),
+        ("lowindex 2 1 after 1/0", 20),
+        ("lowindex 2 1 after 0/0", 20),
+    ] {
+        let script = format!(in alloc; "semigroup a\nrel aa a\n{query}\n")?;
+        let want = if cause == 0 { (0, 0) } else { (3, cause) };
+        assert_eq!(rt; fault_of(alloc, script.as_str())?, want, "{query}");
+    }
+    Ok(())
+}
+
+#[test]
+fn a_script_holds_its_tables(rt: HostRuntime) -> Result<(), Fail> {
+    let alloc = rt.alloc();
+    let script = read_script(alloc, b"monoid a\nlowindex 3 7\nlowindex 4 8 after 1/2/0\n")?;
+    assert_eq!(rt; script.queries().len(), 2);
+    for (query, want) in script
+        .queries()
+        .iter()
+        .zip(["lowindex 3 7", "lowindex 4 8 after 3"])
+    {
+        assert_eq!(rt; text_of(alloc, script.problem(), query)?.as_str(), want);
     }
     Ok(())
 }
@@ -383,6 +455,16 @@ fn text_of(alloc: Global, problem: &Problem, query: &Query) -> Result<String, Fa
         Query::RuleList => Ok(format!(in alloc; "rules")?),
         Query::ElementOf(word) => Ok(format!(in alloc; "element {}", word.len())?),
         Query::Cayley => Ok(format!(in alloc; "cayley {}", alphabet.len())?),
+        Query::LowIndex {
+            classes,
+            count,
+            after,
+        } => match after {
+            None => Ok(format!(in alloc; "lowindex {classes} {count}")?),
+            Some(table) => {
+                Ok(format!(in alloc; "lowindex {classes} {count} after {}", table.nodes())?)
+            }
+        },
     }
 }
 
@@ -409,7 +491,8 @@ fn a_script_holds_what_was_read(rt: HostRuntime) -> Result<(), Fail> {
     assert_eq!(rt; cause_text(21), b"after expected".as_slice());
     assert_eq!(rt; cause_text(18), b"mixed kinds of pairs".as_slice());
     assert_eq!(rt; cause_text(19), b"query not allowed with pairs".as_slice());
-    assert_eq!(rt; cause_text(20), b"".as_slice());
+    assert_eq!(rt; cause_text(20), b"bad table".as_slice());
+    assert_eq!(rt; cause_text(22), b"".as_slice());
     Ok(())
 }
 
