@@ -5,5 +5,6 @@ pub mod GraphLemmas
 pub mod AnswerLemmas
 pub mod AnswerBytes
 pub mod UniqueAnswer
-pub mod SolvedPages
+pub mod PageLemmas
+pub mod TablePages
 pub mod SolvedLemmas

@@ -20,10 +20,11 @@ use Rattle.congruence.specs.CayleyGraphs.{AreTablesFor}
 use Rattle.congruence.specs.Indexes.{IsIndexWithin}
 use Rattle.query_lang.specs.declared.script.Query.{Query}
 use Rattle.query_lang.specs.declared.script.Query.TheVariants as query
-use Rattle.query_lang.specs.Query.{IsQueryOf, needs_generators, is_cayley}
+use Rattle.query_lang.specs.Query.{IsQueryOf, needs_generators, needs_no_pairs}
 use Rattle.report.specs.Answer.{AreLines, cayley_lines}
-use Rattle.report.specs.Gains.{AreBytesOf, ArePageLines}
-use Rattle.report.specs.Lines.{count_line, over_line, infinite_line, equal_line, normal_line, page_lines, rule_line, end_line}
+use Rattle.report.specs.Gains.{AreBytesOf}
+use Rattle.report.specs.Pages.{ArePageLines}
+use Rattle.report.specs.Lines.{count_line, over_line, infinite_line, equal_line, normal_line, page_lines, rule_line, word_line, end_line}
 use Rattle.report.proofs.Alike.{graphs_alike}
 use Rattle.report.proofs.Elements.{class_over, rules_over, one_shape}
 
@@ -69,14 +70,19 @@ module _ (p s : Problem) (solved : s ≡ p) where
     solved_normal u w h = (w, of_problem (λ R. IsNormal R u w) h, refl)
 
     -- a page of the classes
-    page : (q : Query) (count : ℕ) (after asked : Option Word) (letters : List ℕ) → q ≡ query.Classes count after → asked ≡ after → letters ≡ letters_of p → (lines : List (List ℕ)) → ArePageLines (SameClassOf s) letters asked count lines → AreLines p bound q lines
+    page : (q : Query) (count : ℕ) (after asked : Option Word) (letters : List ℕ) → q ≡ query.Classes count after → asked ≡ after → letters ≡ letters_of p → (lines : List (List ℕ)) → ArePageLines (IsLeast (SameClassOf s)) ◌≺◌ (word_line letters) asked count lines → AreLines p bound q lines
     page q count after asked letters is same over lines h =
-        let here = subst (λ cursor. IsPage (IsLeast (SameClassOf s)) ◌≺◌ cursor count h.words h.more) same h.is_page in
+        let here = subst (λ cursor. IsPage (IsLeast (SameClassOf s)) ◌≺◌ cursor count h.items h.more) same h.is_page in
         subst (λ s. AreLines p bound s lines) (sym is)
-        (h.words, h.more, of_problem (λ R. IsPage (IsLeast R) ◌≺◌ after count h.words h.more) here, h.are_lines ∙ ap (λ ls. page_lines ls h.words h.more) over)
+        (record {
+          items = h.items;
+          more = h.more;
+          is_page = of_problem (λ R. IsPage (IsLeast R) ◌≺◌ after count h.items h.more) here;
+          are_lines = h.are_lines ∙ ap (λ ls. page_lines (word_line ls) h.items h.more) over;
+        })
 
     module _ (q : Query) (count : ℕ) (after asked : Option Word) (letters : List ℕ) (is : q ≡ query.Classes count after) (same : asked ≡ after) (over : letters ≡ letters_of p) where
-      pub solved_page : {K : Type 0} (sink : Ghosts K) (old new : K) (r : Result (Unit {0}) WriteFault) → Writes sink (λ _. AreBytesOf (ArePageLines (SameClassOf s) letters asked count)) old new r → Writes sink (λ _. AreBytesOf (AreLines p bound q)) old new r
+      pub solved_page : {K : Type 0} (sink : Ghosts K) (old new : K) (r : Result (Unit {0}) WriteFault) → Writes sink (λ _. AreBytesOf (ArePageLines (IsLeast (SameClassOf s)) ◌≺◌ (word_line letters) asked count)) old new r → Writes sink (λ _. AreBytesOf (AreLines p bound q)) old new r
       solved_page sink old new r = meant_weaker sink old new r (λ _ bytes h. record { lines = h.lines; are_such = page q count after asked letters is same over h.lines h.are_such; are_bytes = h.are_bytes })
 
 -- what asks for generators is there only where they are given
@@ -92,5 +98,5 @@ pub solved_cayley : (p : Problem) (bound : ℕ) (q : Query) (t : CayleyTables) �
     → AreLines p bound query.Cayley (cayley_lines (letters_of p) (count_of p) t.words (edge t.right) (edge t.left) ++ end_line false ∷ [])
 solved_cayley p bound q t is posed asked tables =
     let shape = one_shape p (is_generated p q query.Cayley is refl asked) posed in
-    let alike = related_by_value p shape (asked.unpaired (ap is_cayley is)) in
+    let alike = related_by_value p shape (asked.unpaired (ap needs_no_pairs is)) in
     (t.words, edge t.right, edge t.left, graphs_alike (SameValueOf p) (SameClassOf p) (λ u v. ((alike u v).1, (alike u v).0)) (count_of p) t.words (edge t.right) (edge t.left) tables.graphs, refl)

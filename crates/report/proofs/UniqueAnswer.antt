@@ -1,5 +1,5 @@
 -- A query has one answer.
-use Rattle.std.proofs.Common.{◌≡◌, ℕ, zero, suc, ◌+◌, ◌<◌, ◌≤◌, Bool, true, false, inl, inr, List, [], ◌∷◌, ◌++◌, length, get_or, map, None, refl, sym, ap, ap₂, subst, ◌∙◌, arith}
+use Rattle.std.proofs.Common.{◌≡◌, ℕ, zero, suc, ◌+◌, ◌<◌, ◌≤◌, Bool, true, false, inl, inr, List, [], ◌∷◌, ◌++◌, length, get_or, map, Option, None, option_map, refl, sym, ap, ap₂, subst, ◌∙◌, arith}
 use Rattle.std.specs.Prelude.{codes, decimal}
 use Rattle.std.specs.List.{flat_map, range_with_len}
 use Rattle.std.proofs.lemmas.Bool.{cases_lt}
@@ -8,11 +8,13 @@ use Rattle.std.proofs.Math.Nat.{eq-or-lt_of_le}
 use Rattle.theory.specs.Word.{Word}
 use Rattle.theory.specs.ShortLex.{◌≺◌}
 use Rattle.theory.specs.Class.{IsLeast, HasIndex, IsClassList, IsInfinite, IsReducedRule, RuleBefore}
+use Rattle.theory.specs.Graph.{Graph}
+use Rattle.theory.specs.LowIndex.{IsLowIndex, TableLess}
 use Rattle.theory.specs.Value.{IsProduct, SameValue, SameElement, HasAtMostValues, HasMoreValues}
 use Rattle.theory.specs.declared.Kind.{Kind}
 use Rattle.theory.proofs.Words.{before_irrefl}
 use Rattle.theory.proofs.Chains.{joined_congruence}
-use Rattle.theory.proofs.Listings.{list_unique, page_unique, start_no_longer}
+use Rattle.theory.proofs.Listings.{IsStrictOrder, list_unique, page_unique, start_no_longer}
 use Rattle.theory.proofs.Completeness.{normal_unique}
 use Rattle.theory.proofs.ClassLaws.{IsPartialEquivalence, same_class_equivalence, shortlex_strict, rule_order}
 use Rattle.theory.proofs.ValueLaws.{values_bound}
@@ -27,11 +29,14 @@ use Rattle.problem.specs.declared.kinds.Problem.{Problem}
 use Rattle.problem.specs.declared.kinds.Problem.TheVariants as problem
 use Rattle.problem.specs.Problem.{SameClassOf, IsDecided, IsUndecided, letters_of, count_of, no_matrix, no_truncated_matrix}
 use Rattle.congruence.specs.CayleyGraphs.{IsNumbered, AreCayleyGraphs}
+use Rattle.query_lang.specs.Tables.{rows_in}
 use Rattle.query_lang.specs.declared.script.Query.{Query}
-use Rattle.query_lang.specs.declared.script.Query.TheVariants.{Index, Equal, Normal, Classes, RuleList, ElementOf, Cayley}
-use Rattle.report.specs.Lines.{index_line, end_line, normal_line, word_line, rule_line, numbers_text, cayley_line}
-use Rattle.report.specs.Answer.{cayley_lines, AreLines, IsAnswer}
+use Rattle.query_lang.specs.declared.script.Query.TheVariants.{Index, Equal, Normal, Classes, RuleList, ElementOf, Cayley, LowIndex}
+use Rattle.report.specs.Lines.{index_line, end_line, normal_line, page_lines, word_line, rule_line, table_line, numbers_text, cayley_line}
+use Rattle.report.specs.Pages.{ArePageLines}
+use Rattle.report.specs.Answer.{cayley_lines, AreLines, AreTableLines, IsAnswer}
 use Rattle.report.proofs.Elements.{list_start, listed_least}
+use Rattle.report.proofs.TablePages.{table_order}
 
 joined_same : {A : Type 0} (f g : ℕ → List A) (from n : ℕ) → ((i : ℕ) → from ≤ i → i < from + n → f i ≡ g i) → flat_map f (range_with_len from n) ≡ flat_map g (range_with_len from n)
 joined_same f g from zero h = refl
@@ -115,6 +120,22 @@ not_both (problem.PPerm p) budgets few more = values_not_both p.generators [] (p
 not_both (problem.BMat p) budgets few more = values_not_both p.generators no_matrix (boolean_products (0, 0)) budgets.elements few more
 not_both (problem.MaxPlus p) budgets few more = values_not_both p.generators no_truncated_matrix (truncated_products (0, 0)) budgets.elements few more
 
+-- a cursor has one page of each size
+one_page : {A : Type 0} (P : A → Type 0) (Less : A → A → Type 0) → IsStrictOrder P Less → (line : A → List ℕ) (after : Option A) (count : ℕ) (lines others : List (List ℕ))
+    → ArePageLines P Less line after count lines → ArePageLines P Less line after count others → lines ≡ others
+one_page P Less order line after count lines others h g =
+    let same = page_unique P Less order after count h.items g.items h.more g.more h.is_page g.is_page in
+    h.are_lines ∙ ap₂ (page_lines line) same.0 same.1 ∙ sym g.are_lines
+
+one_table_page : (p : Problem) (classes count : ℕ) (after : Option Graph) (lines others : List (List ℕ)) → AreTableLines p classes count after lines → AreTableLines p classes count after others → lines ≡ others
+one_table_page (problem.Presented p) classes count after lines others h g =
+    let relations = p.congruence.presentation in
+    one_page (IsLowIndex relations classes) TableLess (table_order relations classes) table_line (option_map rows_in after) count lines others h g
+one_table_page (problem.Transf p) classes count after lines others h g = absurd h
+one_table_page (problem.PPerm p) classes count after lines others h g = absurd h
+one_table_page (problem.BMat p) classes count after lines others h g = absurd h
+one_table_page (problem.MaxPlus p) classes count after lines others h g = absurd h
+
 module _ (p : Problem) (bound : ℕ) where
   abbrev R : Word → Word → Type 0
   R = SameClassOf p
@@ -133,8 +154,7 @@ module _ (p : Problem) (bound : ℕ) where
   one_lines (Equal u v) lines others (inr h) (inr g) = h.1 ∙ sym g.1
   one_lines (Normal u) lines others h g = h.2 ∙ ap (λ w. normal_line (letters_of p) w ∷ []) (normal_unique R known.symmetric known.transitive u h.0 g.0 h.1 g.1) ∙ sym g.2
   one_lines (Classes count after) lines others h g =
-      let same = page_unique (IsLeast R) ◌≺◌ (shortlex_strict (IsLeast R)) after count h.0 g.0 h.1 g.1 h.2 g.2 in
-      h.3 ∙ ap₂ (λ words more. map (word_line (letters_of p)) words ++ end_line more ∷ []) same.0 same.1 ∙ sym g.3
+      one_page (IsLeast R) ◌≺◌ (shortlex_strict (IsLeast R)) (word_line (letters_of p)) after count lines others h g
   one_lines RuleList lines others h g =
       h.2 ∙ ap (λ rules. map (rule_line (letters_of p)) rules ++ end_line false ∷ []) (list_unique (λ rule. IsReducedRule R rule.0 rule.1) RuleBefore (rule_order R known) None h.0 g.0 h.1 g.1) ∙ sym g.2
   one_lines (ElementOf u) lines others h g = h ∙ sym g
@@ -144,6 +164,7 @@ module _ (p : Problem) (bound : ℕ) where
       h.4
       ∙ ap (λ rows. rows ++ end_line false ∷ []) (graphs_same R known (letters_of p) (count_of p) h.0 h.1 h.2 g.1 g.2 h.3 moved ∙ ap (λ ws. cayley_lines (letters_of p) (count_of p) ws g.1 g.2) (sym words))
       ∙ sym g.4
+  one_lines (LowIndex classes count after) lines others h g = one_table_page p classes count after lines others h g
 
 pub one_answer : (p : Problem) (budgets : Budgets) (bound : ℕ) (query : Query) (lines others : List (List ℕ)) (undecided other : Bool)
     → IsAnswer p budgets bound query lines undecided → IsAnswer p budgets bound query others other → (lines ≡ others) × (undecided ≡ other)

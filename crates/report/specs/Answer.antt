@@ -1,24 +1,38 @@
 -- What a query asks, over relatedness, least words, the class list and the bound alone (Froidure
 -- and Pin 1997; libsemigroups: Congruence).
-use Rattle.std.specs.Prelude.{◌≡◌, ℕ, Bool, true, false, IsTrue, ◌⊎◌, List, [], ◌∷◌, ◌++◌, length, map, slice_index_or}
+use Rattle.std.specs.Prelude.{◌≡◌, ℕ, Bool, true, false, IsTrue, ◌⊎◌, List, [], ◌∷◌, ◌++◌, length, map, slice_index_or, Option, option_map}
 use Rattle.std.specs.List.{range_with_len}
 use Rattle.theory.specs.Word.{Word}
 use Rattle.theory.specs.ShortLex.{◌≺◌}
-use Rattle.theory.specs.Listing.{IsPage}
+use Rattle.theory.specs.Graph.{Graph}
+use Rattle.theory.specs.LowIndex.{IsLowIndex, TableLess}
 use Rattle.theory.specs.Class.{IsLeast, IsNormal, HasIndex, IsInfinite, IsRuleList}
 use Rattle.problem.specs.declared.budgets.Budgets.{Budgets}
 use Rattle.problem.specs.declared.kinds.Problem.{Problem}
+use Rattle.problem.specs.declared.kinds.Problem.TheVariants.{Presented, Transf, PPerm, BMat, MaxPlus}
 use Rattle.problem.specs.Problem.{SameClassOf, IsDecided, IsUndecided, letters_of, count_of, value_text}
+use Rattle.query_lang.specs.Tables.{rows_in}
 use Rattle.query_lang.specs.declared.script.Query.{Query}
-use Rattle.query_lang.specs.declared.script.Query.TheVariants.{Index, Equal, Normal, Classes, RuleList, ElementOf, Cayley}
+use Rattle.query_lang.specs.declared.script.Query.TheVariants.{Index, Equal, Normal, Classes, RuleList, ElementOf, Cayley, LowIndex}
 use Rattle.congruence.specs.CayleyGraphs.{AreCayleyGraphs}
-use Rattle.report.specs.Lines.{undecided_line, index_line, infinite_line, equal_line, element_line, end_line, normal_line, word_line, rule_line, cayley_line}
+use Rattle.report.specs.Lines.{undecided_line, index_line, infinite_line, equal_line, element_line, end_line, normal_line, word_line, rule_line, table_line, cayley_line}
+use Rattle.report.specs.Pages.{ArePageLines}
 
 -- the lines of all rows of the Cayley graphs
 abbrev pub cayley_lines : List ℕ → ℕ → List Word → (ℕ → ℕ → ℕ) → (ℕ → ℕ → ℕ) → List (List ℕ)
 cayley_lines letters k words right left =
     map (λ i. cayley_line letters k i (slice_index_or words i []) (right i) (left i))
     (range_with_len 0 (length words))
+
+-- the lines of a page of tables of at most so many classes, where relations are given
+abbrev pub AreTableLines : Problem → ℕ → ℕ → Option Graph → List (List ℕ) → Type 0
+AreTableLines (Presented p) classes count after =
+    ArePageLines (IsLowIndex p.congruence.presentation classes) TableLess table_line
+    (option_map rows_in after) count
+AreTableLines (Transf p) classes count after = λ lines. ⊥
+AreTableLines (PPerm p) classes count after = λ lines. ⊥
+AreTableLines (BMat p) classes count after = λ lines. ⊥
+AreTableLines (MaxPlus p) classes count after = λ lines. ⊥
 
 -- the lines of a query whose answer is defined, with the bound up to which an index is written out
 abbrev pub AreLines : Problem → ℕ → Query → List (List ℕ) → Type 0
@@ -32,9 +46,7 @@ AreLines p bound (Normal u) lines =
     (w : Word) × IsNormal (SameClassOf p) u w
     × (lines ≡ normal_line (letters_of p) w ∷ [])
 AreLines p bound (Classes count after) lines =
-    (words : List Word) × (more : Bool)
-    × IsPage (IsLeast (SameClassOf p)) ◌≺◌ after count words more
-    × (lines ≡ map (word_line (letters_of p)) words ++ end_line more ∷ [])
+    ArePageLines (IsLeast (SameClassOf p)) ◌≺◌ (word_line (letters_of p)) after count lines
 AreLines p bound RuleList lines =
     (rules : List (Word × Word)) × IsRuleList (SameClassOf p) rules
     × (lines ≡ map (rule_line (letters_of p)) rules ++ end_line false ∷ [])
@@ -43,6 +55,7 @@ AreLines p bound Cayley lines =
     (words : List Word) × (right : (ℕ → ℕ → ℕ)) × (left : (ℕ → ℕ → ℕ))
     × AreCayleyGraphs (SameClassOf p) (count_of p) words right left
     × (lines ≡ cayley_lines (letters_of p) (count_of p) words right left ++ end_line false ∷ [])
+AreLines p bound (LowIndex classes count after) lines = AreTableLines p classes count after lines
 
 -- whether a query is answered only where the problem is decided
 abbrev pub waits : Query → Bool
@@ -53,6 +66,7 @@ waits (Classes count after) = true
 waits RuleList = true
 waits (ElementOf u) = false
 waits Cayley = true
+waits (LowIndex classes count after) = false
 
 -- the answer of a query is defined: the problem is decided within the budgets, where the query
 -- waits for that

@@ -1,17 +1,12 @@
 -- The bytes that a sink gains with an answer.
-use Rattle.std.specs.Prelude.{◌≡◌, ℕ, Bool, true, false, List, Option}
+use Rattle.std.specs.Prelude.{◌≡◌, ℕ, Bool, true, false, List}
 use Rattle.std.specs.List.{flat_map}
-use Rattle.theory.specs.Word.{Word}
-use Rattle.theory.specs.ShortLex.{◌≺◌}
-use Rattle.theory.specs.Listing.{IsPage}
-use Rattle.theory.specs.Class.{IsLeast}
 use Rattle.problem.specs.declared.budgets.Budgets.{Budgets}
 use Rattle.problem.specs.declared.kinds.Problem.{Problem}
 use Rattle.query_lang.specs.declared.script.Query.{Query}
 use Rattle.report.specs.declared.answers.Answered.{Answered}
 use Rattle.report.specs.declared.answers.Answered.TheVariants.{Defined, Undecided}
 use Rattle.report.specs.Answer.{IsAnswer}
-use Rattle.report.specs.Lines.{page_lines}
 
 -- the bytes of lines
 abbrev pub bytes_of : List (List ℕ) → List ℕ
@@ -31,11 +26,3 @@ is_undecided Undecided = true
 abbrev pub AreAnswerBytes : Problem → Budgets → ℕ → Query → Answered → List ℕ → Type 0
 AreAnswerBytes p budgets bound query answered =
     AreBytesOf (λ lines. IsAnswer p budgets bound query lines (is_undecided answered))
-
--- the lines of a page of the least words of R's classes
-pub record ArePageLines (R : Word → Word → Type 0) (letters : List ℕ) (after : Option Word)
-    (count : ℕ) (lines : List (List ℕ)) : Type 0 where
-  pub words : List Word
-  pub more : Bool
-  pub is_page : IsPage (IsLeast R) ◌≺◌ after count words more
-  pub are_lines : lines ≡ page_lines letters words more

@@ -2,6 +2,8 @@
 use Rattle.std.specs.Prelude.{ℕ, Bool, List, [], ◌∷◌, ◌++◌, map, codes, decimal, nat_le, if◌then◌else◌}
 use Rattle.std.specs.List.{flat_map, range_with_len}
 use Rattle.theory.specs.Word.{Word}
+use Rattle.theory.specs.LowIndex.{Rows, graph_of}
+use Rattle.word_graph.specs.TableText.{table_text}
 use Rattle.words.specs.WordText.{text_of}
 
 abbrev pub undecided_line : List ℕ
@@ -33,6 +35,14 @@ element_line entries = codes "element " ++ (entries ++ codes "\n")
 abbrev pub end_line : Bool → List ℕ
 end_line more = if more then codes "more\n" else codes "end\n"
 
+-- a page of items, and its end
+abbrev pub page_lines : {A : Type 0} → (A → List ℕ) → List A → Bool → List (List ℕ)
+page_lines line items more = map line items ++ end_line more ∷ []
+
+-- a table, whose rows these are
+abbrev pub table_line : Rows → List ℕ
+table_line rows = table_text (graph_of rows) ++ codes "\n"
+
 -- numbers of k letters, each after a space
 abbrev pub numbers_text : ℕ → (ℕ → ℕ) → List ℕ
 numbers_text k number = flat_map (λ a. codes " " ++ decimal (number a)) (range_with_len 0 k)
@@ -43,10 +53,6 @@ module _ (letters : List ℕ) where
 
   abbrev pub word_line : Word → List ℕ
   word_line w = text_of letters w ++ codes "\n"
-
-  -- a page of words, and its end
-  abbrev pub page_lines : List Word → Bool → List (List ℕ)
-  page_lines words more = map word_line words ++ end_line more ∷ []
 
   abbrev pub rule_line : Word × Word → List ℕ
   rule_line p = text_of letters p.0 ++ (codes " " ++ (text_of letters p.1 ++ codes "\n"))

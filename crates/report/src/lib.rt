@@ -9,6 +9,7 @@ mod listings;
 mod single;
 mod solved;
 mod state;
+mod tables;
 #[cfg(test)]
 mod tests;
 

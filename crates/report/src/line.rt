@@ -2,12 +2,14 @@
 ghost use Rattle.std.specs.Prelude.{◌≡◌, ◌++◌, length, decimal, codes, OnOk, IfOk};
 ghost use Rattle.theory.specs.Word.{IsOver};
 ghost use Rattle.words.specs.WordText.{text_of};
+ghost use Rattle.word_graph.specs.TableText.{table_text};
 ghost use Rattle.ports.specs.Writes.{WritesBytes};
 
 use itoa::Buffer;
 use ports::{NoMemory, Sink, WriteFault, write_all};
 use std::alloc::Global;
 use std::marker::Model;
+use word_graph::WordGraph;
 use words::{Alphabet, Word};
 
 /// A line that is put together, and then written as one piece. Contracts see its bytes.
@@ -39,6 +41,14 @@ impl Line {
         ensures { IfOk result (λ line. line ≡ text_of alphabet.now word.now) }
     {
         let bytes = alphabet.print_word(alloc, word)?;
+        Ok(Line { bytes })
+    }
+
+    /// A line that begins with a table. Only want of memory refuses it.
+    pub fn of_table(alloc: Global, table: &WordGraph) -> Result<Line, NoMemory>
+        ensures { IfOk result (λ line. line ≡ table_text table.now) }
+    {
+        let bytes = table.print_table(alloc)?;
         Ok(Line { bytes })
     }
 

@@ -2,10 +2,14 @@
 ghost use Rattle.std.specs.Prelude.{◌≡◌, length, IfOk, IsTrue};
 ghost use Rattle.std.specs.Option.{option_copied};
 ghost use Rattle.ports.specs.Writes.{Writes};
+ghost use Rattle.theory.specs.Class.{IsLeast};
+ghost use Rattle.theory.specs.ShortLex.{◌≺◌};
 ghost use Rattle.problem.specs.Problem.{SameClassOf, count_of, letters_of};
 ghost use Rattle.query_lang.specs.Query.{IsQueryOf};
 ghost use Rattle.report.specs.Answer.{AreLines, waits};
-ghost use Rattle.report.specs.Gains.{AreBytesOf, ArePageLines};
+ghost use Rattle.report.specs.Gains.{AreBytesOf};
+ghost use Rattle.report.specs.Lines.{word_line};
+ghost use Rattle.report.specs.Pages.{ArePageLines};
 
 use crate::graphs::write_cayley;
 use crate::listings::{write_end, write_rules, write_word};
@@ -39,8 +43,9 @@ fn write_classes<O: Sink>(
 ) -> Result<(), WriteFault>
     requires letters { letters_of solved.now.problem ≡ alphabet.now }
     requires one_each { count_of solved.now.problem ≡ length alphabet.now }
-    ensures { Writes O.Sink (λ _. AreBytesOf (ArePageLines (SameClassOf solved.now.problem)
-        alphabet.now (option_copied after.entry) count)) sink.old sink.new result }
+    ensures { Writes O.Sink (λ _. AreBytesOf (ArePageLines
+        (IsLeast (SameClassOf solved.now.problem)) ◌≺◌ (word_line alphabet.now)
+        (option_copied after.entry) count)) sink.old sink.new result }
 {
     let mut cursor = copied(alloc, after)?;
     for _ in 0..count {
@@ -91,6 +96,6 @@ pub fn write_solved<O: Sink>(
             write_rules(alloc, alphabet, &rules, sink)
         }
         Query::Cayley => write_cayley(alloc, problem, solved.tables(), sink),
-        Query::ElementOf(_) => unreachable!(),
+        Query::ElementOf(_) | Query::LowIndex { .. } => unreachable!(),
     }
 }
