@@ -13,6 +13,8 @@ mod fault;
 #[cfg(test)]
 mod pair_tests;
 #[cfg(test)]
+mod table_tests;
+#[cfg(test)]
 mod tests;
 mod top;
 mod whole;
