@@ -156,39 +156,60 @@ fn check_after(
     Ok(())
 }
 
+// The classes, the words, what comes after a cursor, and the index.
+fn check_answers(rt: &impl Abort, alloc: Global, solved: &Solved) -> Result<(), Fail>
+    requires monoid { has_empty_word solved.now.problem ≡ true }
+    requires letters { count_of solved.now.problem ≡ 2 }
+{
+    check_classes(rt, alloc, solved, &["1", "b", "ba"])?;
+    check_words(rt, alloc, solved)?;
+    check_after(rt, alloc, solved, "a", "b")?;
+    assert_eq!(rt; solved.index(2)?, Index::Over);
+    Ok(())
+}
+
 #[test]
 fn right_pairs_hold_at_the_front(rt: HostRuntime) -> Result<(), Fail> {
     let alloc = rt.alloc();
     let congruence = collapsed(&rt, alloc, Kind::Right)?;
-    if let Some(solved) = known(&rt, alloc, congruence, &budgets(50, 0, 9))? {
-        check_classes(&rt, alloc, &solved, &["1", "b", "ba"])?;
-        check_words(&rt, alloc, &solved)?;
-        check_after(&rt, alloc, &solved, "a", "b")?;
-        assert_eq!(rt; solved.index(2)?, Index::Over);
-    } else {
-        panic!(rt; "undecided");
+    match known(&rt, alloc, congruence, &budgets(50, 0, 9))? {
+        Some(solved) => check_answers(&rt, alloc, &solved),
+        None => panic!(rt; "undecided"),
     }
-    Ok(())
+}
+
+// The budgets suffice, and the classes are those of the texts, in order.
+fn check_known<R: Abort + Threads + Sync>(
+    rt: &R,
+    alloc: Global,
+    congruence: Congruence,
+    budgets: &Budgets,
+    texts: &[&str],
+) -> Result<(), Fail> {
+    match known(rt, alloc, congruence, budgets)? {
+        Some(solved) => check_classes(rt, alloc, &solved, texts),
+        None => panic!(rt; "undecided"),
+    }
 }
 
 #[test]
 fn left_pairs_hold_at_the_end(rt: HostRuntime) -> Result<(), Fail> {
     let alloc = rt.alloc();
     let congruence = collapsed(&rt, alloc, Kind::Left)?;
-    match known(&rt, alloc, congruence, &budgets(50, 50, 9))? {
-        Some(solved) => check_classes(&rt, alloc, &solved, &["1", "b", "ab"]),
-        None => panic!(rt; "undecided"),
-    }
+    check_known(
+        &rt,
+        alloc,
+        congruence,
+        &budgets(50, 50, 9),
+        &["1", "b", "ab"],
+    )
 }
 
 #[test]
 fn two_sided_pairs_hold_anywhere(rt: HostRuntime) -> Result<(), Fail> {
     let alloc = rt.alloc();
     let congruence = collapsed(&rt, alloc, Kind::TwoSided)?;
-    match known(&rt, alloc, congruence, &budgets(0, 50, 0))? {
-        Some(solved) => check_classes(&rt, alloc, &solved, &["1"]),
-        None => panic!(rt; "undecided"),
-    }
+    check_known(&rt, alloc, congruence, &budgets(0, 50, 0), &["1"])
 }
 
 #[test]
@@ -197,10 +218,25 @@ fn the_empty_word_is_no_class_of_a_semigroup(rt: HostRuntime) -> Result<(), Fail
     let relations = [("aa", "a"), ("bb", "b"), ("ab", "ba")];
     let presentation = presented(alloc, "ab", false, &relations)?;
     let congruence = Congruence::new(presentation, Kind::TwoSided, Pairs::new(alloc));
-    match known(&rt, alloc, congruence, &budgets(50, 50, 0))? {
-        Some(solved) => check_classes(&rt, alloc, &solved, &["a", "b", "ab"]),
-        None => panic!(rt; "undecided"),
-    }
+    check_known(
+        &rt,
+        alloc,
+        congruence,
+        &budgets(50, 50, 0),
+        &["a", "b", "ab"],
+    )
+}
+
+// Whether the budgets suffice for the cyclic monoid of order three.
+fn suffice<R: Abort + Threads + Sync>(
+    rt: &R,
+    alloc: Global,
+    budgets: &Budgets,
+) -> Result<bool, Fail> {
+    let presentation = presented(alloc, "a", true, &[("aaa", "")])?;
+    let congruence = Congruence::new(presentation, Kind::TwoSided, Pairs::new(alloc));
+    let known = known(rt, alloc, congruence, budgets)?;
+    Ok(known.is_some())
 }
 
 #[test]
@@ -212,10 +248,8 @@ fn each_budget_suffices(rt: HostRuntime) -> Result<(), Fail> {
         (0, 3, 0, true),
         (0, 0, 3, true),
     ] {
-        let presentation = presented(alloc, "a", true, &[("aaa", "")])?;
-        let congruence = Congruence::new(presentation, Kind::TwoSided, Pairs::new(alloc));
-        let known = known(&rt, alloc, congruence, &budgets(defs, rows, length))?;
-        assert_eq!(rt; known.is_some(), decided);
+        let known = suffice(&rt, alloc, &budgets(defs, rows, length))?;
+        assert_eq!(rt; known, decided);
     }
     Ok(())
 }
@@ -281,35 +315,46 @@ fn check_symmetric(rt: &impl Abort, alloc: Global, solved: &Solved) -> Result<()
     Ok(())
 }
 
+// The budgets suffice for the symmetric group.
+fn check_budgets<R: Abort + Threads + Sync>(
+    rt: &R,
+    alloc: Global,
+    budgets: &Budgets,
+) -> Result<(), Fail> {
+    let presentation = presented(alloc, "ab", true, &RELATIONS)?;
+    match decided(rt, alloc, presentation, budgets)? {
+        Some(solved) => check_symmetric(rt, alloc, &solved),
+        None => panic!(rt; "undecided"),
+    }
+}
+
 #[test]
 fn answers_do_not_tell_which_lane_won(rt: HostRuntime) -> Result<(), Fail> {
     let alloc = rt.alloc();
-    for budgets in [budgets(50, 0, 0), budgets(0, 50, 0), budgets(0, 0, 6)] {
-        let presentation = presented(alloc, "ab", true, &RELATIONS)?;
-        match decided(&rt, alloc, presentation, &budgets)? {
-            Some(solved) => check_symmetric(&rt, alloc, &solved)?,
-            None => panic!(rt; "undecided"),
-        }
+    check_budgets(&rt, alloc, &budgets(50, 0, 0))?;
+    check_budgets(&rt, alloc, &budgets(0, 50, 0))?;
+    check_budgets(&rt, alloc, &budgets(0, 0, 6))
+}
+
+// The turns of the schedule decide the symmetric group.
+fn check_schedule(rt: &impl Abort, alloc: Global, schedule: &[usize]) -> Result<(), Fail> {
+    let presentation = presented(alloc, "ab", true, &RELATIONS)?;
+    let congruence = Congruence::new(presentation, Kind::TwoSided, Pairs::new(alloc));
+    assert!(rt; congruence.presentation().relations().len() < 10);
+    let turns = schedule.to_vec(alloc)?;
+    let problem = Problem::Presented(congruence);
+    match decide(alloc, &problem, &budgets(10_000, 1_000, 12), &turns)? {
+        Verdict::Known(solved) => check_symmetric(rt, alloc, &solved),
+        Verdict::Undecided(_) => panic!(rt; "undecided"),
     }
-    Ok(())
 }
 
 #[test]
 fn no_schedule_changes_an_answer(rt: HostRuntime) -> Result<(), Fail> {
     let alloc = rt.alloc();
-    let schedules: [&[usize]; 3] = [&[0, 0, 0, 0], &[2, 1, 0, 2, 1, 0], &[]];
-    for schedule in schedules {
-        let presentation = presented(alloc, "ab", true, &RELATIONS)?;
-        let congruence = Congruence::new(presentation, Kind::TwoSided, Pairs::new(alloc));
-        assert!(rt; congruence.presentation().relations().len() < 10);
-        let turns = schedule.to_vec(alloc)?;
-        let problem = Problem::Presented(congruence);
-        match decide(alloc, &problem, &budgets(10_000, 1_000, 12), &turns)? {
-            Verdict::Known(solved) => check_symmetric(&rt, alloc, &solved)?,
-            Verdict::Undecided(_) => panic!(rt; "undecided"),
-        }
-    }
-    Ok(())
+    check_schedule(&rt, alloc, &[0, 0, 0, 0])?;
+    check_schedule(&rt, alloc, &[2, 1, 0, 2, 1, 0])?;
+    check_schedule(&rt, alloc, &[])
 }
 
 // Whether completion within the length decides the monoid of the relations on a and b.
@@ -419,16 +464,24 @@ fn completion_wins_or_is_spent(rt: HostRuntime) -> Result<(), Fail> {
     Ok(())
 }
 
+// How many lanes race with a pair of the kind.
+fn lanes_with_pair<R: Abort + Threads + Sync>(
+    rt: &R,
+    alloc: Global,
+    kind: Kind,
+) -> Result<usize, Fail> {
+    let congruence = collapsed(rt, alloc, kind)?;
+    match known(rt, alloc, congruence, &budgets(50, 50, 9))? {
+        Some(solved) => Ok(solved.lanes().lanes().len()),
+        None => panic!(rt; "undecided"),
+    }
+}
+
 #[test]
 fn completion_is_no_lane_for_one_sided_pairs(rt: HostRuntime) -> Result<(), Fail> {
     let alloc = rt.alloc();
-    for kind in [Kind::Right, Kind::Left] {
-        let congruence = collapsed(&rt, alloc, kind)?;
-        match known(&rt, alloc, congruence, &budgets(50, 50, 9))? {
-            Some(solved) => assert_eq!(rt; solved.lanes().lanes().len(), 2),
-            None => panic!(rt; "undecided"),
-        }
-    }
+    assert_eq!(rt; lanes_with_pair(&rt, alloc, Kind::Right)?, 2);
+    assert_eq!(rt; lanes_with_pair(&rt, alloc, Kind::Left)?, 2);
     Ok(())
 }
 
