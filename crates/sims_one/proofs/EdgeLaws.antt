@@ -9,7 +9,7 @@ use Rattle.theory.specs.Congruence.{Presentation}
 use Rattle.word_graph.proofs.NumberLaws.{entry_below}
 use Rattle.sims_one.specs.Targets.{seen, path_in, IsTable}
 use Rattle.sims_one.specs.declared.known.Known.{Known}
-use Rattle.sims_one.specs.Known.{HasEdges, Fits, Keeps, Extends}
+use Rattle.sims_one.specs.Known.{HasEdges, HasKnown, Keeps, Extends}
 use Rattle.sims_one.proofs.FrontLaws.{times_more}
 use Rattle.sims_one.proofs.PathLaws.{letter_over}
 
@@ -123,14 +123,14 @@ sides_meet_back p node r s there n u table inside m m' left right = sym (table.s
 
 -- a relation that is read at a node
 module _ (p : Presentation) (k : ℕ) (letters : k ≡ p.letters) (known : Known) (node : ℕ) (inside : node < known.nodes) (r s : Word) (meet : Meet p node r s) where
-  part : (u : List ℕ) (w : Word) (count end : ℕ) → Leads k known node w count end → Fits known u → path_in p.letters u node (take count w) ≡ Some end
+  part : (u : List ℕ) (w : Word) (count end : ℕ) → Leads k known node w count end → HasKnown known u → path_in p.letters u node (take count w) ≡ Some end
   part u w count end leads fits = subst (λ z. path_in z u node (take count w) ≡ Some end) letters (leads u fits.edges)
 
-  whole : (u : List ℕ) (w : Word) (count end : ℕ) → Leads k known node w count end → count ≡ length w → Fits known u → path_in p.letters u node w ≡ Some end
+  whole : (u : List ℕ) (w : Word) (count end : ℕ) → Leads k known node w count end → count ≡ length w → HasKnown known u → path_in p.letters u node w ≡ Some end
   whole u w count end leads all fits =
       subst (λ (v : Word). path_in p.letters u node v ≡ Some end) (take_all count w (omega (arith, all))) (part u w count end leads fits)
 
-  seen_by : (u : List ℕ) → Fits known u → node < seen u
+  seen_by : (u : List ℕ) → HasKnown known u → node < seen u
   seen_by u fits = omega (arith, inside, fits.nodes)
 
   pub kept_ends : (i m j q : ℕ) → Leads k known node r i m → Leads k known node s j q → i ≡ length r → j ≡ length s → Keeps p known known (m == q)

@@ -4,7 +4,7 @@ use Rattle.theory.specs.Congruence.{Presentation}
 use Rattle.word_graph.proofs.NumberLaws.{max_append}
 use Rattle.sims_one.specs.declared.known.Known.{Known}
 use Rattle.sims_one.specs.Targets.{seen, IsTable, IsWithin, IsBeyond}
-use Rattle.sims_one.specs.Known.{HasEdges, Fits, Extends, IsKnown}
+use Rattle.sims_one.specs.Known.{HasEdges, HasKnown, Extends, IsKnown}
 use Rattle.sims_one.specs.Search.{NoneWithin}
 use Rattle.sims_one.proofs.FrontLaws.{seen_more}
 
@@ -28,7 +28,7 @@ pub seen_push : (t : List ℕ) (m : ℕ) → seen (t ++ m ∷ []) ≡ max (seen 
 seen_push t m = let h = max_append 0 t (m ∷ []) in omega (arith, h)
 
 module _ (p : Presentation) (n : ℕ) (t : List ℕ) (known : Known) (is : IsKnown p n t known) where
-  pub fits : (u : List ℕ) → IsTable p n u → IsWithin t u → Fits known u
+  pub fits : (u : List ℕ) → IsTable p n u → IsWithin t u → HasKnown known u
   fits u table w = record {
     nodes = let more = subst (λ (xs : List ℕ). seen t ≤ seen xs) (sym w.is) (seen_more t w.rest) in omega (arith, is.nodes, more);
     edges = is.edges u table w;

@@ -10,19 +10,19 @@ HasEdges known u = (place : ℕ) → place < length known → slice_index known 
     → slice_get u place ≡ Some (slice_index known place)
 
 -- the targets u have the nodes and edges that are known
-pub record Fits (known : Known) (u : List ℕ) : Type 0 where
+pub record HasKnown (known : Known) (u : List ℕ) : Type 0 where
   pub nodes : known.nodes ≤ seen u
   pub edges : HasEdges known.targets u
 
 -- a table that has what was known has what is known now, and there is none where it failed
 abbrev pub Keeps : Presentation → Known → Known → Bool → Type 0
-Keeps p old new holds = (n : ℕ) (u : List ℕ) → IsTable p n u → Fits old u
-    → IsTrue holds × Fits new u
+Keeps p old new holds = (n : ℕ) (u : List ℕ) → IsTable p n u → HasKnown old u
+    → IsTrue holds × HasKnown new u
 
 -- the same of tables with this target at the place
 abbrev pub Extends : Presentation → Known → ℕ → ℕ → Known → Bool → Type 0
-Extends p old place target new holds = (n : ℕ) (u : List ℕ) → IsTable p n u → Fits old u
-    → slice_get u place ≡ Some target → IsTrue holds × Fits new u
+Extends p old place target new holds = (n : ℕ) (u : List ℕ) → IsTable p n u → HasKnown old u
+    → slice_get u place ≡ Some target → IsTrue holds × HasKnown new u
 
 -- the nodes of t, and edges that each table behind t has
 pub record IsKnown (p : Presentation) (n : ℕ) (t : List ℕ) (known : Known) : Type 0 where

@@ -1,5 +1,5 @@
 // Edges that each table behind a front part has.
-ghost use Rattle.std.specs.Prelude.{◌≡◌, ℕ, ◌+◌, ◌<◌, ◌≤◌, List, length, take, slice_get, slice_set, Some, IfSome};
+ghost use Rattle.std.specs.Prelude.{◌≡◌, ℕ, ◌+◌, ◌<◌, ◌≤◌, List, length, take, slice_get, slice_index, slice_set, Some, IfNone, IfSome};
 ghost use Rattle.theory.specs.Word.{IsOver};
 ghost use Rattle.sims_one.specs.Targets.{path_in};
 ghost use Rattle.sims_one.specs.Known.{HasEdges};
@@ -46,6 +46,7 @@ impl Known {
     /// The target at a place, where it is known.
     pub fn target(&self, place: usize) -> Option<usize>
         requires { place < MOST_EDGES }
+        ensures none { IfNone result (MOST_NODES ≤ slice_index self.now.targets place) }
         ensures small { IfSome result (λ m. m < MOST_NODES) }
         ensures edge { (u : List ℕ) → HasEdges self.now.targets u
             → IfSome result (λ m. slice_get u place ≡ Some m) }
