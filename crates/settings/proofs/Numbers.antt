@@ -1,6 +1,6 @@
 -- After a parse, each option of a number has one.
 use Rattle.std.proofs.Common.{◌≡◌, ◌∙◌, ◌<◌, ◌≤◌, ◌==◌, ◌&&◌, ◌||◌, ℕ, Bool, true, false, not, zero, suc, refl, sym, ap, subst, arith, List, [], ◌∷◌, length, map, Option, Some, None, inl, inr, nat_le, option_map, eqb-true}
-use Rattle.std.specs.Prelude.{Result, Ok, Err, IsSome, find, slice_get, unwrap_or}
+use Rattle.std.specs.Prelude.{Result, Ok, Err, IfSome, IsSome, find, slice_get, unwrap_or}
 use Rattle.std.specs.Borrow.{Bor}
 use Rattle.std.specs.List.{All, list_all, list_any, slice_index_or}
 use Rattle.std.specs.Str.{bytes_eq}
@@ -12,7 +12,7 @@ use Rattle.clap.specs.Texts.{items_of}
 use Rattle.clap.specs.Facts.{Entry, EntryPasses, IsParsed, args_of, least_values, parser_of, parser_of_value, unwrap_or_range}
 use Rattle.clap.specs.Matches.{ReadsOne, matched_of, one_text}
 use Rattle.clap.specs.Values.{Accepts, IsUnsignedIn, read_as, reading_of}
-use Rattle.clap.specs.Walk.{Row, Rule, Text, action_of, is_empty, rows_of, rule_of, texts}
+use Rattle.clap.specs.Walk.{Row, Rule, Text, action_of, is_empty, one_of, rows_of, rule_of, texts}
 use Rattle.clap.specs.Simple.{App, IsSimple, app_of, is_ready, is_ready_leaf}
 use Rattle.clap.specs.declared.builder.action.ArgAction.{ArgAction}
 use Rattle.clap.specs.declared.builder.action.ArgAction.TheVariants.{Set, Count}
@@ -29,7 +29,7 @@ use Rattle.clap.proofs.CallerLemmas.{entry_by_id}
 use Rattle.clap.proofs.SimpleLemmas.{ready_simple}
 use Rattle.clap.proofs.TakesLemmas.{each_rule}
 use Rattle.clap.proofs.WalkLemmas.{both, one_text-rows}
-use Rattle.settings.specs.Settings.{HasNumber, number_in}
+use Rattle.settings.specs.Settings.{HasNumber, HasNumberIfGiven, number_in}
 
 -- ---- tests on a rule
 
@@ -46,7 +46,7 @@ abbrev is_number : ℕ → ℕ → Rule → Bool
 is_number least most r = has_bounds least most (parser_of_value r.parser) && (is_set (action_of r) && nat_le 1 (unwrap_or_range r.range).start_inclusive)
 
 -- each rule with the id is such a one
-abbrev only_numbers : ℕ → ℕ → Text → List Rule → Bool
+abbrev pub only_numbers : ℕ → ℕ → Text → List Rule → Bool
 only_numbers least most id = list_all (λ r. not (bytes_eq r.id id) || is_number least most r)
 
 -- a rule with the id has a default
@@ -188,6 +188,20 @@ first_of_list : (xs : List Arg) (k : ℕ) → k < length xs → Arg
 first_of_list [] k lt = absurd (omega arith)
 first_of_list (x ∷ xs) k lt = x
 
+-- the text that a parse found for such an option
+read_text : (least most : ℕ) (c : Command) (f : Found) (has : Bool) (id : Text) → IsSimple c → IsParsed c f has → (id ≡ [] → ⊥)
+    → only_numbers least most id (map rule_of (args_of c)) ≡ true → (x : MatchedArg) → matched_of f id ≡ Some x
+    → (t : Text) × (one_text f id ≡ Some t) × IsUnsignedIn least most t
+read_text least most c f has id simple parsed named only x found = read (entry_by_id (EntryPasses c) f.entries.items id x parsed.values found)
+  where
+    read : ((e : Entry) × (e.1 ≡ x) × (bytes_eq e.0.now id ≡ true) × EntryPasses c e)
+        → (t : Text) × (one_text f id ≡ Some t) × IsUnsignedIn least most t
+    read got =
+        let r = entry_read least most c id got.0 simple named only got.3 ((bytes_eq-Decides got.0.0.now id).0 got.2) in
+        let text : option_map (λ s. read_as x.reading s.now) (slice_get x.vals.items 0) ≡ Some r.0 =
+        subst (λ (y : MatchedArg). option_map (λ s. read_as y.reading s.now) (slice_get y.vals.items 0) ≡ Some r.0) got.1 r.1 in
+        (r.0, rw found text, r.2)
+
 parsed_number : (least most : ℕ) (c : Command) (f : Found) (has : Bool) (id : Text) → IsSimple c → IsParsed c f has → (id ≡ [] → ⊥)
     → only_numbers least most id (map rule_of (args_of c)) ≡ true → has_default id (map rule_of (args_of c)) ≡ true
     → (t : Text) × (one_text f id ≡ Some t) × IsUnsignedIn least most t
@@ -195,14 +209,6 @@ parsed_number least most c f has id simple parsed named only default =
     let rule = any_rule (λ r. bytes_eq r.id id && not (is_empty r.defaults)) (args_of c) default in
     find_in rule
   where
-    read : (x : MatchedArg) → matched_of f id ≡ Some x → ((e : Entry) × (e.1 ≡ x) × (bytes_eq e.0.now id ≡ true) × EntryPasses c e)
-        → (t : Text) × (one_text f id ≡ Some t) × IsUnsignedIn least most t
-    read x found got =
-        let r = entry_read least most c id got.0 simple named only got.3 ((bytes_eq-Decides got.0.0.now id).0 got.2) in
-        let text : option_map (λ s. read_as x.reading s.now) (slice_get x.vals.items 0) ≡ Some r.0 =
-        subst (λ (y : MatchedArg). option_map (λ s. read_as y.reading s.now) (slice_get y.vals.items 0) ≡ Some r.0) got.1 r.1 in
-        (r.0, rw found text, r.2)
-
     start : (k : ℕ) → k < length (args_of c) → Arg
     start k lt = first_of_list (args_of c) k lt
 
@@ -216,7 +222,7 @@ parsed_number least most c f has id simple parsed named only default =
         let is_id : a.id.now ≡ id = (bytes_eq-Decides a.id.now id).0 parts.0 in
         let entry = entry_found f.entries.items id in_place.0 in_place.1
         (λ d. subst (λ (w : Text). bytes_eq (slice_index_or f.entries.items in_place.0 d).0.now w ≡ true) is_id (in_place.2 d)) in
-        read entry.0 entry.1 (entry_by_id (EntryPasses c) f.entries.items id entry.0 parsed.values entry.1)
+        read_text least most c f has id simple parsed named only entry.0 entry.1
 
 -- of a command that is made ready, by what is read of it
 pub number_found : (least most : ℕ) (a : App) (c : Command) (f : Found) (has : Bool) (id : Text) → app_of c ≡ a → is_ready a.top ≡ true → list_all is_ready_leaf a.subs ≡ true
@@ -228,6 +234,26 @@ number_found least most a c f has id is ready leaves named option parsed =
     let rules : map rule_of (args_of c) ≡ a.top.rules = ap (λ (x : App). x.top.rules) is in
     let got = parsed_number least most c f has id simple (parsed simple.globals) named (ap (only_numbers least most id) rules ∙ parts.0) (ap (has_default id) rules ∙ parts.1) in
     record { text = got.0; given = sym (one_text-rows f id) ∙ got.1; number = got.2 }
+
+-- the text of an option, if it is given, where it has no default
+pub number_if_given : (least most : ℕ) (a : App) (c : Command) (f : Found) (has : Bool) (id : Text) → app_of c ≡ a → is_ready a.top ≡ true → list_all is_ready_leaf a.subs ≡ true
+    → (id ≡ [] → ⊥) → only_numbers least most id a.top.rules ≡ true
+    → ((out-Command c).has_globals ≡ false → IsParsed c f has) → HasNumberIfGiven least most id (rows_of f)
+number_if_given least most a c f has id is ready leaves named only parsed =
+    let simple = ready_simple c (ap (λ (x : App). is_ready x.top) is ∙ ready) (ap (λ (x : App). list_all is_ready_leaf x.subs) is ∙ leaves) in
+    let rules : map rule_of (args_of c) ≡ a.top.rules = ap (λ (x : App). x.top.rules) is in
+    record { number = λ t given. go (matched_of f id) refl t (one_text-rows f id ∙ given) (read_text least most c f has id simple (parsed simple.globals) named (ap (only_numbers least most id) rules ∙ only)) }
+  where
+    go : (o : Option MatchedArg) → matched_of f id ≡ o → (t : Text) → one_text f id ≡ Some t
+        → ((x : MatchedArg) → matched_of f id ≡ Some x → (t : Text) × (one_text f id ≡ Some t) × IsUnsignedIn least most t)
+        → IsUnsignedIn least most t
+    go None none t given read =
+        let bad : None ≡ Some t = rw none at given in
+        cc
+    go (Some x) found t given read =
+        let got = read x found in
+        let same : got.0 ≡ t = cc (got.1, given) in
+        subst (IsUnsignedIn least most) same got.2
 
 -- what `get_one` reads of a number
 read_number : (E : Type 0) (G : List ℕ → Result ℕ E → Type 0) (t : Text) (r : Option ℕ) → ReadsOne G t r → ((x : Result ℕ E) → G t x → ParsesUnsigned 64 10 t x)
@@ -242,6 +268,16 @@ number_read E G f id r h read only =
     let is = read_number E G h.text r (read h.text (one_text-rows f id ∙ h.given)) (only h.text) h.number in
     (ap (option_map (λ text. digits_value 10 (without_leading_plus text))) h.given ∙ sym is, rw is refl)
 
+-- and of an option that need not be given
+pub number_read_if_given : (E : Type 0) (G : List ℕ → Result ℕ E → Type 0) (f : Found) (id : Text) (r : Option ℕ) → HasNumberIfGiven 0 18446744073709551615 id (rows_of f)
+    → (one_text f id ≡ None → r ≡ None) → ((t : Text) → one_text f id ≡ Some t → ReadsOne G t r) → ((t : Text) (x : Result ℕ E) → G t x → ParsesUnsigned 64 10 t x)
+    → number_in id (rows_of f) ≡ r
+number_read_if_given E G f id r h none read only = go (one_of id (rows_of f)) refl
+  where
+    go : (o : Option Text) → one_of id (rows_of f) ≡ o → number_in id (rows_of f) ≡ r
+    go None is = ap (option_map (λ text. digits_value 10 (without_leading_plus text))) is ∙ sym (none (one_text-rows f id ∙ is))
+    go (Some t) is = ap (option_map (λ text. digits_value 10 (without_leading_plus text))) is ∙ sym (read_number E G t r (read t (one_text-rows f id ∙ is)) (only t) (h.number t is))
+
 -- a number within one bound is within each greater
 pub number_weaker : (least most more : ℕ) (id : Text) (rows : List Row) → most ≤ more → HasNumber least most id rows → HasNumber 0 more id rows
 number_weaker least most more id rows le h = record { text = h.text; given = h.given; number = (h.number.0, h.number.1, omega arith, let top = h.number.3 in omega arith) }
@@ -251,3 +287,21 @@ number_within least most n id rows h is =
     let value : Some (digits_value 10 (without_leading_plus h.text)) ≡ Some n = sym (ap (option_map (λ text. digits_value 10 (without_leading_plus text))) h.given) ∙ is in
     let same : digits_value 10 (without_leading_plus h.text) ≡ n = cc in
     rw (← same) (h.number.2, h.number.3)
+
+pub given_weaker : (least most more : ℕ) (id : Text) (rows : List Row) → most ≤ more → HasNumberIfGiven least most id rows → HasNumberIfGiven 0 more id rows
+given_weaker least most more id rows le h = record {
+  number = λ text given.
+      let n = h.number text given in
+      let top = n.3 in
+      (n.0, n.1, omega arith, omega arith);
+}
+
+pub given_within : (least most : ℕ) (o : Option ℕ) (id : Text) (rows : List Row) → HasNumberIfGiven least most id rows → number_in id rows ≡ o → IfSome o (λ n. (least ≤ n) × (n ≤ most))
+given_within least most None id rows h is = tt
+given_within least most (Some n) id rows h is = go (one_of id rows) refl
+  where
+    go : (o : Option Text) → one_of id rows ≡ o → (least ≤ n) × (n ≤ most)
+    go None none =
+        let bad : None ≡ Some n = sym (ap (option_map (λ text. digits_value 10 (without_leading_plus text))) none) ∙ is in
+        cc
+    go (Some text) given = number_within least most n id rows (record { text = text; given = given; number = h.number text given }) is

@@ -19,7 +19,7 @@ use Rattle.settings.specs.declared.SettingsFault.{SettingsFault}
 use Rattle.settings.specs.declared.SettingsFault.TheVariants.{Refused}
 use Rattle.settings.specs.Settings.{HasNumber, HasNumbers, Reads, number_in, or_name, semi_app}
 use Rattle.settings.proofs.Faultless.{faultless_takes}
-use Rattle.settings.proofs.Numbers.{has_number_option, number_found}
+use Rattle.settings.proofs.Numbers.{has_number_option, number_found, number_if_given, only_numbers}
 
 -- ---- computed
 
@@ -49,14 +49,15 @@ record HasOptions (a : App) : Type 0 where
   elements : has_number_option 0 10000000 (codes "elements") a.top.rules ≡ true
   classes : has_number_option 0 1000000 (codes "classes") a.top.rules ≡ true
   workers : has_number_option 1 64 (codes "workers") a.top.rules ≡ true
+  make : only_numbers 1 200 (codes "make") a.top.rules ≡ true
 
 semi_has_options : HasOptions semi_app
 unfolding semi_app
-semi_has_options = record { ready = refl; leaves = refl; rows = refl; defs = refl; length = refl; elements = refl; classes = refl; workers = refl }
+semi_has_options = record { ready = refl; leaves = refl; rows = refl; defs = refl; length = refl; elements = refl; classes = refl; workers = refl; make = refl }
 
 built_has_options : HasOptions (built semi_app)
 unfolding semi_app
-built_has_options = record { ready = refl; leaves = refl; rows = refl; defs = refl; length = refl; elements = refl; classes = refl; workers = refl }
+built_has_options = record { ready = refl; leaves = refl; rows = refl; defs = refl; length = refl; elements = refl; classes = refl; workers = refl; make = refl }
 
 -- ---- for `matches_in`
 
@@ -87,6 +88,7 @@ numbers_at a c m options is parsed =
       elements = read 0 10000000 (codes "elements") (λ e. cc) options.elements;
       classes = read 0 1000000 (codes "classes") (λ e. cc) options.classes;
       workers = read 1 64 (codes "workers") (λ e. cc) options.workers;
+      make = number_if_given 1 200 a c (found_of m) (has_subcommand m) (codes "make") is options.ready options.leaves (λ e. cc) options.make parsed;
     }
 
 pub semi_numbers : (old new : Command) (m : ArgMatches) → app_of old ≡ semi_app → BuildsOrBreaks old new → (is_broken new ≡ true → ⊥)
@@ -112,8 +114,8 @@ matches_of-or_name (word ∷ rest) = refl
 pub semi_reads : (words : List Text) (found : List Row) (settings : Settings) → takes semi_app words ≡ true → found ≡ matches_of semi_app words
     → number_in (codes "rows") found ≡ Some settings.rows → number_in (codes "defs") found ≡ Some settings.defs → number_in (codes "length") found ≡ Some settings.length
     → number_in (codes "elements") found ≡ Some settings.elements → number_in (codes "classes") found ≡ Some settings.classes
-    → number_in (codes "workers") found ≡ Some settings.workers → Reads (or_name words) settings
-semi_reads words found settings taken are rows defs length elements classes workers =
+    → number_in (codes "workers") found ≡ Some settings.workers → number_in (codes "make") found ≡ settings.make → Reads (or_name words) settings
+semi_reads words found settings taken are rows defs length elements classes workers make =
     let same : matches_of semi_app (or_name words) ≡ found = matches_of-or_name words ∙ sym are in
     record {
       taken = takes-or_name words ∙ taken;
@@ -123,6 +125,7 @@ semi_reads words found settings taken are rows defs length elements classes work
       elements = ap (number_in (codes "elements")) same ∙ elements;
       classes = ap (number_in (codes "classes")) same ∙ classes;
       workers = ap (number_in (codes "workers")) same ∙ workers;
+      make = ap (number_in (codes "make")) same ∙ make;
     }
 
 -- `?` passes a refusal up as it is

@@ -7,12 +7,17 @@ use Rattle.clap.specs.declared.builder.action.ArgAction.TheVariants.{Set}
 use Rattle.clap.specs.declared.builder.value_parser.ValueParser.TheVariants.{Unsigned}
 use Rattle.settings.specs.declared.Settings.{Settings}
 
--- the option `--name`, of one number from `least` to `most`
-abbrev pub number_rule : Text → ℕ → ℕ → Text → Rule
-number_rule name least most preset = record (new_rule name) {
+-- the option `--name`, of one number from `least` to `most`, with no default
+abbrev pub optional_rule : Text → ℕ → ℕ → Rule
+optional_rule name least most = record (new_rule name) {
   long = Some name;
   action = Some Set;
   parser = Some (Unsigned least most);
+}
+
+-- the option `--name`, of one number from `least` to `most`, with a default
+abbrev pub number_rule : Text → ℕ → ℕ → Text → Rule
+number_rule name least most preset = record (optional_rule name least most) {
   defaults = preset ∷ [];
 }
 
@@ -34,11 +39,15 @@ classes_rule = number_rule (codes "classes") 0 1000000 (codes "10000")
 abbrev pub workers_rule : Rule
 workers_rule = number_rule (codes "workers") 1 64 (codes "3")
 
+abbrev pub make_rule : Rule
+make_rule = optional_rule (codes "make") 1 200
+
 -- the command
 unfoldable pub semi_app : App
 semi_app =
-    with_rule (with_rule (with_rule (with_rule (with_rule (with_rule (new_app (codes "semi"))
-    rows_rule) defs_rule) length_rule) elements_rule) classes_rule) workers_rule
+    with_rule (with_rule (with_rule (with_rule (with_rule (with_rule (with_rule
+    (new_app (codes "semi")) rows_rule) defs_rule) length_rule) elements_rule) classes_rule)
+    workers_rule) make_rule
 
 -- a list with no word stands for the program's name alone
 abbrev pub or_name : List Text → List Text
@@ -53,7 +62,7 @@ AreAccepted words = takes semi_app (or_name words) ≡ true
 abbrev pub AreRefused : List Text → Type 0
 AreRefused words = takes semi_app (or_name words) ≡ false
 
--- the number that the matches have for an option, given or by default
+-- the number that the matches have for an option, given or by default, if any
 abbrev pub number_in : Text → List Row → Option ℕ
 number_in id rows =
     option_map (λ text. digits_value 10 (without_leading_plus text)) (one_of id rows)
@@ -67,12 +76,17 @@ pub record Reads (words : List Text) (settings : Settings) : Type 0 where
   pub elements : number_in (codes "elements") (matches_of semi_app words) ≡ Some settings.elements
   pub classes : number_in (codes "classes") (matches_of semi_app words) ≡ Some settings.classes
   pub workers : number_in (codes "workers") (matches_of semi_app words) ≡ Some settings.workers
+  pub make : number_in (codes "make") (matches_of semi_app words) ≡ settings.make
 
 -- the matches have a number from `least` to `most` for an option
 pub record HasNumber (least most : ℕ) (id : Text) (rows : List Row) : Type 0 where
   pub text : Text
   pub given : one_of id rows ≡ Some text
   pub number : IsUnsignedIn least most text
+
+-- the number that the matches have for an option, if it is given, is from `least` to `most`
+pub record HasNumberIfGiven (least most : ℕ) (id : Text) (rows : List Row) : Type 0 where
+  pub number : (text : Text) → one_of id rows ≡ Some text → IsUnsignedIn least most text
 
 -- and so for each option of the command
 pub record HasNumbers (found : List Row) : Type 0 where
@@ -82,3 +96,4 @@ pub record HasNumbers (found : List Row) : Type 0 where
   pub elements : HasNumber 0 10000000 (codes "elements") found
   pub classes : HasNumber 0 1000000 (codes "classes") found
   pub workers : HasNumber 1 64 (codes "workers") found
+  pub make : HasNumberIfGiven 1 200 (codes "make") found

@@ -1,10 +1,10 @@
 //! What the command line asks for.
 #![tactic(auto)]
 
-ghost use Rattle.std.specs.Prelude.{◌≡◌, ◌≢◌, ◌≤◌, true, false, List, map, IfOk, IsErrOf, string_bytes};
+ghost use Rattle.std.specs.Prelude.{◌≡◌, ◌≢◌, ◌≤◌, true, false, List, map, IfOk, IfSome, IsErrOf, string_bytes};
 ghost use Rattle.clap.specs.Words.{Text, app_of, found_of, kind_of, matches_of, rows_of, rule_of, takes};
 ghost use Rattle.clap.specs.declared.error.kind.ErrorKind.TheVariants.{OutOfMemory};
-ghost use Rattle.settings.specs.Settings.{AreRefused, HasNumber, HasNumbers, Reads, number_in, number_rule, or_name, semi_app};
+ghost use Rattle.settings.specs.Settings.{AreRefused, HasNumber, HasNumberIfGiven, HasNumbers, Reads, number_in, number_rule, optional_rule, or_name, semi_app};
 ghost use Rattle.settings.specs.declared.SettingsFault.TheVariants.{NoMemory, Refused};
 
 use clap::error::ErrorKind;
@@ -27,13 +27,15 @@ pub struct Settings {
     pub classes: usize,
     /// How many workers a race has.
     pub workers: usize,
+    /// Half the order of the dihedral group whose script is made, where none is read.
+    pub make: Option<usize>,
 }
 
 /// Why there are no settings.
 #[derive(Clone, Copy, Debug, PartialEq, Eq, Error)]
 pub enum SettingsFault {
     /// The words are not those of the command.
-    #[error("usage: semi [--rows M] [--defs D] [--length L] [--elements N] [--classes C] [--workers W]")]
+    #[error("usage: semi [--rows M] [--defs D] [--length L] [--elements N] [--classes C] [--workers W] [--make K]")]
     Refused,
     /// Memory ran out.
     #[error("out of memory")]
@@ -59,7 +61,18 @@ impl From<clap::Error> for SettingsFault {
     }
 }
 
-// The option `--name`, of one number from `least` to `most`.
+// The option `--name`, of one number from `least` to `most`, with no default.
+fn optional_number<'a>(alloc: Global, name: &'a str, least: u32, most: u32) -> Arg<'a>
+    ensures rule { rule_of result ≡ optional_rule name.entry.now least most }
+    ensures local { result.global ≡ false }
+{
+    Arg::new(alloc, name)
+        .long(name)
+        .action(ArgAction::Set)
+        .value_parser(clap::value_parser!(usize).range(i64::from(least)..=i64::from(most)))
+}
+
+// The option `--name`, of one number from `least` to `most`, with a default.
 fn number_option<'a>(
     alloc: Global,
     name: &'a str,
@@ -70,11 +83,7 @@ fn number_option<'a>(
     ensures rule { rule_of result ≡ number_rule name.entry.now least most preset.entry.now }
     ensures local { result.global ≡ false }
 {
-    Arg::new(alloc, name)
-        .long(name)
-        .action(ArgAction::Set)
-        .value_parser(clap::value_parser!(usize).range(i64::from(least)..=i64::from(most)))
-        .default_value(preset)
+    optional_number(alloc, name, least, most).default_value(preset)
 }
 
 fn semi_command<'a>(alloc: Global) -> Result<Command<'a>, AllocError>
@@ -86,7 +95,8 @@ fn semi_command<'a>(alloc: Global) -> Result<Command<'a>, AllocError>
         .arg(number_option(alloc, "length", 0, 64, "12"))?
         .arg(number_option(alloc, "elements", 0, 10_000_000, "100000"))?
         .arg(number_option(alloc, "classes", 0, 1_000_000, "10000"))?
-        .arg(number_option(alloc, "workers", 1, 64, "3"))
+        .arg(number_option(alloc, "workers", 1, 64, "3"))?
+        .arg(optional_number(alloc, "make", 1, 200))
 }
 
 fn matches_in<'a>(alloc: Global, words: &'a [String]) -> Result<ArgMatches<'a>, SettingsFault>
@@ -99,6 +109,14 @@ fn matches_in<'a>(alloc: Global, words: &'a [String]) -> Result<ArgMatches<'a>, 
 {
     let mut command = semi_command(alloc)?;
     Ok(command.try_get_matches_from_mut(words)?)
+}
+
+// The number of an option, if it is given.
+fn given_number_of(matches: &ArgMatches, id: &str) -> Option<usize>
+    requires { HasNumberIfGiven 0 usize.MAX id.now (rows_of (found_of matches.now)) }
+    ensures { number_in id.now (rows_of (found_of matches.now)) ≡ result }
+{
+    matches.get_one::<usize>(id)
 }
 
 // The number of an option that has one.
@@ -119,6 +137,7 @@ pub fn settings_of(alloc: Global, words: &Vec<String>) -> Result<Settings, Setti
     ensures bounded { IfOk result (λ settings. (settings.rows ≤ 1000000) × (settings.defs ≤ 1000000)
         × (settings.length ≤ 64) × (settings.elements ≤ 10000000) × (settings.classes ≤ 1000000)
         × (1 ≤ settings.workers) × (settings.workers ≤ 64)) }
+    ensures made { IfOk result (λ settings. IfSome settings.make (λ k. (1 ≤ k) × (k ≤ 200))) }
 {
     let matches = matches_in(alloc, words.as_slice())?;
     Ok(Settings {
@@ -128,6 +147,7 @@ pub fn settings_of(alloc: Global, words: &Vec<String>) -> Result<Settings, Setti
         elements: number_of(&matches, "elements"),
         classes: number_of(&matches, "classes"),
         workers: number_of(&matches, "workers"),
+        make: given_number_of(&matches, "make"),
     })
 }
 

@@ -114,11 +114,39 @@ fn reads_words(rt: HostRuntime) -> Result<(), Fail> {
     Ok(())
 }
 
-// `None` is a refusal.
-fn outcome(
-    alloc: Global,
-    texts: &[&str],
-) -> Result<Option<(usize, usize, usize, usize, usize, usize)>, SettingsFault> {
+// `None` is a refusal, and `Some(None)` that the option is not given.
+#[test]
+fn reads_what_to_make(rt: HostRuntime) -> Result<(), Fail> {
+    let alloc = rt.alloc();
+    let cases: [(&[&str], Option<Option<usize>>); 10] = [
+        (&["semi"], Some(None)),
+        (&["semi", "--rows", "3"], Some(None)),
+        (&["semi", "--make", "1"], Some(Some(1))),
+        (&["semi", "--make=200", "--rows", "3"], Some(Some(200))),
+        (&["semi", "--make", "0"], None),
+        (&["semi", "--make", "201"], None),
+        (&["semi", "--make", "x"], None),
+        (&["semi", "--make", "-3"], None),
+        (&["semi", "--make"], None),
+        (&["semi", "--make", "3", "--make", "3"], None),
+    ];
+    for (i, (texts, want)) in cases.iter().enumerate() {
+        let got = made(alloc, texts)?;
+        assert!(rt; got == *want, "case {i}");
+    }
+    Ok(())
+}
+
+// What is made, or `None` for a refusal.
+fn made(alloc: Global, texts: &[&str]) -> Result<Option<Option<usize>>, SettingsFault> {
+    match settings_of(alloc, &words_of(alloc, texts)?) {
+        Ok(settings) => Ok(Some(settings.make)),
+        Err(SettingsFault::Refused) => Ok(None),
+        Err(SettingsFault::NoMemory) => Err(SettingsFault::NoMemory),
+    }
+}
+
+fn words_of(alloc: Global, texts: &[&str]) -> Result<Vec<String>, SettingsFault> {
     let mut words = Vec::new(alloc);
     for text in texts {
         let word = String::from_str(alloc, text)?;
@@ -126,7 +154,15 @@ fn outcome(
             return Err(SettingsFault::NoMemory);
         }
     }
-    match settings_of(alloc, &words) {
+    Ok(words)
+}
+
+// `None` is a refusal.
+fn outcome(
+    alloc: Global,
+    texts: &[&str],
+) -> Result<Option<(usize, usize, usize, usize, usize, usize)>, SettingsFault> {
+    match settings_of(alloc, &words_of(alloc, texts)?) {
         Ok(settings) => Ok(Some((
             settings.rows,
             settings.defs,

@@ -3,7 +3,7 @@ use Rattle.std.proofs.lemmas.Result.{IfOk-weaker}
 use Rattle.clap.specs.Words.{AddsArg, App, Rule, app_of, new_app, rule_of, with_rule}
 use Rattle.clap.specs.declared.builder.arg.Arg.{Arg}
 use Rattle.clap.specs.declared.builder.command.Command.{Command}
-use Rattle.settings.specs.Settings.{classes_rule, defs_rule, elements_rule, length_rule, rows_rule, semi_app, workers_rule}
+use Rattle.settings.specs.Settings.{classes_rule, defs_rule, elements_rule, length_rule, make_rule, rows_rule, semi_app, workers_rule}
 use Rattle.settings.proofs.semi_command.Goals as goal
 
 -- an argument more is a rule more
@@ -28,6 +28,9 @@ with_elements = with_rule with_length elements_rule
 abbrev with_classes : App
 with_classes = with_rule with_elements classes_rule
 
+abbrev with_workers : App
+with_workers = with_rule with_classes workers_rule
+
 pub returns : goal.returns
 unfolding semi_app
 returns c =
@@ -41,6 +44,8 @@ returns c =
     = rule_more c.in_ok-arg-3.field-0 c.in_ok-arg-4.field-0 c.number_option-4.result with_length elements_rule c.in_ok-arg-4.ensures c.number_option-4.ensures.local c.number_option-4.ensures.rule third in
     let fifth : app_of c.in_ok-arg-5.field-0 ≡ with_classes
     = rule_more c.in_ok-arg-4.field-0 c.in_ok-arg-5.field-0 c.number_option-5.result with_elements classes_rule c.in_ok-arg-5.ensures c.number_option-5.ensures.local c.number_option-5.ensures.rule fourth in
-    IfOk-weaker c.arg-6.result _ _
-    (λ new adds. rule_more c.in_ok-arg-5.field-0 new c.number_option-6.result with_classes workers_rule adds c.number_option-6.ensures.local c.number_option-6.ensures.rule fifth)
-    c.arg-6.ensures
+    let sixth : app_of c.in_ok-arg-6.field-0 ≡ with_workers
+    = rule_more c.in_ok-arg-5.field-0 c.in_ok-arg-6.field-0 c.number_option-6.result with_classes workers_rule c.in_ok-arg-6.ensures c.number_option-6.ensures.local c.number_option-6.ensures.rule fifth in
+    IfOk-weaker c.arg-7.result _ _
+    (λ new adds. rule_more c.in_ok-arg-6.field-0 new c.optional_number.result with_workers make_rule adds c.optional_number.ensures.local c.optional_number.ensures.rule sixth)
+    c.arg-7.ensures

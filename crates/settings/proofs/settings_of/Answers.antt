@@ -17,4 +17,4 @@ returns-clause-ok c =
     let same : map (λ s. string_bytes s) c.as_slice.result.now ≡ texts = ap (map (λ s. string_bytes s)) c.as_slice.ensures.value in
     semi_reads texts (rows_of (found_of c.in_ok-matches.matches)) _
     (subst (λ (ws : List Text). takes semi_app ws ≡ true) same c.in_ok-matches.ensures.taken) (c.in_ok-matches.ensures.rows ∙ ap (matches_of semi_app) same)
-    c.number_of.ensures c.number_of-2.ensures c.number_of-3.ensures c.number_of-4.ensures c.number_of-5.ensures c.number_of-6.ensures
+    c.number_of.ensures c.number_of-2.ensures c.number_of-3.ensures c.number_of-4.ensures c.number_of-5.ensures c.number_of-6.ensures c.given_number_of.ensures
