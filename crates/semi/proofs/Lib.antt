@@ -1,2 +1,4 @@
 pub mod ReportLemmas
+pub mod FaultLemmas
 pub mod UniqueReport
+pub mod MadeLaw

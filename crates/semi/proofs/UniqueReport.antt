@@ -102,6 +102,11 @@ pub begun_not_refused : (left : Option (List ℕ)) (settings : Settings) (old ne
 begun_not_refused None settings old new A h = tt
 begun_not_refused (Some input) settings old new A h = λ refused. absurd (no_refused_script input h.script h.is_script refused)
 
+-- what is refused for a fault is refused
+pub why_refused : (left : Option (List ℕ)) (fault : Fault) → IfSome left (λ input. IsRefusal input fault) → IfSome left IsRefused
+why_refused None fault h = tt
+why_refused (Some input) fault h = (fault, h)
+
 pub any_refused : (left : Option (List ℕ)) (A : Type 0) → A → IfSome left (λ input. IsRefused input → A)
 any_refused None A a = tt
 any_refused (Some input) A a = λ refused. a

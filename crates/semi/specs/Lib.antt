@@ -1,4 +1,5 @@
 pub mod Limits
+pub mod Made
 pub mod Settings
 pub mod Report
 pub mod Status

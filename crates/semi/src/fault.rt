@@ -6,7 +6,7 @@ ghost use Rattle.semi.specs.Status.{line_of_fault, of_read, of_script, of_settin
 ghost use Rattle.semi.specs.declared.fault.Fault.TheVariants as fault;
 
 use itoa::Buffer;
-use ports::{ReadFault, Sink, WriteFault, write_all};
+use ports::{NoMemory, ReadFault, Sink, WriteFault, write_all};
 use query_lang::{ScriptFault, cause_text};
 use settings::SettingsFault;
 use std::alloc::AllocError;
@@ -84,6 +84,14 @@ impl From<AllocError> for Fault {
     ghost from_gives = { λ _ e. e ≡ fault.NoMemory };
 
     fn from(_error: AllocError) -> Fault {
+        Fault::NoMemory
+    }
+}
+
+impl From<NoMemory> for Fault {
+    ghost from_gives = { λ _ e. e ≡ fault.NoMemory };
+
+    fn from(_fault: NoMemory) -> Fault {
         Fault::NoMemory
     }
 }

@@ -1,6 +1,7 @@
 //! Reads a script, which presents a monoid or a semigroup by relations or generates one by
 //! transformations, partial permutations, Boolean matrices or truncated max-plus matrices, and
-//! writes the answers of its queries.
+//! writes the answers of its queries. Where it is asked to, it makes the script of a dihedral group
+//! in place of reading one.
 #![tactic(auto)]
 
 ghost use Rattle.std.specs.Prelude.{◌≡◌, ◌≤◌, []};
@@ -10,6 +11,9 @@ mod adapters;
 #[cfg(test)]
 mod failing_tests;
 mod fault;
+mod made;
+#[cfg(test)]
+mod made_tests;
 #[cfg(test)]
 mod pair_tests;
 #[cfg(test)]

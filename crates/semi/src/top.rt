@@ -3,20 +3,22 @@ ghost use Rattle.std.specs.Prelude.{◌≡◌, ◌≤◌, ◌⊎◌, true, false
 ghost use Rattle.ports.specs.Bytes.{Rose};
 ghost use Rattle.semi.specs.Report.{GainsBeginning, GainsLineOf, GainsReport, IsRefusal, IsRefused, IsScript};
 ghost use Rattle.query_lang.specs.Script.{ScriptOf};
-ghost use Rattle.semi.specs.Settings.{Under};
+ghost use Rattle.semi.specs.Made.{input_of};
+ghost use Rattle.semi.specs.Settings.{AskToMake, Under, UnlessMade};
 ghost use Rattle.semi.specs.Taken.{IsTakenAt, IsTakenWhole};
 ghost use Rattle.settings.specs.Settings.{AreAccepted, AreRefused};
 ghost use Rattle.semi.specs.Status.{status_of};
 ghost use Rattle.semi.specs.declared.fault.Fault.{Fault};
 
 use crate::fault::Fault;
-use crate::whole::{take_script, write_report};
+use crate::made::choose_script;
+use crate::whole::write_report;
 use ports::{Gate, Sink, Source};
 use settings::settings_of;
 use std::alloc::Global;
 use std::thread::Threads;
 
-// Reads the script and writes its report, and tells whether an answer is undecided.
+// Makes or reads the script and writes its report, and tells whether an answer is undecided.
 fn run<R: Threads + Sync, S: Source, O: Sink, G: Gate + Sync>(
     rt: &R,
     alloc: Global,
@@ -26,46 +28,53 @@ fn run<R: Threads + Sync, S: Source, O: Sink, G: Gate + Sync>(
     gate: &G,
 ) -> Result<bool, Fault>
     ensures reported { IfOk result (λ undecided. Under (map string_bytes words.now.items)
-        (λ settings. IfSome (S.left source.old)
+        (λ settings. IfSome (input_of settings (S.left source.old))
         (λ input. GainsReport settings input undecided (O.taken out.old) (O.taken out.new)))) }
     ensures arguments { IsErrOf result Fault.Arguments
         → AreRefused (map string_bytes words.now.items) }
     ensures rejected { AreRefused (map string_bytes words.now.items)
         → IfErr result (λ fault. (fault ≡ Fault.Arguments) ⊎ (fault ≡ Fault.NoMemory)) }
     ensures refused { IfErr result (λ fault. status_of fault ≡ 2
-        → IfSome (S.left source.old) (λ input. IsRefusal input fault)) }
+        → Under (map string_bytes words.now.items)
+        (λ settings. IfSome (input_of settings (S.left source.old))
+        (λ input. IsRefusal input fault))) }
     ensures read { IsErrOf result Fault.Read → Rose (S.faults source.old) (S.faults source.new) }
     ensures write { IsErrOf result Fault.Write → Rose (O.faults out.old) (O.faults out.new) }
     ensures beginning { IsErrOf result Fault.Write
         → Under (map string_bytes words.now.items)
-        (λ settings. IfSome (S.left source.old)
+        (λ settings. IfSome (input_of settings (S.left source.old))
         (λ input. GainsBeginning settings input (O.taken out.old) (O.taken out.new))) }
     ensures memory { IsErrOf result Fault.NoMemory
         → (out.new ≡ out.old) ⊎ Under (map string_bytes words.now.items)
-        (λ settings. IfSome (S.left source.old)
+        (λ settings. IfSome (input_of settings (S.left source.old))
         (λ input. GainsBeginning settings input (O.taken out.old) (O.taken out.new))) }
     ensures out_untouched { IfErr result (λ fault. status_of fault ≤ 4 → out.new ≡ out.old) }
     ensures source_untouched { IsErrOf result Fault.Arguments → source.new ≡ source.old }
-    ensures taken { MatchResult result
+    ensures taken { UnlessMade (map string_bytes words.now.items) (MatchResult result
         (λ undecided. IsTakenWhole (S.left source.old) (S.left source.new))
-        (λ fault. IsTakenAt fault (S.left source.old) (S.left source.new)) }
+        (λ fault. IsTakenAt fault (S.left source.old) (S.left source.new))) }
+    ensures made { AskToMake (map string_bytes words.now.items) → source.new ≡ source.old }
+    ensures made_fault { AskToMake (map string_bytes words.now.items)
+        → IfErr result (λ fault. 5 ≤ status_of fault) }
     ensures quiet { OnOk result ((S.faults source.new ≡ S.faults source.old)
         × (O.faults out.new ≡ O.faults out.old)) }
     ensures quiet_refused { IfErr result
         (λ fault. status_of fault ≡ 2 → S.faults source.new ≡ S.faults source.old) }
 {
     let settings = settings_of(alloc, words)?;
-    let script = take_script(alloc, source)?;
+    let script = choose_script(alloc, settings, source)?;
     Ok(write_report(rt, alloc, settings, &script, out, gate)?)
 }
 
-/// The program: reads the source as a script, of a presentation or of elements, and writes its
-/// report to `out`; gives the status.
+/// The program: reads the source as a script, of a presentation or of elements, or makes one where
+/// the words ask for it, and writes the script's report to `out`; gives the status.
 ///
 /// - 0: the whole report was written, and no answer is undecided. 1: the same, with one at least.
 /// - 2: the input, read in full, is longer than 1,048,576 bytes, or a line of it is faulty.
 /// - 3: the words are not those of the command; nothing is read.
 /// - 4: the source failed. 5: `out` failed. 6: memory is wanting.
+///
+/// Where a script is made, the source is left as it is, and only 0, 1, 5 and 6 come.
 ///
 /// `err` gets one line at the statuses from 2 on; at 2 it tells the first faulty line and its
 /// cause. `words` begins with the program's name. Where a problem is raced for by several workers,
@@ -81,14 +90,15 @@ pub fn semi<R: Threads + Sync, S: Source, O: Sink, E: Sink, G: Gate + Sync>(
 ) -> u8
     // the whole report, at 1 with an undecided answer
     ensures decided { result ≡ 0 → Under (map string_bytes words.now.items)
-        (λ settings. IfSome (S.left source.old)
+        (λ settings. IfSome (input_of settings (S.left source.old))
         (λ input. GainsReport settings input false (O.taken out.old) (O.taken out.new))) }
     ensures undecided { result ≡ 1 → Under (map string_bytes words.now.items)
-        (λ settings. IfSome (S.left source.old)
+        (λ settings. IfSome (input_of settings (S.left source.old))
         (λ input. GainsReport settings input true (O.taken out.old) (O.taken out.new))) }
 
     // each other status has its cause
-    ensures refused { result ≡ 2 → IfSome (S.left source.old) IsRefused }
+    ensures refused { result ≡ 2 → Under (map string_bytes words.now.items)
+        (λ settings. IfSome (input_of settings (S.left source.old)) IsRefused) }
     ensures arguments { result ≡ 3 → AreRefused (map string_bytes words.now.items) }
     ensures read { result ≡ 4 → Rose (S.faults source.old) (S.faults source.new) }
     ensures write { result ≡ 5 → Rose (O.faults out.old) (O.faults out.new) }
@@ -100,34 +110,46 @@ pub fn semi<R: Threads + Sync, S: Source, O: Sink, E: Sink, G: Gate + Sync>(
 
     // what the source and the sinks are left with
     ensures source_untouched { result ≡ 3 → source.new ≡ source.old }
-    ensures source_taken { result ≤ 1 → IsTakenWhole (S.left source.old) (S.left source.new) }
+    ensures source_taken { result ≤ 1 → UnlessMade (map string_bytes words.now.items)
+        (IsTakenWhole (S.left source.old) (S.left source.new)) }
     ensures out_untouched { 2 ≤ result → result ≤ 4 → out.new ≡ out.old }
     ensures beginning { result ≡ 5 → Under (map string_bytes words.now.items)
-        (λ settings. IfSome (S.left source.old)
+        (λ settings. IfSome (input_of settings (S.left source.old))
         (λ input. GainsBeginning settings input (O.taken out.old) (O.taken out.new))) }
     ensures memory { result ≡ 6
         → (out.new ≡ out.old) ⊎ Under (map string_bytes words.now.items)
-        (λ settings. IfSome (S.left source.old)
+        (λ settings. IfSome (input_of settings (S.left source.old))
         (λ input. GainsBeginning settings input (O.taken out.old) (O.taken out.new))) }
     ensures told { 2 ≤ result → (fault : Fault) × (result ≡ status_of fault)
-        × (result ≡ 2 → IfSome (S.left source.old) (λ input. IsRefusal input fault))
-        × IsTakenAt fault (S.left source.old) (S.left source.new)
+        × (result ≡ 2 → Under (map string_bytes words.now.items)
+        (λ settings. IfSome (input_of settings (S.left source.old))
+        (λ input. IsRefusal input fault)))
+        × UnlessMade (map string_bytes words.now.items)
+        (IsTakenAt fault (S.left source.old) (S.left source.new))
         × GainsLineOf E.Sink fault err.old err.new }
     ensures err_untouched { result ≤ 1 → err.new ≡ err.old }
+
+    // where a script is made, the source is left as it is, and is at no fault, nor is the script
+    ensures made { AskToMake (map string_bytes words.now.items) → source.new ≡ source.old }
+    ensures made_status { AskToMake (map string_bytes words.now.items)
+        → (result ≤ 1) ⊎ (5 ≤ result) }
 
     // words that are refused give 3, or memory is wanting
     ensures rejects { AreRefused (map string_bytes words.now.items) → (result ≡ 3) ⊎ (result ≡ 6) }
 
-    // where nothing fails, a refused input gives 2, and a script its whole report, or memory is
-    // wanting
+    // where nothing fails, memory is wanting, or a refused input gives 2, and a script its whole
+    // report
     ensures refuses { AreAccepted (map string_bytes words.now.items)
         → (Rose (S.faults source.old) (S.faults source.new) → ⊥)
-        → IfSome (S.left source.old) (λ input. IsRefused input → (result ≡ 2) ⊎ (result ≡ 6)) }
+        → (result ≡ 6) ⊎ Under (map string_bytes words.now.items)
+        (λ settings. IfSome (input_of settings (S.left source.old))
+        (λ input. IsRefused input → result ≡ 2)) }
     ensures answers { AreAccepted (map string_bytes words.now.items)
         → (Rose (S.faults source.old) (S.faults source.new) → ⊥)
         → (Rose (O.faults out.old) (O.faults out.new) → ⊥)
-        → IfSome (S.left source.old) (λ input. (script : ScriptOf) → IsScript input script
-        → (result ≤ 1) ⊎ (result ≡ 6)) }
+        → (result ≡ 6) ⊎ Under (map string_bytes words.now.items)
+        (λ settings. IfSome (input_of settings (S.left source.old))
+        (λ input. (script : ScriptOf) → IsScript input script → result ≤ 1)) }
 {
     match run(rt, alloc, words, source, out, gate) {
         Ok(undecided) => u8::from(undecided),

@@ -1,16 +1,12 @@
-use Rattle.std.proofs.Common.{◌≡◌, ◌≤◌, ℕ, List, Result, Ok, Err, IfErr, IsErrAnd, IfSome, length, sym, subst}
+use Rattle.std.proofs.Common.{◌≡◌, ◌≤◌, ℕ, List, IfSome, length, subst}
 use Rattle.query_lang.specs.declared.fault.ScriptFault.{ScriptFault}
 use Rattle.query_lang.specs.Faults.{IsScriptFault}
 use Rattle.semi.specs.Limits.{most_bytes}
 use Rattle.semi.specs.Report.{IsRefusal}
 use Rattle.semi.specs.Status.{of_script, status_of}
+use Rattle.semi.proofs.FaultLemmas.{handed_on}
 use Rattle.semi.proofs.UniqueReport.{refused_bytes, whole_input}
 use Rattle.semi.proofs.whole.take_script.Goals as goal
-
--- what holds of a fault that is handed on
-handed_on : {A E : Type 0} (P : E → Type 0) (r : Result A E) (fault : E) → IsErrAnd r (λ e. e ≡ fault) → P fault → IfErr r P
-handed_on P (Ok x) fault h p = tt
-handed_on P (Err e) fault h p = subst P (sym h) p
 
 pub returns-in_err-script-clause-refused : goal.returns-in_err-script-clause-refused
 returns-in_err-script-clause-refused g c =
