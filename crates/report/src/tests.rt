@@ -2,11 +2,39 @@
 use super::*;
 use ports::{MemSink, Open};
 use problem::Budgets;
-use query_lang::read_script;
+use query_lang::{Script, read_script};
+use std::alloc::Global;
 use std::test::Fail;
 use std::thread::Threads;
 
+// Writes the answer of the only query of a script.
+fn write_only<R: Threads + Sync>(
+    rt: &R,
+    alloc: Global,
+    script: &Script,
+    budgets: Budgets,
+    sink: &mut MemSink,
+) -> Result<Option<Answered>, Fail> {
+    let mut state = State::new(budgets, 2, 1);
+    match script.queries() {
+        [query] => Ok(Some(write_answer(rt, alloc, script, query, &mut state, sink, &Open)?)),
+        _ => Ok(None),
+    }
+}
+
 // The answer of the only query of a script, which a sink takes in pieces of three bytes.
+fn answer_in<R: Threads + Sync>(
+    rt: &R,
+    alloc: Global,
+    script: &Script,
+    budgets: Budgets,
+) -> Result<(Option<Answered>, Vec<u8>), Fail> {
+    let mut sink = MemSink::new(alloc, 3, Vec::new(alloc));
+    let answered = write_only(rt, alloc, script, budgets, &mut sink)?;
+    Ok((answered, sink.taken().to_vec(alloc)?))
+}
+
+// The same of a script's text.
 fn answer<R: Threads + Sync + AllocGlobal>(
     rt: &R,
     script: &str,
@@ -14,23 +42,14 @@ fn answer<R: Threads + Sync + AllocGlobal>(
     elements: usize,
 ) -> Result<(Option<Answered>, Vec<u8>), Fail> {
     let alloc = rt.alloc();
-    let script = read_script(alloc, script.as_bytes())?;
-    let mut state = State::new(
-        Budgets {
-            defs: 10,
-            rows: 0,
-            length,
-            elements,
-        },
-        2,
-        1,
-    );
-    let mut sink = MemSink::new(alloc, 3, Vec::new(alloc));
-    let answered = match script.queries() {
-        [query] => Some(write_answer(rt, alloc, &script, query, &mut state, &mut sink, &Open)?),
-        _ => None,
+    let budgets = Budgets {
+        defs: 10,
+        rows: 0,
+        length,
+        elements,
     };
-    Ok((answered, sink.taken().to_vec(alloc)?))
+    let script = read_script(alloc, script.as_bytes())?;
+    answer_in(rt, alloc, &script, budgets)
 }
 
 #[test]
