@@ -1,5 +1,5 @@
 -- What a table keeps, and what its numbers mean (Froidure and Pin 1997).
-use Rattle.std.specs.Prelude.{◌≡◌, ℕ, ◌+◌, ◌*◌, ◌<◌, ◌≤◌, Bool, false, List, [], ◌∷◌, length, slice_index, slice_index_or, fold, refl}
+use Rattle.std.specs.Prelude.{◌≡◌, ℕ, zero, suc, ◌+◌, ◌*◌, ◌<◌, ◌≤◌, Bool, false, List, [], ◌∷◌, length, slice_index, slice_index_or, take, drop, fold, refl}
 use Rattle.std.specs.Coded.{Coded, code_by, coded×, coded_list, coded_ℕ}
 use Rattle.theory.specs.Word.{Word, IsElement}
 use Rattle.theory.specs.Generated.{AreNumbered}
@@ -81,6 +81,11 @@ pub record AreParts (letters n : ℕ) (factors : List Factor) (right left : List
 pub record IsRowBy (k : ℕ) (number : ℕ → ℕ) (row : List ℕ) : Type 0 where
   pub count : length row ≡ k
   pub at : (a : ℕ) → a < k → slice_index row a ≡ number a
+
+-- n rows of k numbers, cut from a list
+abbrev pub rows_in : ℕ → ℕ → List ℕ → List (List ℕ)
+rows_in k zero numbers = []
+rows_in k (suc n) numbers = take k numbers ∷ rows_in k n (drop k numbers)
 
 -- one row for each of n elements
 pub record AreRowsBy (n k : ℕ) (number : ℕ → ℕ → ℕ) (rows : List (List ℕ)) : Type 0 where

@@ -1,6 +1,12 @@
 // Lists that a table is read out in.
-ghost use Rattle.std.specs.Prelude.{◌≡◌};
+ghost use Rattle.std.specs.Prelude.{◌≡◌, ℕ, ◌+◌, ◌<◌, [], length, slice_index, slice_index_or, IfOk};
+ghost use Rattle.froidure_pin.specs.Found.{AreFactors, entry, words_of};
+ghost use Rattle.froidure_pin.specs.Numbering.{AreRows, AreRowsBy};
 
+use super::parts::Factor;
+use super::rows::entry;
+use super::spell::spell;
+use ports::NoMemory;
 use std::marker::Model;
 use words::Word;
 
@@ -41,76 +47,106 @@ impl Numbers {
     }
 }
 
-/// Rows of numbers. Contracts see their list, each row a list.
+/// Rows of numbers of one length, one row behind the other in one list. Contracts see a list of
+/// rows, each row a list.
 #[derive(Drop)]
 pub struct Rows {
-    rows: Vec<Numbers>,
+    letters: usize,
+    count: usize,
+
+    // behind a row of the empty word
+    numbers: Vec<u32>,
 }
 
 impl Model for Rows {
-    ghost use Rattle.std.specs.Prelude.{List, ℕ};
+    ghost use Rattle.std.specs.Prelude.{List, ℕ, drop};
+    ghost use Rattle.froidure_pin.specs.Numbering.{AreRows, rows_in};
 
     ghost Value = { List (List ℕ) };
 
-    ghost view = { λ r. r.rows.items };
+    ghost view = { λ r. rows_in r.letters r.count (drop r.letters r.numbers.items) };
+
+    ghost invariant = { λ r. AreRows r.letters r.count r.numbers.items };
 }
 
 impl Rows {
-    /// These rows.
-    pub fn from_vec(rows: Vec<Numbers>) -> Rows
-        ensures { result ≡ rows.items }
+    // The rows of so many elements, of which the numbers stand behind a row of the empty word.
+    pub(crate) fn new(letters: usize, count: usize, numbers: Vec<u32>) -> Rows
+        requires { AreRows letters count numbers.items }
+        ensures { AreRowsBy count letters (λ i. entry letters numbers.items (i + 1)) result }
     {
-        Rows { rows }
+        Rows {
+            letters,
+            count,
+            numbers,
+        }
     }
 
-    /// The rows, in order. It takes no memory.
-    pub fn into_vec(self) -> Vec<Numbers>
-        ensures { result.items ≡ self }
+    /// How many rows there are.
+    pub fn len(&self) -> usize
+        ensures { result ≡ length self.now }
     {
-        self.rows
+        self.count
     }
 
-    /// The rows, in order, lent.
-    pub fn as_slice(&self) -> &[Numbers]
-        ensures { result.now ≡ self.now }
+    /// How many numbers each row has: one for each letter.
+    pub fn width(&self) -> usize
+        ensures { (row : ℕ) → row < length self.now
+            → length (slice_index_or self.now row []) ≡ result }
     {
-        self.rows.as_slice()
+        self.letters
+    }
+
+    /// The number in a row at a letter.
+    pub fn at(&self, row: usize, letter: usize) -> usize
+        requires row { row < length self.now }
+        requires letter { letter < length (slice_index_or self.now row []) }
+        ensures { result ≡ slice_index (slice_index_or self.now row []) letter }
+    {
+        entry(&self.numbers, self.letters, row + 1, letter)
     }
 }
 
-/// Words. Contracts see their list.
+/// Words, each kept as the number of the word without its last letter, and this letter. Contracts
+/// see the list of the words.
 #[derive(Drop)]
 pub struct Words {
-    words: Vec<Word>,
+    factors: Vec<Factor>,
 }
 
 impl Model for Words {
     ghost use Rattle.std.specs.Prelude.{List, ℕ};
+    ghost use Rattle.froidure_pin.specs.Found.{AreFactors, words_of};
 
     ghost Value = { List (List ℕ) };
 
-    ghost view = { λ w. w.words.items };
+    ghost view = { λ w. words_of w.factors.items };
+
+    ghost invariant = { λ w. AreFactors 256 w.factors.items };
 }
 
 impl Words {
-    /// These words.
-    pub fn from_vec(words: Vec<Word>) -> Words
-        ensures { result ≡ words.items }
+    // The words that these factors make.
+    pub(crate) fn new(factors: Vec<Factor>) -> Words
+        requires { AreFactors 256 factors.items }
+        ensures { result ≡ words_of factors.items }
     {
-        Words { words }
+        Words { factors }
     }
 
-    /// The words, in order. It takes no memory.
-    pub fn into_vec(self) -> Vec<Word>
-        ensures { result.items ≡ self }
+    /// How many words there are.
+    pub fn len(&self) -> usize
+        ensures { result ≡ length self.now }
     {
-        self.words
+        self.factors.len()
     }
 
-    /// The words, in order, lent.
-    pub fn as_slice(&self) -> &[Word]
-        ensures { result.now ≡ self.now }
+    /// The word of this number. Only want of memory refuses it.
+    pub fn word(&self, number: usize) -> Result<Word, NoMemory>
+        requires { number < length self.now }
+        ensures { IfOk result (λ word. word ≡ slice_index_or self.now number []) }
     {
-        self.words.as_slice()
+        let alloc = *self.factors.allocator();
+        spell(alloc, &self.factors, number)
     }
 }

@@ -7,12 +7,12 @@ ghost use Rattle.elements.specs.Generators.{value_by};
 ghost use Rattle.froidure_pin.specs.Rules.{IsWholeTable};
 ghost use Rattle.froidure_pin.specs.Numbering.{AreRowsBy, IsRowBy, left_number, letter_number, number_of, right_number};
 
-use super::lists::Words;
+use super::lists::{Rows, Words};
 use super::parts::Factor;
 use super::rows::entry;
 use super::rules::{rules_of, suffixes_of};
 use super::spell::spell;
-use super::tables::{CayleyTables, element_rows, row_of};
+use super::tables::{CayleyTables, row_of};
 use elements::Element;
 use indexmap::IndexSet;
 use ports::NoMemory;
@@ -152,35 +152,26 @@ impl<E: Element> Table<E> {
         rules_of(alloc, self.letters, &self.factors, &self.right, &suffixes)
     }
 
-    // The words, in order.
-    fn words(&self) -> Result<Words, NoMemory>
-        ensures { IfOk result (λ words. words ≡ self.now.words) }
-    {
-        let mut words = Vec::new(*self.factors.allocator());
-        for number in 0..self.factors.len() {
-            words.push(self.word(number)?)?;
-        }
-        Ok(Words::from_vec(words))
-    }
-
     /// The words, the numbers of the products by each letter on the right and on the left, and the
-    /// numbers of the letters. Only want of memory refuses it.
-    pub fn tables(&self) -> Result<CayleyTables, NoMemory>
-        ensures words { IfOk result (λ tables. tables.words ≡ self.now.words) }
-        ensures right { IfOk result (λ tables. AreRowsBy (length self.now.elements) self.now.letters
-            (right_number self.now) tables.right) }
-        ensures left { IfOk result (λ tables. AreRowsBy (length self.now.elements) self.now.letters
-            (left_number self.now) tables.left) }
-        ensures letters { IfOk result (λ tables. IsRowBy self.now.letters
-            (letter_number self.now) tables.letters) }
+    /// numbers of the letters. The lists that the table has are handed over, and its elements are
+    /// dropped; only the numbers of the letters take memory. Only want of memory refuses it.
+    pub fn tables(self) -> Result<CayleyTables, NoMemory>
+        ensures words { IfOk result (λ tables. tables.words ≡ self.words) }
+        ensures right { IfOk result (λ tables. AreRowsBy (length self.elements) self.letters
+            (right_number self) tables.right) }
+        ensures left { IfOk result (λ tables. AreRowsBy (length self.elements) self.letters
+            (left_number self) tables.left) }
+        ensures letters { IfOk result (λ tables. IsRowBy self.letters
+            (letter_number self) tables.letters) }
     {
         let alloc = *self.factors.allocator();
+        let letters = row_of(alloc, self.letters, &self.right, 0)?;
         let count = self.factors.len();
         Ok(CayleyTables {
-            words: self.words()?,
-            right: element_rows(alloc, self.letters, &self.right, count)?,
-            left: element_rows(alloc, self.letters, &self.left, count)?,
-            letters: row_of(alloc, self.letters, &self.right, 0)?,
+            words: Words::new(self.factors),
+            right: Rows::new(self.letters, count, self.right),
+            left: Rows::new(self.letters, count, self.left),
+            letters,
         })
     }
 }

@@ -1,7 +1,7 @@
 // A table read out.
 ghost use Rattle.std.specs.Prelude.{◌≡◌, ◌+◌, ◌*◌, ◌≤◌, length, IfOk};
 ghost use Rattle.froidure_pin.specs.Found.{entry};
-ghost use Rattle.froidure_pin.specs.Numbering.{AreRows, AreRowsBy, IsRowBy};
+ghost use Rattle.froidure_pin.specs.Numbering.{IsRowBy};
 
 use super::lists::{Numbers, Rows, Words};
 use super::rows::entry;
@@ -33,22 +33,4 @@ pub(crate) fn row_of(
         row.push(entry(numbers, letters, parent, letter))?;
     }
     Ok(Numbers::from_vec(row))
-}
-
-// The rows of the elements.
-pub(crate) fn element_rows(
-    alloc: Global,
-    letters: usize,
-    numbers: &Vec<u32>,
-    count: usize,
-) -> Result<Rows, NoMemory>
-    requires { AreRows letters count numbers.now.items }
-    ensures { IfOk result (λ rows. AreRowsBy count letters
-        (λ i. entry letters numbers.now.items (i + 1)) rows) }
-{
-    let mut rows = Vec::new(alloc);
-    for number in 0..count {
-        rows.push(row_of(alloc, letters, numbers, number + 1)?)?;
-    }
-    Ok(Rows::from_vec(rows))
 }

@@ -291,6 +291,36 @@ fn follows_the_edges(rt: HostRuntime) -> Result<(), Fail> {
     Ok(())
 }
 
+// Whether a list has the word of these letters at a place.
+fn has_word(words: &Words, number: usize, letters: &[u8]) -> Result<bool, NoMemory> {
+    if number >= words.len() {
+        return Ok(false);
+    }
+    Ok(has_letters(&words.word(number)?, letters))
+}
+
+// Whether a row has these numbers.
+fn has_row(rows: &Rows, row: usize, numbers: &[usize; 2]) -> bool {
+    if row >= rows.len() || rows.width() != 2 {
+        return false;
+    }
+    rows.at(row, 0) == numbers[0] && rows.at(row, 1) == numbers[1]
+}
+
+// The tables are those of the elements.
+fn has_tables(rt: &impl Abort, tables: &CayleyTables) -> Result<(), Fail> {
+    assert_eq!(rt; tables.letters.as_slice(), [0, 1].as_slice());
+    assert_eq!(rt; tables.words.len(), ELEMENTS.len());
+    assert_eq!(rt; tables.right.len(), ELEMENTS.len());
+    assert_eq!(rt; tables.left.len(), ELEMENTS.len());
+    for (number, (letters, right, left)) in ELEMENTS.iter().enumerate() {
+        assert!(rt; has_word(&tables.words, number, letters)?);
+        assert!(rt; has_row(&tables.right, number, right));
+        assert!(rt; has_row(&tables.left, number, left));
+    }
+    Ok(())
+}
+
 #[test]
 fn reads_out_tables_and_rules(rt: HostRuntime) -> Result<(), Fail> {
     let alloc = rt.alloc();
@@ -303,24 +333,5 @@ fn reads_out_tables_and_rules(rt: HostRuntime) -> Result<(), Fail> {
         assert!(rt; has_letters(&rule.0, left));
         assert!(rt; has_letters(&rule.1, right));
     }
-    let tables = table.tables()?;
-    assert_eq!(rt; tables.letters.into_vec().as_slice(), [0, 1].as_slice());
-    let (words, right, left) = (
-        tables.words.into_vec(),
-        tables.right.into_vec(),
-        tables.left.into_vec(),
-    );
-    assert_eq!(rt; words.len(), ELEMENTS.len());
-    for (word, (letters, _, _)) in words.iter().zip(ELEMENTS.iter()) {
-        assert!(rt; has_letters(word, letters));
-    }
-    assert_eq!(rt; right.len(), ELEMENTS.len());
-    for (row, (_, numbers, _)) in right.into_iter().zip(ELEMENTS.iter()) {
-        assert_eq!(rt; row.into_vec().as_slice(), numbers.as_slice());
-    }
-    assert_eq!(rt; left.len(), ELEMENTS.len());
-    for (row, (_, _, numbers)) in left.into_iter().zip(ELEMENTS.iter()) {
-        assert_eq!(rt; row.into_vec().as_slice(), numbers.as_slice());
-    }
-    Ok(())
+    has_tables(&rt, &table.tables()?)
 }
