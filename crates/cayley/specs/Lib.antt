@@ -3,3 +3,4 @@ pub mod Labels
 pub mod Closing
 pub mod Whole
 pub mod Run
+pub mod Placing

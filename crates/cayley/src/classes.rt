@@ -2,9 +2,11 @@
 ghost use Rattle.std.specs.Prelude.{◌≡◌, ◌<◌, false, length, slice_index, IfOk};
 ghost use Rattle.theory.specs.Congruence.{AreElements};
 ghost use Rattle.cayley.specs.Tables.{FitTogether, AreClasses};
+ghost use Rattle.cayley.specs.Placing.{ArePlacedClasses};
 
 use crate::closing::{close, numbered};
 use crate::parents::{flatten, singletons};
+use crate::placing::placed;
 use froidure_pin::CayleyTables;
 use ports::NoMemory;
 use presentation::{Kind, Pairs};
@@ -12,18 +14,24 @@ use std::alloc::Global;
 use std::marker::Model;
 
 /// For each element of a semigroup, by its number, the least number of its class. Contracts see the
-/// list of these numbers.
+/// list of these numbers. Kept are the least numbers of the classes, in order, and for each element
+/// the place of that of its class.
 #[derive(Drop)]
 pub struct Classes {
-    numbers: Vec<usize>,
+    roots: Vec<usize>,
+    places: Vec<usize>,
 }
 
 impl Model for Classes {
-    ghost use Rattle.std.specs.Prelude.{List, ℕ};
+    ghost use Rattle.std.specs.Prelude.{List, ℕ, map, slice_index};
+    ghost use Rattle.cayley.specs.Placing.{ArePlacedClasses};
 
     ghost Value = { List ℕ };
 
-    ghost view = { λ c. c.numbers.items };
+    ghost view = { λ c. map (slice_index c.roots.items) c.places.items };
+
+    ghost invariant = { λ c. ArePlacedClasses (map (slice_index c.roots.items) c.places.items)
+        c.roots.items c.places.items };
 }
 
 impl Classes {
@@ -31,7 +39,7 @@ impl Classes {
     pub fn len(&self) -> usize
         ensures { result ≡ length self.now }
     {
-        self.numbers.len()
+        self.places.len()
     }
 
     /// The least number of the class of an element, by the element's own number.
@@ -39,7 +47,15 @@ impl Classes {
         requires { number < length self.now }
         ensures { result ≡ slice_index self.now number }
     {
-        self.numbers[number]
+        self.roots[self.places[number]]
+    }
+
+    /// The least numbers of the classes, in order, and for each element, by its number, the place
+    /// of that of its class. It takes no memory.
+    pub fn placed(&self) -> (&[usize], &[usize])
+        ensures { ArePlacedClasses self.now result.0.now result.1.now }
+    {
+        (self.roots.as_slice(), self.places.as_slice())
     }
 }
 
@@ -60,8 +76,9 @@ pub fn by_pairs(
     ensures { IfOk result (AreClasses tables.now kind pairs.now) }
 {
     let waiting = numbered(alloc, tables, pairs)?;
-    let mut numbers = singletons(alloc, tables.words.as_slice().len())?;
+    let mut numbers = singletons(alloc, tables.words.len())?;
     close(tables, kind, &mut numbers, waiting)?;
     flatten(&mut numbers);
-    Ok(Classes { numbers })
+    let (roots, places) = placed(alloc, numbers.as_slice())?;
+    Ok(Classes { roots, places })
 }

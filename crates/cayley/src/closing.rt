@@ -19,11 +19,12 @@ fn target(rows: &Rows, number: usize, letter: usize) -> usize
     requires letter { letter < length (slice_index_or rows.now number []) }
     ensures { result ≡ edge rows.now number letter }
 {
-    rows.as_slice()[number].as_slice()[letter]
+    rows.at(number, letter)
 }
 
-// The number of a word.
-fn number_of(tables: &CayleyTables, word: &Word) -> usize
+/// The number of the value of a word: from that of its first letter along the right graph. The
+/// tables are those of a whole run, or at least fit together. It takes no memory.
+pub fn number_of(tables: &CayleyTables, word: &Word) -> usize
     requires fit { FitTogether tables.now }
     requires some { word.now ≢ [] }
     requires over { IsOver (length tables.now.letters) word.now }

@@ -7,9 +7,11 @@ mod classes;
 mod closing;
 pub mod facts;
 mod parents;
+mod placing;
 mod racer;
 
 pub use classes::{Classes, by_pairs};
+pub use closing::number_of;
 pub use racer::PairsRacer;
 
 #[cfg(test)]

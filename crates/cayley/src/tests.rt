@@ -265,7 +265,7 @@ fn lists_in_one_turn_and_relates_in_the_next(rt: HostRuntime) -> Result<(), Fail
     assert_eq!(rt; engine.advance(), Progress::Decided);
     assert_eq!(rt; engine.advance(), Progress::Decided);
     assert!(rt; engine.is_decided());
-    assert_eq!(rt; engine.tables().words.as_slice().len(), 5);
+    assert_eq!(rt; engine.tables().words.len(), 5);
     assert_eq!(rt; engine.classes().len(), 5);
     Ok(())
 }
