@@ -1,17 +1,12 @@
 -- The tables and classes that a search over elements finds are those of its problem.
-use Rattle.std.proofs.Common.{◌≡◌, ℕ, ◌<◌, ◌≤◌, ◌==◌, Bool, true, false, not, List, [], ◌∷◌, ◌++◌, length, refl, sym, ◌∙◌, ap, subst, subst₂, append-nil, arith, Option, None, slice_index, get_or}
+use Rattle.std.proofs.Common.{◌≡◌, ℕ, ◌<◌, ◌==◌, Bool, List, [], length, refl, sym, ap, subst, arith, Option, None, get_or}
 use Rattle.std.specs.Cmp.Lexicographic.{pointwise}
 use Rattle.std.specs.Option.{option_eq}
-use Rattle.std.proofs.lemmas.Bool.{eqb-true}
-use Rattle.std.proofs.lemmas.List.Sums.{fold-append}
-use Rattle.theory.specs.Word.{Word, IsElement}
-use Rattle.theory.specs.Congruence.{AreElements}
+use Rattle.theory.specs.Word.{Word}
 use Rattle.theory.specs.Class.{IsLeast}
 use Rattle.theory.specs.Value.{IsProduct, SameValue, SameElement}
 use Rattle.theory.specs.declared.Kind.{Kind}
-use Rattle.theory.specs.declared.Kind.TheVariants.{TwoSided, Right, Left}
-use Rattle.theory.proofs.ValueLaws.{same_element_without_pairs, value_kept_left, value_kept_right}
-use Rattle.theory.proofs.GeneratedLaws.{same_symm, same_trans, joins_kept}
+use Rattle.theory.proofs.GeneratedLaws.{same_symm}
 use Rattle.elements.specs.Generators.{HaveOneShape, value_by}
 use Rattle.elements.specs.Transf.{composed}
 use Rattle.elements.specs.TransfLaws.{composed_products}
@@ -22,26 +17,16 @@ use Rattle.elements.specs.BMatLaws.{boolean_matrix_eq, boolean_products}
 use Rattle.elements.specs.MaxPlus.{TruncatedMatrix, truncated_product}
 use Rattle.elements.specs.MaxPlusLaws.{truncated_matrix_eq, truncated_products}
 use Rattle.froidure_pin.specs.declared.tables.CayleyTables.{CayleyTables}
-use Rattle.problem.specs.Posed.{IsPosed}
 use Rattle.problem.specs.declared.kinds.Problem.{Problem}
 use Rattle.problem.specs.declared.kinds.Problem.TheVariants as problem
-use Rattle.problem.specs.Problem.{IsWellPosed, letters_of, no_matrix, no_truncated_matrix}
+use Rattle.problem.specs.Problem.{IsWellPosed, no_matrix, no_truncated_matrix}
 use Rattle.cayley.specs.Run.{PairsTask}
 use Rattle.cayley.specs.Tables.{edge, number_in, word_at}
 use Rattle.cayley.specs.Whole.{AreTablesOf, AreClassesOf}
 use Rattle.congruence.specs.CayleyGraphs.{AreCayleyGraphs, AreTablesFor}
-use Rattle.congruence.specs.Solution.{are_read_backwards}
 use Rattle.congruence.proofs.ListedWords.{listed_ascend, listed_at}
-use Rattle.congruence.specs.ElementGraphs.{AreClassesIn, AreClassesFor, rows_read, with_letter}
+use Rattle.congruence.specs.ElementLists.{AreClassesIn, AreClassesFor}
 use Rattle.congruence.specs.Engines.{Transformations, PartialPermutations, BooleanMatrices, TruncatedMatrices, IsTaskFor}
-
--- with left pairs words are read backwards
-some_pairs : (p : Word × Word) (pairs : List (Word × Word)) → are_read_backwards Left (p ∷ pairs) ≡ true
-some_pairs p pairs = go (length (p ∷ pairs) == 0) refl
-  where
-    go : (b : Bool) → (length (p ∷ pairs) == 0) ≡ b → not (length (p ∷ pairs) == 0) ≡ true
-    go true e = absurd (omega (arith, eqb-true (length (p ∷ pairs)) 0 e))
-    go false e = ap not e
 
 module _ {V : Type 0} {shape : V → ℕ × ℕ} {product : V → V → V} {equal : V → V → Bool}
     (laws : (one : ℕ × ℕ) → IsProduct (λ x. shape x ≡ one) product equal) (generators : List V) (unused : V)
@@ -63,72 +48,19 @@ module _ {V : Type 0} {shape : V → ℕ × ℕ} {product : V → V → V} {equa
     abbrev generator : ℕ → V
     generator a = get_or generators a unused
 
-    -- words of one value have one number
-    one_number : (u v : Word) → Same u v → number_in t u ≡ number_in t v
-    one_number u v same =
-        let left = tables.every u same.left in
-        let right = tables.every v same.right in
-        tables.numbered.distinct (number_in t u) (number_in t v) left.0 right.0
-        (same_trans (λ x. shape x ≡ one) product equal (laws one) (length generators) generator unused each_shaped (word_at t (number_in t u)) u (word_at t (number_in t v))
-        (same_symm (λ x. shape x ≡ one) product equal (laws one) (length generators) generator unused each_shaped u (word_at t (number_in t u)) left.1)
-        (same_trans (λ x. shape x ≡ one) product equal (laws one) (length generators) generator unused each_shaped u v (word_at t (number_in t v)) same right.1))
-
     own_number : (i : ℕ) → i < length t.words → number_in t (word_at t i) ≡ i
     own_number i within =
         let found = tables.every (word_at t i) (tables.numbered.elements i within) in
         sym (tables.numbered.distinct i (number_in t (word_at t i)) within found.0 found.1)
 
-    -- the number of a word with a letter in front is read from the left graph
-    number_before : (u : Word) (a : ℕ) → IsElement false (length generators) u → a < length generators → number_in t (a ∷ u) ≡ edge t.left (number_in t u) a
-    number_before u a element within =
-        let found = tables.every u element in
-        let on = tables.numbered.on_left (number_in t u) a found.0 within in
-        let front : Same (a ∷ u) (a ∷ word_at t (number_in t u)) =
-        value_kept_left (λ x. shape x ≡ one) product equal (laws one) (length generators) generator unused each_shaped (a ∷ []) u (word_at t (number_in t u)) found.1 (within, tt) in
-        one_number (a ∷ u) (word_at t (edge t.left (number_in t u) a))
-        (same_trans (λ x. shape x ≡ one) product equal (laws one) (length generators) generator unused each_shaped (a ∷ u) (a ∷ word_at t (number_in t u))
-        (word_at t (edge t.left (number_in t u) a)) front on.1)
-        ∙ own_number (edge t.left (number_in t u) a) on.0
-
-    -- and of one with a letter behind it from the right one
-    number_behind : (u : Word) (a : ℕ) → IsElement false (length generators) u → number_in t (u ++ a ∷ []) ≡ edge t.right (number_in t u) a
-    number_behind [] a element = absurd (element.0 refl)
-    number_behind (b ∷ u) a element = fold-append (edge t.right) (slice_index t.letters b) u (a ∷ [])
-
-    number_further : (backwards : Bool) (u : Word) (a : ℕ) → IsElement false (length generators) u → a < length generators
-        → number_in t (with_letter backwards u a) ≡ edge (rows_read backwards t) (number_in t u) a
-    number_further true u a element within = number_before u a element within
-    number_further false u a element within = number_behind u a element
-
-    -- the relation is kept where one letter more is read
-    kept : (kind : Kind) (pairs : List (Word × Word)) → AreElements false (length generators) pairs → (u v : Word) (a : ℕ) → a < length generators
-        → SameElement (length generators) equal (value_by product generators unused) kind pairs u v
-        → SameElement (length generators) equal (value_by product generators unused) kind pairs (with_letter (are_read_backwards kind pairs) u a) (with_letter (are_read_backwards kind pairs) v a)
-    kept TwoSided pairs elements u v a within h =
-        joins_kept (λ x. shape x ≡ one) product equal (laws one) (length generators) generator unused each_shaped TwoSided pairs elements [] (a ∷ []) u v tt (within, tt) tt h
-    kept Right pairs elements u v a within h =
-        joins_kept (λ x. shape x ≡ one) product equal (laws one) (length generators) generator unused each_shaped Right pairs elements [] (a ∷ []) u v tt (within, tt) refl h
-    kept Left [] elements u v a within h =
-        let by_value = same_element_without_pairs (λ x. shape x ≡ one) product equal (laws one) (length generators) generator unused each_shaped Left in
-        (by_value (u ++ a ∷ []) (v ++ a ∷ [])).1
-        (value_kept_right (λ x. shape x ≡ one) product equal (laws one) (length generators) generator unused each_shaped u v (a ∷ []) ((by_value u v).0 h) (within, tt))
-    kept Left (p ∷ pairs) elements u v a within h =
-        let backwards : are_read_backwards Left (p ∷ pairs) ≡ true = some_pairs p pairs in
-        subst (λ b. SameElement (length generators) equal (value_by product generators unused) Left (p ∷ pairs) (with_letter b u a) (with_letter b v a)) (sym backwards)
-        (subst₂ (λ x y. SameElement (length generators) equal (value_by product generators unused) Left (p ∷ pairs) (a ∷ x) (a ∷ y)) (append-nil u) (append-nil v)
-        (joins_kept (λ x. shape x ≡ one) product equal (laws one) (length generators) generator unused each_shaped Left (p ∷ pairs) elements (a ∷ []) [] u v (within, tt) tt refl h))
-
     -- the classes of the numbers are those of the relation
-    classes_in : (kind : Kind) (pairs : List (Word × Word)) → AreElements false (length generators) pairs → length generators ≤ 256 → (classes : List ℕ)
-        → AreClassesOf product equal generators unused kind pairs t classes
-        → AreClassesIn (SameElement (length generators) equal (value_by product generators unused) kind pairs) (length generators) (are_read_backwards kind pairs) t classes
-    classes_in kind pairs elements few classes are = record {
+    classes_in : (kind : Kind) (pairs : List (Word × Word)) (classes : List ℕ) → AreClassesOf product equal generators unused kind pairs t classes
+        → AreClassesIn (SameElement (length generators) equal (value_by product generators unused) kind pairs) (length generators) t classes
+    classes_in kind pairs classes are = record {
       fit = tables.fit;
       letters = tables.letters;
-      few = few;
       count = are.count;
       below = λ i h. are.least i i h h refl;
-      own = are.own;
       elements = tables.numbered.elements;
       numbers = own_number;
       ascending = λ i j less h. listed_ascend (IsLeast Same) None t.words tables.listed i j less h;
@@ -137,10 +69,7 @@ module _ {V : Type 0} {shape : V → ℕ × ℕ} {product : V → V → V} {equa
           (listed_at (IsLeast Same) None t.words tables.listed (number_in t u) found.0).0.none_less u
           (same_symm (λ x. shape x ≡ one) product equal (laws one) (length generators) generator unused each_shaped u (word_at t (number_in t u)) found.1) less;
       within = λ u e. (tables.every u e).0;
-      first = λ a h. refl;
-      further = number_further (are_read_backwards kind pairs);
       related = are.related;
-      kept = kept kind pairs elements;
     }
 
 -- the tables of a search are those of the problem whose task it has
@@ -184,74 +113,63 @@ mpt_tables (problem.MaxPlus p) task t is tables =
     let are : AreTablesOf truncated_product truncated_matrix_eq p.generators no_truncated_matrix t = subst (λ (gs : List TruncatedMatrix). AreTablesOf truncated_product truncated_matrix_eq gs no_truncated_matrix t) (ap (λ (s : PairsTask TruncatedMatrix). s.generators) is) (tables no_truncated_matrix) in
     record { fit = are.fit; letters = are.letters; graphs = graphs truncated_products p.generators no_truncated_matrix t are }
 
--- a problem by generators has at most as many of them as letters
-few_of : {V : Type 0} (shape : V → ℕ × ℕ) (letters : List ℕ) (generators : List V) (pairs : List (Word × Word)) → IsPosed shape letters generators pairs → length letters ≤ 256 → length generators ≤ 256
-few_of shape letters generators pairs posed few = omega (arith, posed.one_each, few)
-
-pairs_over : {V : Type 0} (shape : V → ℕ × ℕ) (letters : List ℕ) (generators : List V) (pairs : List (Word × Word)) → IsPosed shape letters generators pairs → AreElements false (length generators) pairs
-pairs_over shape letters generators pairs posed = subst (λ k. AreElements false k pairs) (sym posed.one_each) posed.elements
-
 -- and the classes too
-pub transf_classes : (p : Problem) (task : PairsTask (List ℕ)) (t : CayleyTables) (classes : List ℕ) → IsWellPosed p → length (letters_of p) ≤ 256
+pub transf_classes : (p : Problem) (task : PairsTask (List ℕ)) (t : CayleyTables) (classes : List ℕ) → IsWellPosed p
     → IsTaskFor p (Transformations task) → ((unused : List ℕ) → AreTablesOf composed (pointwise ◌==◌) task.generators unused t)
     → ((unused : List ℕ) → AreClassesOf composed (pointwise ◌==◌) task.generators unused task.kind task.pairs t classes) → AreClassesFor p t classes
-transf_classes (problem.Presented p) task t classes posed few is tables are = absurd is
-transf_classes (problem.Transf p) task t classes posed few is tables are =
+transf_classes (problem.Presented p) task t classes posed is tables are = absurd is
+transf_classes (problem.Transf p) task t classes posed is tables are =
     record {
-      generated = refl;
+      semigroup = refl;
       classes_in = classes_in composed_products p.generators [] t
-          (subst (λ (s : PairsTask (List ℕ)). AreTablesOf composed (pointwise ◌==◌) s.generators [] t) is (tables [])) posed.one_shape p.kind p.pairs
-          (pairs_over (λ x. (length x, 0)) p.letters p.generators p.pairs posed) (few_of (λ x. (length x, 0)) p.letters p.generators p.pairs posed few) classes
+          (subst (λ (s : PairsTask (List ℕ)). AreTablesOf composed (pointwise ◌==◌) s.generators [] t) is (tables [])) posed.one_shape p.kind p.pairs classes
           (subst (λ (s : PairsTask (List ℕ)). AreClassesOf composed (pointwise ◌==◌) s.generators [] s.kind s.pairs t classes) is (are []));
     }
-transf_classes (problem.PPerm p) task t classes posed few is tables are = absurd is
-transf_classes (problem.BMat p) task t classes posed few is tables are = absurd is
-transf_classes (problem.MaxPlus p) task t classes posed few is tables are = absurd is
+transf_classes (problem.PPerm p) task t classes posed is tables are = absurd is
+transf_classes (problem.BMat p) task t classes posed is tables are = absurd is
+transf_classes (problem.MaxPlus p) task t classes posed is tables are = absurd is
 
-pub pperm_classes : (p : Problem) (task : PairsTask (List (Option ℕ))) (t : CayleyTables) (classes : List ℕ) → IsWellPosed p → length (letters_of p) ≤ 256
+pub pperm_classes : (p : Problem) (task : PairsTask (List (Option ℕ))) (t : CayleyTables) (classes : List ℕ) → IsWellPosed p
     → IsTaskFor p (PartialPermutations task) → ((unused : List (Option ℕ)) → AreTablesOf partially_composed (pointwise (option_eq ◌==◌)) task.generators unused t)
     → ((unused : List (Option ℕ)) → AreClassesOf partially_composed (pointwise (option_eq ◌==◌)) task.generators unused task.kind task.pairs t classes) → AreClassesFor p t classes
-pperm_classes (problem.Presented p) task t classes posed few is tables are = absurd is
-pperm_classes (problem.Transf p) task t classes posed few is tables are = absurd is
-pperm_classes (problem.PPerm p) task t classes posed few is tables are =
+pperm_classes (problem.Presented p) task t classes posed is tables are = absurd is
+pperm_classes (problem.Transf p) task t classes posed is tables are = absurd is
+pperm_classes (problem.PPerm p) task t classes posed is tables are =
     record {
-      generated = refl;
+      semigroup = refl;
       classes_in = classes_in partial_products p.generators [] t
-          (subst (λ (s : PairsTask (List (Option ℕ))). AreTablesOf partially_composed (pointwise (option_eq ◌==◌)) s.generators [] t) is (tables [])) posed.one_shape p.kind p.pairs
-          (pairs_over (λ x. (length x, 0)) p.letters p.generators p.pairs posed) (few_of (λ x. (length x, 0)) p.letters p.generators p.pairs posed few) classes
+          (subst (λ (s : PairsTask (List (Option ℕ))). AreTablesOf partially_composed (pointwise (option_eq ◌==◌)) s.generators [] t) is (tables [])) posed.one_shape p.kind p.pairs classes
           (subst (λ (s : PairsTask (List (Option ℕ))). AreClassesOf partially_composed (pointwise (option_eq ◌==◌)) s.generators [] s.kind s.pairs t classes) is (are []));
     }
-pperm_classes (problem.BMat p) task t classes posed few is tables are = absurd is
-pperm_classes (problem.MaxPlus p) task t classes posed few is tables are = absurd is
+pperm_classes (problem.BMat p) task t classes posed is tables are = absurd is
+pperm_classes (problem.MaxPlus p) task t classes posed is tables are = absurd is
 
-pub bmat_classes : (p : Problem) (task : PairsTask BooleanMatrix) (t : CayleyTables) (classes : List ℕ) → IsWellPosed p → length (letters_of p) ≤ 256
+pub bmat_classes : (p : Problem) (task : PairsTask BooleanMatrix) (t : CayleyTables) (classes : List ℕ) → IsWellPosed p
     → IsTaskFor p (BooleanMatrices task) → ((unused : BooleanMatrix) → AreTablesOf boolean_product boolean_matrix_eq task.generators unused t)
     → ((unused : BooleanMatrix) → AreClassesOf boolean_product boolean_matrix_eq task.generators unused task.kind task.pairs t classes) → AreClassesFor p t classes
-bmat_classes (problem.Presented p) task t classes posed few is tables are = absurd is
-bmat_classes (problem.Transf p) task t classes posed few is tables are = absurd is
-bmat_classes (problem.PPerm p) task t classes posed few is tables are = absurd is
-bmat_classes (problem.BMat p) task t classes posed few is tables are =
+bmat_classes (problem.Presented p) task t classes posed is tables are = absurd is
+bmat_classes (problem.Transf p) task t classes posed is tables are = absurd is
+bmat_classes (problem.PPerm p) task t classes posed is tables are = absurd is
+bmat_classes (problem.BMat p) task t classes posed is tables are =
     record {
-      generated = refl;
+      semigroup = refl;
       classes_in = classes_in boolean_products p.generators no_matrix t
-          (subst (λ (s : PairsTask BooleanMatrix). AreTablesOf boolean_product boolean_matrix_eq s.generators no_matrix t) is (tables no_matrix)) posed.one_shape p.kind p.pairs
-          (pairs_over (λ (m : BooleanMatrix). (m.dimension, 0)) p.letters p.generators p.pairs posed) (few_of (λ (m : BooleanMatrix). (m.dimension, 0)) p.letters p.generators p.pairs posed few) classes
+          (subst (λ (s : PairsTask BooleanMatrix). AreTablesOf boolean_product boolean_matrix_eq s.generators no_matrix t) is (tables no_matrix)) posed.one_shape p.kind p.pairs classes
           (subst (λ (s : PairsTask BooleanMatrix). AreClassesOf boolean_product boolean_matrix_eq s.generators no_matrix s.kind s.pairs t classes) is (are no_matrix));
     }
-bmat_classes (problem.MaxPlus p) task t classes posed few is tables are = absurd is
+bmat_classes (problem.MaxPlus p) task t classes posed is tables are = absurd is
 
-pub mpt_classes : (p : Problem) (task : PairsTask TruncatedMatrix) (t : CayleyTables) (classes : List ℕ) → IsWellPosed p → length (letters_of p) ≤ 256
+pub mpt_classes : (p : Problem) (task : PairsTask TruncatedMatrix) (t : CayleyTables) (classes : List ℕ) → IsWellPosed p
     → IsTaskFor p (TruncatedMatrices task) → ((unused : TruncatedMatrix) → AreTablesOf truncated_product truncated_matrix_eq task.generators unused t)
     → ((unused : TruncatedMatrix) → AreClassesOf truncated_product truncated_matrix_eq task.generators unused task.kind task.pairs t classes) → AreClassesFor p t classes
-mpt_classes (problem.Presented p) task t classes posed few is tables are = absurd is
-mpt_classes (problem.Transf p) task t classes posed few is tables are = absurd is
-mpt_classes (problem.PPerm p) task t classes posed few is tables are = absurd is
-mpt_classes (problem.BMat p) task t classes posed few is tables are = absurd is
-mpt_classes (problem.MaxPlus p) task t classes posed few is tables are =
+mpt_classes (problem.Presented p) task t classes posed is tables are = absurd is
+mpt_classes (problem.Transf p) task t classes posed is tables are = absurd is
+mpt_classes (problem.PPerm p) task t classes posed is tables are = absurd is
+mpt_classes (problem.BMat p) task t classes posed is tables are = absurd is
+mpt_classes (problem.MaxPlus p) task t classes posed is tables are =
     record {
-      generated = refl;
+      semigroup = refl;
       classes_in = classes_in truncated_products p.generators no_truncated_matrix t
-          (subst (λ (s : PairsTask TruncatedMatrix). AreTablesOf truncated_product truncated_matrix_eq s.generators no_truncated_matrix t) is (tables no_truncated_matrix)) posed.one_shape p.kind p.pairs
-          (pairs_over (λ (m : TruncatedMatrix). (m.dimension, m.bound)) p.letters p.generators p.pairs posed) (few_of (λ (m : TruncatedMatrix). (m.dimension, m.bound)) p.letters p.generators p.pairs posed few) classes
+          (subst (λ (s : PairsTask TruncatedMatrix). AreTablesOf truncated_product truncated_matrix_eq s.generators no_truncated_matrix t) is (tables no_truncated_matrix)) posed.one_shape p.kind p.pairs classes
           (subst (λ (s : PairsTask TruncatedMatrix). AreClassesOf truncated_product truncated_matrix_eq s.generators no_truncated_matrix s.kind s.pairs t classes) is (are no_truncated_matrix));
     }

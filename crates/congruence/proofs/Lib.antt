@@ -9,12 +9,9 @@ pub mod LaneLaws
 pub mod RewrittenRules
 pub mod RewrittenWords
 pub mod RewrittenCounts
-pub mod CosetRuleLists
-pub mod CosetRuleLaws
+pub mod ListedRuleLists
+pub mod ListedRuleLaws
 pub mod ListedWords
-pub mod PlacedClasses
-pub mod RootWords
-pub mod ClassGraphs
 pub mod ElementClasses
-pub mod DrawnRows
+pub mod ElementLists
 pub mod EngineGraphs

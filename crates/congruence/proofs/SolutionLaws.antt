@@ -1,5 +1,5 @@
--- What the graph of a problem and the least words of its nodes answer.
-use Rattle.std.proofs.Common.{◌≡◌, ℕ, zero, suc, ◌-◌, ◌<◌, ◌≤◌, Bool, true, false, List, [], ◌∷◌, length, get_or, reverse, slice_index, refl, sym, ◌∙◌, ap, subst, arith, inl, inr, Option, Some, None, option_and_then}
+-- The least words of the nodes of a problem's graph list its classes.
+use Rattle.std.proofs.Common.{◌≡◌, ◌↔◌, ℕ, zero, suc, ◌-◌, ◌<◌, ◌≤◌, Bool, true, false, List, [], ◌∷◌, length, get_or, reverse, slice_index, refl, sym, ◌∙◌, ap, subst, arith, inl, inr, Option, Some, None, option_and_then}
 use Rattle.std.specs.Option.{unwrap_or}
 use Rattle.std.proofs.lemmas.Bool.{cases_lt}
 use Rattle.std.proofs.lemmas.List.{reverse-reverse}
@@ -19,7 +19,7 @@ use Rattle.word_graph.proofs.WalkLaws.{some_same}
 use Rattle.problem.specs.declared.kinds.Problem.{Problem}
 use Rattle.problem.specs.declared.kinds.Problem.TheVariants.{Presented, Transf, PPerm, BMat, MaxPlus}
 use Rattle.problem.specs.Problem.{SameClassOf, count_of, has_empty_word}
-use Rattle.congruence.specs.Solution.{as_read, IsGraphOf, IsGraphFor, word_at, node_at, first_class, place_of, AreOrderedWords, ArePlaced, ArePlacesOf, IsSolution, IsSolutionFor, reads_backwards}
+use Rattle.congruence.specs.Solution.{as_read, IsGraphOf, IsGraphFor, word_at, node_at, first_class, place_of, CosetTable, coset_list, AreListed, AreOrderedWords, ArePlaced, ArePlacesOf, IsSolution, IsSolutionFor, reads_backwards}
 use Rattle.congruence.proofs.OrderedWords.{ascend}
 
 -- a path is over the letters
@@ -220,20 +220,51 @@ module _ (R : Word → Word → Type 0) (empty : Bool) (k : ℕ) (backwards : Bo
       let first = from_first u f.0 element leads in
       (f.0, ap (λ o. slice_index places (unwrap_or o 0)) to.1 ∙ f.2, first, f.1, at_place u f.0 element first f.1 leads)
 
-  pub solution : IsSolution R empty k backwards g least places
-  solution = record {
-    graph = is.graph;
+  -- the node to which a word leads has the place of the word
+  node_of : (u : Word) → IsElement empty k u
+      → (node : ℕ) × (path g 0 (as_read backwards u) ≡ Some node) × (node_at least (place_of g places (as_read backwards u)) ≡ node)
+  node_of u element =
+      let to = is.defined (as_read backwards u) (read_over backwards k u (element_over empty k u element)) in
+      let f = place_in to.0 (path_in k g is.graph 0 to.0 (as_read backwards u) is.graph.rooted to.1) in
+      (to.0, to.1, ap (λ o. node_at least (slice_index places (unwrap_or o 0))) to.1 ∙ ap (node_at least) f.2 ∙ f.3)
+
+  abbrev place_for : Word → ℕ
+  place_for u = place_of g places (as_read backwards u)
+
+  -- words that lead to one node have one place, and only these
+  by_places : (u v : Word) → IsElement empty k u → IsElement empty k v → R u v ↔ (place_for u ≡ place_for v)
+  by_places u v left right = (
+    λ h.
+        let ends = (is.decides u v left right).0 h in
+        ap (λ o. slice_index places (unwrap_or o 0)) (ends.1 ∙ sym ends.2),
+    λ same.
+        let one = node_of u left in
+        let other = node_of v right in
+        let node : other.0 ≡ one.0 = sym other.2 ∙ ap (node_at least) (sym same) ∙ one.2 in
+        (is.decides u v left right).1 (one.0, one.1, other.1 ∙ ap (λ z. Some z) node),
+  )
+
+  -- the places of nodes are those of the list
+  pub nodes_listed : (u : Word) → (unwrap_or (path g 0 u) 0 < length places) × (place_of g places u < length least)
+  nodes_listed u =
+      let within = node_in u (path g 0 u) refl in
+      let f = place_in (unwrap_or (path g 0 u) 0) within in
+      (omega (arith, within, at.count, are.count), subst (λ i. i < length least) (sym f.2) f.1)
+
+  abbrev table : ℕ → CosetTable
+  table letters = record { letters = letters; backwards = backwards; graph = g; least = least; places = places }
+
+  pub solution : (letters : ℕ) → letters ≡ k → IsSolution R empty k (coset_list (table letters))
+  solution letters same = record {
     among = among;
+    letters = same;
+    listing = record {
+      over = λ i h. subst (λ n. IsOver n (word_at least i)) (sym same) (over_at i h);
+      ascending = are.ascending;
+      listed = λ u over. (nodes_listed (as_read backwards u)).1;
+    };
     root = root;
-    listed = λ u.
-        let within = node_in u (path g 0 u) refl in
-        let f = place_in (unwrap_or (path g 0 u) 0) within in
-        (omega (arith, within, at.count, are.count), subst (λ i. i < length least) (sym f.2) f.1);
-    over = over_at;
-    defined = is.defined;
-    decides = is.decides;
-    some = first_small empty (length least) some;
-    ascending = are.ascending;
+    decides = by_places;
     classes = λ i first h. record {
       element = at_place (word_at least i) i (element_at i first h) first h (are.leads i h);
       none_less = λ v same less.
@@ -244,11 +275,11 @@ module _ (R : Word → Word → Type 0) (empty : Bool) (k : ℕ) (backwards : Bo
     };
     reached = λ u element.
         let f = reached_at u element in
-        subst (λ i. (first_class empty ≤ i) × (i < length least) × R u (word_at least i)) (sym f.1) (f.2, f.3, f.4);
+        subst (λ i. (first_class empty ≤ i) × R u (word_at least i)) (sym f.1) (f.2, f.4);
   }
 
 -- what is related are elements
-related_elements : (p : Problem) (u v : Word) → SameClassOf p u v
+pub related_elements : (p : Problem) (u v : Word) → SameClassOf p u v
     → IsElement (has_empty_word p) (count_of p) u × IsElement (has_empty_word p) (count_of p) v
 related_elements (Presented p) u v h = (h.left, h.right)
 related_elements (Transf p) u v h = (h.left, h.right)
@@ -256,7 +287,14 @@ related_elements (PPerm p) u v h = (h.left, h.right)
 related_elements (BMat p) u v h = (h.left, h.right)
 related_elements (MaxPlus p) u v h = (h.left, h.right)
 
-pub solution_for : (p : Problem) (g : Graph) (least : List (ℕ × Word)) (places : List ℕ) → IsGraphFor p g
-    → AreOrderedWords g (reads_backwards p) least → ArePlacesOf least places → IsSolutionFor p g least places
-solution_for p g least places =
-    solution (SameClassOf p) (has_empty_word p) (count_of p) (reads_backwards p) g least places (related_elements p)
+pub solution_for : (p : Problem) (letters : ℕ) (g : Graph) (least : List (ℕ × Word)) (places : List ℕ) → IsGraphFor p g → IsGraph letters g
+    → AreOrderedWords g (reads_backwards p) least → ArePlacesOf least places
+    → IsSolutionFor p (coset_list (record { letters = letters; backwards = reads_backwards p; graph = g; least = least; places = places }))
+solution_for p letters g least places is graph are at =
+    solution (SameClassOf p) (has_empty_word p) (count_of p) (reads_backwards p) g least places (related_elements p) is are at letters
+    (sym (graph.width 0 [] graph.rooted) ∙ is.graph.width 0 [] graph.rooted)
+
+pub listed_for : (p : Problem) (g : Graph) (least : List (ℕ × Word)) (places : List ℕ) → IsGraphFor p g
+    → AreOrderedWords g (reads_backwards p) least → ArePlacesOf least places → AreListed g places least
+listed_for p g least places is are at =
+    nodes_listed (SameClassOf p) (has_empty_word p) (count_of p) (reads_backwards p) g least places (related_elements p) is are at

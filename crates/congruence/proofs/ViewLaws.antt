@@ -5,7 +5,7 @@ use Rattle.problem.specs.declared.kinds.Problem.{Problem}
 use Rattle.problem.specs.declared.kinds.Problem.TheVariants.{Presented}
 use Rattle.race.specs.declared.lanes.Lane.{Lane}
 use Rattle.congruence.specs.declared.answers.Classes.{Classes}
-use Rattle.congruence.specs.declared.answers.Classes.TheVariants.{Cosets, Reduced}
+use Rattle.congruence.specs.declared.answers.Classes.TheVariants.{Cosets, Reduced, Elements}
 use Rattle.congruence.specs.declared.engine.Engine.{Engine}
 use Rattle.congruence.specs.Classes.{problem_of}
 use Rattle.congruence.specs.Solution.{Solution}
@@ -16,3 +16,6 @@ module _ (s : Solution) (classes : Classes) (lanes : List (Lane Engine)) (view :
 
   pub of_reduced : (c : Posed) → classes ≡ Reduced c → Presented c ≡ s.problem
   of_reduced c is = ap problem_of (sym is) ∙ ap (λ (t : Solution). t.problem) view
+
+  pub of_elements : (p : Problem) → classes ≡ Elements p → p ≡ s.problem
+  of_elements p is = ap problem_of (sym is) ∙ ap (λ (t : Solution). t.problem) view

@@ -4,6 +4,6 @@ pub mod Indexes
 pub mod Verdicts
 pub mod Rewriting
 pub mod Classes
-pub mod CosetRules
+pub mod ListedRules
 pub mod CayleyGraphs
-pub mod ElementGraphs
+pub mod ElementLists

@@ -1,4 +1,4 @@
--- Graphs that decide the relation of elements, and the least words of their nodes.
+-- Graphs that decide the relation of elements, and lists of the least words of classes.
 use Rattle.std.specs.Prelude.{◌↔◌, ◌≡◌, ℕ, ◌<◌, ◌≤◌, Bool, true, false, not, ◌==◌, List, [], length, reverse, slice_index, slice_index_or, cond, Option, Some, unwrap_or}
 use Rattle.theory.specs.declared.Kind.{Kind}
 use Rattle.theory.specs.declared.Kind.TheVariants.{TwoSided, Right, Left}
@@ -63,15 +63,15 @@ node_at least place = (slice_index_or least place (0, [])).0
 abbrev pub first_class : Bool → ℕ
 first_class empty = cond empty 0 1
 
--- the words of the places ascend
-abbrev pub AreAscending : List (ℕ × Word) → Type 0
-AreAscending least = (i j : ℕ) → i < j → j < length least → word_at least i ≺ word_at least j
+-- so many words ascend
+abbrev pub AreAscending : ℕ → (ℕ → Word) → Type 0
+AreAscending count word = (i j : ℕ) → i < j → j < count → word i ≺ word j
 
 -- each node with the least word that leads to it, as the graph reads words, in the order of these
 -- words
 pub record AreOrderedWords (g : Graph) (backwards : Bool) (least : List (ℕ × Word)) : Type 0 where
   pub count : length least ≡ length g
-  pub ascending : AreAscending least
+  pub ascending : AreAscending (length least) (word_at least)
   pub nodes : (i : ℕ) → i < length least → node_at least i < length g
   pub all : (node : ℕ) → node < length g → (i : ℕ) × (i < length least) × (node_at least i ≡ node)
   pub leads : (i : ℕ) → i < length least
@@ -105,33 +105,59 @@ abbrev pub AreListed : Graph → List ℕ → List (ℕ × Word) → Type 0
 AreListed g places least = (u : Word)
     → (unwrap_or (path g 0 u) 0 < length places) × (place_of g places u < length least)
 
--- the graph decides the relation, which is one of elements, and from the first class on the words
--- are the least of all classes, in order
-pub record IsSolution (R : Word → Word → Type 0) (empty : Bool) (k : ℕ) (backwards : Bool)
-    (g : Graph) (least : List (ℕ × Word)) (places : List ℕ) : Type 0 where
-  pub graph : IsGraph k g
-  pub among : (u v : Word) → R u v → IsElement empty k u × IsElement empty k v
-  pub root : word_at least 0 ≡ []
-  pub listed : AreListed g places least
-  pub over : (i : ℕ) → i < length least → IsOver k (word_at least i)
-  pub defined : (u : Word) → IsOver k u → (node : ℕ) × (path g 0 u ≡ Some node)
-  pub decides : (u v : Word) → IsElement empty k u → IsElement empty k v
-      → R u v ↔ SameEnd g (as_read backwards u) (as_read backwards v)
-  pub some : first_class empty ≤ length least
-  pub ascending : AreAscending least
-  pub classes : (i : ℕ) → first_class empty ≤ i → i < length least → IsLeast R (word_at least i)
-  pub reached : (u : Word) → IsElement empty k u
-      → let place : ℕ = place_of g places (as_read backwards u) in
-      (first_class empty ≤ place) × (place < length least) × R u (word_at least place)
+-- words over so many letters in order, and a place among them for each word
+pub record ClassList : Type 0 where
+  pub letters : ℕ
+  pub count : ℕ
+  pub word : ℕ → Word
+  pub place : Word → ℕ
 
--- the graph of a problem, and the least words of its nodes
-abbrev pub IsSolutionFor : Problem → Graph → List (ℕ × Word) → List ℕ → Type 0
-IsSolutionFor p = IsSolution (SameClassOf p) (has_empty_word p) (count_of p) (reads_backwards p)
+-- the words are over the letters and ascend, and what is over the letters has a place
+pub record IsListing (list : ClassList) : Type 0 where
+  pub over : (i : ℕ) → i < list.count → IsOver list.letters (list.word i)
+  pub ascending : AreAscending list.count list.word
+  pub listed : (u : Word) → IsOver list.letters u → list.place u < list.count
+
+-- two elements are related exactly where they have one place, and from the first class on, behind
+-- the empty word of the root, the words of the places are the least of all classes
+pub record IsSolution (R : Word → Word → Type 0) (empty : Bool) (k : ℕ) (list : ClassList) : Type 0
+  where
+    pub among : (u v : Word) → R u v → IsElement empty k u × IsElement empty k v
+    pub letters : list.letters ≡ k
+    pub listing : IsListing list
+    pub root : list.word 0 ≡ []
+    pub decides : (u v : Word) → IsElement empty k u → IsElement empty k v
+        → R u v ↔ (list.place u ≡ list.place v)
+    pub classes : (i : ℕ) → first_class empty ≤ i → i < list.count → IsLeast R (list.word i)
+    pub reached : (u : Word) → IsElement empty k u
+        → (first_class empty ≤ list.place u) × R u (list.word (list.place u))
+
+-- the list decides the problem
+abbrev pub IsSolutionFor : Problem → ClassList → Type 0
+IsSolutionFor p = IsSolution (SameClassOf p) (has_empty_word p) (count_of p)
+
+-- a graph over so many letters that reads words forwards or backwards, the words of its nodes in
+-- order, and the places of its nodes
+pub record CosetTable : Type 0 where
+  pub letters : ℕ
+  pub backwards : Bool
+  pub graph : Graph
+  pub least : List (ℕ × Word)
+  pub places : List ℕ
+
+-- the words of the nodes, and the place of the node to which a word leads
+abbrev pub coset_list : CosetTable → ClassList
+coset_list t = record {
+  letters = t.letters;
+  count = length t.least;
+  word = word_at t.least;
+  place = λ u. place_of t.graph t.places (as_read t.backwards u);
+}
 
 -- of the words from the first class on, those from the place on come after the cursor, and those
 -- before it do not
-pub record IsPlaceAfter (first : ℕ) (least : List (ℕ × Word)) (cursor : Option Word)
-    (place : ℕ) : Type 0 where
-  pub within : (first ≤ place) × (place ≤ length least)
-  pub before : (i : ℕ) → first ≤ i → i < place → IsAfter ◌≺◌ cursor (word_at least i) → ⊥
-  pub after : (i : ℕ) → place ≤ i → i < length least → IsAfter ◌≺◌ cursor (word_at least i)
+pub record IsPlaceAfter (first : ℕ) (list : ClassList) (cursor : Option Word) (place : ℕ) : Type 0
+  where
+    pub within : (first ≤ place) × (place ≤ list.count)
+    pub before : (i : ℕ) → first ≤ i → i < place → IsAfter ◌≺◌ cursor (list.word i) → ⊥
+    pub after : (i : ℕ) → place ≤ i → i < list.count → IsAfter ◌≺◌ cursor (list.word i)

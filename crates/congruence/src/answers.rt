@@ -6,13 +6,18 @@ ghost use Rattle.theory.specs.ShortLex.{◌≺◌};
 ghost use Rattle.theory.specs.Class.{IsLeast, IsNormal, IsRuleList};
 ghost use Rattle.theory.specs.Listing.{IsLast, IsNext, GoesOnOrEnds};
 ghost use Rattle.problem.specs.Problem.{SameClassOf, allows_rules, count_of, has_empty_word, is_presented};
+ghost use Rattle.race.specs.declared.engines.Progress.TheVariants.{Decided};
 ghost use Rattle.congruence.specs.CayleyGraphs.{AreTablesFor};
 ghost use Rattle.congruence.specs.Classes.{problem_of};
-ghost use Rattle.congruence.specs.Engines.{HasDecided};
+ghost use Rattle.congruence.specs.ElementLists.{element_list};
+ghost use Rattle.congruence.specs.Engines.{HasDecided, IsTaskFor, said_of, task_of};
 ghost use Rattle.congruence.specs.Indexes.{IsIndexWithin};
+ghost use Rattle.congruence.specs.Solution.{IsSolutionFor};
 
 use crate::cosets::CosetClasses;
-use crate::engine::Ended;
+use crate::element_classes::{ElementClasses, GeneratedProblem};
+use crate::engine::{Ended, Engine};
+use crate::listing::{equal_in, index_in, next_in, normal_in, rules_in};
 use crate::reduced_words::ReducedClasses;
 use froidure_pin::CayleyTables;
 use ports::NoMemory;
@@ -31,12 +36,13 @@ pub enum Index {
     Over,
 }
 
-/// How the classes are known: by the graph of the cosets, or by the reduced words of rewriting
-/// rules.
+/// How the classes are known: by the graph of the cosets, by the reduced words of rewriting rules,
+/// or by the tables of the elements, which the lanes hold.
 #[derive(Drop)]
 pub enum Classes {
     Cosets(CosetClasses),
     Reduced(ReducedClasses),
+    Elements(GeneratedProblem),
 }
 
 /// What is known of a problem that was decided (libsemigroups, `Congruence`). The empty word
@@ -73,6 +79,23 @@ impl Solved {
         }
     }
 
+    // The engine that has decided the problem.
+    fn engine(&self) -> &Engine
+        ensures decided { said_of result.now ≡ Decided }
+        ensures task { IsTaskFor self.now.problem (task_of result.now) }
+    {
+        self.lanes.lanes()[self.winner].racer()
+    }
+
+    // The classes of the elements, where the problem is given by generators.
+    fn elements(&self, posed: &GeneratedProblem) -> ElementClasses<'_>
+        requires { posed.now ≡ self.now.problem }
+        ensures { IsSolutionFor posed.now (element_list result) }
+    {
+        self.engine()
+            .element_classes(posed.alloc(), posed.problem())
+    }
+
     /// The lanes of the race for the problem, as it left them.
     pub fn lanes(&self) -> &Ended
         ensures { result.now ≡ self.now.lanes }
@@ -87,6 +110,9 @@ impl Solved {
         match &self.classes {
             Classes::Cosets(classes) => classes.index(bound),
             Classes::Reduced(classes) => classes.index(bound),
+            Classes::Elements(posed) => {
+                Ok(index_in(posed.problem(), &self.elements(posed), bound))
+            }
         }
     }
 
@@ -102,6 +128,7 @@ impl Solved {
         match &self.classes {
             Classes::Cosets(classes) => classes.equal(u, v),
             Classes::Reduced(classes) => classes.equal(u, v),
+            Classes::Elements(posed) => equal_in(posed.problem(), &self.elements(posed), u, v),
         }
     }
 
@@ -114,6 +141,7 @@ impl Solved {
         match &self.classes {
             Classes::Cosets(classes) => classes.normal(u),
             Classes::Reduced(classes) => classes.normal(u),
+            Classes::Elements(posed) => normal_in(posed.problem(), &self.elements(posed), u),
         }
     }
 
@@ -130,6 +158,7 @@ impl Solved {
         match &self.classes {
             Classes::Cosets(classes) => classes.next_after(after),
             Classes::Reduced(classes) => classes.next_after(after),
+            Classes::Elements(posed) => next_in(posed.problem(), &self.elements(posed), after),
         }
     }
 
@@ -142,14 +171,18 @@ impl Solved {
         match &self.classes {
             Classes::Cosets(classes) => classes.rules(),
             Classes::Reduced(classes) => classes.rules(),
+            Classes::Elements(posed) => {
+                rules_in(posed.alloc(), posed.problem(), &self.elements(posed))
+            }
         }
     }
+
     /// The words of the elements, and their Cayley graphs; the problem is given by generators. They
     /// are those of the elements, whatever the pairs are (Froidure and Pin 1997).
     pub fn tables(&self) -> &CayleyTables
         requires { is_presented self.now.problem ≡ false }
         ensures { AreTablesFor self.now.problem result.now }
     {
-        self.lanes.lanes()[self.winner].racer().tables()
+        self.engine().tables()
     }
 }

@@ -4,15 +4,15 @@ ghost use Rattle.problem.specs.Problem.{is_presented};
 ghost use Rattle.problem.specs.declared.kinds.Problem.{Problem};
 ghost use Rattle.congruence.specs.CayleyGraphs.{AreTablesFor};
 ghost use Rattle.congruence.specs.Classes.{problem_of};
-ghost use Rattle.congruence.specs.ElementGraphs.{AreClassesFor};
-ghost use Rattle.congruence.specs.Solution.{IsStandardGraphFor};
+ghost use Rattle.congruence.specs.ElementLists.{element_list};
+ghost use Rattle.congruence.specs.Solution.{IsStandardGraphFor, IsSolutionFor};
 ghost use Rattle.congruence.specs.Engines.{HasMoreElements, IsTaskFor, SearchesElements, said_of, task_of};
 
 use crate::answers::Classes;
 use crate::cosets::{CosetClasses, ordered_words};
-use crate::element_graphs::class_graph;
+use crate::element_classes::{ElementClasses, GeneratedProblem};
 use crate::reduced_words::ReducedClasses;
-use cayley::{Classes as ElementClasses, PairsRacer};
+use cayley::PairsRacer;
 use elements::{BMat, MaxPlusTrunc, PPerm, Transf};
 use froidure_pin::CayleyTables;
 use knuth_bendix::Completion;
@@ -81,21 +81,6 @@ fn by_cosets(alloc: Global, problem: &Problem, graph: WordGraph) -> Result<Class
     Ok(Classes::Cosets(cosets))
 }
 
-// The classes that the tables and classes of elements give.
-fn by_elements(
-    alloc: Global,
-    problem: &Problem,
-    tables: &CayleyTables,
-    classes: &ElementClasses,
-) -> Result<Classes, NoMemory>
-    requires { AreClassesFor problem.now tables.now classes.now }
-    ensures { IfOk result (λ classes. problem_of classes ≡ problem.now) }
-{
-    let (graph, least) = class_graph(alloc, problem, tables, classes)?;
-    let cosets = CosetClasses::new(alloc, problem, graph, least)?;
-    Ok(Classes::Cosets(cosets))
-}
-
 // The classes that the rules of a completion give.
 fn by_rules(alloc: Global, problem: &Problem, completion: &Completion) -> Result<Classes, NoMemory>
     requires decided { completion.now.said ≡ Progress.Decided }
@@ -121,18 +106,35 @@ impl Engine {
             Engine::Felsch(felsch) => by_cosets(alloc, problem, felsch.graph()?),
             Engine::Hlt(hlt) => by_cosets(alloc, problem, hlt.graph()?),
             Engine::Completion(completion) => by_rules(alloc, problem, completion),
+            Engine::Transf(_) | Engine::PPerm(_) | Engine::BMat(_) | Engine::MaxPlus(_) => {
+                Ok(Classes::Elements(GeneratedProblem::new(alloc, problem)?))
+            }
+        }
+    }
+
+    // The classes of the elements of the problem, which is given by generators, and which the engine
+    // has decided.
+    pub(crate) fn element_classes(&self, alloc: Global, problem: &Problem) -> ElementClasses<'_>
+        requires decided { said_of self.now ≡ Progress.Decided }
+        requires generated { is_presented problem.now ≡ false }
+        requires task { IsTaskFor problem.now (task_of self.now) }
+        ensures { IsSolutionFor problem.now (element_list result) }
+    {
+        let _posed = problem.alphabet();
+        match self {
             Engine::Transf(search) => {
-                by_elements(alloc, problem, search.tables(), search.classes())
+                ElementClasses::new(alloc, problem, search.tables(), search.classes())
             }
             Engine::PPerm(search) => {
-                by_elements(alloc, problem, search.tables(), search.classes())
+                ElementClasses::new(alloc, problem, search.tables(), search.classes())
             }
             Engine::BMat(search) => {
-                by_elements(alloc, problem, search.tables(), search.classes())
+                ElementClasses::new(alloc, problem, search.tables(), search.classes())
             }
             Engine::MaxPlus(search) => {
-                by_elements(alloc, problem, search.tables(), search.classes())
+                ElementClasses::new(alloc, problem, search.tables(), search.classes())
             }
+            Engine::Felsch(_) | Engine::Hlt(_) | Engine::Completion(_) => unreachable!(),
         }
     }
 

@@ -9,9 +9,10 @@
 
 mod answers;
 mod cosets;
-mod element_graphs;
+mod element_classes;
 mod engine;
 mod lanes;
+mod listing;
 mod reduced_words;
 mod solving;
 

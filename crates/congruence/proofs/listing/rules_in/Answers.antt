@@ -1,0 +1,14 @@
+use Rattle.std.proofs.lemmas.Result.{IfOk-weaker}
+use Rattle.theory.specs.Class.{IsRuleList}
+use Rattle.problem.specs.Problem.{SameClassOf, count_of, has_empty_word}
+use Rattle.congruence.specs.ListedRules.{AreRulesTo}
+use Rattle.congruence.proofs.ListedRuleLaws.{kept_in_contexts, rule_list}
+use Rattle.congruence.proofs.listing.rules_in.Goals as goal
+
+pub returns : goal.returns
+returns g c =
+    let p = c.args.problem.now in
+    let list = g.L.ListedClasses.list c.args.classes.now in
+    IfOk-weaker c.all_rules.result (AreRulesTo list list.count 0) (IsRuleList (SameClassOf p))
+    (rule_list (SameClassOf p) (has_empty_word p) (count_of p) list c.requires.solution (kept_in_contexts p c.requires.allowed))
+    c.all_rules.ensures
