@@ -1,6 +1,5 @@
 -- The rows of the Cayley graphs.
 use Rattle.std.proofs.Common.{◌≡◌, ℕ, ◌+◌, ◌<◌, List, [], length, get_or, take, Ok, Err, sym, ap, subst₂, ◌∙◌, arith}
-use Rattle.std.specs.Prelude.{slice_index}
 use Rattle.std.specs.List.{flat_map, range_with_len}
 use Rattle.std.proofs.lemmas.List.FromFn.{length-range_with_len, get_or-range_with_len}
 use Rattle.ports.specs.declared.sink.Sink.{Ghosts}
@@ -9,7 +8,6 @@ use Rattle.ports.specs.Writes.{WritesBytes}
 use Rattle.ports.proofs.WriteLemmas.{same_bytes}
 use Rattle.froidure_pin.specs.declared.tables.CayleyTables.{CayleyTables}
 use Rattle.theory.specs.Word.{Word, IsOver}
-use Rattle.froidure_pin.proofs.OneShape.{get_any}
 use Rattle.cayley.specs.Tables.{AreEdges, edge}
 use Rattle.problem.specs.declared.kinds.Problem.{Problem}
 use Rattle.problem.specs.Problem.{SameValueOf, letters_of, count_of}
@@ -22,27 +20,18 @@ use Rattle.report.proofs.ListingLemmas.{more_lines, line_begun}
 abbrev pub row_line : Problem → CayleyTables → ℕ → List ℕ
 row_line p t i = cayley_line (letters_of p) (count_of p) i (get_or t.words i []) (edge t.right i) (edge t.left i)
 
--- what was lent of a list
-lent_of : {A : Type 0} (xs ys : List A) (i : ℕ) (d lent : A) → xs ≡ ys → lent ≡ get_or xs i lent → i < length ys → lent ≡ get_or ys i d
-lent_of xs ys i d lent same is within = is ∙ ap (λ zs. get_or zs i lent) same ∙ get_any ys i lent d within
-
 module _ (p : Problem) (t : CayleyTables) (tables : AreTablesFor p t) (i : ℕ) (within : i < length t.words) where
-  pub row_word : (words : List Word) (w : Word) → words ≡ t.words → w ≡ get_or words i w → w ≡ get_or t.words i []
-  row_word words w same is = lent_of words t.words i [] w same is within
-
   -- the word of an element is over the letters
-  pub row_word_over : (letters : List ℕ) (words : List Word) (w : Word) → letters ≡ letters_of p → count_of p ≡ length (letters_of p) → words ≡ t.words → w ≡ get_or words i w → IsOver (length letters) w
-  row_word_over letters words w over one_each same is =
+  pub row_word_over : (letters : List ℕ) (w : Word) → letters ≡ letters_of p → count_of p ≡ length (letters_of p) → w ≡ get_or t.words i [] → IsOver (length letters) w
+  row_word_over letters w over one_each is =
       let u : Word = get_or t.words i [] in
       let least = listed_least (SameValueOf p) t.words tables.graphs.listed i within in
-      subst₂ IsOver (one_each ∙ sym (ap length over)) (sym (row_word words w same is)) (value_over p u u least.element)
+      subst₂ IsOver (one_each ∙ sym (ap length over)) (sym is) (value_over p u u least.element)
 
   -- the numbers in a row are those of all letters
-  pub row_numbers : (rows : List (List ℕ)) → AreEdges (length t.letters) (length t.words) rows → (xs : List (List ℕ)) (lent row : List ℕ) → xs ≡ rows → lent ≡ get_or xs i lent → row ≡ lent
-      → numbers_text (length row) (slice_index row) ≡ numbers_text (count_of p) (edge rows i)
-  row_numbers rows edges xs lent row same is at =
-      ap (λ r. numbers_text (length r) (slice_index r)) (at ∙ lent_of xs rows i [] lent same is (omega (arith, within, edges.count)))
-      ∙ ap (λ k. numbers_text k (edge rows i)) (edges.width i within ∙ tables.letters)
+  pub row_numbers : (rows : List (List ℕ)) → AreEdges (length t.letters) (length t.words) rows
+      → numbers_text (length (get_or rows i [])) (edge rows i) ≡ numbers_text (count_of p) (edge rows i)
+  row_numbers rows edges = ap (λ k. numbers_text k (edge rows i)) (edges.width i within ∙ tables.letters)
 
 module _ (f : ℕ → List ℕ) (n i : ℕ) (within : i < n) {K : Type 0} (sink : Ghosts K) (old mid : K) (before : WritesBytes sink (flat_map f (take i (range_with_len 0 n))) old mid (Ok (tt {0}))) where
   here : i ≡ get_or (range_with_len 0 n) i 0

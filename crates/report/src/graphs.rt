@@ -1,5 +1,5 @@
 // The Cayley graphs, as lines.
-ghost use Rattle.std.specs.Prelude.{◌≡◌, ◌<◌, ◌++◌, ◌∷◌, [], length, slice_index, slice_index_or, OnOk, IfOk, codes, false};
+ghost use Rattle.std.specs.Prelude.{◌≡◌, ◌<◌, ◌++◌, ◌∷◌, [], length, slice_index_or, OnOk, IfOk, codes, false};
 ghost use Rattle.ports.specs.Writes.{WritesBytes};
 ghost use Rattle.cayley.specs.Tables.{edge};
 ghost use Rattle.congruence.specs.CayleyGraphs.{AreTablesFor};
@@ -10,19 +10,20 @@ ghost use Rattle.report.specs.Lines.{cayley_line, end_line, numbers_text};
 
 use crate::line::Line;
 use crate::listings::write_end;
-use froidure_pin::CayleyTables;
+use froidure_pin::{CayleyTables, Rows};
 use ports::{NoMemory, Sink, WriteFault};
 use problem::Problem;
 use std::alloc::Global;
 
-// Puts numbers at the end of a line, each after a space.
-fn put_numbers(numbers: &[usize], line: &mut Line) -> Result<(), NoMemory>
-    ensures { OnOk result (line.new
-        ≡ line.old ++ numbers_text (length numbers.now) (slice_index numbers.now)) }
+// Puts the numbers of a row at the end of a line, each after a space.
+fn put_row(rows: &Rows, row: usize, line: &mut Line) -> Result<(), NoMemory>
+    requires { row < length rows.now }
+    ensures { OnOk result (line.new ≡ line.old
+        ++ numbers_text (length (slice_index_or rows.now row [])) (edge rows.now row)) }
 {
-    for number in numbers {
+    for letter in 0..rows.width() {
         line.text(b" ")?;
-        line.number(*number)?;
+        line.number(rows.at(row, letter))?;
     }
     Ok(())
 }
@@ -44,11 +45,11 @@ fn row_of(
     let mut line = Line::starting(alloc, b"")?;
     line.number(number)?;
     line.text(b" ")?;
-    line.word(alloc, problem.alphabet(), &tables.words.as_slice()[number])?;
+    line.word(alloc, problem.alphabet(), &tables.words.word(number)?)?;
     line.text(b" right")?;
-    put_numbers(tables.right.as_slice()[number].as_slice(), &mut line)?;
+    put_row(&tables.right, number, &mut line)?;
     line.text(b" left")?;
-    put_numbers(tables.left.as_slice()[number].as_slice(), &mut line)?;
+    put_row(&tables.left, number, &mut line)?;
     Ok(line)
 }
 
@@ -65,7 +66,7 @@ pub fn write_cayley<O: Sink>(
         (count_of problem.now) tables.now.words (edge tables.now.right) (edge tables.now.left)
         ++ end_line false ∷ [])) sink.old sink.new result }
 {
-    for number in 0..tables.words.as_slice().len() {
+    for number in 0..tables.words.len() {
         row_of(alloc, problem, tables, number)?.write(sink)?;
     }
     write_end(false, sink)

@@ -1,4 +1,4 @@
-use Rattle.std.proofs.Common.{ℕ, List, length, false, ap, arith}
+use Rattle.std.proofs.Common.{ℕ, List, length, false, arith}
 use Rattle.std.specs.List.{range_with_len}
 use Rattle.std.proofs.lemmas.List.FromFn.{length-range_with_len}
 use Rattle.ports.proofs.WriteLemmas.{handed_on, same_bytes}
@@ -10,7 +10,7 @@ use Rattle.report.proofs.graphs.write_cayley.Goals as goal
 pub loop-number-preserved : goal.loop-number-preserved
 loop-number-preserved g c =
     let n : ℕ = length c.args.tables.now.words in
-    more_rows (row_line c.args.problem.now c.args.tables.now) n c.loop-number.number (omega (arith, ap length c.as_slice-number-end.ensures, c.loop-number-test.true)) g.O.Sink _ c.loop-number.sink c.loop-number.invariant _
+    more_rows (row_line c.args.problem.now c.args.tables.now) n c.loop-number.number (omega (arith, c.len-number-end.ensures, c.loop-number-test.true)) g.O.Sink _ c.loop-number.sink c.loop-number.invariant _
     (same_bytes g.O.Sink _ _ _ _ _ c.in_ok-row_of.ensures c.in_ok-write.ensures)
 
 pub returns-in_err-row_of : goal.returns-in_err-row_of
@@ -26,7 +26,7 @@ returns-in_err-write g c =
     let f : ℕ → List ℕ = row_line c.args.problem.now c.args.tables.now in
     handed_on g.O.Sink _ _ _ _ c.from_residual-in_err-write.ensures.1
     (listing_begun g.O.Sink f (range_with_len 0 n) (end_line false) _ _ _
-    (row_begun f n c.loop-number.number (omega (arith, ap length c.as_slice-number-end.ensures, c.loop-number-test.true)) g.O.Sink _ c.loop-number.sink c.loop-number.invariant _ _
+    (row_begun f n c.loop-number.number (omega (arith, c.len-number-end.ensures, c.loop-number-test.true)) g.O.Sink _ c.loop-number.sink c.loop-number.invariant _ _
     (same_bytes g.O.Sink _ _ _ _ _ c.in_ok-row_of.ensures c.in_err-write.ensures)))
 
 pub returns : goal.returns
@@ -34,5 +34,5 @@ returns g c =
     let rows : List ℕ = range_with_len 0 (length c.args.tables.now.words) in
     let f : ℕ → List ℕ = row_line c.args.problem.now c.args.tables.now in
     listing_ended g.O.Sink f rows (end_line false) _ c.loop-number.sink _ _
-    (lines_done f rows g.O.Sink c.loop-number.number _ _ c.loop-number.invariant (omega (arith, ap length c.as_slice-number-end.ensures, c.loop-number-test.false, length-range_with_len 0 (length c.args.tables.now.words))))
+    (lines_done f rows g.O.Sink c.loop-number.number _ _ c.loop-number.invariant (omega (arith, c.len-number-end.ensures, c.loop-number-test.false, length-range_with_len 0 (length c.args.tables.now.words))))
     c.write_end.ensures

@@ -1,4 +1,4 @@
-use Rattle.std.proofs.Common.{◌≡◌, Option, Some, false, IfSome, option_map, sym, ◌∙◌, ap, subst}
+use Rattle.std.proofs.Common.{Option, Some, false, IfSome, option_map, sym, ◌∙◌, ap, subst}
 use Rattle.std.specs.Option.{option_copied}
 use Rattle.theory.specs.LowIndex.{Rows}
 use Rattle.word_graph.specs.Standard.{IsStandardGraph}

@@ -1,10 +1,10 @@
-use Rattle.std.proofs.Common.{◌≡◌, ◌<◌, ◌+◌, ℕ, Option, None, Some, option_map, sym, ◌∙◌, ap, subst, subst₂, arith, ◌++◌, codes}
+use Rattle.std.proofs.Common.{◌≡◌, ◌<◌, ◌+◌, ℕ, Option, option_map, sym, ◌∙◌, ap, subst, subst₂, arith, ◌++◌, codes}
 use Rattle.std.specs.Option.{option_copied}
 use Rattle.ports.specs.Writes.{Writes}
 use Rattle.ports.proofs.WriteLemmas.{handed_on, same_bytes}
 use Rattle.theory.specs.Congruence.{Presentation as Relations}
 use Rattle.theory.specs.Graph.{Graph}
-use Rattle.theory.specs.Listing.{IsLast, IsNext}
+use Rattle.theory.specs.Listing.{IsLast}
 use Rattle.theory.specs.LowIndex.{Rows, IsLowIndex, TableLess}
 use Rattle.word_graph.specs.TableText.{table_text}
 use Rattle.sims_one.specs.Search.{Search, IsNextGraph}
@@ -13,7 +13,7 @@ use Rattle.query_lang.specs.Tables.{rows_in}
 use Rattle.report.specs.Gains.{AreBytesOf}
 use Rattle.report.specs.Lines.{table_line}
 use Rattle.report.specs.Pages.{ArePageLines}
-use Rattle.report.proofs.PageLemmas.{IsBegun, Found, more_begun, page_ended, page_full, page_begun, word_begun}
+use Rattle.report.proofs.PageLemmas.{IsBegun, more_begun, page_ended, page_full, page_begun, word_begun}
 use Rattle.report.proofs.TablePages.{table_order, found_rows}
 use Rattle.report.proofs.tables.write_tables.Goals as goal
 
