@@ -1,6 +1,6 @@
 // Lists that a table is read out in.
-ghost use Rattle.std.specs.Prelude.{◌≡◌, ℕ, ◌+◌, ◌<◌, [], length, slice_index, slice_index_or, IfOk};
-ghost use Rattle.froidure_pin.specs.Found.{AreFactors, entry, words_of};
+ghost use Rattle.std.specs.Prelude.{◌≡◌, ℕ, ◌+◌, ◌<◌, [], ◌∷◌, ◌++◌, length, slice_index, slice_index_or, IfOk, IfSome};
+ghost use Rattle.froidure_pin.specs.Found.{AreFactors, entry, word_or_none, words_of};
 ghost use Rattle.froidure_pin.specs.Numbering.{AreRows, AreRowsBy};
 
 use super::parts::Factor;
@@ -8,7 +8,7 @@ use super::rows::entry;
 use super::spell::spell;
 use ports::NoMemory;
 use std::marker::Model;
-use words::Word;
+use words::{Letter, Word};
 
 /// Numbers. Contracts see their list.
 #[derive(Drop)]
@@ -148,5 +148,18 @@ impl Words {
     {
         let alloc = *self.factors.allocator();
         spell(alloc, &self.factors, number)
+    }
+
+    /// What the word of this number is made of: the number of the word without its last letter, or
+    /// `None` where nothing is left, and the last letter. It takes no memory.
+    pub fn factors(&self, number: usize) -> (Option<usize>, Letter)
+        requires { number < length self.now }
+        ensures earlier { IfSome result.0 (λ prefix. prefix < number) }
+        ensures word { slice_index_or self.now number []
+            ≡ word_or_none self.now result.0 ++ result.1 ∷ [] }
+    {
+        let factor = self.factors[number];
+        let prefix = (factor.prefix as usize).checked_sub(1);
+        (prefix, Letter::new(factor.last as u8))
     }
 }
