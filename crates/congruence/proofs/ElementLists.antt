@@ -40,6 +40,7 @@ module _ (R : Word → Word → Type 0) (k : ℕ) (t : CayleyTables) (classes ro
   pub roots_of : HasPlaces (record { tables = t; roots = roots; places = places })
   roots_of = record {
     fit = are.fit;
+    words = λ i h. ((are.elements i h).0, are.numbers i h);
     numbers = number;
     count = placed.count ∙ are.count;
     within = λ i h. (placed.placed i (omega (arith, h, are.count))).0;
@@ -125,6 +126,7 @@ module _ (R : Word → Word → Type 0) (k : ℕ) (t : CayleyTables) (classes ro
     letters = are.letters;
     listing = record { over = over_at; ascending = ascend; listed = listed };
     root = refl;
+    home = refl;
     decides = by_places;
     classes = least_at among;
     reached = reached;

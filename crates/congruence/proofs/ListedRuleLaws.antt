@@ -1,15 +1,19 @@
 -- The rules of the places of a list are the reduced rules, where the classes are kept in every
 -- context.
-use Rattle.std.proofs.Common.{◌≡◌, ◌≢◌, ℕ, zero, suc, ◌<◌, ◌==◌, Bool, true, false, List, [], ◌∷◌, ◌++◌, length, drop, refl, sym, ◌∙◌, ap, subst, arith, ◌⊎◌, inl, inr, None, append_assoc, append-nil, length-append}
+use Rattle.std.proofs.Common.{◌≡◌, ◌≢◌, ◌↔◌, ℕ, zero, suc, ◌<◌, ◌==◌, Bool, true, false, not, eqb, IsTrue, List, [], ◌∷◌, ◌++◌, length, drop, refl, sym, ◌∙◌, ap, subst, arith, ◌⊎◌, inl, inr, None, append_assoc, append-nil, length-append}
+use Rattle.std.specs.Cmp.Lexicographic.{pointwise}
 use Rattle.std.proofs.lemmas.Bool.{eqb-true}
+use Rattle.std.proofs.lemmas.Bool.Decides.{Decides-eqb}
 use Rattle.std.proofs.lemmas.List.{nil_from_length}
+use Rattle.std.proofs.lemmas.Slice.Eq.{slice_eq-Decides}
 use Rattle.theory.specs.Word.{Word, IsOver, IsElement}
+use Rattle.theory.specs.ShortLex.{◌≺◌}
 use Rattle.theory.specs.Congruence.{EitherWay, is_two_sided}
 use Rattle.theory.specs.Chain.{Joined, Step, StepBy}
 use Rattle.theory.specs.Class.{Among, IsLeast, IsNormal, IsReducedRule, RuleBefore, IsRuleList}
 use Rattle.theory.specs.declared.Kind.{Kind}
 use Rattle.theory.specs.declared.Kind.TheVariants.{TwoSided, Right, Left}
-use Rattle.theory.proofs.Words.{order_cases, over_append, over_left, over_right}
+use Rattle.theory.proofs.Words.{before_irrefl, order_cases, over_append, over_left, over_right}
 use Rattle.theory.proofs.Chains.{joined_map, step_kept}
 use Rattle.theory.proofs.Related.{element_over, nonempty_element, none_either}
 use Rattle.theory.proofs.Completeness.{normal_unique}
@@ -22,7 +26,7 @@ use Rattle.problem.specs.declared.kinds.Problem.{Problem}
 use Rattle.problem.specs.declared.kinds.Problem.TheVariants.{Presented, Transf, PPerm, BMat, MaxPlus}
 use Rattle.problem.specs.Problem.{SameClassOf, SameValueOf, allows_rules, are_two_sided, count_of, kind_of, pairs_of}
 use Rattle.congruence.specs.Solution.{ClassList, IsListing, IsSolution}
-use Rattle.congruence.specs.ListedRules.{normal_of, Falls, IsRuleAt, AreRulesTo}
+use Rattle.congruence.specs.ListedRules.{normal_of, Falls, GoesOn, IsReducedList, IsRuleAt, IsRuleOf, AreRulesTo, rest_place, step}
 use Rattle.congruence.proofs.SolutionLaws.{first_small}
 use Rattle.congruence.proofs.AnswerLaws.{known, normal_word, least_place, some}
 
@@ -111,6 +115,14 @@ same_front (d ∷ u) (f ∷ v) a b e =
     let fronts : u ≡ v = same_front u v a b tails in
     λ i. heads i ∷ fronts i
 
+-- a word is another with a letter where its last letter is this one, and the rest the other
+pub word_with : (w front rest other : Word) (last letter : ℕ) (r : Bool) → w ≡ rest ++ last ∷ [] → last ≡ letter → other ≡ front → r ≡ pointwise eqb rest other
+    → IsTrue r ↔ (w ≡ front ++ letter ∷ [])
+word_with w front rest other last letter r at same there is = (
+  λ h. at ∙ ap (λ a. rest ++ a ∷ []) same ∙ ap (λ v. v ++ letter ∷ []) ((slice_eq-Decides Decides-eqb rest other r is).0 h ∙ there),
+  λ e. (slice_eq-Decides Decides-eqb rest other r is).1 (same_front rest front last letter (sym at ∙ e) ∙ sym there),
+)
+
 -- empty, or the least word of its class
 abbrev IsFit : (Word → Word → Type 0) → Word → Type 0
 IsFit R u = (u ≡ []) ⊎ IsLeast R u
@@ -174,6 +186,86 @@ module _ (R : Word → Word → Type 0) (k : ℕ) (over : (u : Word) → R u u �
 pub over_on : (list : ClassList) → IsListing list → (place letter : ℕ) → place < list.count → letter < list.letters → IsOver list.letters (list.word place ++ letter ∷ [])
 over_on list is place letter within small = over_append list.letters (list.word place) (letter ∷ []) (is.over place within) (small, tt)
 
+pub place_over : (list : ClassList) → IsListing list → (place : ℕ) → place < list.count → rest_place list place < list.count
+place_over list is place within = is.listed (drop 1 (list.word place)) (over_rest list.letters (list.word place) (is.over place within))
+
+pub step_within : (list : ClassList) → IsListing list → (place letter : ℕ) → place < list.count → letter < list.letters → step list place letter < list.count
+step_within list is place letter within small = is.listed (list.word place ++ letter ∷ []) (over_on list is place letter within small)
+
+snoc_some : (u : Word) (a : ℕ) → u ++ a ∷ [] ≡ [] → ⊥
+snoc_some u a e = omega (arith, ap length e, length-append u (a ∷ []))
+
+snoc_rest : (u : Word) (a : ℕ) → (u ≡ [] → ⊥) → drop 1 (u ++ a ∷ []) ≡ drop 1 u ++ a ∷ []
+snoc_rest [] a full = absurd (full refl)
+snoc_rest (d ∷ u) a full = refl
+
+-- the rules of the places of a list by the places to which letters lead
+module _ (list : ClassList) (is : IsListing list) (reduced : IsReducedList list) (place letter : ℕ) (within : place < list.count) (small : letter < list.letters) where
+  abbrev left : Word
+  left = list.word place ++ letter ∷ []
+
+  over : IsOver list.letters left
+  over = over_on list is place letter within small
+
+  -- what is the word of its place does not fall
+  stays : (u : Word) → normal_of list u ≡ u → Falls list u → ⊥
+  stays u same falls = before_irrefl u (subst (λ w. w ≺ u) same falls)
+
+  pub goes : (target : ℕ) → target ≡ step list place letter → GoesOn list place letter target → IsRuleOf list place letter None
+  goes target at same rule h =
+      stays left (ap list.word (sym at) ∙ same) (subst (λ w. normal_of list w ≺ w) h.left (subst (λ w. w ≺ rule.0) h.right h.falls))
+
+  pub falls_on : (target : ℕ) → target ≡ step list place letter → (GoesOn list place letter target → ⊥) → Falls list left
+  falls_on target at not = elim (reduced.falls left over (snoc_some (list.word place) letter)) [
+    | inl same ↦ absurd (not (ap list.word at ∙ same))
+    | inr falls ↦ falls
+  ]
+
+  -- the empty word does not fall
+  pub none_falls : place ≡ 0 → Falls list (drop 1 left) → ⊥
+  none_falls first falls = greater_full (drop 1 left) (normal_of list (drop 1 left)) falls (ap (λ w. drop 1 (w ++ letter ∷ [])) (ap list.word first ∙ reduced.root))
+
+  some_at : (place ≡ 0 → ⊥) → list.word place ≡ [] → ⊥
+  some_at later none = greater_full (list.word place) (list.word 0) (is.ascending 0 place (omega (arith, not_zero place later)) within) none
+    where
+      not_zero : (n : ℕ) → (n ≡ 0 → ⊥) → 0 < n
+      not_zero zero some = absurd (some refl)
+      not_zero (suc n) some = omega arith
+
+  -- what is left of the word with the letter
+  pub rest_on : (rest : ℕ) → rest ≡ rest_place list place → (place ≡ 0 → ⊥) → list.word rest ++ letter ∷ [] ≡ drop 1 left
+  rest_on rest at later =
+      ap (λ w. w ++ letter ∷ []) (ap list.word at ∙ reduced.rests place within) ∙ sym (snoc_rest (list.word place) letter (some_at later))
+
+  pub rest_by : (rest target : ℕ) (goes : Bool) → rest ≡ rest_place list place → (place ≡ 0 → ⊥) → target ≡ step list rest letter → IsTrue goes ↔ GoesOn list rest letter target
+      → IsTrue (not goes) ↔ Falls list (drop 1 left)
+  rest_by rest target true at later to iff = (
+    λ e. cc,
+    λ falls. absurd (stays (drop 1 left) (ap (normal_of list) (sym (rest_on rest at later)) ∙ ap list.word (sym to) ∙ iff.0 refl ∙ rest_on rest at later) falls),
+  )
+  rest_by rest target false at later to iff = (
+    λ e. elim (reduced.falls (drop 1 left) (over_rest list.letters left over) (λ none. snoc_some (list.word rest) letter (rest_on rest at later ∙ none))) [
+      | inl same ↦ absurd (apart (iff.1 (ap list.word to ∙ ap (normal_of list) (rest_on rest at later) ∙ same ∙ sym (rest_on rest at later))))
+      | inr falls ↦ falls
+    ],
+    λ falls. refl,
+  )
+    where
+      apart : false ≡ true → ⊥
+      apart e = cc
+
+  pub rule_falls : Falls list (drop 1 left) → IsRuleOf list place letter None
+  rule_falls falls rule h = h.rest (subst (λ w. Falls list (drop 1 w)) (sym h.left) falls)
+
+  pub rule_is : (target : ℕ) (u v : Word) → target ≡ step list place letter → (GoesOn list place letter target → ⊥) → (Falls list (drop 1 left) → ⊥)
+      → u ≡ left → v ≡ list.word target → IsRuleAt list place letter (u, v)
+  rule_is target u v at not rest here there = record {
+    left = here;
+    right = there ∙ ap list.word at ∙ ap (normal_of list) (sym here);
+    falls = subst (λ w. v ≺ w) (sym here) (subst (λ w. w ≺ left) (sym (there ∙ ap list.word at)) (falls_on target at not));
+    rest = λ falls. rest (subst (λ w. Falls list (drop 1 w)) here falls);
+  }
+
 module _ (R : Word → Word → Type 0) (empty : Bool) (k : ℕ) (list : ClassList) (is : IsSolution R empty k list) (kept : IsKept k R) where
   law : IsPartialEquivalence R
   law = known R empty k list is
@@ -215,6 +307,41 @@ module _ (R : Word → Word → Type 0) (empty : Bool) (k : ℕ) (list : ClassLi
           | inr (inr more) ↦ absurd (n.least.none_less u (law.symmetric u (normal_of list u) n.related) more)
         ]
   ]
+
+  fit_is_normal : (u : Word) → IsFit R u → normal_of list u ≡ u
+  fit_is_normal u (inl none) = ap (normal_of list) none ∙ ap list.word is.home ∙ is.root ∙ sym none
+  fit_is_normal u (inr h) =
+      normal_unique R law.symmetric law.transitive u (normal_of list u) u (normal_is u (is.among u u h.element).0) (record { related = h.element; least = h })
+
+  rest_fit : (u : Word) → IsFit R u → IsFit R (drop 1 u)
+  rest_fit [] h = inl refl
+  rest_fit (d ∷ u) (inl none) = absurd (some none)
+    where
+      some : d ∷ u ≡ [] → ⊥
+      some e = cc
+  rest_fit (d ∷ u) (inr h) = elim (empty_or_not u) [
+    | inl none ↦ inl none
+    | inr some ↦
+        let over : IsOver k (d ∷ u) = element_over empty k (d ∷ u) (is.among (d ∷ u) (d ∷ u) h.element).0 in
+        let whole : d ∷ u ≡ (d ∷ []) ++ (u ++ []) = ap (λ w. d ∷ w) (sym (append-nil u)) in
+        inr
+        (part_least R k (λ u r. element_over empty k u (is.among u u r).0) kept (d ∷ []) u [] (every u (nonempty_element empty k u over.1 some))
+        (subst (IsLeast R) whole h))
+  ]
+
+  -- least words without their first letters are least, or empty
+  pub reduced_list : IsReducedList list
+  reduced_list = record {
+    root = is.root;
+    falls = λ u over some.
+        let n = normal_is u (nonempty_element empty k u (subst (λ m. IsOver m u) is.letters over) some) in
+        elim (order_cases (normal_of list u) u) [
+          | inl less ↦ inr less
+          | inr (inl e) ↦ inl e
+          | inr (inr more) ↦ absurd (n.least.none_less u (law.symmetric u (normal_of list u) n.related) more)
+        ];
+    rests = λ i h. fit_is_normal (drop 1 (list.word i)) (rest_fit (list.word i) (fit_place i h));
+  }
 
   rule_reduced : (j b : ℕ) (rule : Word × Word) → j < list.count → b < list.letters → IsRuleAt list j b rule
       → IsReducedRule R rule.0 rule.1

@@ -264,6 +264,7 @@ module _ (R : Word → Word → Type 0) (empty : Bool) (k : ℕ) (backwards : Bo
       listed = λ u over. (nodes_listed (as_read backwards u)).1;
     };
     root = root;
+    home = ap (λ w. place_of g places w) (read_none backwards) ∙ ap (slice_index places) root_node ∙ at.each 0 some;
     decides = by_places;
     classes = λ i first h. record {
       element = at_place (word_at least i) i (element_at i first h) first h (are.leads i h);

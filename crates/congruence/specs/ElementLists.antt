@@ -37,9 +37,12 @@ pub record PlacedTables : Type 0 where
   pub roots : List ℕ
   pub places : List ℕ
 
--- the numbers are of the tables, and each number of the tables has the place of one
+-- the numbers are of the tables, and each number of the tables has the place of one; the word of a
+-- number is not empty and leads to it
 pub record HasPlaces (p : PlacedTables) : Type 0 where
   pub fit : FitTogether p.tables
+  pub words : (i : ℕ) → i < length p.tables.words
+      → (word_at p.tables i ≡ [] → ⊥) × (number_in p.tables (word_at p.tables i) ≡ i)
   pub numbers : (m : ℕ) → m < length p.roots → slice_index p.roots m < length p.tables.words
   pub count : length p.places ≡ length p.tables.words
   pub within : (i : ℕ) → i < length p.tables.words → slice_index p.places i < length p.roots

@@ -1,6 +1,6 @@
 -- Reduced rules from a list of classes (Froidure and Pin 1997).
-use Rattle.std.specs.Prelude.{◌≡◌, ℕ, ◌<◌, List, [], ◌∷◌, ◌++◌, drop, Contains, Option, None, MatchOption}
-use Rattle.theory.specs.Word.{Word}
+use Rattle.std.specs.Prelude.{◌≡◌, ℕ, ◌<◌, ◌⊎◌, List, [], ◌∷◌, ◌++◌, drop, Contains, Option, None, MatchOption}
+use Rattle.theory.specs.Word.{Word, IsOver}
 use Rattle.theory.specs.ShortLex.{◌≺◌}
 use Rattle.theory.specs.Listing.{IsAscending}
 use Rattle.theory.specs.Class.{RuleBefore}
@@ -14,6 +14,26 @@ normal_of list u = list.word (list.place u)
 -- it comes before the word
 abbrev pub Falls : ClassList → Word → Type 0
 Falls list u = normal_of list u ≺ u
+
+-- the place of the word of a place with a letter behind it
+abbrev pub step : ClassList → ℕ → ℕ → ℕ
+step list place letter = list.place (list.word place ++ letter ∷ [])
+
+-- the place of the word of a place without its first letter
+abbrev pub rest_place : ClassList → ℕ → ℕ
+rest_place list place = list.place (drop 1 (list.word place))
+
+-- the word of one place is that of another with a letter behind it
+abbrev pub GoesOn : ClassList → ℕ → ℕ → ℕ → Type 0
+GoesOn list place letter target = list.word target ≡ list.word place ++ letter ∷ []
+
+-- a word that is not that of its place falls, and the words of places without their first letters
+-- are the words of their places
+pub record IsReducedList (list : ClassList) : Type 0 where
+  pub root : list.word 0 ≡ []
+  pub falls : (u : Word) → IsOver list.letters u → (u ≡ [] → ⊥)
+      → (normal_of list u ≡ u) ⊎ Falls list u
+  pub rests : (i : ℕ) → i < list.count → list.word (rest_place list i) ≡ drop 1 (list.word i)
 
 -- the left side is the word of a place with the letter behind it; it falls to the right side, and
 -- without its first letter does not fall

@@ -126,6 +126,7 @@ pub record IsSolution (R : Word → Word → Type 0) (empty : Bool) (k : ℕ) (l
     pub letters : list.letters ≡ k
     pub listing : IsListing list
     pub root : list.word 0 ≡ []
+    pub home : list.place [] ≡ 0
     pub decides : (u v : Word) → IsElement empty k u → IsElement empty k v
         → R u v ↔ (list.place u ≡ list.place v)
     pub classes : (i : ℕ) → first_class empty ≤ i → i < list.count → IsLeast R (list.word i)

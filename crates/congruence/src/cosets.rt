@@ -1,5 +1,5 @@
 // A list of classes from a graph that decides a problem, and the least words of its nodes.
-ghost use Rattle.std.specs.Prelude.{◌≡◌, ◌<◌, ◌↔◌, length, true, unwrap_or, IfOk, IsTrue, MatchOption};
+ghost use Rattle.std.specs.Prelude.{◌≡◌, ◌<◌, ◌↔◌, [], ◌∷◌, ◌++◌, length, true, unwrap_or, IfOk, IsTrue, MatchOption};
 ghost use Rattle.std.specs.Option.{option_copied};
 ghost use Rattle.theory.specs.Word.{IsElement};
 ghost use Rattle.theory.specs.ShortLex.{◌≺◌};
@@ -19,7 +19,7 @@ use reduced_automaton::Rules;
 use std::alloc::Global;
 use std::marker::Model;
 use word_graph::WordGraph;
-use words::{Word, shortlex};
+use words::{Letter, Word, shortlex};
 
 /// The least words of the nodes of a graph, in order, and the place of each node in this order. The
 /// graph reads words forwards, or backwards.
@@ -123,6 +123,16 @@ fn place_of(graph: &WordGraph, places: &[usize], word: &Word) -> usize
     places[graph.path(0, word).unwrap_or(0)]
 }
 
+// Whether the word is the other with the letter behind it.
+fn is_word_with(word: &Word, front: &Word, letter: Letter) -> bool
+    ensures { IsTrue result ↔ (word.now ≡ front.now ++ letter ∷ []) }
+{
+    match word.letters().split_last() {
+        Some((last, rest)) => *last == letter && rest == front.letters(),
+        None => false,
+    }
+}
+
 /// Whether the graph of the problem reads words backwards: its pairs are left pairs.
 pub fn reads_backwards(problem: &Problem) -> bool
     ensures { result ≡ reads_backwards problem.now }
@@ -153,12 +163,20 @@ impl ListedClasses for CosetList {
     /// The place of the node to which the word leads, or of the root. Refused only where memory is
     /// wanting.
     fn place(&self, word: &Word) -> Result<usize, NoMemory> {
-        let places = self.places.as_slice();
-        if !self.backwards {
-            return Ok(place_of(&self.graph, places, word));
-        }
-        let read = word.reversed(self.alloc)?;
-        Ok(place_of(&self.graph, places, &read))
+        self.place_read(word)
+    }
+
+    /// The place of the class of the word of a place with the letter behind it. Refused only where
+    /// memory is wanting.
+    fn step(&self, place: usize, letter: Letter) -> Result<usize, NoMemory> {
+        let mut word = self.word(place)?;
+        word.push(letter)?;
+        self.place_read(&word)
+    }
+
+    /// Whether the word of the target is that of the place with the letter behind it.
+    fn goes_on(&self, place: usize, letter: Letter, target: usize) -> bool {
+        is_word_with(&self.least[target].1, &self.least[place].1, letter)
     }
 }
 
@@ -184,6 +202,18 @@ impl CosetList {
             least,
             places,
         })
+    }
+
+    // The place of the node to which the word leads, or of the root.
+    fn place_read(&self, word: &Word) -> Result<usize, NoMemory>
+        ensures { IfOk result (λ place. place ≡ (coset_list self.now).place word.now) }
+    {
+        let places = self.places.as_slice();
+        if !self.backwards {
+            return Ok(place_of(&self.graph, places, word));
+        }
+        let read = word.reversed(self.alloc)?;
+        Ok(place_of(&self.graph, places, &read))
     }
 }
 

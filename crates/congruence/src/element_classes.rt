@@ -1,8 +1,9 @@
 // A list of classes from the tables of elements.
-ghost use Rattle.std.specs.Prelude.{◌≡◌, false, IfOk};
+ghost use Rattle.std.specs.Prelude.{◌≡◌, ◌<◌, ◌≤◌, length, false, IfOk, IfSome};
+ghost use Rattle.froidure_pin.specs.Found.{word_or_none};
 ghost use Rattle.problem.specs.Problem.{is_presented};
 ghost use Rattle.congruence.specs.Solution.{IsSolutionFor};
-ghost use Rattle.congruence.specs.ElementLists.{AreClassesFor, element_list};
+ghost use Rattle.congruence.specs.ElementLists.{AreClassesFor, element_list, element_word};
 
 use crate::listing::ListedClasses;
 use cayley::{Classes, number_of};
@@ -11,7 +12,7 @@ use ports::NoMemory;
 use problem::Problem;
 use std::alloc::Global;
 use std::marker::Model;
-use words::Word;
+use words::{Letter, Word};
 
 /// The classes of elements by tables that others hold: the words of their least numbers, in order,
 /// behind the empty word of the root, and the place of the class of each number.
@@ -60,6 +61,20 @@ impl<'a> ElementClasses<'a> {
             places,
         }
     }
+
+    // The number whose word a place has, or `None` for the empty word.
+    fn number(&self, place: usize) -> Option<usize>
+        requires { place ≤ length self.now.roots }
+        ensures within { IfSome result (λ number. number < length self.now.tables.words) }
+        ensures word { word_or_none self.now.tables.words result
+            ≡ element_word self.now.tables self.now.roots place }
+    {
+        if place == 0 {
+            None
+        } else {
+            Some(self.roots[place - 1])
+        }
+    }
 }
 
 impl<'a> ListedClasses for ElementClasses<'a> {
@@ -91,6 +106,24 @@ impl<'a> ListedClasses for ElementClasses<'a> {
             return Ok(0);
         }
         Ok(self.places[number_of(self.tables, word)] + 1)
+    }
+
+    /// The place of the class of the word of a place with the letter behind it, by the right graph.
+    fn step(&self, place: usize, letter: Letter) -> Result<usize, NoMemory> {
+        let number = match self.number(place) {
+            Some(number) => self.tables.right.at(number, letter.number()),
+            None => self.tables.letters.as_slice()[letter.number()],
+        };
+        Ok(self.places[number] + 1)
+    }
+
+    /// Whether the word of the target is that of the place with the letter behind it.
+    fn goes_on(&self, place: usize, letter: Letter, target: usize) -> bool {
+        let Some(number) = self.number(target) else {
+            return false;
+        };
+        let (prefix, last) = self.tables.words.factors(number);
+        last == letter && prefix == self.number(place)
     }
 }
 

@@ -8,7 +8,7 @@ ghost use Rattle.theory.specs.Listing.{IsLast, IsNext, GoesOnOrEnds};
 ghost use Rattle.problem.specs.Problem.{SameClassOf, allows_rules, count_of, has_empty_word};
 ghost use Rattle.congruence.specs.Indexes.{IsIndexWithin};
 ghost use Rattle.congruence.specs.Solution.{IsListing, IsSolutionFor, IsPlaceAfter, first_class};
-ghost use Rattle.congruence.specs.ListedRules.{normal_of, Falls, IsRuleOf, AreRulesTo};
+ghost use Rattle.congruence.specs.ListedRules.{Falls, IsReducedList, IsRuleOf, AreRulesTo, rest_place};
 
 use crate::answers::Index;
 use ports::NoMemory;
@@ -20,9 +20,10 @@ use words::{Letter, Word, shortlex};
 /// The least words of classes in order, and the place of the class of a word. At the first place
 /// stands the empty word, which counts as a class of a monoid, and is no element of a semigroup.
 pub trait ListedClasses {
-    ghost use Rattle.std.specs.Prelude.{◌≡◌, ◌<◌, IfOk};
+    ghost use Rattle.std.specs.Prelude.{◌≡◌, ◌<◌, ◌↔◌, IfOk, IsTrue};
     ghost use Rattle.theory.specs.Word.{IsOver as IsWordOver};
     ghost use Rattle.congruence.specs.Solution.{ClassList};
+    ghost use Rattle.congruence.specs.ListedRules.{GoesOn, step};
 
     ghost list: { Self → ClassList };
 
@@ -43,6 +44,19 @@ pub trait ListedClasses {
     fn place(&self, word: &Word) -> Result<usize, NoMemory>
         requires { IsWordOver (list self.now).letters word.now }
         ensures { IfOk result (λ place. place ≡ (list self.now).place word.now) };
+
+    /// The place of the class of the word of a place with the letter behind it. Refused only where
+    /// memory is wanting.
+    fn step(&self, place: usize, letter: Letter) -> Result<usize, NoMemory>
+        requires place { place < (list self.now).count }
+        requires letter { letter < (list self.now).letters }
+        ensures { IfOk result (λ target. target ≡ step (list self.now) place letter) };
+
+    /// Whether the word of the target is that of the place with the letter behind it.
+    fn goes_on(&self, place: usize, letter: Letter, target: usize) -> bool
+        requires place { place < (list self.now).count }
+        requires target { target < (list self.now).count }
+        ensures { IsTrue result ↔ GoesOn (list self.now) place letter target };
 }
 
 // The place of the first class: in a semigroup the root is none.
@@ -202,27 +216,6 @@ pub fn next_in<L: ListedClasses>(
     }
 }
 
-// Whether the word of its place comes before the word.
-fn falls<L: ListedClasses>(classes: &L, word: &Word) -> Result<bool, NoMemory>
-    requires listing { IsListing (L.list classes.now) }
-    requires over { IsOver (L.list classes.now).letters word.now }
-    ensures { IfOk result (λ falls. IsTrue falls ↔ Falls (L.list classes.now) word.now) }
-{
-    let place = classes.place(word)?;
-    let least = classes.word(place)?;
-    Ok(shortlex(&least, word).is_lt())
-}
-
-// The word of the place of the word.
-fn normal_of<L: ListedClasses>(classes: &L, word: &Word) -> Result<Word, NoMemory>
-    requires listing { IsListing (L.list classes.now) }
-    requires over { IsOver (L.list classes.now).letters word.now }
-    ensures { IfOk result (λ w. w ≡ normal_of (L.list classes.now) word.now) }
-{
-    let place = classes.place(word)?;
-    classes.word(place)
-}
-
 // The word without its first letter.
 fn rest_of(alloc: Global, word: &Word) -> Result<Word, NoMemory>
     ensures { IfOk result (λ w. w ≡ drop 1 word.now) }
@@ -232,6 +225,17 @@ fn rest_of(alloc: Global, word: &Word) -> Result<Word, NoMemory>
         rest.push(word.letter(place))?;
     }
     Ok(rest)
+}
+
+// The place of the word of a place without its first letter.
+fn rest_place<L: ListedClasses>(alloc: Global, classes: &L, place: usize) -> Result<usize, NoMemory>
+    requires listing { IsListing (L.list classes.now) }
+    requires place { place < (L.list classes.now).count }
+    ensures { IfOk result (λ rest. rest ≡ rest_place (L.list classes.now) place) }
+{
+    let word = classes.word(place)?;
+    let rest = rest_of(alloc, &word)?;
+    classes.place(&rest)
 }
 
 // The word of the place with the letter behind it.
@@ -244,28 +248,54 @@ fn word_on<L: ListedClasses>(classes: &L, place: usize, letter: Letter) -> Resul
     Ok(word)
 }
 
-// The rule whose left side is the word of the place with the letter behind it, where there is one:
-// the word falls, and what is left of it without its first letter does not.
-fn rule_at<L: ListedClasses>(
-    alloc: Global,
+// Whether the word of the place without its first letter, and with the letter behind it, falls. The
+// former has the place `rest`.
+fn rest_falls<L: ListedClasses>(
     classes: &L,
     place: usize,
+    rest: usize,
+    letter: Letter,
+) -> Result<bool, NoMemory>
+    requires listing { IsListing (L.list classes.now) }
+    requires reduced { IsReducedList (L.list classes.now) }
+    requires place { place < (L.list classes.now).count }
+    requires rest { rest ≡ rest_place (L.list classes.now) place }
+    requires letter { letter < (L.list classes.now).letters }
+    ensures { IfOk result (λ falls. IsTrue falls ↔
+        Falls (L.list classes.now) (drop 1 ((L.list classes.now).word place ++ letter ∷ []))) }
+{
+    if place == 0 {
+        return Ok(false);
+    }
+    let target = classes.step(rest, letter)?;
+    Ok(!classes.goes_on(rest, letter, target))
+}
+
+// The rule whose left side is the word of the place with the letter behind it, where there is one:
+// the word falls, and what is left of it without its first letter does not. The word of the place
+// has, without its first letter, the place `rest`.
+fn rule_at<L: ListedClasses>(
+    classes: &L,
+    place: usize,
+    rest: usize,
     letter: Letter,
 ) -> Result<Option<(Word, Word)>, NoMemory>
     requires listing { IsListing (L.list classes.now) }
+    requires reduced { IsReducedList (L.list classes.now) }
     requires place { place < (L.list classes.now).count }
+    requires rest { rest ≡ rest_place (L.list classes.now) place }
     requires letter { letter < (L.list classes.now).letters }
     ensures { IfOk result (IsRuleOf (L.list classes.now) place letter) }
 {
+    let target = classes.step(place, letter)?;
+    if classes.goes_on(place, letter, target) {
+        return Ok(None);
+    }
+    if rest_falls(classes, place, rest, letter)? {
+        return Ok(None);
+    }
     let left = word_on(classes, place, letter)?;
-    if !falls(classes, &left)? {
-        return Ok(None);
-    }
-    let rest = rest_of(alloc, &left)?;
-    if falls(classes, &rest)? {
-        return Ok(None);
-    }
-    let right = normal_of(classes, &left)?;
+    let right = classes.word(target)?;
     Ok(Some((left, right)))
 }
 
@@ -277,14 +307,16 @@ fn add_rules_of<L: ListedClasses>(
     rules: &mut Rules,
 ) -> Result<(), NoMemory>
     requires listing { IsListing (L.list classes.now) }
+    requires reduced { IsReducedList (L.list classes.now) }
     requires letters { (L.list classes.now).letters ≤ 256 }
     requires place { place < (L.list classes.now).count }
     requires rules { AreRulesTo (L.list classes.now) place 0 rules.old }
     ensures { OnOk result (AreRulesTo (L.list classes.now) (place + 1) 0 rules.new) }
 {
+    let rest = rest_place(alloc, classes, place)?;
     for number in 0..classes.letters() {
         let letter = Letter::new(number as u8);
-        if let Some((left, right)) = rule_at(alloc, classes, place, letter)? {
+        if let Some((left, right)) = rule_at(classes, place, rest, letter)? {
             rules.push(left, right)?;
         }
     }
@@ -294,6 +326,7 @@ fn add_rules_of<L: ListedClasses>(
 // The rules of all places, in order.
 fn all_rules<L: ListedClasses>(alloc: Global, classes: &L) -> Result<Rules, NoMemory>
     requires listing { IsListing (L.list classes.now) }
+    requires reduced { IsReducedList (L.list classes.now) }
     requires letters { (L.list classes.now).letters ≤ 256 }
     ensures { IfOk result (AreRulesTo (L.list classes.now) (L.list classes.now).count 0) }
 {

@@ -10,7 +10,7 @@ loop-number-preserved g c =
     let list = g.L.ListedClasses.list c.args.classes.now in
     let found : IsRuleOf list c.args.place c.loop-number.number c.in_ok-left.field-0 =
     subst (λ a. IsRuleOf list c.args.place a c.in_ok-left.field-0) (c.new-letter.ensures) c.in_ok-left.ensures in
-    elim c.match-branch-2.branch [
+    elim c.match-branch-3.branch [
       | in-Some+in_ok-push w ↦
           subst (AreRulesTo list c.args.place (c.loop-number.number + 1)) (sym (w.rules-is ∙ w.in_ok-push.ensures.ok))
           (rule_more list c.args.place c.loop-number.number c.loop-number.rules c.loop-number.invariant
