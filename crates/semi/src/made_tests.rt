@@ -1,4 +1,5 @@
-use super::tests::{Failing, run_at};
+use super::failing_tests::is_as;
+use super::tests::{Ends, SOUND, run_at};
 use ports::Open;
 use std::test::Fail;
 use std::thread::Threads;
@@ -11,17 +12,9 @@ fn ends<R: Threads + Sync + AllocGlobal>(
     out: &str,
     err: &str,
 ) -> Result<bool, Fail> {
-    let failing = Failing {
-        read: 1,
-        write: 0,
-        tell: 0,
-    };
-    let ended = run_at(rt, words, b"index\n", failing, &Open)?;
-    Ok(
-        ended.status == status
-            && ended.out.as_slice() == out.as_bytes()
-            && ended.err.as_slice() == err.as_bytes(),
-    )
+    let deaf = Ends { read: 1, ..SOUND };
+    let ended = run_at(rt, words, b"index\n", deaf, &Open)?;
+    Ok(is_as(&ended, status, out, err))
 }
 
 #[test]

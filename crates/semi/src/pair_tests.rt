@@ -1,5 +1,5 @@
 // Scripts with pairs of each kind.
-use super::tests::{NONE, run_at};
+use super::tests::{SOUND, run_at};
 use ports::Open;
 use std::test::Fail;
 
@@ -19,7 +19,7 @@ fn left_pairs_of_presentations_are_answered(rt: HostRuntime) -> Result<(), Fail>
             "index 2\nnormal a\n",
         ),
     ] {
-        let ended = run_at(&rt, &["semi"], script.as_bytes(), NONE, &Open)?;
+        let ended = run_at(&rt, &["semi"], script.as_bytes(), SOUND, &Open)?;
         assert_eq!(rt; ended.status, 0u8, "{script}");
         assert_eq!(rt; ended.out.as_slice(), out.as_bytes(), "{script}");
     }
@@ -42,7 +42,7 @@ fn pairs_of_elements_are_answered(rt: HostRuntime) -> Result<(), Fail> {
         ),
     ] {
         let script = format!(in rt.alloc(); "{matrices}{pairs}")?;
-        let ended = run_at(&rt, &["semi"], script.as_str().as_bytes(), NONE, &Open)?;
+        let ended = run_at(&rt, &["semi"], script.as_str().as_bytes(), SOUND, &Open)?;
         assert_eq!(rt; ended.status, 0u8, "{pairs}");
         assert_eq!(rt; ended.out.as_slice(), out.as_bytes(), "{pairs}");
     }
@@ -70,7 +70,7 @@ fn faulty_pairs_are_refused(rt: HostRuntime) -> Result<(), Fail> {
             "semi: line 4: query not allowed with pairs\n",
         ),
     ] {
-        let ended = run_at(&rt, &["semi"], script.as_bytes(), NONE, &Open)?;
+        let ended = run_at(&rt, &["semi"], script.as_bytes(), SOUND, &Open)?;
         assert_eq!(rt; ended.status, 2u8, "{script}");
         assert_eq!(rt; ended.err.as_slice(), err.as_bytes(), "{script}");
     }

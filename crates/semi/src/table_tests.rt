@@ -1,5 +1,5 @@
 // Scripts that ask for tables of low index.
-use super::tests::{NONE, run_at};
+use super::tests::{SOUND, run_at};
 use ports::Open;
 use std::test::Fail;
 
@@ -21,7 +21,7 @@ fn tables_of_low_index_are_listed(rt: HostRuntime) -> Result<(), Fail> {
         ),
     ] {
         let words = ["semi", "--defs", "0", "--rows", "0", "--length", "0"];
-        let ended = run_at(&rt, &words, script.as_bytes(), NONE, &Open)?;
+        let ended = run_at(&rt, &words, script.as_bytes(), SOUND, &Open)?;
         assert_eq!(rt; ended.status, 0u8, "{script}");
         assert_eq!(rt; ended.out.as_slice(), out.as_bytes(), "{script}");
     }
@@ -44,7 +44,7 @@ fn faulty_tables_are_refused(rt: HostRuntime) -> Result<(), Fail> {
             "semi: line 3: unknown line\n",
         ),
     ] {
-        let ended = run_at(&rt, &["semi"], script.as_bytes(), NONE, &Open)?;
+        let ended = run_at(&rt, &["semi"], script.as_bytes(), SOUND, &Open)?;
         assert_eq!(rt; ended.status, 2u8, "{err}");
         assert_eq!(rt; ended.err.as_slice(), err.as_bytes(), "{err}");
     }

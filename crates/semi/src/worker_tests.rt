@@ -1,4 +1,4 @@
-use super::tests::{NONE, run_at};
+use super::tests::{SOUND, run_at};
 use ports::{Gate, Open};
 use std::sync::atomic::{AtomicBool, Ordering};
 use std::test::Fail;
@@ -22,7 +22,7 @@ fn gives<R: Threads + Sync + AllocGlobal>(
     for workers in ["1", "2", "3", "64"] {
         let mut words = Vec::from_slice(rt.alloc(), &["semi", "--workers", workers])?;
         words.extend_from_slice(options)?;
-        let ended = run_at(rt, words.as_slice(), script.as_bytes(), NONE, &Open)?;
+        let ended = run_at(rt, words.as_slice(), script.as_bytes(), SOUND, &Open)?;
         if ended.status != status || ended.out.as_slice() != report.as_bytes() {
             return Ok(false);
         }
@@ -120,7 +120,7 @@ fn two_workers_run_lanes_side_by_side(rt: HostRuntime) -> Result<(), Fail> {
         back_saw: &back_saw,
     };
     let words = ["semi", "--workers", "2"];
-    let ended = run_at(&rt, &words, GROUP.as_bytes(), NONE, &gate)?;
+    let ended = run_at(&rt, &words, GROUP.as_bytes(), SOUND, &gate)?;
     assert_eq!(rt; ended.status, 0);
     assert_eq!(rt; ended.out.as_slice(), GROUP_REPORT.as_bytes());
     assert!(rt; front_saw.load(Ordering::SeqCst) && back_saw.load(Ordering::SeqCst));
