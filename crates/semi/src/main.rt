@@ -11,6 +11,8 @@ mod adapters;
 #[cfg(test)]
 mod failing_tests;
 mod fault;
+#[cfg(test)]
+mod hostile_tests;
 mod made;
 #[cfg(test)]
 mod made_tests;

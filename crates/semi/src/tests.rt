@@ -104,7 +104,6 @@ fn scripts_get_their_status_and_line(rt: HostRuntime) -> Result<(), Fail> {
             "",
             "semi: line 4: wrong number of words\n",
         ),
-        ("trans 2\n", 2, "", "semi: line 2: no generator\n"),
     ] {
         let ended = run(&rt, &["semi"], script.as_bytes(), SOUND)?;
         assert_eq!(rt; ended.status, status, "{script}");
@@ -163,7 +162,6 @@ fn scripts_get_their_report(rt: HostRuntime) -> Result<(), Fail> {
             "",
             "semi: line 2: not injective\n",
         ),
-        (NAME, "mpt 16 65536\n", 2, "", "semi: line 1: bad number\n"),
     ] {
         let ended = run(&rt, words, script.as_bytes(), SOUND)?;
         assert_eq!(rt; ended.status, status, "{script}");
@@ -384,7 +382,12 @@ fn completion_decides_presentations(rt: HostRuntime) -> Result<(), Fail> {
 }
 
 // A script that begins with one text, and goes on with another, so many times.
-fn repeated(alloc: Global, head: &str, text: &str, count: usize) -> Result<Vec<u8>, Fail> {
+pub(crate) fn repeated(
+    alloc: Global,
+    head: &str,
+    text: &str,
+    count: usize,
+) -> Result<Vec<u8>, Fail> {
     let mut script = head.as_bytes().to_vec(alloc)?;
     for _ in 0..count {
         script.extend_from_slice(text.as_bytes())?;
@@ -399,23 +402,7 @@ fn limits_of_presentations(rt: HostRuntime) -> Result<(), Fail> {
         (NORMAL, "a", 4096usize, 0u8, "normal 1\n", ""),
         (NORMAL, "a", 4097, 2, "", "semi: line 3: word too long\n"),
         ("monoid a\n", "rel a a\n", 4096, 0, "", ""),
-        (
-            "monoid a\n",
-            "rel a a\n",
-            4097,
-            2,
-            "",
-            "semi: line 4098: too many relations\n",
-        ),
         ("monoid a\n", "right a a\n", 4096, 0, "", ""),
-        (
-            "monoid a\n",
-            "right a a\n",
-            4097,
-            2,
-            "",
-            "semi: line 4098: too many pairs\n",
-        ),
     ] {
         let script = repeated(rt.alloc(), head, text, count)?;
         let ended = run(&rt, &["semi"], script.as_slice(), SOUND)?;
@@ -494,7 +481,7 @@ fn examples_of_presentations_give_their_output(rt: HostRuntime) -> Result<(), Fa
 #[test]
 fn options_set_the_bounds(rt: HostRuntime) -> Result<(), Fail> {
     const REFUSED: &str = "semi: arguments refused\n";
-    let cases: [(&[&str], u8, &str, &str); 12] = [
+    let cases: [(&[&str], u8, &str, &str); 10] = [
         (
             &["semi", "--elements", "26"],
             1,
@@ -539,8 +526,6 @@ fn options_set_the_bounds(rt: HostRuntime) -> Result<(), Fail> {
             "",
         ),
         (&["semi", "--elements", "10000001"], 3, "", REFUSED),
-        (&["semi", "--workers", "0"], 3, "", REFUSED),
-        (&["semi", "--help"], 3, "", REFUSED),
         (
             &["semi", "--elements", "1", "--elements", "1"],
             3,
