@@ -1,0 +1,14 @@
+//! Chains of words, each got from the one before by one relation at one place, and a checker of
+//! them that stands apart from every engine (Book and Otto, *String-rewriting systems*, 1993,
+//! chapter 1).
+#![tactic(auto)]
+
+mod chains;
+pub mod facts;
+mod steps;
+
+pub use chains::{check, words_of};
+pub use steps::ChainStep;
+
+#[cfg(test)]
+mod tests;

@@ -1,0 +1,99 @@
+// Steps of chains.
+ghost use Rattle.std.specs.Prelude.{◌≡◌, ◌+◌, ◌≤◌, ◌++◌, ◌↔◌, drop, length, take, true, IfOk, IsTrue, OnOk, MatchOption};
+ghost use Rattle.chains.specs.Chains.{Fits, IsReplaced, StandsAt, step_of};
+ghost use Rattle.theory.specs.PlacedStep.{Gives, read_sides};
+
+use ports::NoMemory;
+use presentation::Presentation;
+use std::alloc::Global;
+use words::{Letter, Word};
+
+/// A step of a chain: one side of a relation stands in a word, and the other takes its place.
+#[derive(Clone, Copy, Debug, PartialEq, Eq)]
+pub struct ChainStep {
+    /// How many letters stand before the side.
+    pub place: usize,
+    /// The number of the relation, from 0.
+    pub relation: usize,
+    /// Whether it is the first side that stands in the word.
+    pub forward: bool,
+}
+
+// Whether the factor stands at the place of the word.
+fn stands_at(word: &[Letter], place: usize, factor: &[Letter]) -> bool
+    ensures { IsTrue result ↔ StandsAt factor.now word.now place }
+{
+    place <= word.len() && word[place..].starts_with(factor)
+}
+
+// Puts the letters at the end of the word.
+fn extend(word: &mut Word, letters: &[Letter]) -> Result<(), NoMemory>
+    ensures { OnOk result (word.new ≡ word.old ++ letters.now) }
+{
+    for letter in letters {
+        word.push(*letter)?;
+    }
+    Ok(())
+}
+
+// The word with the factor at the place replaced by another, or `None` where it does not stand
+// there.
+fn replaced(
+    alloc: Global,
+    word: &[Letter],
+    place: usize,
+    factor: &[Letter],
+    by: &[Letter],
+) -> Result<Option<Word>, NoMemory>
+    ensures { IfOk result (λ found. MatchOption found
+        (StandsAt factor.now word.now place → ⊥)
+        (IsReplaced word.now place factor.now by.now)) }
+{
+    if !stands_at(word, place, factor) {
+        return Ok(None);
+    }
+    let mut made = Word::new(alloc);
+    extend(&mut made, &word[..place])?;
+    extend(&mut made, by)?;
+    extend(&mut made, &word[place + factor.len()..])?;
+    Ok(Some(made))
+}
+
+// The sides of a relation in the direction in which they are read.
+fn read_sides(forward: bool, sides: &(Word, Word)) -> (&Word, &Word)
+    ensures first { result.0.now ≡ (read_sides forward sides.now).0 }
+    ensures second { result.1.now ≡ (read_sides forward sides.now).1 }
+{
+    if forward {
+        (&sides.0, &sides.1)
+    } else {
+        (&sides.1, &sides.0)
+    }
+}
+
+impl ChainStep {
+    // The word that the step gives, or `None` where it does not fit.
+    pub(crate) fn next(
+        self,
+        alloc: Global,
+        presentation: &Presentation,
+        word: &Word,
+    ) -> Result<Option<Word>, NoMemory>
+        ensures { IfOk result (λ found. MatchOption found
+            (Fits presentation.now.presentation word.now (step_of self) → ⊥)
+            (Gives presentation.now.presentation word.now (step_of self))) }
+    {
+        let relations = presentation.relations();
+        if self.relation >= relations.len() {
+            return Ok(None);
+        }
+        let (factor, by) = read_sides(self.forward, relations.pair(self.relation));
+        replaced(
+            alloc,
+            word.letters(),
+            self.place,
+            factor.letters(),
+            by.letters(),
+        )
+    }
+}
