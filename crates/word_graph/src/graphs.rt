@@ -148,6 +148,20 @@ impl WordGraph {
         Some(at)
     }
 
+    /// Whether both words lead from each node to one node, or from it to none (Sims 1994, ch. 5:
+    /// the graph is compatible with the relation).
+    pub fn meets_relation(&self, left: &Word, right: &Word) -> bool
+        ensures { IsTrue result ↔ ((node : ℕ) → node < length self.now
+            → path_of self.now node left.now ≡ path_of self.now node right.now) }
+    {
+        for node in 0..self.rows.len() {
+            if self.path(node, left) != self.path(node, right) {
+                return false;
+            }
+        }
+        true
+    }
+
     /// Adds a node without edges, and tells its number. Refused only where memory is wanting, and
     /// then the graph stays as it was.
     pub fn add_node(&mut self) -> Result<usize, NoMemory>

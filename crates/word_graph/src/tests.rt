@@ -62,6 +62,34 @@ fn follows_words(rt: HostRuntime) -> Result<(), Fail> {
     Ok(())
 }
 
+// Whether so many letters lead where one letter more leads, from each node of a table of one letter.
+fn repeats(alloc: Global, text: &[u8], count: usize) -> Result<bool, TableFault> {
+    let graph = WordGraph::read_table(alloc, 1, text)?;
+    let mut left = Word::new(alloc);
+    for _ in 0..count {
+        left.push(Letter::new(0))?;
+    }
+    let mut right = left.copy(alloc)?;
+    right.push(Letter::new(0))?;
+    Ok(graph.meets_relation(&left, &right))
+}
+
+#[test]
+fn reads_a_relation_at_each_node(rt: HostRuntime) -> Result<(), Fail> {
+    for (text, count, want) in [
+        ("0", 0, true),
+        ("1/1", 1, true),
+        ("1/1", 0, false),
+        ("0/2/2", 0, false),
+        ("0/2/2", 1, true),
+        ("1/2/1", 2, false),
+    ] {
+        let meets = repeats(rt.alloc(), text.as_bytes(), count)?;
+        assert_eq!(rt; meets, want, "{text} {count}");
+    }
+    Ok(())
+}
+
 #[test]
 fn the_least_word_is_missing_first(rt: HostRuntime) -> Result<(), Fail> {
     let alloc = rt.alloc();
