@@ -1,5 +1,4 @@
-pub mod LabelLaws
-pub mod ClosingLaws
+pub mod SideLaws
 pub mod WholeLaws
 pub mod RunLaws
 pub mod PlacedClasses

@@ -3,7 +3,6 @@ use Rattle.std.proofs.Common.{◌≡◌, ℕ, ◌+◌, ◌<◌, List, [], ◌∷
 use Rattle.std.proofs.Math.Seq.{get_or-append_seam}
 use Rattle.std.proofs.lemmas.Bool.{cases_lt}
 use Rattle.std.proofs.lemmas.List.{ext_get_or, get_or-map, get_or_append_left, length-map, length_push}
-use Rattle.cayley.specs.Labels.{AreLabels}
 use Rattle.cayley.specs.Placing.{AreNamed, ArePlacedClasses}
 
 -- the numbers before one have their places
@@ -99,15 +98,6 @@ module _ (classes : List ℕ) (n : ℕ) (roots places : List ℕ) (at : ArePlace
   }
 
 -- labels name the classes
-pub labels_name : (label : ℕ → ℕ) (parents numbers : List ℕ) → AreLabels label parents
-    → ((i : ℕ) → i < length numbers → slice_index numbers i ≡ label i) → AreNamed numbers
-labels_name label parents numbers labels flat = record {
-  below = λ i h. omega (arith, flat i h, labels.below i);
-  own = λ i h.
-      let low : slice_index numbers i < length numbers = omega (arith, h, flat i h, labels.below i) in
-      flat (slice_index numbers i) low ∙ ap label (flat i h) ∙ labels.own i ∙ sym (flat i h);
-}
-
 module _ (classes roots places : List ℕ) (placed : ArePlacedClasses classes roots places) where
   -- each number has the root of its place
   pub seen_classes : classes ≡ map (slice_index roots) places

@@ -1,6 +1,5 @@
 pub mod Tables
-pub mod Labels
-pub mod Closing
+pub mod Sides
 pub mod Whole
 pub mod Run
 pub mod Placing

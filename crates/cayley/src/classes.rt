@@ -4,9 +4,9 @@ ghost use Rattle.theory.specs.Congruence.{AreElements};
 ghost use Rattle.cayley.specs.Tables.{FitTogether, AreClasses};
 ghost use Rattle.cayley.specs.Placing.{ArePlacedClasses};
 
-use crate::closing::{close, numbered};
-use crate::parents::{flatten, singletons};
 use crate::placing::placed;
+use crate::sides::{Sides, numbered};
+use congruence_closure::least_classes;
 use froidure_pin::CayleyTables;
 use ports::NoMemory;
 use presentation::{Kind, Pairs};
@@ -75,10 +75,9 @@ pub fn by_pairs(
     requires elements { AreElements false (length tables.now.letters) pairs.now }
     ensures { IfOk result (AreClasses tables.now kind pairs.now) }
 {
-    let waiting = numbered(alloc, tables, pairs)?;
-    let mut numbers = singletons(alloc, tables.words.len())?;
-    close(tables, kind, &mut numbers, waiting)?;
-    flatten(&mut numbers);
+    let merged = numbered(alloc, tables, pairs)?;
+    let sides = Sides::new(tables, kind);
+    let numbers = least_classes(alloc, &sides, tables.words.len(), merged)?;
     let (roots, places) = placed(alloc, numbers.as_slice())?;
     Ok(Classes { roots, places })
 }

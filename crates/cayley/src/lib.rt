@@ -4,15 +4,14 @@
 #![tactic(auto)]
 
 mod classes;
-mod closing;
 pub mod facts;
-mod parents;
 mod placing;
 mod racer;
+mod sides;
 
 pub use classes::{Classes, by_pairs};
-pub use closing::number_of;
 pub use racer::PairsRacer;
+pub use sides::number_of;
 
 #[cfg(test)]
 mod tests;

@@ -1,5 +1,0 @@
-use Rattle.cayley.proofs.LabelLaws.{hang_merged}
-use Rattle.cayley.proofs.parents.hang_below.Goals as goal
-
-pub returns-clause-merged : goal.returns-clause-merged
-returns-clause-merged c = hang_merged c.args.parents.now.items c.args.low c.args.high c.requires.order c.requires.within
