@@ -1,1 +1,2 @@
 pub mod ProductLaws
+pub mod JoinLaws

@@ -2,8 +2,10 @@
 //! groups*, 1994, chapter 5; libsemigroups, `WordGraph`).
 #![tactic(auto)]
 
+mod joins;
 mod meets;
 
+pub use joins::join;
 pub use meets::meet;
 
 #[cfg(test)]
