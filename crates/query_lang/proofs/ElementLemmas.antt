@@ -33,6 +33,8 @@ query_in_elements p name.Rules tokens l there = rules_cause p tokens ∙ lift _ 
 query_in_elements p name.Element tokens l there = element_cause p tokens ∙ lift _ _ _ _ (never-late (is_empty p.queries) (length (pairs_of p.problem) == 0)) l
 query_in_elements p name.Cayley tokens l there = cayley_cause p tokens ∙ lift _ _ _ _ (never-late (is_empty p.queries) (length (pairs_of p.problem) == 0)) l
 query_in_elements p name.LowIndex tokens l there = absurd (true≢false (sym there))
+query_in_elements p name.Meet tokens l there = absurd (true≢false (sym there))
+query_in_elements p name.Join tokens l there = absurd (true≢false (sym there))
 
 -- a query before any generator
 lacking-of : (p : Partial) (name : NameOf) (tokens : List Token) → lacks_generator p ≡ true → Some cause.NoGenerator ≡ first_of (form_causes p (form_of name) tokens)
@@ -44,6 +46,8 @@ lacking-of p name.Rules tokens l = lacking_cause _ _ _ (never-late (is_empty p.q
 lacking-of p name.Element tokens l = lacking_cause _ _ _ (never-late (is_empty p.queries) (length (pairs_of p.problem) == 0)) l
 lacking-of p name.Cayley tokens l = lacking_cause _ _ _ (never-late (is_empty p.queries) (length (pairs_of p.problem) == 0)) l
 lacking-of p name.LowIndex tokens l = lacking_cause _ _ _ (never-late (is_empty p.queries) (length (pairs_of p.problem) == 0)) l
+lacking-of p name.Meet tokens l = lacking_cause _ _ _ (never-late (is_empty p.queries) (length (pairs_of p.problem) == 0)) l
+lacking-of p name.Join tokens l = lacking_cause _ _ _ (never-late (is_empty p.queries) (length (pairs_of p.problem) == 0)) l
 
 each-query : (r : ReaderOf) (p : Partial) (name : NameOf) (tokens : List Token) → is_name_there false name ≡ true → Come r p
     → cause_in (and_then (λ script. and_then (λ s. Ok (Asking s)) (asked script name tokens)) (finished r)) ≡ first_of (form_causes p (form_of name) tokens)

@@ -1,5 +1,5 @@
 -- The causes of lines as the reader gives them.
-use Rattle.std.proofs.Common.{◌≡◌, ℕ, ◌==◌, nat_lt, Bool, true, false, not, ◌&&◌, ◌||◌, if◌then◌else◌, List, [], ◌∷◌, length, Option, Some, None, Result, Ok, Err, is_none, codes, refl, sym, ap, ◌∙◌, true≢false}
+use Rattle.std.proofs.Common.{◌≡◌, ℕ, ◌==◌, nat_lt, Bool, true, false, not, ◌&&◌, ◌||◌, if◌then◌else◌, List, [], ◌∷◌, length, Option, Some, None, Result, Ok, Err, is_none, codes, refl, sym, ap, ap₂, ◌∙◌, true≢false}
 use Rattle.theory.specs.Graph.{Graph}
 use Rattle.theory.specs.Word.{Word}
 use Rattle.presentation.specs.Presented.{Posed}
@@ -19,16 +19,17 @@ use Rattle.query_lang.specs.declared.script.Query.{Query}
 use Rattle.query_lang.specs.declared.script.Query.TheVariants as query
 use Rattle.query_lang.specs.Asked.{ScriptOf}
 use Rattle.query_lang.specs.QueryLines.{NameOf, is_name_barred, is_name_there, name_takes, query_name_of, query_of}
-use Rattle.query_lang.specs.Tables.{table_of}
+use Rattle.query_lang.specs.Tables.{congruence_table_of, low_table_of}
 use Rattle.query_lang.specs.Token.{Token, is_word, number_within}
 use Rattle.query_lang.specs.LineWords.{element_of}
-use Rattle.query_lang.specs.Relations.{add_relation, most_relations}
+use Rattle.query_lang.specs.Relations.{add_relation, most_relations, relations_of}
 use Rattle.query_lang.specs.Pairing.{add_pair, is_same_kind, most_pairs}
 use Rattle.query_lang.specs.Script.{asked, finished, is_presentation, pair_line, pair_or_query, presentation_line, query_line, relation_line, with_asked}
 use Rattle.query_lang.specs.Grammar.{Partial, is_empty, script_in}
-use Rattle.query_lang.specs.Forms.{Form, Relation, Pair, Index, Equal, Normal, Classes, Rules, Element, Cayley, LowIndex, forms_of, shapes_of}
-use Rattle.query_lang.specs.LineCauses.{when, first_of, cause_in, form_among, form_causes, named_causes, is_barred, is_pair_too_many, is_relation_too_many, mixes_kinds, shape_for, shape_causes}
+use Rattle.query_lang.specs.Forms.{Form, Relation, Pair, Index, Equal, Normal, Classes, Rules, Element, Cayley, LowIndex, Meet, Join, ACongruenceTable, forms_of, shapes_of}
+use Rattle.query_lang.specs.LineCauses.{when, first_of, cause_in, cause_of_token, form_among, form_causes, named_causes, is_barred, is_pair_too_many, is_relation_too_many, mixes_kinds, shape_for, shape_causes}
 use Rattle.query_lang.proofs.FoldLemmas.{partial, reader_of}
+use Rattle.query_lang.proofs.TableLemmas.{causes_in_order}
 use Rattle.query_lang.proofs.ReaderLemmas.{Come, asking, posed, lacking, come_of, finished_by, presentation_kept}
 
 -- what stands behind a cause that does not apply, or one that does
@@ -118,7 +119,7 @@ abbrev pub query_cause : Partial → NameOf → List Token → Option Cause
 query_cause p name tokens =
     cause_in
     (if not (name_takes name tokens) then Err cause.WrongNumberOfWords else if is_name_barred p.problem name then Err cause.QueryNotAllowed
-    else and_then (λ q. Ok (with_asked (script_in p) q)) (query_of (letters_of p.problem) (has_empty_word p.problem) name tokens))
+    else and_then (λ q. Ok (with_asked (script_in p) q)) (query_of (letters_of p.problem) (has_empty_word p.problem) (relations_of p.problem) name tokens))
 
 pub index_cause : (p : Partial) (tokens : List Token) → query_cause p name.Index tokens ≡ first_of (query_causes p Index tokens)
 index_cause p [] = refl
@@ -216,8 +217,44 @@ lowindex_cause p (s ∷ t ∷ []) = search-first p (not (length (pairs_of p.prob
 lowindex_cause p (s ∷ t ∷ u ∷ []) = refl
 lowindex_cause p (s ∷ t ∷ u ∷ v ∷ []) =
     search-behind p (not (length (pairs_of p.problem) == 0)) (number_within 1 16 s) (number_within 0 1000000 t) (is_word (codes "after") u)
-    (λ n. table_of (has_empty_word p.problem) (length (letters_of p.problem)) n v)
+    (λ n. low_table_of (has_empty_word p.problem) (length (letters_of p.problem)) n v)
 lowindex_cause p (s ∷ t ∷ u ∷ v ∷ w ∷ tokens) = refl
+
+two-tables : (p : Partial) (made : Graph → Graph → Query) (barred : Bool) (u v : Result Graph Cause)
+    → cause_in (if barred then Err cause.QueryNotAllowed else and_then (λ q. Ok (with_asked (script_in p) q))
+    (and_then (λ (x : Graph × Graph). Ok (made x.0 x.1)) (and_then (λ g. and_then (λ h. Ok (g, h)) v) u)))
+    ≡ first_of (when cause.QueryNotAllowed barred ∷ cause_in u ∷ cause_in v ∷ [])
+two-tables p made true u v = refl
+two-tables p made false (Err c) v = refl
+two-tables p made false (Ok g) (Err c) = refl
+two-tables p made false (Ok g) (Ok h) = refl
+
+-- two tables, each with the cause that is said
+tables-said : (p : Partial) (made : Graph → Graph → Query) (s t : Token) → let is_monoid : Bool = has_empty_word p.problem in
+    let k : ℕ = length (letters_of p.problem) in
+    let relations : List (Word × Word) = relations_of p.problem in
+    cause_in (if not (length (pairs_of p.problem) == 0) then Err cause.QueryNotAllowed else and_then (λ q. Ok (with_asked (script_in p) q))
+    (and_then (λ (x : Graph × Graph). Ok (made x.0 x.1)) (and_then (λ g. and_then (λ h. Ok (g, h)) (congruence_table_of is_monoid k relations t)) (congruence_table_of is_monoid k relations s))))
+    ≡ first_of (when cause.QueryNotAllowed (not (length (pairs_of p.problem) == 0)) ∷ cause_of_token p (s ∷ t ∷ []) ACongruenceTable s ∷ cause_of_token p (s ∷ t ∷ []) ACongruenceTable t ∷ [])
+tables-said p made s t =
+    let is_monoid : Bool = has_empty_word p.problem in
+    let k : ℕ = length (letters_of p.problem) in
+    let relations : List (Word × Word) = relations_of p.problem in
+    two-tables p made (not (length (pairs_of p.problem) == 0)) (congruence_table_of is_monoid k relations s) (congruence_table_of is_monoid k relations t)
+    ∙ ap₂ (λ (a b : Option Cause). first_of (when cause.QueryNotAllowed (not (length (pairs_of p.problem) == 0)) ∷ a ∷ b ∷ []))
+    (causes_in_order is_monoid k relations s) (causes_in_order is_monoid k relations t)
+
+pub meet_cause : (p : Partial) (tokens : List Token) → query_cause p name.Meet tokens ≡ first_of (query_causes p Meet tokens)
+meet_cause p [] = refl
+meet_cause p (s ∷ []) = refl
+meet_cause p (s ∷ t ∷ []) = tables-said p (λ g h. query.Meet g h) s t
+meet_cause p (s ∷ t ∷ u ∷ tokens) = refl
+
+pub join_cause : (p : Partial) (tokens : List Token) → query_cause p name.Join tokens ≡ first_of (query_causes p Join tokens)
+join_cause p [] = refl
+join_cause p (s ∷ []) = refl
+join_cause p (s ∷ t ∷ []) = tables-said p (λ g h. query.Join g h) s t
+join_cause p (s ∷ t ∷ u ∷ tokens) = refl
 
 pub lift : (late lacks : Bool) (w : Option Cause) (cs : List (Option Cause)) → late ≡ false → lacks ≡ false
     → first_of (w ∷ cs) ≡ first_of (when cause.LineOutOfOrder late ∷ when cause.NoGenerator lacks ∷ w ∷ None ∷ None ∷ None ∷ cs)
@@ -239,6 +276,8 @@ form_of name.Rules = Rules
 form_of name.Element = Element
 form_of name.Cayley = Cayley
 form_of name.LowIndex = LowIndex
+form_of name.Meet = Meet
+form_of name.Join = Join
 
 -- a query in a presentation has the cause that is said
 pub query_in_presentation : (sizes : ℕ × ℕ) (o : Posed) (queries : List Query) (name : NameOf) (tokens : List Token) → is_name_there true name ≡ true
@@ -249,6 +288,8 @@ query_in_presentation sizes o queries name.Normal tokens there = normal_cause (p
 query_in_presentation sizes o queries name.Classes tokens there = classes_cause (partial sizes (Presented o) queries) tokens ∙ lift _ _ _ _ (never-late (is_empty queries) (length o.congruence.pairs == 0)) refl
 query_in_presentation sizes o queries name.Rules tokens there = rules_cause (partial sizes (Presented o) queries) tokens ∙ lift _ _ _ _ (never-late (is_empty queries) (length o.congruence.pairs == 0)) refl
 query_in_presentation sizes o queries name.LowIndex tokens there = lowindex_cause (partial sizes (Presented o) queries) tokens ∙ lift _ _ _ _ (never-late (is_empty queries) (length o.congruence.pairs == 0)) refl
+query_in_presentation sizes o queries name.Meet tokens there = meet_cause (partial sizes (Presented o) queries) tokens ∙ lift _ _ _ _ (never-late (is_empty queries) (length o.congruence.pairs == 0)) refl
+query_in_presentation sizes o queries name.Join tokens there = join_cause (partial sizes (Presented o) queries) tokens ∙ lift _ _ _ _ (never-late (is_empty queries) (length o.congruence.pairs == 0)) refl
 query_in_presentation sizes o queries name.Element tokens there = absurd (true≢false (sym there))
 query_in_presentation sizes o queries name.Cayley tokens there = absurd (true≢false (sym there))
 
@@ -258,16 +299,18 @@ same-cause f (Err c) = refl
 
 -- the query by its name
 pick-query : (given : Result NameOf Cause → Option Cause) (said : Option Form → Option Cause) → given (Err cause.UnknownLine) ≡ said None
-    → ((name : NameOf) → is_name_there true name ≡ true → given (Ok name) ≡ said (Some (form_of name))) → (i e n c r l : Bool)
-    → given (ok_or (if i then Some name.Index else if e then Some name.Equal else if n then Some name.Normal else if c then Some name.Classes else if r then Some name.Rules else if l then Some name.LowIndex else None) cause.UnknownLine)
-    ≡ said (if i then Some Index else if e then Some Equal else if n then Some Normal else if c then Some Classes else if r then Some Rules else if l then Some LowIndex else None)
-pick-query given said none each true e n c r l = each name.Index refl
-pick-query given said none each false true n c r l = each name.Equal refl
-pick-query given said none each false false true c r l = each name.Normal refl
-pick-query given said none each false false false true r l = each name.Classes refl
-pick-query given said none each false false false false true l = each name.Rules refl
-pick-query given said none each false false false false false true = each name.LowIndex refl
-pick-query given said none each false false false false false false = none
+    → ((name : NameOf) → is_name_there true name ≡ true → given (Ok name) ≡ said (Some (form_of name))) → (i e n c r l m j : Bool)
+    → given (ok_or (if i then Some name.Index else if e then Some name.Equal else if n then Some name.Normal else if c then Some name.Classes else if r then Some name.Rules else if l then Some name.LowIndex else if m then Some name.Meet else if j then Some name.Join else None) cause.UnknownLine)
+    ≡ said (if i then Some Index else if e then Some Equal else if n then Some Normal else if c then Some Classes else if r then Some Rules else if l then Some LowIndex else if m then Some Meet else if j then Some Join else None)
+pick-query given said none each true e n c r l m j = each name.Index refl
+pick-query given said none each false true n c r l m j = each name.Equal refl
+pick-query given said none each false false true c r l m j = each name.Normal refl
+pick-query given said none each false false false true r l m j = each name.Classes refl
+pick-query given said none each false false false false true l m j = each name.Rules refl
+pick-query given said none each false false false false false true m j = each name.LowIndex refl
+pick-query given said none each false false false false false false true j = each name.Meet refl
+pick-query given said none each false false false false false false false true = each name.Join refl
+pick-query given said none each false false false false false false false false = none
 
 -- the pair by its kind, or the query
 pub pick_pair : (t g l : Bool) (r : ReaderOf) (first : Token) (tokens : List Token) (said : Option Form → Option Cause) (f : Option Form)
@@ -284,12 +327,13 @@ pick-line true R C said f hr hc = hr
 pick-line false R C said f hr hc = hc
 
 query-by-name : (r : ReaderOf) (sizes : ℕ × ℕ) (o : Posed) (queries : List Query) (first : Token) (tokens : List Token) → is_presentation r ≡ true → finished r ≡ Ok (script_in (partial sizes (Presented o) queries))
-    → cause_in (query_line r first tokens) ≡ first_of (named_causes (partial sizes (Presented o) queries) (form_among (Index ∷ Equal ∷ Normal ∷ Classes ∷ Rules ∷ LowIndex ∷ []) first) tokens)
+    → cause_in (query_line r first tokens) ≡ first_of (named_causes (partial sizes (Presented o) queries) (form_among (Index ∷ Equal ∷ Normal ∷ Classes ∷ Rules ∷ LowIndex ∷ Meet ∷ Join ∷ []) first) tokens)
 query-by-name r sizes o queries first tokens kind h =
     ap (λ b. cause_in (and_then (λ name. and_then (λ script. and_then (λ s. Ok (Asking s)) (asked script name tokens)) (finished r)) (ok_or (query_name_of b first) cause.UnknownLine))) kind
     ∙ pick-query (λ x. cause_in (and_then (λ name. and_then (λ script. and_then (λ s. Ok (Asking s)) (asked script name tokens)) (finished r)) x)) (λ form. first_of (named_causes (partial sizes (Presented o) queries) form tokens)) refl
     (λ name there. ap (λ x. cause_in (and_then (λ script. and_then (λ s. Ok (Asking s)) (asked script name tokens)) x)) h ∙ same-cause (λ s. Asking s) (asked (script_in (partial sizes (Presented o) queries)) name tokens) ∙ query_in_presentation sizes o queries name tokens there)
     (is_word (codes "index") first) (is_word (codes "equal") first) (is_word (codes "normal") first) (is_word (codes "classes") first) (is_word (codes "rules") first) (is_word (codes "lowindex") first)
+    (is_word (codes "meet") first) (is_word (codes "join") first)
 
 -- a line of a presentation has the cause that is said
 pub presentation_cause : (sizes : ℕ × ℕ) (o : Posed) (queries : List Query) (first : Token) (tokens : List Token)

@@ -19,7 +19,7 @@ use Rattle.query_lang.specs.Texts.{texts}
 use Rattle.query_lang.specs.Token.{Token, is_word}
 use Rattle.query_lang.specs.Script.{ReaderOf, Posing, Relating, Pairing, Asking}
 use Rattle.query_lang.specs.Script.{common_line, element_line, finished, generator_line, is_presentation}
-use Rattle.query_lang.specs.QueryLines.{NameOf, Index, Equal, Normal, Classes, Rules, Element, Cayley, LowIndex, count_of, cursor_of, is_name_barred, is_name_there, limits_of, page_of, query_name, query_name_of, search_of, table_cursor_of}
+use Rattle.query_lang.specs.QueryLines.{NameOf, Index, Equal, Normal, Classes, Rules, Element, Cayley, LowIndex, Meet, Join, count_of, cursor_of, is_name_barred, is_name_there, limits_of, page_of, query_name, query_name_of, search_of, table_cursor_of}
 
 pub no_page : (letters : List ℕ) (allow_empty : Bool) (tokens : List (Bor (List ℕ))) → length tokens ≢ 1 → length tokens ≢ 3 → page_of letters allow_empty (texts tokens) ≡ Err WrongNumberOfWords
 no_page letters allow_empty [] h k = refl
@@ -62,6 +62,8 @@ rules_allowed p (query.Classes count after) h e = absurd (true≢false (sym e))
 rules_allowed p (query.ElementOf u) h e = absurd (true≢false (sym e))
 rules_allowed p query.Cayley h e = absurd (true≢false (sym e))
 rules_allowed p (query.LowIndex classes count after) h e = absurd (true≢false (sym e))
+rules_allowed p (query.Meet s t) h e = absurd (true≢false (sym e))
+rules_allowed p (query.Join s t) h e = absurd (true≢false (sym e))
 
 no_pairs : {A : Type 0} (xs : List A) → not (length xs == 0) ≡ false → xs ≡ []
 no_pairs [] h = refl
@@ -70,6 +72,8 @@ no_pairs (x ∷ xs) h = let none : length (x ∷ xs) ≡ 0 = eqb-true (length (x
 pub without_pairs : (p : Problem) (q : Query) → is_name_barred p (query_name q) ≡ false → needs_no_pairs q ≡ true → pairs_of p ≡ []
 without_pairs p query.Cayley h e = no_pairs (pairs_of p) h
 without_pairs p (query.LowIndex classes count after) h e = no_pairs (pairs_of p) h
+without_pairs p (query.Meet s t) h e = no_pairs (pairs_of p) h
+without_pairs p (query.Join s t) h e = no_pairs (pairs_of p) h
 without_pairs p query.RuleList h e = absurd (true≢false (sym e))
 without_pairs p query.Index h e = absurd (true≢false (sym e))
 without_pairs p (query.Equal u v) h e = absurd (true≢false (sym e))
@@ -92,9 +96,13 @@ needs_none_generated b query.RuleList h e = refl
 needs_none_generated b (query.ElementOf u) h e = absent b h e
 needs_none_generated b query.Cayley h e = absent b h e
 needs_none_generated b (query.LowIndex classes count after) h e = refl
+needs_none_generated b (query.Meet s t) h e = refl
+needs_none_generated b (query.Join s t) h e = refl
 
 pub relations_given : (b : Bool) (q : Query) → is_name_there b (query_name q) ≡ true → needs_relations q ≡ true → b ≡ true
 relations_given b (query.LowIndex classes count after) h e = h
+relations_given b (query.Meet s t) h e = h
+relations_given b (query.Join s t) h e = h
 relations_given b query.Index h e = absurd (true≢false (sym e))
 relations_given b (query.Equal u v) h e = absurd (true≢false (sym e))
 relations_given b (query.Normal u) h e = absurd (true≢false (sym e))
@@ -107,25 +115,27 @@ relations_given b query.Cayley h e = absurd (true≢false (sym e))
 pub name_is_there : (b : Bool) (t : Token) (name : NameOf) → ok_or (query_name_of b t) UnknownLine ≡ Ok name → is_name_there b name ≡ true
 name_is_there b t name =
     go b (is_word (codes "index") t) (is_word (codes "equal") t) (is_word (codes "normal") t) (is_word (codes "classes") t) (is_word (codes "rules") t)
-    (is_word (codes "lowindex") t) (is_word (codes "element") t) (is_word (codes "cayley") t)
+    (is_word (codes "lowindex") t) (is_word (codes "meet") t) (is_word (codes "join") t) (is_word (codes "element") t) (is_word (codes "cayley") t)
   where
     there : (b : Bool) (one : NameOf) → is_name_there b one ≡ true → ◌≡◌ {A = Result NameOf Cause} (Ok one) (Ok name) → is_name_there b name ≡ true
     there b one h e = let same : one ≡ name = cc in ap (is_name_there b) (sym same) ∙ h
 
-    go : (b i e n c r l y z : Bool)
+    go : (b i e n c r l m j y z : Bool)
         → ok_or (if i then Some Index else if e then Some Equal else if n then Some Normal else if c then Some Classes else if r then Some Rules
-        else if b && l then Some LowIndex else if not b && y then Some Element else if not b && z then Some Cayley else None) UnknownLine ≡ Ok name
+        else if b && l then Some LowIndex else if b && m then Some Meet else if b && j then Some Join else if not b && y then Some Element else if not b && z then Some Cayley else None) UnknownLine ≡ Ok name
         → is_name_there b name ≡ true
-    go b true e n c r l y z h = there b Index refl h
-    go b false true n c r l y z h = there b Equal refl h
-    go b false false true c r l y z h = there b Normal refl h
-    go b false false false true r l y z h = there b Classes refl h
-    go b false false false false true l y z h = there b Rules refl h
-    go true false false false false false true y z h = there true LowIndex refl h
-    go true false false false false false false y z h = absurd (cc)
-    go false false false false false false l true z h = there false Element refl h
-    go false false false false false false l false true h = there false Cayley refl h
-    go false false false false false false l false false h = absurd (cc)
+    go b true e n c r l m j y z h = there b Index refl h
+    go b false true n c r l m j y z h = there b Equal refl h
+    go b false false true c r l m j y z h = there b Normal refl h
+    go b false false false true r l m j y z h = there b Classes refl h
+    go b false false false false true l m j y z h = there b Rules refl h
+    go true false false false false false true m j y z h = there true LowIndex refl h
+    go true false false false false false false true j y z h = there true Meet refl h
+    go true false false false false false false false true y z h = there true Join refl h
+    go true false false false false false false false false y z h = absurd (cc)
+    go false false false false false false l m j true z h = there false Element refl h
+    go false false false false false false l m j false true h = there false Cayley refl h
+    go false false false false false false l m j false false h = absurd (cc)
 
 -- what is posed so far is of the script's kind
 

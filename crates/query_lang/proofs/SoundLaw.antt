@@ -5,6 +5,7 @@ use Rattle.std.specs.Option.{ok_or}
 use Rattle.elements.specs.declared.field.Field.{Field}
 use Rattle.theory.specs.declared.Kind.{Kind}
 use Rattle.theory.specs.declared.Kind.TheVariants.{TwoSided, Right, Left}
+use Rattle.theory.specs.Graph.{Graph}
 use Rattle.theory.specs.Word.{Word}
 use Rattle.words.specs.Alphabet.{alphabet_fault}
 use Rattle.words.specs.WordText.{word_of}
@@ -31,16 +32,17 @@ use Rattle.query_lang.specs.LineWords.{both_elements, element_of, with_cause}
 use Rattle.query_lang.specs.Outcome.{and_then}
 use Rattle.query_lang.specs.Relations.{add_relation, free_over, most_relations, relations_of}
 use Rattle.query_lang.specs.Outline.{unless_fault}
+use Rattle.query_lang.specs.Tables.{both_tables, congruence_table_of}
 use Rattle.query_lang.specs.Pairing.{is_same_kind, most_pairs, pair_kind_of, paired, takes_kind}
 use Rattle.query_lang.specs.QueryLines.{NameOf, cursor_of, is_name_barred, limits_of, name_takes, query_name_of, query_of, table_cursor_of}
 use Rattle.query_lang.specs.Script.{asked, common_line, element_line, finished, generator_line, header_line, is_presentation, pair_or_query, presentation_line, read_line, relation_line, with_asked, with_line}
 use Rattle.query_lang.specs.Token.{Token, Line, is_word, letter_of, number_within}
 use Rattle.query_lang.specs.Forms.{name_of, Pair}
-use Rattle.query_lang.specs.Grammar.{AreEntries, HasGenerator, HeaderReads, IsQuery, LineReads, Partial, Step, begin_with, has_sign, is_generator_line, lacks_generator, script_in, section_reached}
+use Rattle.query_lang.specs.Grammar.{AreEntries, HasGenerator, HeaderReads, IsCongruenceTableOf, IsQuery, LineReads, Partial, Step, begin_with, has_sign, is_generator_line, lacks_generator, script_in, section_reached}
 use Rattle.query_lang.specs.Grammar as grammar
 use Rattle.query_lang.proofs.FoldLemmas.{Sound, opened, partial, reader_of, readers}
 use Rattle.query_lang.proofs.PairingLemmas.{has_pairs}
-use Rattle.query_lang.proofs.TableLemmas.{is_taken}
+use Rattle.query_lang.proofs.TableLemmas.{congruence_is_taken, low_is_taken}
 use Rattle.query_lang.proofs.ReaderLemmas.{come_of, finished_by, pair_in_order, paired_by, presentation_kept}
 
 -- numbers in the header
@@ -242,9 +244,9 @@ record IsOtherName (first : Token) : Type 0 where
   no_pair : pair_kind_of first ≡ None
 
 asked_read : (s : ScriptOf) (name : NameOf) (tokens : List Token) (q : Query) → name_takes name tokens ≡ true → is_name_barred s.problem name ≡ false
-    → query_of (letters_of s.problem) (has_empty_word s.problem) name tokens ≡ Ok q → asked s name tokens ≡ Ok (with_asked s q)
+    → query_of (letters_of s.problem) (has_empty_word s.problem) (relations_of s.problem) name tokens ≡ Ok q → asked s name tokens ≡ Ok (with_asked s q)
 asked_read s name tokens q taken allowed is =
-    let last : Result ScriptOf Cause = and_then (λ q. Ok (with_asked s q)) (query_of (letters_of s.problem) (has_empty_word s.problem) name tokens) in
+    let last : Result ScriptOf Cause = and_then (λ q. Ok (with_asked s q)) (query_of (letters_of s.problem) (has_empty_word s.problem) (relations_of s.problem) name tokens) in
     ap (λ b. if not b then Err cause.WrongNumberOfWords else if is_name_barred s.problem name then Err cause.QueryNotAllowed else last) taken
     ∙ ap (λ b. if b then Err cause.QueryNotAllowed else last) allowed
     ∙ ap (and_then (λ q. Ok (with_asked s q))) is
@@ -254,7 +256,7 @@ asked_line : (sizes : ℕ × ℕ) (problem : Problem) (queries : List Query) (na
     → lacks_generator (partial sizes problem queries) ≡ false → is_generator_line (partial sizes problem queries) line ≡ false
     → line ≡ first ∷ tokens → IsOtherName first → query_name_of (is_presented problem) first ≡ Some name
     → name_takes name tokens ≡ true → is_name_barred problem name ≡ false
-    → query_of (letters_of problem) (has_empty_word problem) name tokens ≡ Ok q
+    → query_of (letters_of problem) (has_empty_word problem) (relations_of problem) name tokens ≡ Ok q
     → with_line (reader_of (partial sizes problem queries)) line ≡ Ok (reader_of (more_asked (partial sizes problem queries) q))
 asked_line sizes problem queries name line first tokens q some sign is other named taken allowed read =
     let p : Partial = partial sizes problem queries in
@@ -275,6 +277,17 @@ limits_read : (N M : Token) (n m : ℕ) → number_within 1 16 N ≡ Some n → 
 limits_read N M n m h k =
     ap (λ o. and_then (λ n. and_then (λ m. Ok (n, m)) (ok_or (number_within 0 1000000 M) cause.BadNumber)) (ok_or o cause.BadNumber)) h
     ∙ ap (λ o. and_then (λ m. Ok (n, m)) (ok_or o cause.BadNumber)) k
+
+-- the tables of a meet or a join
+
+tables_read : (p : Partial) (S T : Token) (s t : Graph) → IsCongruenceTableOf p S s → IsCongruenceTableOf p T t
+    → both_tables (has_empty_word p.problem) (length (letters_of p.problem)) (relations_of p.problem) S T ≡ Ok (s, t)
+tables_read p S T s t left right =
+    let is_monoid : Bool = has_empty_word p.problem in
+    let k : ℕ = length (letters_of p.problem) in
+    let relations : List (Word × Word) = relations_of p.problem in
+    ap (λ r. and_then (λ g. and_then (λ h. Ok (g, h)) (congruence_table_of is_monoid k relations T)) r) (congruence_is_taken is_monoid k relations S s left.0 left.1)
+    ∙ ap (λ r. and_then (λ h. Ok (s, h)) r) (congruence_is_taken is_monoid k relations T t right.0 right.1)
 
 -- a query
 query_read : (sizes : ℕ × ℕ) (problem : Problem) (queries : List Query) (line : Line) (q : Query) → lacks_generator (partial sizes problem queries) ≡ false
@@ -313,7 +326,15 @@ query_read sizes problem queries line q some sign (grammar.lowindex_after {N} {M
     asked_line sizes problem queries name.LowIndex line (codes "lowindex") (N ∷ M ∷ codes "after" ∷ T ∷ []) q some sign is (other (codes "lowindex") refl refl) (ap (λ b. query_name_of b (codes "lowindex")) h) refl
     (ap (λ (ps : List (Word × Word)). not (length ps == 0)) none)
     (ap (and_then (λ (l : ℕ × ℕ). and_then (λ g. Ok (query.LowIndex l.0 l.1 (Some g))) (table_cursor_of letters is_monoid l.0 (codes "after") T))) (limits_read N M n m few most)
-    ∙ ap (and_then (λ g. Ok (query.LowIndex n m (Some g)))) (is_taken is_monoid (length letters) n T g table))
+    ∙ ap (and_then (λ g. Ok (query.LowIndex n m (Some g)))) (low_is_taken is_monoid (length letters) n T g table.0 table.1))
+query_read sizes problem queries line q some sign (grammar.meet {S} {T} {s} {t} is h none left right) =
+    asked_line sizes problem queries name.Meet line (codes "meet") (S ∷ T ∷ []) q some sign is (other (codes "meet") refl refl) (ap (λ b. query_name_of b (codes "meet")) h) refl
+    (ap (λ (ps : List (Word × Word)). not (length ps == 0)) none)
+    (ap (and_then (λ (p : Graph × Graph). Ok (query.Meet p.0 p.1))) (tables_read (partial sizes problem queries) S T s t left right))
+query_read sizes problem queries line q some sign (grammar.join {S} {T} {s} {t} is h none left right) =
+    asked_line sizes problem queries name.Join line (codes "join") (S ∷ T ∷ []) q some sign is (other (codes "join") refl refl) (ap (λ b. query_name_of b (codes "join")) h) refl
+    (ap (λ (ps : List (Word × Word)). not (length ps == 0)) none)
+    (ap (and_then (λ (p : Graph × Graph). Ok (query.Join p.0 p.1))) (tables_read (partial sizes problem queries) S T s t left right))
 
 -- a line behind the header
 line_read : (sizes : ℕ × ℕ) (problem : Problem) (queries : List Query) (line : Line) (q : Partial) → LineReads (partial sizes problem queries) line q

@@ -13,15 +13,16 @@ use Rattle.words.specs.declared.fault.WordFault.{WordFault}
 use Rattle.theory.specs.Graph.{Graph}
 use Rattle.query_lang.specs.declared.cause.Cause.{Cause}
 use Rattle.query_lang.specs.declared.script.Query.{Query}
-use Rattle.query_lang.specs.Tables.{IsTableText}
+use Rattle.query_lang.specs.Tables.{congruence_table_of}
 use Rattle.query_lang.specs.Token.{Token, Line, is_word}
 use Rattle.query_lang.specs.LineWords.{with_cause}
 use Rattle.query_lang.specs.Pairing.{is_same_kind}
 use Rattle.query_lang.specs.Grammar as grammar
-use Rattle.query_lang.specs.Grammar.{Partial, section_reached, LineReads, is_generator_line, lacks_generator}
-use Rattle.query_lang.specs.Forms.{Form, Relation, Pair, Index, Equal, Normal, Classes, Rules, Element, Cayley, LowIndex, name_of, shapes_of, section_of, forms_of}
-use Rattle.query_lang.specs.LineCauses.{when, first_of, cause_in, shape_for, shape_causes, is_relation_too_many, is_pair_too_many, mixes_kinds, is_barred, form_causes, form_among, named_causes}
-use Rattle.query_lang.proofs.TableLemmas.{taken_is}
+use Rattle.query_lang.specs.Grammar.{IsCongruenceTableOf, IsLowTableOf, Partial, section_reached, LineReads, is_generator_line, lacks_generator}
+use Rattle.query_lang.specs.Forms.{Form, Relation, Pair, Index, Equal, Normal, Classes, Rules, Element, Cayley, LowIndex, Meet, Join, ACongruenceTable, name_of, shapes_of, section_of, forms_of}
+use Rattle.query_lang.specs.Relations.{relations_of}
+use Rattle.query_lang.specs.LineCauses.{when, first_of, cause_in, cause_of_token, shape_for, shape_causes, is_relation_too_many, is_pair_too_many, mixes_kinds, is_barred, form_causes, form_among, named_causes}
+use Rattle.query_lang.proofs.TableLemmas.{causes_in_order, congruence_taken_is, low_taken_is}
 
 -- the line is read after what the lines before it say
 abbrev pub IsRead : Partial → Line → Type 0
@@ -230,13 +231,49 @@ lowindex-read p first (s ∷ t ∷ w ∷ x ∷ []) k g e c =
     let d = passed _ _ _ b.1 in
     let after : w ≡ codes "after" = same_text w (codes "after") (sym (not-applies _ d.0)) in
     let read = table-read _ d.1 in
-    let table = taken_is _ _ _ x read.0 read.1 in (
+    let table = low_taken_is _ _ _ x read.0 read.1 in (
       _,
       grammar.query c.has_generator g
           (grammar.lowindex_after (ap (λ n. n ∷ s ∷ t ∷ w ∷ x ∷ []) e ∙ ap (λ w. codes "lowindex" ∷ s ∷ t ∷ w ∷ x ∷ []) after) k (no-elements _ (not-applies _ c.allowed)) n.1 m.1
-          (subst (λ (o : Option ℕ). IsTableText (has_empty_word p.problem) (length (letters_of p.problem)) (unwrap_or o 0) x read.0) n.1 table)),
+          (subst (λ (o : Option ℕ). IsLowTableOf p (unwrap_or o 0) x read.0) n.1 table)),
     )
 lowindex-read p first (s ∷ t ∷ w ∷ x ∷ y ∷ tokens) k g e c = absurd (true≢false c.shaped)
+
+first-none : (o : Option Cause) (cs : List (Option Cause)) → first_of (o ∷ cs) ≡ None → (o ≡ None) × (first_of cs ≡ None)
+first-none None cs h = (refl, h)
+first-none (Some c) cs h = absurd (some-is-none h)
+
+where-no-cause : (r : Result Graph Cause) → cause_in r ≡ None → (g : Graph) × (r ≡ Ok g)
+where-no-cause (Ok g) h = (g, refl)
+where-no-cause (Err c) h = absurd (some-is-none h)
+
+-- a table at which the relations hold is read where neither of its causes applies
+congruence-read : (p : Partial) (all : List Token) (t : Token) (cs : List (Option Cause)) → first_of (cause_of_token p all ACongruenceTable t ∷ cs) ≡ None → (g : Graph) × IsCongruenceTableOf p t g × (first_of cs ≡ None)
+congruence-read p all t cs h =
+    let is_monoid : Bool = has_empty_word p.problem in
+    let k : ℕ = length (letters_of p.problem) in
+    let relations : List (Word × Word) = relations_of p.problem in
+    let a = first-none (cause_of_token p all ACongruenceTable t) cs h in
+    let read = where-no-cause (congruence_table_of is_monoid k relations t) (causes_in_order is_monoid k relations t ∙ a.0) in
+    (read.0, congruence_taken_is is_monoid k relations t read.0 read.1, a.1)
+
+meet-read : (p : Partial) (first : Token) (tokens : List Token) → is_presented p.problem ≡ true → is_generator_line p (first ∷ tokens) ≡ false → FormReads p first tokens Meet
+meet-read p first [] k g e c = absurd (true≢false c.shaped)
+meet-read p first (s ∷ []) k g e c = absurd (true≢false c.shaped)
+meet-read p first (s ∷ t ∷ []) k g e c =
+    let a = congruence-read p (s ∷ t ∷ []) s _ c.tokens_read in
+    let b = congruence-read p (s ∷ t ∷ []) t _ a.2 in
+    (_, grammar.query c.has_generator g (grammar.meet (ap (λ n. n ∷ s ∷ t ∷ []) e) k (no-elements _ (not-applies _ c.allowed)) a.1 b.1))
+meet-read p first (s ∷ t ∷ w ∷ tokens) k g e c = absurd (true≢false c.shaped)
+
+join-read : (p : Partial) (first : Token) (tokens : List Token) → is_presented p.problem ≡ true → is_generator_line p (first ∷ tokens) ≡ false → FormReads p first tokens Join
+join-read p first [] k g e c = absurd (true≢false c.shaped)
+join-read p first (s ∷ []) k g e c = absurd (true≢false c.shaped)
+join-read p first (s ∷ t ∷ []) k g e c =
+    let a = congruence-read p (s ∷ t ∷ []) s _ c.tokens_read in
+    let b = congruence-read p (s ∷ t ∷ []) t _ a.2 in
+    (_, grammar.query c.has_generator g (grammar.join (ap (λ n. n ∷ s ∷ t ∷ []) e) k (no-elements _ (not-applies _ c.allowed)) a.1 b.1))
+join-read p first (s ∷ t ∷ w ∷ tokens) k g e c = absurd (true≢false c.shaped)
 
 -- a line of a presentation
 
@@ -255,7 +292,9 @@ presented-read sizes o queries first tokens =
     (also Normal (normal-read p first tokens refl)
     (also Classes (classes-read p first tokens refl)
     (also Rules (rules-read p first tokens refl)
-    (also LowIndex (lowindex-read p first tokens refl refl) every))))))))))
+    (also LowIndex (lowindex-read p first tokens refl refl)
+    (also Meet (meet-read p first tokens refl refl)
+    (also Join (join-read p first tokens refl refl) every))))))))))))
 
 -- a pair or a query of an element script
 pub asked-read : (p : Partial) (first : Token) (tokens : List Token) → is_presented p.problem ≡ false → is_generator_line p (first ∷ tokens) ≡ false

@@ -9,7 +9,8 @@ pub data Place : Type 0 where
   AWord : Place
   ANumber : (low high : ℕ) → Place
   After : Place
-  ATable : Place
+  ALowTable : Place
+  ACongruenceTable : Place
 
 -- the forms of lines behind the header that begin with a name, in all scripts
 pub data Form : Type 0 where
@@ -23,6 +24,8 @@ pub data Form : Type 0 where
   Element : Form
   Cayley : Form
   LowIndex : Form
+  Meet : Form
+  Join : Form
 
 -- the name of the form
 abbrev pub name_of : Form → Token
@@ -38,6 +41,8 @@ name_of Rules = codes "rules"
 name_of Element = codes "element"
 name_of Cayley = codes "cayley"
 name_of LowIndex = codes "lowindex"
+name_of Meet = codes "meet"
+name_of Join = codes "join"
 
 -- what stands behind the name
 abbrev pub shapes_of : Form → List (List Place)
@@ -51,7 +56,9 @@ shapes_of Rules = [] ∷ []
 shapes_of Element = (AWord ∷ []) ∷ []
 shapes_of Cayley = [] ∷ []
 shapes_of LowIndex = (ANumber 1 16 ∷ ANumber 0 1000000 ∷ [])
-    ∷ (ANumber 1 16 ∷ ANumber 0 1000000 ∷ After ∷ ATable ∷ []) ∷ []
+    ∷ (ANumber 1 16 ∷ ANumber 0 1000000 ∷ After ∷ ALowTable ∷ []) ∷ []
+shapes_of Meet = (ACongruenceTable ∷ ACongruenceTable ∷ []) ∷ []
+shapes_of Join = (ACongruenceTable ∷ ACongruenceTable ∷ []) ∷ []
 
 -- the section of the form
 abbrev pub section_of : Form → ℕ
@@ -65,10 +72,12 @@ section_of Rules = 4
 section_of Element = 4
 section_of Cayley = 4
 section_of LowIndex = 4
+section_of Meet = 4
+section_of Join = 4
 
 -- the forms that a script of this kind has: a presentation, or generators
 abbrev pub forms_of : (is_presentation : Bool) → List Form
 forms_of true = Relation ∷ Pair TwoSided ∷ Pair Right ∷ Pair Left
-    ∷ Index ∷ Equal ∷ Normal ∷ Classes ∷ Rules ∷ LowIndex ∷ []
+    ∷ Index ∷ Equal ∷ Normal ∷ Classes ∷ Rules ∷ LowIndex ∷ Meet ∷ Join ∷ []
 forms_of false = Pair TwoSided ∷ Pair Right ∷ Pair Left
     ∷ Index ∷ Equal ∷ Normal ∷ Classes ∷ Rules ∷ Element ∷ Cayley ∷ []

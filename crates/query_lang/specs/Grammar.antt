@@ -24,7 +24,7 @@ use Rattle.query_lang.specs.Entries.{all_of, below, below_or_dash, bit, is_injec
 use Rattle.query_lang.specs.Forms.{Pair, name_of}
 use Rattle.query_lang.specs.Pairing.{most_pairs}
 use Rattle.query_lang.specs.Relations.{add_relation, free_over, most_relations, relations_of}
-use Rattle.query_lang.specs.Tables.{IsTableText}
+use Rattle.query_lang.specs.Tables.{IsCongruenceTable, IsLowTable, IsTextOf}
 use Rattle.query_lang.specs.Token.{Token, Line, cut_lines, is_kept, is_word, letter_of, number_within, tokens_of}
 
 -- what the lines so far say: the numbers of the header, 0 in the place of one that it has not;
@@ -68,9 +68,15 @@ abbrev pub IsNumber : ℕ → ℕ → Token → ℕ → Type 0
 IsNumber low high t n = number_within low high t ≡ Some n
 
 -- the token is this standard table over the letters, of at most n classes
-abbrev pub IsTableOf : Partial → ℕ → Token → Graph → Type 0
-IsTableOf p n t g =
-    IsTableText (has_empty_word p.problem) (length (letters_of p.problem)) n t g
+abbrev pub IsLowTableOf : Partial → ℕ → Token → Graph → Type 0
+IsLowTableOf p n t g = IsTextOf (length (letters_of p.problem)) t g
+    × IsLowTable (has_empty_word p.problem) (length (letters_of p.problem)) n g
+
+-- the token is this standard table over the letters, at which the relations hold
+abbrev pub IsCongruenceTableOf : Partial → Token → Graph → Type 0
+IsCongruenceTableOf p t g = IsTextOf (length (letters_of p.problem)) t g
+    × IsCongruenceTable (has_empty_word p.problem) (length (letters_of p.problem))
+    (relations_of p.problem) g
 
 -- the fields are so many entries, and these
 abbrev pub AreEntries : {A : Type 0} → ℕ → (Field → Option A) → List Field → List A → Type 0
@@ -124,8 +130,14 @@ pub data IsQuery (p : Partial) (line : Line) : Query → Type 0 where
   lowindex_after : {N M T : Token} {n m : ℕ} {g : Graph}
       → line ≡ codes "lowindex" ∷ N ∷ M ∷ codes "after" ∷ T ∷ []
       → is_presented p.problem ≡ true → pairs_of p.problem ≡ []
-      → IsNumber 1 16 N n → IsNumber 0 1000000 M m → IsTableOf p n T g
+      → IsNumber 1 16 N n → IsNumber 0 1000000 M m → IsLowTableOf p n T g
       → IsQuery p line (ask.LowIndex n m (Some g))
+  meet : {S T : Token} {s t : Graph} → line ≡ codes "meet" ∷ S ∷ T ∷ []
+      → is_presented p.problem ≡ true → pairs_of p.problem ≡ []
+      → IsCongruenceTableOf p S s → IsCongruenceTableOf p T t → IsQuery p line (ask.Meet s t)
+  join : {S T : Token} {s t : Graph} → line ≡ codes "join" ∷ S ∷ T ∷ []
+      → is_presented p.problem ≡ true → pairs_of p.problem ≡ []
+      → IsCongruenceTableOf p S s → IsCongruenceTableOf p T t → IsQuery p line (ask.Join s t)
 
 -- a line behind the header, and what the lines say with it
 pub data LineReads (p : Partial) (line : Line) : Partial → Type 0 where

@@ -6,17 +6,18 @@ use Rattle.problem.specs.declared.kinds.Problem.{Problem}
 use Rattle.problem.specs.declared.kinds.Problem.TheVariants.{Presented, Transf, PPerm, BMat, MaxPlus}
 use Rattle.problem.specs.Problem.{allows_rules, has_empty_word, is_presented, kind_of, letters_of, pairs_of}
 use Rattle.elements.specs.declared.field.Field.{Field}
+use Rattle.word_graph.specs.TableText.{table_read}
 use Rattle.query_lang.specs.declared.cause.Cause.{Cause}
 use Rattle.query_lang.specs.declared.cause.Cause.TheVariants as cause
 use Rattle.query_lang.specs.Asked.{ScriptOf}
 use Rattle.query_lang.specs.Entries.{all_of, below, below_or_dash, bit, is_injective}
 use Rattle.query_lang.specs.Fields.{field_of}
 use Rattle.query_lang.specs.LineWords.{element_of}
-use Rattle.query_lang.specs.Forms.{Form, Relation, Pair, Rules, Cayley, LowIndex, Place, AWord, ANumber, After, ATable, name_of, shapes_of, section_of, forms_of}
+use Rattle.query_lang.specs.Forms.{Form, Relation, Pair, Rules, Cayley, LowIndex, Meet, Join, Place, AWord, ANumber, After, ALowTable, ACongruenceTable, name_of, shapes_of, section_of, forms_of}
 use Rattle.query_lang.specs.Outline.{alphabet_of}
 use Rattle.query_lang.specs.Pairing.{is_same_kind, most_pairs}
 use Rattle.query_lang.specs.Relations.{most_relations, relations_of}
-use Rattle.query_lang.specs.Tables.{table_of}
+use Rattle.query_lang.specs.Tables.{is_table, low_table_of, meets_relations}
 use Rattle.query_lang.specs.Token.{Token, Line, is_kept, is_word, letter_of, number_within}
 use Rattle.query_lang.specs.Grammar.{Partial, lacks_generator, section_reached, is_generator_line, Reads, script_in}
 
@@ -47,8 +48,13 @@ cause_of_token p all AWord t =
 cause_of_token p all (ANumber low high) t =
     when cause.BadNumber (is_none (number_within low high t))
 cause_of_token p all After t = when cause.AfterExpected (not (is_word (codes "after") t))
-cause_of_token p all ATable t = cause_in
-    (table_of (has_empty_word p.problem) (length (letters_of p.problem)) (classes_in all) t)
+cause_of_token p all ALowTable t = cause_in
+    (low_table_of (has_empty_word p.problem) (length (letters_of p.problem)) (classes_in all) t)
+cause_of_token p all ACongruenceTable t = first_of
+    (when cause.BadTable
+    (not (is_table (has_empty_word p.problem) (length (letters_of p.problem)) t))
+    ∷ when cause.TableBreaksRelation
+    (not (meets_relations (relations_of p.problem) (table_read t))) ∷ [])
 
 -- the causes of the tokens, from the left, where these are all
 abbrev pub token_causes : Partial → List Token → List Place → List Token → List (Option Cause)
@@ -96,6 +102,8 @@ abbrev pub is_barred : Partial → Form → Bool
 is_barred p Rules = not (allows_rules p.problem)
 is_barred p Cayley = not (length (pairs_of p.problem) == 0)
 is_barred p LowIndex = not (length (pairs_of p.problem) == 0)
+is_barred p Meet = not (length (pairs_of p.problem) == 0)
+is_barred p Join = not (length (pairs_of p.problem) == 0)
 is_barred p form = false
 
 -- a line of this form: 8, 9, 3, 16, 17, 18, 19, then its tokens from the left

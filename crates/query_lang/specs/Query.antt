@@ -1,30 +1,35 @@
 -- Queries, and the words and tables in them.
-use Rattle.std.specs.Prelude.{◌≡◌, ℕ, ◌≤◌, Bool, true, false, [], length, Some, None}
-use Rattle.theory.specs.Word.{IsElement}
+use Rattle.std.specs.Prelude.{◌≡◌, ℕ, ◌≤◌, Bool, true, false, List, [], length, Some, None}
+use Rattle.theory.specs.Word.{IsElement, Word}
 use Rattle.problem.specs.declared.kinds.Problem.{Problem}
 use Rattle.problem.specs.Problem.{allows_rules, has_empty_word, is_presented, letters_of, pairs_of}
 use Rattle.query_lang.specs.declared.script.Query.{Query}
-use Rattle.query_lang.specs.declared.script.Query.TheVariants.{Index, Equal, Normal, Classes, RuleList, ElementOf, Cayley, LowIndex}
-use Rattle.query_lang.specs.Tables.{IsLowTable}
+use Rattle.query_lang.specs.declared.script.Query.TheVariants.{Index, Equal, Normal, Classes, RuleList, ElementOf, Cayley, LowIndex, Meet, Join}
+use Rattle.query_lang.specs.Relations.{relations_of}
+use Rattle.query_lang.specs.Tables.{IsCongruenceTable, IsLowTable}
 
 -- from 1 to 16 classes, and at most 1,000,000 tables
 abbrev pub AreLimits : ℕ → ℕ → Type 0
 AreLimits classes count = (1 ≤ classes) × (classes ≤ 16) × (count ≤ 1000000)
 
--- each word of the query is an element over k letters, its table is one over them, and the limits
--- of a search are in their ranges
-abbrev pub IsQueryOver : Bool → ℕ → Query → Type 0
-IsQueryOver empty k Index = Unit {0}
-IsQueryOver empty k (Equal u v) = IsElement empty k u × IsElement empty k v
-IsQueryOver empty k (Normal u) = IsElement empty k u
-IsQueryOver empty k (Classes count None) = Unit {0}
-IsQueryOver empty k (Classes count (Some u)) = IsElement empty k u
-IsQueryOver empty k RuleList = Unit {0}
-IsQueryOver empty k (ElementOf u) = IsElement empty k u
-IsQueryOver empty k Cayley = Unit {0}
-IsQueryOver empty k (LowIndex classes count None) = AreLimits classes count
-IsQueryOver empty k (LowIndex classes count (Some g)) =
+-- each word of the query is an element over k letters, its tables are over them, the relations hold
+-- at those of a meet or a join, and the limits of a search are in their ranges
+abbrev pub IsQueryOver : Bool → ℕ → List (Word × Word) → Query → Type 0
+IsQueryOver empty k relations Index = Unit {0}
+IsQueryOver empty k relations (Equal u v) = IsElement empty k u × IsElement empty k v
+IsQueryOver empty k relations (Normal u) = IsElement empty k u
+IsQueryOver empty k relations (Classes count None) = Unit {0}
+IsQueryOver empty k relations (Classes count (Some u)) = IsElement empty k u
+IsQueryOver empty k relations RuleList = Unit {0}
+IsQueryOver empty k relations (ElementOf u) = IsElement empty k u
+IsQueryOver empty k relations Cayley = Unit {0}
+IsQueryOver empty k relations (LowIndex classes count None) = AreLimits classes count
+IsQueryOver empty k relations (LowIndex classes count (Some g)) =
     AreLimits classes count × IsLowTable empty k classes g
+IsQueryOver empty k relations (Meet s t) =
+    IsCongruenceTable empty k relations s × IsCongruenceTable empty k relations t
+IsQueryOver empty k relations (Join s t) =
+    IsCongruenceTable empty k relations s × IsCongruenceTable empty k relations t
 
 -- whether the query is there only where generators are given
 abbrev pub needs_generators : Query → Bool
@@ -36,6 +41,8 @@ needs_generators RuleList = false
 needs_generators (ElementOf u) = true
 needs_generators Cayley = true
 needs_generators (LowIndex classes count after) = false
+needs_generators (Meet s t) = false
+needs_generators (Join s t) = false
 
 -- whether the query is there only where relations are given
 abbrev pub needs_relations : Query → Bool
@@ -47,6 +54,8 @@ needs_relations RuleList = false
 needs_relations (ElementOf u) = false
 needs_relations Cayley = false
 needs_relations (LowIndex classes count after) = true
+needs_relations (Meet s t) = true
+needs_relations (Join s t) = true
 
 -- whether the query asks for the rules
 abbrev pub is_rule_list : Query → Bool
@@ -58,6 +67,8 @@ is_rule_list RuleList = true
 is_rule_list (ElementOf u) = false
 is_rule_list Cayley = false
 is_rule_list (LowIndex classes count after) = false
+is_rule_list (Meet s t) = false
+is_rule_list (Join s t) = false
 
 -- whether the query is there only without pairs
 abbrev pub needs_no_pairs : Query → Bool
@@ -69,12 +80,15 @@ needs_no_pairs RuleList = false
 needs_no_pairs (ElementOf u) = false
 needs_no_pairs Cayley = true
 needs_no_pairs (LowIndex classes count after) = true
+needs_no_pairs (Meet s t) = true
+needs_no_pairs (Join s t) = true
 
 -- the query is one of this problem: it is there for it, rules are allowed where it asks for them,
--- there are no pairs where it needs that, and its words and tables are over the letters
+-- there are no pairs where it needs that, its words and tables are over the letters, and the
+-- relations hold at the tables of a meet or a join
 pub record IsQueryOf (p : Problem) (query : Query) : Type 0 where
   pub there : is_presented p ≡ true → needs_generators query ≡ false
   pub presented : needs_relations query ≡ true → is_presented p ≡ true
   pub allowed : is_rule_list query ≡ true → allows_rules p ≡ true
   pub unpaired : needs_no_pairs query ≡ true → pairs_of p ≡ []
-  pub over : IsQueryOver (has_empty_word p) (length (letters_of p)) query
+  pub over : IsQueryOver (has_empty_word p) (length (letters_of p)) (relations_of p) query

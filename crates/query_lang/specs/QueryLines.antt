@@ -12,7 +12,7 @@ use Rattle.query_lang.specs.declared.script.Query.TheVariants as ask
 use Rattle.query_lang.specs.Outcome.{and_then}
 use Rattle.query_lang.specs.Token.{Token, is_word, number_within}
 use Rattle.query_lang.specs.LineWords.{element_of, one_word, two_words}
-use Rattle.query_lang.specs.Tables.{table_of}
+use Rattle.query_lang.specs.Tables.{low_table_of, two_tables}
 
 -- the names of queries
 pub data NameOf : Type 0 where
@@ -24,6 +24,8 @@ pub data NameOf : Type 0 where
   Element : NameOf
   Cayley : NameOf
   LowIndex : NameOf
+  Meet : NameOf
+  Join : NameOf
 
 -- the query that a line's first token names in a presentation, or in a script of generators
 abbrev pub query_name_of : (is_presentation : Bool) → Token → Option NameOf
@@ -34,6 +36,8 @@ query_name_of is_presentation t =
     else if is_word (codes "classes") t then Some Classes
     else if is_word (codes "rules") t then Some Rules
     else if is_presentation && is_word (codes "lowindex") t then Some LowIndex
+    else if is_presentation && is_word (codes "meet") t then Some Meet
+    else if is_presentation && is_word (codes "join") t then Some Join
     else if not is_presentation && is_word (codes "element") t then Some Element
     else if not is_presentation && is_word (codes "cayley") t then Some Cayley
     else None
@@ -48,6 +52,8 @@ is_name_there is_presentation Rules = true
 is_name_there is_presentation Element = not is_presentation
 is_name_there is_presentation Cayley = not is_presentation
 is_name_there is_presentation LowIndex = is_presentation
+is_name_there is_presentation Meet = is_presentation
+is_name_there is_presentation Join = is_presentation
 
 -- whether a query of this name is not there for the pairs of the problem
 abbrev pub is_name_barred : Problem → NameOf → Bool
@@ -59,6 +65,8 @@ is_name_barred p Rules = not (allows_rules p)
 is_name_barred p Element = false
 is_name_barred p Cayley = not (length (pairs_of p) == 0)
 is_name_barred p LowIndex = not (length (pairs_of p) == 0)
+is_name_barred p Meet = not (length (pairs_of p) == 0)
+is_name_barred p Join = not (length (pairs_of p) == 0)
 
 -- the name of the query
 abbrev pub query_name : Query → NameOf
@@ -70,6 +78,8 @@ query_name ask.RuleList = Rules
 query_name (ask.ElementOf u) = Element
 query_name ask.Cayley = Cayley
 query_name (ask.LowIndex classes count after) = LowIndex
+query_name (ask.Meet s t) = Meet
+query_name (ask.Join s t) = Join
 
 -- no token, one, two, one or three, or two or four
 abbrev pub are_none : List Token → Bool
@@ -104,6 +114,8 @@ name_takes Rules tokens = are_none tokens
 name_takes Element tokens = are_one tokens
 name_takes Cayley tokens = are_none tokens
 name_takes LowIndex tokens = are_two_or_four tokens
+name_takes Meet tokens = are_two tokens
+name_takes Join tokens = are_two tokens
 
 -- a query without words
 abbrev pub bare : Query → List Token → Result Query Cause
@@ -136,7 +148,7 @@ limits_of classes count =
 -- the table behind which a search goes on
 abbrev pub table_cursor_of : List ℕ → Bool → ℕ → Token → Token → Result Graph Cause
 table_cursor_of letters is_monoid classes after t =
-    if is_word (codes "after") after then table_of is_monoid (length letters) classes t
+    if is_word (codes "after") after then low_table_of is_monoid (length letters) classes t
     else Err AfterExpected
 
 -- `N M`, or `N M after TABLE`
@@ -149,15 +161,19 @@ search_of letters is_monoid (classes ∷ count ∷ after ∷ t ∷ []) =
 search_of letters is_monoid tokens = Err WrongNumberOfWords
 
 -- the query of this name, by the tokens behind the name
-abbrev pub query_of : List ℕ → Bool → NameOf → List Token → Result Query Cause
-query_of letters allow_empty Index tokens = bare ask.Index tokens
-query_of letters allow_empty Equal tokens = and_then (λ p. Ok (ask.Equal p.0 p.1))
+abbrev pub query_of : List ℕ → Bool → List (Word × Word) → NameOf → List Token → Result Query Cause
+query_of letters allow_empty relations Index tokens = bare ask.Index tokens
+query_of letters allow_empty relations Equal tokens = and_then (λ p. Ok (ask.Equal p.0 p.1))
     (two_words letters allow_empty tokens)
-query_of letters allow_empty Normal tokens = and_then (λ u. Ok (ask.Normal u))
+query_of letters allow_empty relations Normal tokens = and_then (λ u. Ok (ask.Normal u))
     (one_word letters allow_empty tokens)
-query_of letters allow_empty Classes tokens = page_of letters allow_empty tokens
-query_of letters allow_empty Rules tokens = bare ask.RuleList tokens
-query_of letters allow_empty Element tokens = and_then (λ u. Ok (ask.ElementOf u))
+query_of letters allow_empty relations Classes tokens = page_of letters allow_empty tokens
+query_of letters allow_empty relations Rules tokens = bare ask.RuleList tokens
+query_of letters allow_empty relations Element tokens = and_then (λ u. Ok (ask.ElementOf u))
     (one_word letters allow_empty tokens)
-query_of letters allow_empty Cayley tokens = bare ask.Cayley tokens
-query_of letters allow_empty LowIndex tokens = search_of letters allow_empty tokens
+query_of letters allow_empty relations Cayley tokens = bare ask.Cayley tokens
+query_of letters allow_empty relations LowIndex tokens = search_of letters allow_empty tokens
+query_of letters allow_empty relations Meet tokens = and_then (λ p. Ok (ask.Meet p.0 p.1))
+    (two_tables allow_empty (length letters) relations tokens)
+query_of letters allow_empty relations Join tokens = and_then (λ p. Ok (ask.Join p.0 p.1))
+    (two_tables allow_empty (length letters) relations tokens)

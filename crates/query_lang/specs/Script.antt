@@ -18,6 +18,7 @@ use Rattle.query_lang.specs.Generators.{draft_with, problem_of}
 use Rattle.query_lang.specs.Header.{header_of, outline_of}
 use Rattle.query_lang.specs.Outline.{with_relation}
 use Rattle.query_lang.specs.Pairing.{add_pair, pair_kind_of}
+use Rattle.query_lang.specs.Relations.{relations_of}
 use Rattle.query_lang.specs.QueryLines.{NameOf, is_name_barred, name_takes, query_name_of, query_of}
 
 -- what the lines so far have given: generators or a presentation, from the first pair on a problem,
@@ -38,7 +39,7 @@ asked s name tokens =
     if not (name_takes name tokens) then Err WrongNumberOfWords
     else if is_name_barred s.problem name then Err QueryNotAllowed
     else and_then (λ query. Ok (with_asked s query))
-    (query_of (letters_of s.problem) (has_empty_word s.problem) name tokens)
+    (query_of (letters_of s.problem) (has_empty_word s.problem) (relations_of s.problem) name tokens)
 
 -- whether the script is a presentation
 abbrev pub is_presentation : ReaderOf → Bool

@@ -1,12 +1,14 @@
 // Laws of scripts.
 ghost use Rattle.std.specs.Prelude.{◌≡◌, ℕ, Bool, ◌↔◌, ◌⊎◌, List, Option, None, Result, Ok, Err};
 ghost use Rattle.theory.specs.Graph.{Graph};
+ghost use Rattle.theory.specs.Word.{Word};
 ghost use Rattle.query_lang.specs.declared.cause.Cause.{Cause};
+ghost use Rattle.query_lang.specs.declared.cause.Cause.TheVariants.{BadTable, TableBreaksRelation};
 ghost use Rattle.query_lang.specs.Asked.{ScriptOf};
 ghost use Rattle.query_lang.specs.Grammar.{Partial, Step, lines_of};
 ghost use Rattle.query_lang.specs.LineCauses.{AreScript, IsFirstFault, cause_of_line};
 ghost use Rattle.query_lang.specs.Script.{script_of};
-ghost use Rattle.query_lang.specs.Tables.{IsTableText, table_of};
+ghost use Rattle.query_lang.specs.Tables.{BreaksRelation, IsCongruenceTable, IsLowTable, IsTable, IsTextOf, congruence_table_of, low_table_of};
 ghost use Rattle.query_lang.specs.Token.{Line, Token};
 
 /// After whatever lines, a line is read exactly where it has no cause of refusal, and then to one
@@ -33,11 +35,22 @@ pub fn bytes_are_a_script_or_have_a_fault()
         → (m ≡ n) × (one ≡ other) }
 {}
 
-/// A token is taken for a table exactly where it is the text of a standard one, over so many
-/// letters and of at most so many classes.
+/// A token is taken for a table exactly where it is the text of a standard one over so many
+/// letters, and of at most so many classes, or such that the relations hold at it. It is a bad
+/// table exactly where it is the text of no such one, whatever the relations, and it breaks a
+/// relation exactly where it is, and the sides of a relation lead from some node to different ones.
 pub fn tables_are_read()
-    ensures { (is_monoid : Bool) (k n : ℕ) (t : Token) (g : Graph)
-        → (table_of is_monoid k n t ≡ Ok g) ↔ IsTableText is_monoid k n t g }
+    ensures low { (is_monoid : Bool) (k n : ℕ) (t : Token) (g : Graph)
+        → (low_table_of is_monoid k n t ≡ Ok g) ↔ (IsTextOf k t g × IsLowTable is_monoid k n g) }
+    ensures congruence { (is_monoid : Bool) (k : ℕ) (relations : List (Word × Word)) (t : Token)
+        (g : Graph) → (congruence_table_of is_monoid k relations t ≡ Ok g)
+        ↔ (IsTextOf k t g × IsCongruenceTable is_monoid k relations g) }
+    ensures bad { (is_monoid : Bool) (k : ℕ) (relations : List (Word × Word)) (t : Token)
+        → (congruence_table_of is_monoid k relations t ≡ Err BadTable)
+        ↔ ((g : Graph) → IsTextOf k t g → IsTable is_monoid k g → ⊥) }
+    ensures breaks { (is_monoid : Bool) (k : ℕ) (relations : List (Word × Word)) (t : Token)
+        → (congruence_table_of is_monoid k relations t ≡ Err TableBreaksRelation)
+        ↔ ((g : Graph) × IsTextOf k t g × IsTable is_monoid k g × BreaksRelation relations g) }
 {}
 
 /// What the reader makes of bytes is the script that they are, or their first fault.

@@ -1,6 +1,6 @@
 // The lines of queries.
-ghost use Rattle.std.specs.Prelude.{◌≡◌, ◌≤◌, IfOk, IfErr, Ok, length};
-ghost use Rattle.theory.specs.Word.{IsElement};
+ghost use Rattle.std.specs.Prelude.{◌≡◌, ◌≤◌, List, IfOk, IfErr, Ok, length};
+ghost use Rattle.theory.specs.Word.{IsElement, Word as Letters};
 ghost use Rattle.query_lang.specs.Faults.{IsLineFault};
 ghost use Rattle.query_lang.specs.Query.{AreLimits, IsQueryOver};
 ghost use Rattle.query_lang.specs.QueryLines.{bare, count_of, cursor_of, is_name_barred, limits_of, name_takes, page_of, query_name, query_name_of, query_of, search_of, table_cursor_of};
@@ -12,7 +12,7 @@ use crate::cause::Cause;
 use crate::fault::LineFault;
 use crate::line_words::{element_of, one_word, two_words};
 use crate::script::Query;
-use crate::tables::table_of;
+use crate::tables::{low_table_of, two_tables};
 use crate::tokens::{is_word, number_within};
 use problem::Problem;
 use std::alloc::Global;
@@ -39,6 +39,10 @@ enum Name {
     Cayley,
     /// `lowindex`
     LowIndex,
+    /// `meet`
+    Meet,
+    /// `join`
+    Join,
 }
 
 /// What a query line begins with. Contracts see which name it is.
@@ -63,19 +67,23 @@ impl Model for QueryName {
       | kept.Element ↦ said.Element
       | kept.Cayley ↦ said.Cayley
       | kept.LowIndex ↦ said.LowIndex
+      | kept.Meet ↦ said.Meet
+      | kept.Join ↦ said.Join
     ] };
 }
 
 impl QueryName {
     /// Whether a query of this name is not there for the pairs of the problem: the rules for right
-    /// or left pairs, the Cayley graphs and tables of low index for any.
+    /// or left pairs, the Cayley graphs, tables of low index, meets and joins for any.
     pub fn is_barred(&self, problem: &Problem) -> bool
         ensures { result ≡ is_name_barred problem.now self.now }
     {
         match self.name {
             Name::Index | Name::Equal | Name::Normal | Name::Classes | Name::Element => false,
             Name::Rules => !problem.allows_rules(),
-            Name::Cayley | Name::LowIndex => !problem.pairs().is_empty(),
+            Name::Cayley | Name::LowIndex | Name::Meet | Name::Join => {
+                !problem.pairs().is_empty()
+            }
         }
     }
 
@@ -86,7 +94,7 @@ impl QueryName {
         match self.name {
             Name::Index | Name::Rules | Name::Cayley => tokens.is_empty(),
             Name::Normal | Name::Element => matches!(tokens, [_]),
-            Name::Equal => matches!(tokens, [_, _]),
+            Name::Equal | Name::Meet | Name::Join => matches!(tokens, [_, _]),
             Name::Classes => matches!(tokens, [_] | [_, _, _]),
             Name::LowIndex => matches!(tokens, [_, _] | [_, _, _, _]),
         }
@@ -104,6 +112,8 @@ pub fn query_name_of(is_presentation: bool, first: &[u8]) -> Option<QueryName>
         text if is_word(b"classes", text) => Name::Classes,
         text if is_word(b"rules", text) => Name::Rules,
         text if is_presentation && is_word(b"lowindex", text) => Name::LowIndex,
+        text if is_presentation && is_word(b"meet", text) => Name::Meet,
+        text if is_presentation && is_word(b"join", text) => Name::Join,
         text if !is_presentation && is_word(b"element", text) => Name::Element,
         text if !is_presentation && is_word(b"cayley", text) => Name::Cayley,
         _ => return None,
@@ -159,7 +169,8 @@ fn page_of(
 ) -> Result<Query, LineFault>
     ensures ok { IfOk result (λ query. page_of alphabet.now allow_empty (texts tokens.now)
         ≡ Ok query) }
-    ensures over { IfOk result (IsQueryOver allow_empty (length alphabet.now)) }
+    ensures over { (relations : List (Letters × Letters)) → IfOk result
+        (IsQueryOver allow_empty (length alphabet.now) relations) }
     ensures name { IfOk result (λ query. query_name query ≡ said.Classes) }
     ensures err { IfErr result (IsLineFault (page_of alphabet.now allow_empty (texts tokens.now))) }
 {
@@ -207,7 +218,7 @@ fn table_cursor_of(
         (table_cursor_of alphabet.now is_monoid classes after.now token.now)) }
 {
     if is_word(b"after", after) {
-        table_of(alloc, is_monoid, alphabet.len(), classes, token)
+        low_table_of(alloc, is_monoid, alphabet.len(), classes, token)
     } else {
         Err(LineFault::refused(Cause::AfterExpected))
     }
@@ -222,7 +233,8 @@ fn search_of(
 ) -> Result<Query, LineFault>
     ensures ok { IfOk result (λ query. search_of alphabet.now is_monoid (texts tokens.now)
         ≡ Ok query) }
-    ensures over { IfOk result (IsQueryOver is_monoid (length alphabet.now)) }
+    ensures over { (relations : List (Letters × Letters)) → IfOk result
+        (IsQueryOver is_monoid (length alphabet.now) relations) }
     ensures name { IfOk result (λ query. query_name query ≡ said.LowIndex) }
     ensures err { IfErr result (IsLineFault (search_of alphabet.now is_monoid (texts tokens.now))) }
 {
@@ -248,22 +260,24 @@ fn search_of(
     }
 }
 
-/// The query of this name, by the tokens behind the name. Refused for their cause, or for want of
-/// memory.
+/// The query of this name, by the tokens behind the name; the relations hold at the tables of a
+/// meet or a join. Refused for their cause, or for want of memory.
 pub fn query_of(
     alloc: Global,
     alphabet: &Alphabet,
     allow_empty: bool,
+    relations: &[(Word, Word)],
     name: QueryName,
     tokens: &[&[u8]],
 ) -> Result<Query, LineFault>
-    ensures ok { IfOk result (λ query. query_of alphabet.now allow_empty name (texts tokens.now)
-        ≡ Ok query) }
-    ensures over { IfOk result (IsQueryOver allow_empty (length alphabet.now)) }
+    ensures ok { IfOk result (λ query. query_of alphabet.now allow_empty relations.now name
+        (texts tokens.now) ≡ Ok query) }
+    ensures over { IfOk result (IsQueryOver allow_empty (length alphabet.now) relations.now) }
     ensures name { IfOk result (λ query. query_name query ≡ name) }
     ensures err { IfErr result (IsLineFault
-        (query_of alphabet.now allow_empty name (texts tokens.now))) }
+        (query_of alphabet.now allow_empty relations.now name (texts tokens.now))) }
 {
+    let letters = alphabet.len();
     match name.name {
         Name::Index => Ok(bare(Query::Index, tokens)?),
         Name::Equal => {
@@ -276,5 +290,13 @@ pub fn query_of(
         Name::Element => Ok(Query::ElementOf(one_word(alloc, alphabet, allow_empty, tokens)?)),
         Name::Cayley => Ok(bare(Query::Cayley, tokens)?),
         Name::LowIndex => search_of(alloc, alphabet, allow_empty, tokens),
+        Name::Meet => {
+            let (left, right) = two_tables(alloc, allow_empty, letters, relations, tokens)?;
+            Ok(Query::Meet(left, right))
+        }
+        Name::Join => {
+            let (left, right) = two_tables(alloc, allow_empty, letters, relations, tokens)?;
+            Ok(Query::Join(left, right))
+        }
     }
 }

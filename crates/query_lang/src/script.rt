@@ -6,6 +6,7 @@ ghost use Rattle.query_lang.specs.Grammar.{lines_of};
 ghost use Rattle.query_lang.specs.LineCauses.{AreScript};
 ghost use Rattle.query_lang.specs.Query.{IsQueryOf};
 ghost use Rattle.query_lang.specs.QueryLines.{is_name_there};
+ghost use Rattle.query_lang.specs.Relations.{relations_of};
 ghost use Rattle.query_lang.specs.Script.{asked};
 ghost use Rattle.query_lang.specs.Texts.{texts};
 
@@ -49,6 +50,22 @@ pub enum Query {
         count: usize,
         after: Option<WordGraph>,
     },
+    /// The meet of two right congruences, by their tables. Relations are given, and no pairs; the
+    /// relations hold at both tables.
+    Meet(WordGraph, WordGraph),
+    /// The join of two right congruences, by their tables. Relations are given, and no pairs; the
+    /// relations hold at both tables.
+    Join(WordGraph, WordGraph),
+}
+
+// The relations of a problem; generators have none.
+fn relations_of(problem: &Problem) -> &[(Word, Word)]
+    ensures { result.now ≡ relations_of problem.now }
+{
+    match problem {
+        Problem::Presented(congruence) => congruence.presentation().relations().as_slice(),
+        _ => &[],
+    }
 }
 
 /// A script: what it poses, and the queries. Contracts see both. The problem is one that scripts
@@ -107,7 +124,15 @@ impl Script {
             return Err(LineFault::refused(Cause::QueryNotAllowed));
         }
         let allow_empty = problem.has_empty_word();
-        let query = query_of(alloc, problem.alphabet(), allow_empty, name, tokens)?;
+        let relations = relations_of(&problem);
+        let query = query_of(
+            alloc,
+            problem.alphabet(),
+            allow_empty,
+            relations,
+            name,
+            tokens,
+        )?;
         queries.push(query)?;
         Ok(Script { problem, queries })
     }

@@ -465,6 +465,12 @@ fn text_of(alloc: Global, problem: &Problem, query: &Query) -> Result<String, Fa
                 Ok(format!(in alloc; "lowindex {classes} {count} after {}", table.nodes())?)
             }
         },
+        Query::Meet(left, right) => {
+            Ok(format!(in alloc; "meet {} {}", left.nodes(), right.nodes())?)
+        }
+        Query::Join(left, right) => {
+            Ok(format!(in alloc; "join {} {}", left.nodes(), right.nodes())?)
+        }
     }
 }
 

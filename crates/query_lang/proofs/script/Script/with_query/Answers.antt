@@ -1,8 +1,10 @@
-use Rattle.std.proofs.Common.{◌≡◌, true, false, [], All, length, sym, ap, ◌∙◌, subst, subst₂}
+use Rattle.std.proofs.Common.{◌≡◌, true, false, List, [], All, length, sym, ap, ◌∙◌, subst, subst₂}
 use Rattle.std.proofs.lemmas.List.Elements.{All-push}
 use Rattle.problem.specs.Problem.{allows_rules, has_empty_word, is_presented, letters_of, pairs_of}
 use Rattle.query_lang.specs.Asked.{ScriptOf}
 use Rattle.query_lang.specs.Query.{IsQueryOf, IsQueryOver, is_rule_list, needs_generators, needs_no_pairs, needs_relations}
+use Rattle.query_lang.specs.Relations.{relations_of}
+use Rattle.theory.specs.Word.{Word}
 use Rattle.query_lang.specs.QueryLines.{is_name_barred, is_name_there, query_name}
 use Rattle.query_lang.proofs.LineLemmas.{needs_none_generated, relations_given, rules_allowed, without_pairs}
 use Rattle.query_lang.proofs.script.Script.with_query.Goals as goal
@@ -18,6 +20,7 @@ invariant_of-result c =
     let presented : needs_relations query ≡ true → is_presented p ≡ true = λ needs. relations_given (is_presented p) query kind needs in
     let allowed : is_rule_list query ≡ true → allows_rules p ≡ true = λ asked. rules_allowed p query open_to asked in
     let unpaired : needs_no_pairs query ≡ true → pairs_of p ≡ [] = λ needs. without_pairs p query open_to needs in
-    let over : IsQueryOver (has_empty_word p) (length (letters_of p)) query =
-    subst₂ (λ empty letters. IsQueryOver empty (length letters) query) c.has_empty_word-allow_empty.ensures c.alphabet.ensures.letters c.in_ok-query.ensures.over in
+    let over : IsQueryOver (has_empty_word p) (length (letters_of p)) (relations_of p) query =
+    subst (λ (relations : List (Word × Word)). IsQueryOver (has_empty_word p) (length (letters_of p)) relations query) c.relations_of-relations.ensures
+    (subst₂ (λ empty letters. IsQueryOver empty (length letters) c.relations_of-relations.result.now query) c.has_empty_word-allow_empty.ensures c.alphabet.ensures.letters c.in_ok-query.ensures.over) in
     (c.self.invariant.0, subst (λ queries. All (IsQueryOf p) queries) (sym c.in_ok-push.ensures.items) (All-push (IsQueryOf p) c.self.inside.queries.items query c.self.invariant.1 (record { there = there; presented = presented; allowed = allowed; unpaired = unpaired; over = over })))
