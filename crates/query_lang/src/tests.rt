@@ -357,15 +357,75 @@ fn a_root_is_no_class_of_a_semigroup(rt: HostRuntime) -> Result<(), Fail> {
 }
 
 #[test]
+fn meets_and_joins_are_read_or_refused(rt: HostRuntime) -> Result<(), Fail> {
+    let alloc = rt.alloc();
+    for (query, cause) in [
+        ("meet 0,1/2,2/1,0 1,1/0,2/2,0", 0u8),
+        ("join 0,1/2,2/1,0 1,1/0,2/2,0", 0),
+        ("meet 0,0 1,0/0,1", 0),
+        ("join 1,0/0,1 1,0/0,1", 0),
+        ("meet", 3),
+        ("join 0,0", 3),
+        ("meet 0,0 0,0 0,0", 3),
+        ("join 0 x 0", 3),
+        ("meet 0 0,0", 20),
+        ("meet 0,0 00,0", 20),
+        ("join 0,0 0,0/0,0", 20),
+        ("join 0,2/1,1/2,2 0,0", 20),
+        ("meet 1,0/1,1 0,0", 25),
+        ("join 0,0 1,0/1,1", 25),
+        ("meet 0,1/2,2/2,0 0,0", 25),
+        ("join 0,0 0,1/2,2/2,0", 25),
+        ("meet 1,0/1,1 0", 25),
+        ("join 0 1,0/1,1", 20),
+        ("Meet 0,0 0,0", 7),
+    ] {
+        let script = format!(in alloc; "monoid ab\nrel aa 1\nrel bbb 1\nrel abab 1\n{query}\n")?;
+        let want = if cause == 0 { (0, 0) } else { (5, cause) };
+        assert_eq!(rt; fault_of(alloc, script.as_str())?, want, "{query}");
+    }
+    Ok(())
+}
+
+#[test]
+fn meets_and_joins_depend_on_the_header(rt: HostRuntime) -> Result<(), Fail> {
+    let alloc = rt.alloc();
+    for (script, line, cause) in [
+        ("monoid a\nmeet 1/0 1/1\njoin 0 1/0\n", 0usize, 0u8),
+        ("monoid a\nmeet 1/0 0,1\n", 2, 20),
+        ("semigroup a\njoin 1/1 1/2/1\n", 0, 0),
+        ("semigroup a\nmeet 1/1 0\n", 2, 20),
+        ("semigroup a\nmeet 1/0 1/1\n", 2, 20),
+        ("semigroup a\njoin 1/1 0/0\n", 2, 20),
+        ("semigroup a\nrel aa a\njoin 1/1 1/1\n", 0, 0),
+        ("semigroup a\nrel aa a\nmeet 1/0 1/1\n", 3, 20),
+        ("semigroup a\nrel aa a\nmeet 1/2/1 1/0\n", 3, 25),
+        ("semigroup a\nrel aa a\njoin 1/1 1/2/1\n", 3, 25),
+        ("monoid a\nleft a 1\nmeet x y\n", 3, 19),
+        ("monoid a\ntwosided a 1\nindex\njoin 0 0\n", 4, 19),
+        ("monoid a\nright a 1\njoin 0\n", 3, 3),
+        ("trans 2\na = 0 1\nmeet 0 0\n", 3, 7),
+        ("trans 2\na = 0 1\nleft a a\njoin 0 0\n", 4, 7),
+    ] {
+        assert_eq!(rt; fault_of(alloc, script)?, (line, cause), "{script}");
+    }
+    Ok(())
+}
+
+#[test]
 fn a_script_holds_its_tables(rt: HostRuntime) -> Result<(), Fail> {
     let alloc = rt.alloc();
-    let script = read_script(alloc, b"monoid a\nlowindex 3 7\nlowindex 4 8 after 1/2/0\n")?;
-    assert_eq!(rt; script.queries().len(), 2);
-    for (query, want) in script
-        .queries()
-        .iter()
-        .zip(["lowindex 3 7", "lowindex 4 8 after 3"])
-    {
+    let script = read_script(
+        alloc,
+        b"monoid a\nlowindex 3 7\nlowindex 4 8 after 1/2/0\nmeet 1/0 1/2/1\njoin 0 1/1\n",
+    )?;
+    assert_eq!(rt; script.queries().len(), 4);
+    for (query, want) in script.queries().iter().zip([
+        "lowindex 3 7",
+        "lowindex 4 8 after 3",
+        "meet 2 3",
+        "join 1 2",
+    ]) {
         assert_eq!(rt; text_of(alloc, script.problem(), query)?.as_str(), want);
     }
     Ok(())
@@ -499,6 +559,7 @@ fn a_script_holds_what_was_read(rt: HostRuntime) -> Result<(), Fail> {
     assert_eq!(rt; cause_text(19), b"query not allowed with pairs".as_slice());
     assert_eq!(rt; cause_text(20), b"bad table".as_slice());
     assert_eq!(rt; cause_text(22), b"".as_slice());
+    assert_eq!(rt; cause_text(25), b"table breaks a relation".as_slice());
     Ok(())
 }
 
