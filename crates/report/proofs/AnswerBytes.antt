@@ -1,5 +1,5 @@
 -- The bytes of an answer, from those of its lines.
-use Rattle.std.proofs.Common.{inl, inr, ℕ, List, [], ◌∷◌, Ok, Err, ◌≡◌, ◌∙◌, subst}
+use Rattle.std.proofs.Common.{inl, inr, ℕ, List, [], ◌∷◌, Ok, Err, false, true≢false, ◌≡◌, ◌∙◌, subst, sym}
 use Rattle.ports.specs.declared.sink.Sink.{Ghosts}
 use Rattle.ports.specs.declared.fault.WriteFault.{WriteFault}
 use Rattle.ports.specs.Writes.{Writes, WritesBytes}
@@ -10,7 +10,7 @@ use Rattle.problem.specs.Problem.{IsDecided}
 use Rattle.query_lang.specs.declared.script.Query.{Query}
 use Rattle.report.specs.declared.answers.Answered.{Answered}
 use Rattle.report.specs.declared.answers.Answered.TheVariants.{Defined}
-use Rattle.report.specs.Answer.{AreLines, IsAnswer}
+use Rattle.report.specs.Answer.{AreLines, IsAnswer, waits}
 use Rattle.report.specs.Gains.{AreAnswerBytes, AreBytesOf, is_undecided}
 use Rattle.report.proofs.AnswerLemmas.{one_line}
 
@@ -25,6 +25,17 @@ module _ {K : Type 0} (sink : Ghosts K) (p : Problem) (b : Budgets) (bound : ℕ
 
     pub defined_begun : (fault : WriteFault) → Writes sink {T = Unit {0}} (λ _. AreBytesOf (AreLines p asked q)) old new (Err fault) → Writes sink (AreAnswerBytes p b bound q) old new (Err fault)
     defined_begun fault = faulted sink old new fault (λ bytes c. elim c [ inl none ↦ inl none | inr some ↦ inr (Defined, defined_bytes bytes some.1) ])
+
+  -- the lines of a query that waits for no decision
+  module _ (told : waits q ≡ false) where
+    told_bytes : (bytes : List ℕ) → AreBytesOf (AreLines p bound q) bytes → AreAnswerBytes p b bound q Defined bytes
+    told_bytes bytes h = record { lines = h.lines; are_such = record { decided = λ w. absurd (true≢false (sym w ∙ told)); are_lines = h.are_such }; are_bytes = h.are_bytes }
+
+    pub all_told : (value : Unit {0}) → Writes sink (λ _. AreBytesOf (AreLines p bound q)) old new (Ok value) → Writes sink (AreAnswerBytes p b bound q) old new (Ok Defined)
+    all_told value = answered sink old new value Defined told_bytes
+
+    pub told_begun : (fault : WriteFault) → Writes sink {T = Unit {0}} (λ _. AreBytesOf (AreLines p bound q)) old new (Err fault) → Writes sink (AreAnswerBytes p b bound q) old new (Err fault)
+    told_begun fault = faulted sink old new fault (λ bytes c. elim c [ inl none ↦ inl none | inr some ↦ inr (Defined, told_bytes bytes some.1) ])
 
   -- an answer of one line
   module _ (told : Answered) (line : List ℕ) (is_answer : IsAnswer p b bound q (line ∷ []) (is_undecided told)) where

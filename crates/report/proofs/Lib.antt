@@ -8,3 +8,4 @@ pub mod UniqueAnswer
 pub mod PageLemmas
 pub mod TablePages
 pub mod SolvedLemmas
+pub mod TableAnswers

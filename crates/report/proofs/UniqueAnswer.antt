@@ -8,8 +8,9 @@ use Rattle.std.proofs.Math.Nat.{eq-or-lt_of_le}
 use Rattle.theory.specs.Word.{Word}
 use Rattle.theory.specs.ShortLex.{◌≺◌}
 use Rattle.theory.specs.Class.{IsLeast, HasIndex, IsClassList, IsInfinite, IsReducedRule, RuleBefore}
-use Rattle.theory.specs.Graph.{Graph}
-use Rattle.theory.specs.LowIndex.{IsLowIndex, TableLess}
+use Rattle.theory.specs.Graph.{Graph, SameEnd}
+use Rattle.theory.specs.Lattice as lattice
+use Rattle.theory.specs.LowIndex.{graph_of, IsLowIndex, TableLess}
 use Rattle.theory.specs.Value.{IsProduct, SameValue, SameElement, HasAtMostValues, HasMoreValues}
 use Rattle.theory.specs.declared.Kind.{Kind}
 use Rattle.theory.proofs.Words.{before_irrefl}
@@ -17,6 +18,7 @@ use Rattle.theory.proofs.Chains.{joined_congruence}
 use Rattle.theory.proofs.Listings.{IsStrictOrder, list_unique, page_unique, start_no_longer}
 use Rattle.theory.proofs.Completeness.{normal_unique}
 use Rattle.theory.proofs.ClassLaws.{IsPartialEquivalence, same_class_equivalence, shortlex_strict, rule_order}
+use Rattle.theory.proofs.StandardLaws.{standard_unique}
 use Rattle.theory.proofs.ValueLaws.{values_bound}
 use Rattle.elements.specs.Generators.{value_by}
 use Rattle.elements.specs.TransfLaws.{composed_products}
@@ -31,10 +33,10 @@ use Rattle.problem.specs.Problem.{SameClassOf, IsDecided, IsUndecided, letters_o
 use Rattle.congruence.specs.CayleyGraphs.{IsNumbered, AreCayleyGraphs}
 use Rattle.query_lang.specs.Tables.{rows_in}
 use Rattle.query_lang.specs.declared.script.Query.{Query}
-use Rattle.query_lang.specs.declared.script.Query.TheVariants.{Index, Equal, Normal, Classes, RuleList, ElementOf, Cayley, LowIndex}
-use Rattle.report.specs.Lines.{index_line, end_line, normal_line, page_lines, word_line, rule_line, table_line, numbers_text, cayley_line}
+use Rattle.query_lang.specs.declared.script.Query.TheVariants.{Index, Equal, Normal, Classes, RuleList, ElementOf, Cayley, LowIndex, Meet, Join}
+use Rattle.report.specs.Lines.{index_line, end_line, normal_line, page_lines, word_line, rule_line, table_line, numbers_text, cayley_line, meet_line, join_line}
 use Rattle.report.specs.Pages.{ArePageLines}
-use Rattle.report.specs.Answer.{cayley_lines, AreLines, AreTableLines, IsAnswer}
+use Rattle.report.specs.Answer.{cayley_lines, AreLines, AreTableLines, IsTableAnswer, IsAnswer}
 use Rattle.report.proofs.Elements.{list_start, listed_least}
 use Rattle.report.proofs.TablePages.{table_order}
 
@@ -136,6 +138,18 @@ one_table_page (problem.PPerm p) classes count after lines others h g = absurd h
 one_table_page (problem.BMat p) classes count after lines others h g = absurd h
 one_table_page (problem.MaxPlus p) classes count after lines others h g = absurd h
 
+-- a relation has one standard table
+one_table_line : (line : Graph → List ℕ) (k : ℕ) (V : Word → Word → Type 0) (lines others : List (List ℕ)) → IsTableAnswer line k V lines → IsTableAnswer line k V others → lines ≡ others
+one_table_line line k V lines others h g =
+    let a = h.is.standard in
+    let b = g.is.standard in
+    let rows : a.rows ≡ b.rows = standard_unique k a.rows b.rows a.standard b.standard
+    (λ u v. (
+      λ e. subst (λ x. SameEnd x u v) b.is ((g.is.paths u v).1 ((h.is.paths u v).0 (subst (λ x. SameEnd x u v) (sym a.is) e))),
+      λ e. subst (λ x. SameEnd x u v) a.is ((h.is.paths u v).1 ((g.is.paths u v).0 (subst (λ x. SameEnd x u v) (sym b.is) e))),
+    )) in
+    h.are_lines ∙ ap (λ x. line x ∷ []) (a.is ∙ ap graph_of rows ∙ sym b.is) ∙ sym g.are_lines
+
 module _ (p : Problem) (bound : ℕ) where
   abbrev R : Word → Word → Type 0
   R = SameClassOf p
@@ -165,6 +179,8 @@ module _ (p : Problem) (bound : ℕ) where
       ∙ ap (λ rows. rows ++ end_line false ∷ []) (graphs_same R known (letters_of p) (count_of p) h.0 h.1 h.2 g.1 g.2 h.3 moved ∙ ap (λ ws. cayley_lines (letters_of p) (count_of p) ws g.1 g.2) (sym words))
       ∙ sym g.4
   one_lines (LowIndex classes count after) lines others h g = one_table_page p classes count after lines others h g
+  one_lines (Meet s t) lines others h g = one_table_line meet_line (length (letters_of p)) (lattice.Meet s t) lines others h g
+  one_lines (Join s t) lines others h g = one_table_line join_line (length (letters_of p)) (lattice.Join (length (letters_of p)) s t) lines others h g
 
 pub one_answer : (p : Problem) (budgets : Budgets) (bound : ℕ) (query : Query) (lines others : List (List ℕ)) (undecided other : Bool)
     → IsAnswer p budgets bound query lines undecided → IsAnswer p budgets bound query others other → (lines ≡ others) × (undecided ≡ other)

@@ -5,17 +5,19 @@ use Rattle.std.specs.List.{range_with_len}
 use Rattle.theory.specs.Word.{Word}
 use Rattle.theory.specs.ShortLex.{◌≺◌}
 use Rattle.theory.specs.Graph.{Graph}
+use Rattle.theory.specs.Lattice as lattice
 use Rattle.theory.specs.LowIndex.{IsLowIndex, TableLess}
 use Rattle.theory.specs.Class.{IsLeast, IsNormal, HasIndex, IsInfinite, IsRuleList}
+use Rattle.lattice.specs.Tables.{IsTableOf}
 use Rattle.problem.specs.declared.budgets.Budgets.{Budgets}
 use Rattle.problem.specs.declared.kinds.Problem.{Problem}
 use Rattle.problem.specs.declared.kinds.Problem.TheVariants.{Presented, Transf, PPerm, BMat, MaxPlus}
 use Rattle.problem.specs.Problem.{SameClassOf, IsDecided, IsUndecided, letters_of, count_of, value_text}
 use Rattle.query_lang.specs.Tables.{rows_in}
 use Rattle.query_lang.specs.declared.script.Query.{Query}
-use Rattle.query_lang.specs.declared.script.Query.TheVariants.{Index, Equal, Normal, Classes, RuleList, ElementOf, Cayley, LowIndex}
+use Rattle.query_lang.specs.declared.script.Query.TheVariants.{Index, Equal, Normal, Classes, RuleList, ElementOf, Cayley, LowIndex, Meet, Join}
 use Rattle.congruence.specs.CayleyGraphs.{AreCayleyGraphs}
-use Rattle.report.specs.Lines.{undecided_line, index_line, infinite_line, equal_line, element_line, end_line, normal_line, word_line, rule_line, table_line, cayley_line}
+use Rattle.report.specs.Lines.{undecided_line, index_line, infinite_line, equal_line, element_line, end_line, normal_line, word_line, rule_line, table_line, cayley_line, meet_line, join_line}
 use Rattle.report.specs.Pages.{ArePageLines}
 
 -- the lines of all rows of the Cayley graphs
@@ -33,6 +35,13 @@ AreTableLines (Transf p) classes count after = λ lines. ⊥
 AreTableLines (PPerm p) classes count after = λ lines. ⊥
 AreTableLines (BMat p) classes count after = λ lines. ⊥
 AreTableLines (MaxPlus p) classes count after = λ lines. ⊥
+
+-- the line of the standard table over k letters whose equal paths are a relation
+pub record IsTableAnswer (line : Graph → List ℕ) (k : ℕ) (V : Word → Word → Type 0)
+    (lines : List (List ℕ)) : Type 0 where
+  pub table : Graph
+  pub is : IsTableOf k V table
+  pub are_lines : lines ≡ line table ∷ []
 
 -- the lines of a query whose answer is defined, with the bound up to which an index is written out
 abbrev pub AreLines : Problem → ℕ → Query → List (List ℕ) → Type 0
@@ -56,6 +65,10 @@ AreLines p bound Cayley lines =
     × AreCayleyGraphs (SameClassOf p) (count_of p) words right left
     × (lines ≡ cayley_lines (letters_of p) (count_of p) words right left ++ end_line false ∷ [])
 AreLines p bound (LowIndex classes count after) lines = AreTableLines p classes count after lines
+AreLines p bound (Meet s t) lines =
+    IsTableAnswer meet_line (length (letters_of p)) (lattice.Meet s t) lines
+AreLines p bound (Join s t) lines =
+    IsTableAnswer join_line (length (letters_of p)) (lattice.Join (length (letters_of p)) s t) lines
 
 -- whether a query is answered only where the problem is decided
 abbrev pub waits : Query → Bool
@@ -67,6 +80,8 @@ waits RuleList = true
 waits (ElementOf u) = false
 waits Cayley = true
 waits (LowIndex classes count after) = false
+waits (Meet s t) = false
+waits (Join s t) = false
 
 -- the answer of a query is defined: the problem is decided within the budgets, where the query
 -- waits for that

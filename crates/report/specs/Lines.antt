@@ -2,6 +2,7 @@
 use Rattle.std.specs.Prelude.{ℕ, Bool, List, [], ◌∷◌, ◌++◌, map, codes, decimal, nat_le, if◌then◌else◌}
 use Rattle.std.specs.List.{flat_map, range_with_len}
 use Rattle.theory.specs.Word.{Word}
+use Rattle.theory.specs.Graph.{Graph}
 use Rattle.theory.specs.LowIndex.{Rows, graph_of}
 use Rattle.word_graph.specs.TableText.{table_text}
 use Rattle.words.specs.WordText.{text_of}
@@ -42,6 +43,13 @@ page_lines line items more = map line items ++ end_line more ∷ []
 -- a table, whose rows these are
 abbrev pub table_line : Rows → List ℕ
 table_line rows = table_text (graph_of rows) ++ codes "\n"
+
+-- the table of a meet, or of a join
+abbrev pub meet_line : Graph → List ℕ
+meet_line g = codes "meet " ++ (table_text g ++ codes "\n")
+
+abbrev pub join_line : Graph → List ℕ
+join_line g = codes "join " ++ (table_text g ++ codes "\n")
 
 -- numbers of k letters, each after a space
 abbrev pub numbers_text : ℕ → (ℕ → ℕ) → List ℕ

@@ -1,29 +1,21 @@
 // The answers of queries.
-ghost use Rattle.std.specs.Prelude.{◌≡◌, ◌<◌, ◌≤◌, length, false, true, IfSome, IsTrue, MatchOption};
-ghost use Rattle.ports.specs.Writes.{Writes, WritesBytes};
-ghost use Rattle.std.specs.Option.{option_copied};
-ghost use Rattle.theory.specs.Word.{IsElement};
-ghost use Rattle.word_graph.specs.Standard.{IsStandardGraph};
-ghost use Rattle.problem.specs.Problem.{is_presented, letters_of, value_text};
+ghost use Rattle.std.specs.Prelude.{◌≡◌, ◌<◌, IfSome, IsTrue, MatchOption};
+ghost use Rattle.ports.specs.Writes.{Writes};
 ghost use Rattle.congruence.specs.Verdicts.{IsVerdictOf};
 ghost use Rattle.query_lang.specs.Query.{IsQueryOf};
-ghost use Rattle.report.specs.Answer.{AreTableLines, waits};
-ghost use Rattle.report.specs.Gains.{AreAnswerBytes, AreBytesOf};
+ghost use Rattle.report.specs.Answer.{waits};
+ghost use Rattle.report.specs.Gains.{AreAnswerBytes};
 ghost use Rattle.report.specs.Kept.{KeepsSettings};
-ghost use Rattle.report.specs.Lines.{element_line};
 
-use crate::line::Line;
 use crate::solved::write_solved;
 use crate::state::State;
-use crate::tables::write_tables;
+use crate::told::write_told;
 use congruence::Verdict;
 use ports::{Gate, Sink, WriteFault, write_all};
 use problem::Problem;
 use query_lang::{Query, Script};
 use std::alloc::Global;
 use std::thread::Threads;
-use word_graph::WordGraph;
-use words::Word;
 
 /// Whether a query was answered.
 #[derive(Clone, Copy, Debug, PartialEq, Eq)]
@@ -34,51 +26,13 @@ pub enum Answered {
     Undecided,
 }
 
-// Writes the entries of a word's value, where generators are given.
-fn write_element<O: Sink>(
-    alloc: Global,
-    problem: &Problem,
-    word: &Word,
-    sink: &mut O,
-) -> Result<(), WriteFault>
-    requires generated { is_presented problem.now ≡ false }
-    requires word { IsElement false (length (letters_of problem.now)) word.now }
-    ensures { WritesBytes O.Sink (element_line (value_text problem.now word.now))
-        sink.old sink.new result }
+// Whether a query is answered only where the problem is decided.
+fn waits(query: &Query) -> bool
+    ensures { result ≡ waits query.now }
 {
-    let entries = problem.value(alloc, word)?;
-    let mut line = Line::starting(alloc, b"element ")?;
-    line.text(entries.as_slice())?;
-    line.write(sink)
-}
-
-// Writes a page of tables of low index, where relations are given.
-fn write_low_index<O: Sink>(
-    alloc: Global,
-    problem: &Problem,
-    classes: usize,
-    count: usize,
-    after: Option<&WordGraph>,
-    sink: &mut O,
-) -> Result<(), WriteFault>
-    requires presented { is_presented problem.now ≡ true }
-    requires classes { classes ≤ 16 }
-    requires after { IfSome (option_copied after)
-        (IsStandardGraph (length (letters_of problem.now))) }
-    ensures { Writes O.Sink (λ _. AreBytesOf (AreTableLines problem.now classes count
-        (option_copied after.entry))) sink.old sink.new result }
-{
-    let _letters = problem.alphabet();
-    let Problem::Presented(congruence) = problem else {
-        unreachable!()
-    };
-    write_tables(
-        alloc,
-        congruence.presentation(),
-        classes,
-        count,
-        after,
-        sink,
+    !matches!(
+        query,
+        Query::ElementOf(_) | Query::LowIndex { .. } | Query::Meet(..) | Query::Join(..)
     )
 }
 
@@ -110,11 +64,10 @@ fn write_decided<O: Sink>(
 }
 
 /// Writes the answer of a query of the script, each line as one piece, and tells whether it is
-/// defined. The value of a word and tables of low index are told whatever the budgets are; the
-/// other queries are answered where the problem is decided within them, and else with the line
-/// `undecided`. It is decided with
-/// the number of workers of the state, at least one, which changes no answer; with more than one
-/// each turn of their race is behind the gate.
+/// defined. The value of a word, tables of low index, meets and joins are told whatever the budgets
+/// are; the other queries are answered where the problem is decided within them, and else with the
+/// line `undecided`. It is decided with the number of workers of the state, at least one, which
+/// changes no answer; with more than one each turn of their race is behind the gate.
 ///
 /// `Failed` comes only where the sink failed, and `NoMemory` for want of memory; the sink has then
 /// gained a prefix of the answer. What the state keeps is of this script's problem, and what it
@@ -137,17 +90,8 @@ pub fn write_answer<R: Threads + Sync, O: Sink, G: Gate + Sync>(
         state.old.classes query.now) sink.old sink.new result }
 {
     let problem = script.problem();
-    if let Query::ElementOf(word) = query {
-        write_element(alloc, problem, word, sink)?;
-        return Ok(Answered::Defined);
-    }
-    if let Query::LowIndex {
-        classes,
-        count,
-        after,
-    } = query
-    {
-        write_low_index(alloc, problem, *classes, *count, after.as_ref(), sink)?;
+    if !waits(query) {
+        write_told(alloc, problem, query, sink)?;
         return Ok(Answered::Defined);
     }
     state.decide(rt, alloc, problem, gate)?;

@@ -4,6 +4,8 @@
 mod answers;
 mod facts;
 mod graphs;
+#[cfg(test)]
+mod lattice_tests;
 mod line;
 mod listings;
 mod single;
@@ -12,6 +14,7 @@ mod state;
 mod tables;
 #[cfg(test)]
 mod tests;
+mod told;
 
 pub use answers::{Answered, write_answer};
 pub use facts::answer_is_one;

@@ -76,6 +76,13 @@ impl Line {
         self.text(alphabet.print_word(alloc, word)?.as_slice())
     }
 
+    /// Puts a table at the end. Only want of memory refuses it.
+    pub fn table(&mut self, alloc: Global, table: &WordGraph) -> Result<(), NoMemory>
+        ensures { OnOk result (self.new ≡ self.old ++ table_text table.now) }
+    {
+        self.text(table.print_table(alloc)?.as_slice())
+    }
+
     /// Ends the line with a line feed, and writes it. `Failed` comes only where the sink failed;
     /// after a refusal the sink has gained a prefix of the line.
     pub fn write<O: Sink>(mut self, sink: &mut O) -> Result<(), WriteFault>

@@ -96,6 +96,8 @@ pub fn write_solved<O: Sink>(
             write_rules(alloc, alphabet, &rules, sink)
         }
         Query::Cayley => write_cayley(alloc, problem, solved.tables(), sink),
-        Query::ElementOf(_) | Query::LowIndex { .. } => unreachable!(),
+        Query::ElementOf(_) | Query::LowIndex { .. } | Query::Meet(..) | Query::Join(..) => {
+            unreachable!()
+        }
     }
 }

@@ -1,0 +1,25 @@
+use Rattle.std.proofs.Common.{ℕ, List, [], ◌∷◌, length, refl}
+use Rattle.problem.specs.declared.kinds.Problem.{Problem}
+use Rattle.problem.specs.Problem.{letters_of, value_text}
+use Rattle.query_lang.specs.declared.script.Query.TheVariants as query
+use Rattle.report.specs.Lines.{element_line}
+use Rattle.report.proofs.AnswerLemmas.{one_line, writes_lines}
+use Rattle.report.proofs.TableAnswers.{join_tables, lines_told, meet_tables}
+use Rattle.report.proofs.told.write_told.Goals as goal
+
+pub returns-in-ElementOf : goal.returns-in-ElementOf
+returns-in-ElementOf g c bound =
+    let line : List ℕ = element_line (value_text c.args.problem.now c.in-ElementOf.word) in
+    writes_lines g.O.Sink c.args.problem.now bound c.args.query.now (query.ElementOf c.in-ElementOf.word) (line ∷ []) c.in-ElementOf.is refl _ _ _ _ (one_line line) c.write_element.ensures
+
+pub returns-in-Meet : goal.returns-in-Meet
+returns-in-Meet g c bound =
+    let p : Problem = c.args.problem.now in
+    lines_told g.O.Sink p bound c.args.query.now (query.Meet c.in-Meet.s c.in-Meet.t) c.in-Meet.is _ _ _
+    (c.write_meet.ensures (length (letters_of p)) (meet_tables p c.args.query.now c.in-Meet.s c.in-Meet.t c.in-Meet.is c.requires.query))
+
+pub returns-in-Join : goal.returns-in-Join
+returns-in-Join g c bound =
+    let p : Problem = c.args.problem.now in
+    lines_told g.O.Sink p bound c.args.query.now (query.Join c.in-Join.s c.in-Join.t) c.in-Join.is _ _ _
+    (c.write_join.ensures (length (letters_of p)) (join_tables p c.args.query.now c.in-Join.s c.in-Join.t c.in-Join.is c.requires.query))

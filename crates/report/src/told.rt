@@ -1,0 +1,148 @@
+// The answers of queries that wait for no decision.
+ghost use Rattle.std.specs.Prelude.{◌≡◌, ℕ, ◌++◌, ◌≤◌, codes, length, false, true, IfSome};
+ghost use Rattle.std.specs.Option.{option_copied};
+ghost use Rattle.ports.specs.Writes.{Writes, WritesBytes};
+ghost use Rattle.theory.specs.Lattice.{Meet, Join};
+ghost use Rattle.theory.specs.Word.{IsElement};
+ghost use Rattle.word_graph.specs.Standard.{IsStandardGraph};
+ghost use Rattle.word_graph.specs.TableText.{table_text};
+ghost use Rattle.lattice.specs.Tables.{AreTables, HaveOneWidth};
+ghost use Rattle.problem.specs.Problem.{is_presented, letters_of, value_text};
+ghost use Rattle.query_lang.specs.Query.{IsQueryOf};
+ghost use Rattle.report.specs.Answer.{AreLines, AreTableLines, IsTableAnswer, waits};
+ghost use Rattle.report.specs.Gains.{AreBytesOf};
+ghost use Rattle.report.specs.Lines.{element_line, join_line, meet_line};
+
+use crate::line::Line;
+use crate::tables::write_tables;
+use lattice::{join, meet};
+use ports::{Sink, WriteFault};
+use problem::Problem;
+use query_lang::Query;
+use std::alloc::Global;
+use word_graph::WordGraph;
+use words::Word;
+
+// Writes the entries of a word's value, where generators are given.
+fn write_element<O: Sink>(
+    alloc: Global,
+    problem: &Problem,
+    word: &Word,
+    sink: &mut O,
+) -> Result<(), WriteFault>
+    requires generated { is_presented problem.now ≡ false }
+    requires word { IsElement false (length (letters_of problem.now)) word.now }
+    ensures { WritesBytes O.Sink (element_line (value_text problem.now word.now))
+        sink.old sink.new result }
+{
+    let entries = problem.value(alloc, word)?;
+    let mut line = Line::starting(alloc, b"element ")?;
+    line.text(entries.as_slice())?;
+    line.write(sink)
+}
+
+// Writes a page of tables of low index, where relations are given.
+fn write_low_index<O: Sink>(
+    alloc: Global,
+    problem: &Problem,
+    classes: usize,
+    count: usize,
+    after: Option<&WordGraph>,
+    sink: &mut O,
+) -> Result<(), WriteFault>
+    requires presented { is_presented problem.now ≡ true }
+    requires classes { classes ≤ 16 }
+    requires after { IfSome (option_copied after)
+        (IsStandardGraph (length (letters_of problem.now))) }
+    ensures { Writes O.Sink (λ _. AreBytesOf (AreTableLines problem.now classes count
+        (option_copied after.entry))) sink.old sink.new result }
+{
+    let _letters = problem.alphabet();
+    let Problem::Presented(congruence) = problem else {
+        unreachable!()
+    };
+    write_tables(
+        alloc,
+        congruence.presentation(),
+        classes,
+        count,
+        after,
+        sink,
+    )
+}
+
+// Writes a table behind a name.
+fn write_named<O: Sink>(
+    alloc: Global,
+    name: &[u8],
+    table: &WordGraph,
+    sink: &mut O,
+) -> Result<(), WriteFault>
+    ensures { WritesBytes O.Sink (name.now ++ (table_text table.now ++ codes "\n"))
+        sink.old sink.new result }
+{
+    let mut line = Line::starting(alloc, name)?;
+    line.table(alloc, table)?;
+    line.write(sink)
+}
+
+// Writes the table of the meet of two right congruences.
+fn write_meet<O: Sink>(
+    alloc: Global,
+    s: &WordGraph,
+    t: &WordGraph,
+    sink: &mut O,
+) -> Result<(), WriteFault>
+    requires { HaveOneWidth s.now t.now }
+    ensures { (k : ℕ) → AreTables k s.now t.now → Writes O.Sink (λ _. AreBytesOf
+        (IsTableAnswer meet_line k (Meet s.now t.now))) sink.old sink.new result }
+{
+    let table = meet(alloc, s, t)?;
+    write_named(alloc, b"meet ", &table, sink)
+}
+
+// Writes the table of the join of two right congruences.
+fn write_join<O: Sink>(
+    alloc: Global,
+    s: &WordGraph,
+    t: &WordGraph,
+    sink: &mut O,
+) -> Result<(), WriteFault>
+    requires { HaveOneWidth s.now t.now }
+    ensures { (k : ℕ) → AreTables k s.now t.now → Writes O.Sink (λ _. AreBytesOf
+        (IsTableAnswer join_line k (Join k s.now t.now))) sink.old sink.new result }
+{
+    let table = join(alloc, s, t)?;
+    write_named(alloc, b"join ", &table, sink)
+}
+
+/// Writes the answer of a query that waits for no decision: the value of a word, a page of tables
+/// of low index, a meet or a join.
+pub fn write_told<O: Sink>(
+    alloc: Global,
+    problem: &Problem,
+    query: &Query,
+    sink: &mut O,
+) -> Result<(), WriteFault>
+    requires query { IsQueryOf problem.now query.now }
+    requires told { waits query.now ≡ false }
+    ensures { (bound : ℕ) → Writes O.Sink (λ _. AreBytesOf
+        (AreLines problem.now bound query.now)) sink.old sink.new result }
+{
+    match query {
+        Query::ElementOf(word) => write_element(alloc, problem, word, sink),
+        Query::LowIndex {
+            classes,
+            count,
+            after,
+        } => write_low_index(alloc, problem, *classes, *count, after.as_ref(), sink),
+        Query::Meet(s, t) => write_meet(alloc, s, t, sink),
+        Query::Join(s, t) => write_join(alloc, s, t, sink),
+        Query::Index
+        | Query::Equal(..)
+        | Query::Normal(_)
+        | Query::Classes { .. }
+        | Query::RuleList
+        | Query::Cayley => unreachable!(),
+    }
+}
