@@ -39,7 +39,8 @@ asked s name tokens =
     if not (name_takes name tokens) then Err WrongNumberOfWords
     else if is_name_barred s.problem name then Err QueryNotAllowed
     else and_then (λ query. Ok (with_asked s query))
-    (query_of (letters_of s.problem) (has_empty_word s.problem) (relations_of s.problem) name tokens)
+    (query_of (letters_of s.problem) (has_empty_word s.problem) (relations_of s.problem)
+    name tokens)
 
 -- whether the script is a presentation
 abbrev pub is_presentation : ReaderOf → Bool
