@@ -1,0 +1,13 @@
+pub mod Results
+pub mod EdgeLaws
+pub mod TourLaws
+pub mod EnterLaws
+pub mod FrameLaws
+pub mod CloseLaws
+pub mod StepLaws
+pub mod NameLaws
+pub mod GroupLaws
+pub mod PairLaws
+pub mod RelationLaws
+pub mod IdempotentLaws
+pub mod ToldLaws

@@ -1,0 +1,25 @@
+-- Classes of numbers by their names.
+use Rattle.std.specs.Prelude.{◌≡◌, ℕ, ◌<◌, List, [], length, slice_index, slice_index_or, Option, Some, None}
+use Rattle.theory.specs.Green.{AreClasses}
+
+abbrev pub HaveOneName : List ℕ → ℕ → ℕ → Type 0
+HaveOneName names i j = slice_index names i ≡ slice_index names j
+
+abbrev pub class_at : List (List ℕ) → ℕ → List ℕ
+class_at classes p = slice_index_or classes p []
+
+-- names are less than how many numbers there are
+abbrev pub AreSmall : List ℕ → Type 0
+AreSmall names = (i : ℕ) → i < length names → slice_index names i < length names
+
+abbrev pub place_at : List (Option ℕ) → ℕ → Option ℕ
+place_at places name = slice_index_or places name None
+
+-- the classes of the numbers below m, and the place of that of each name, where it has one
+pub record AreGrouped (names : List ℕ) (m : ℕ) (places : List (Option ℕ))
+    (classes : List (List ℕ)) : Type 0 where
+  pub count : length places ≡ length names
+  pub classes_are : AreClasses m (HaveOneName names) classes
+  pub placed : (name p : ℕ) → place_at places name ≡ Some p
+      → (p < length classes) × (slice_index names (slice_index classes_are.firsts p) ≡ name)
+  pub seen : (i : ℕ) → i < m → (p : ℕ) × (place_at places (slice_index names i) ≡ Some p)

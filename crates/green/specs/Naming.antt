@@ -1,0 +1,8 @@
+-- Names of connected components.
+use Rattle.std.specs.Prelude.{◌≡◌, ℕ, ◌<◌, ◌↔◌, List, length, slice_index}
+
+-- numbers below n have one name exactly where they are related, and names are such numbers
+pub record AreNames (n : ℕ) (R : ℕ → ℕ → Type 0) (names : List ℕ) : Type 0 where
+  pub count : length names ≡ n
+  pub within : (i : ℕ) → i < n → slice_index names i < n
+  pub same : (i j : ℕ) → i < n → j < n → (slice_index names i ≡ slice_index names j) ↔ R i j

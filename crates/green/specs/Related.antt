@@ -1,0 +1,25 @@
+-- Green's relations on the numbers of elements (Howie 1995, ch. 2).
+use Rattle.std.specs.Prelude.{◌≡◌, ℕ, ◌<◌, length}
+use Rattle.theory.specs.Word.{IsOver}
+use Rattle.theory.specs.Green.{AreConnected, IsEdge, IsEdgeOfEither, follow}
+use Rattle.froidure_pin.specs.declared.tables.CayleyTables.{CayleyTables}
+use Rattle.cayley.specs.Tables.{edge, word_at}
+use Rattle.green.specs.declared.relations.Relation.{Relation}
+use Rattle.green.specs.declared.relations.Relation.TheVariants.{R, L, H, J}
+
+-- connected in the right Cayley graph, in the left one, in each of them, in both together
+abbrev pub AreRelated : Relation → CayleyTables → ℕ → ℕ → Type 0
+AreRelated R t = AreConnected (IsEdge (length t.letters) (edge t.right))
+AreRelated L t = AreConnected (IsEdge (length t.letters) (edge t.left))
+AreRelated H t = λ i j. AreConnected (IsEdge (length t.letters) (edge t.right)) i j
+    × AreConnected (IsEdge (length t.letters) (edge t.left)) i j
+AreRelated J t = AreConnected (IsEdgeOfEither (length t.letters) (edge t.right) (edge t.left))
+
+-- the words are words of the letters
+abbrev pub AreOfLetters : CayleyTables → Type 0
+AreOfLetters t = (i : ℕ) → i < length t.words → IsOver (length t.letters) (word_at t i)
+
+-- the number's own word leads in the right Cayley graph from it back to it
+pub record IsIdempotentAt (t : CayleyTables) (i : ℕ) : Type 0 where
+  pub below : i < length t.words
+  pub back : follow (edge t.right) i (word_at t i) ≡ i

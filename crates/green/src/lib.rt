@@ -1,0 +1,18 @@
+//! Green's relations and idempotents of a finite semigroup whose Cayley graphs are known (Howie,
+//! *Fundamentals of semigroup theory*, 1995, chapter 2; libsemigroups, `FroidurePin`).
+#![tactic(auto)]
+
+mod depth_first;
+mod edges;
+pub mod facts;
+mod grouping;
+mod idempotent;
+mod naming;
+mod pairing;
+mod relations;
+
+pub use idempotent::idempotents;
+pub use relations::{Relation, classes};
+
+#[cfg(test)]
+mod tests;

@@ -1,0 +1,177 @@
+ghost use Rattle.std.specs.Prelude.{◌≡◌, ◌<◌, ◌≤◌, length, IfOk};
+ghost use Rattle.elements.specs.Generators.{HaveOneShape};
+ghost use Rattle.cayley.specs.Tables.{FitTogether};
+ghost use Rattle.green.specs.Related.{AreOfLetters};
+
+use super::*;
+use elements::{Field, Transf};
+use froidure_pin::{CayleyTables, FroidurePin, Run, Steps, have_one_shape};
+use ports::NoMemory;
+use std::alloc::Global;
+use std::marker::Brand;
+use std::sync::ledger::{Blank, Ledger};
+use std::test::Fail;
+
+// The map of so many points with these images.
+fn map_of(alloc: Global, images: &[u32]) -> Result<Transf, NoMemory> {
+    let mut fields = Vec::new(alloc);
+    for image in images {
+        fields.push(Field::Number(*image))?;
+    }
+    let Ok(points) = u32::try_from(images.len()) else {
+        return Err(NoMemory);
+    };
+    match Transf::read(alloc, points, &fields) {
+        Ok(made) => Ok(made),
+        Err(_) => Err(NoMemory),
+    }
+}
+
+// The maps with these images.
+fn maps_of(alloc: Global, table: &[&[u32]]) -> Result<Vec<Transf>, NoMemory>
+    ensures some { IfOk result (λ maps. 0 < length maps.items) }
+    ensures few { IfOk result (λ maps. length maps.items ≤ 256) }
+    ensures shape { IfOk result (λ maps. HaveOneShape (λ m. (length m, 0)) maps.items) }
+{
+    let mut maps = Vec::new(alloc);
+    for images in table {
+        maps.push(map_of(alloc, images)?)?;
+    }
+    if maps.is_empty() || maps.len() > 256 || !have_one_shape(&maps) {
+        return Err(NoMemory);
+    }
+    Ok(maps)
+}
+
+// The tables of the semigroup that the maps generate.
+fn run<L: Ledger>(alloc: Global, blank: Blank, maps: &Vec<Transf>) -> Result<CayleyTables, NoMemory>
+    requires name { blank.name ≡ L.name }
+    requires parts { (blank.parts ≡ L.parts) × (0 < L.parts) }
+    requires some { 0 < length maps.now.items }
+    requires few { length maps.now.items ≤ 256 }
+    requires shape { HaveOneShape (λ m. (length m, 0)) maps.now.items }
+    ensures fit { IfOk result FitTogether }
+    ensures words { IfOk result AreOfLetters }
+{
+    let mut steps = Steps::<L>::open(blank);
+    match FroidurePin::run(alloc, maps, 100, &mut steps)? {
+        Run::Whole(table) => Ok(table.tables()?),
+        Run::Over => Err(NoMemory),
+    }
+}
+
+// The tables of the semigroup that the maps with these images generate.
+fn tables_of(alloc: Global, table: &[&[u32]]) -> Result<CayleyTables, NoMemory>
+    ensures fit { IfOk result FitTogether }
+    ensures words { IfOk result AreOfLetters }
+{
+    let maps = maps_of(alloc, table)?;
+    run::<Brand>(alloc, Blank::new(1), &maps)
+}
+
+// For each number the place of its class.
+fn places(alloc: Global, table: &[&[u32]], relation: Relation) -> Result<Vec<usize>, NoMemory> {
+    let tables = tables_of(alloc, table)?;
+    let found = classes(alloc, &tables, relation)?;
+    let mut places = Vec::new(alloc);
+    for _ in 0..tables.words.len() {
+        places.push(found.len())?;
+    }
+    for (place, class) in found.iter().enumerate() {
+        for number in class {
+            if *number < places.len() {
+                places[*number] = place;
+            }
+        }
+    }
+    Ok(places)
+}
+
+// How many numbers each class has.
+fn sizes(alloc: Global, table: &[&[u32]], relation: Relation) -> Result<Vec<usize>, NoMemory> {
+    let tables = tables_of(alloc, table)?;
+    let mut sizes = Vec::new(alloc);
+    for class in &classes(alloc, &tables, relation)? {
+        sizes.push(class.len())?;
+    }
+    Ok(sizes)
+}
+
+// The numbers of the idempotents.
+fn squares(alloc: Global, table: &[&[u32]]) -> Result<Vec<usize>, NoMemory> {
+    let tables = tables_of(alloc, table)?;
+    idempotents(alloc, &tables)
+}
+
+// The Brandt semigroup with the elements a, b, zero, ab and ba.
+const BRANDT: [&[u32]; 2] = [&[1, 2, 2], &[2, 0, 2]];
+
+#[test]
+fn brandt(rt: HostRuntime) -> Result<(), Fail> {
+    for (relation, want) in [
+        (Relation::R, [0, 1, 2, 0, 1]),
+        (Relation::L, [0, 1, 2, 1, 0]),
+        (Relation::H, [0, 1, 2, 3, 4]),
+        (Relation::J, [0, 0, 1, 0, 0]),
+    ] {
+        let found = places(rt.alloc(), &BRANDT, relation)?;
+        assert_eq!(rt; found.as_slice(), want.as_slice());
+    }
+    Ok(())
+}
+
+// The free band of a and b: a, b, ab, ba, aba and bab.
+const BAND: [&[u32]; 2] = [&[1, 1, 4, 5, 4, 5, 4], &[2, 3, 2, 3, 6, 3, 6]];
+
+#[test]
+fn band(rt: HostRuntime) -> Result<(), Fail> {
+    for (relation, want) in [
+        (Relation::R, [0, 1, 2, 3, 2, 3]),
+        (Relation::L, [0, 1, 2, 3, 3, 2]),
+        (Relation::H, [0, 1, 2, 3, 4, 5]),
+        (Relation::J, [0, 1, 2, 2, 2, 2]),
+    ] {
+        let found = places(rt.alloc(), &BAND, relation)?;
+        assert_eq!(rt; found.as_slice(), want.as_slice());
+    }
+    Ok(())
+}
+
+// All maps of three points, by a transposition, a cycle and a map of rank two.
+const MAPS: [&[u32]; 3] = [&[1, 0, 2], &[1, 2, 0], &[0, 0, 2]];
+
+// Maps are related by R where they have one kernel, by L where they have one image, and by J where
+// they have one rank.
+#[test]
+fn maps_of_three_points(rt: HostRuntime) -> Result<(), Fail> {
+    let right = sizes(rt.alloc(), &MAPS, Relation::R)?;
+    assert_eq!(rt; right.as_slice(), [6, 6, 6, 6, 3].as_slice());
+    let either = sizes(rt.alloc(), &MAPS, Relation::J)?;
+    assert_eq!(rt; either.as_slice(), [6, 18, 3].as_slice());
+    Ok(())
+}
+
+// Sorted, since the order of the classes is not known from outside.
+#[test]
+fn left_classes_of_maps(rt: HostRuntime) -> Result<(), Fail> {
+    let mut left = sizes(rt.alloc(), &MAPS, Relation::L)?;
+    left.sort()?;
+    assert_eq!(rt; left.as_slice(), [1, 1, 1, 6, 6, 6, 6].as_slice());
+    assert_eq!(rt; sizes(rt.alloc(), &MAPS, Relation::H)?.len(), 13);
+    Ok(())
+}
+
+// The powers of one map, of index three and period two.
+const POWERS: [&[u32]; 1] = [&[1, 2, 3, 4, 3]];
+
+#[test]
+fn idempotents_are_listed(rt: HostRuntime) -> Result<(), Fail> {
+    let brandt = squares(rt.alloc(), &BRANDT)?;
+    assert_eq!(rt; brandt.as_slice(), [2, 3, 4].as_slice());
+    let band = squares(rt.alloc(), &BAND)?;
+    assert_eq!(rt; band.as_slice(), [0, 1, 2, 3, 4, 5].as_slice());
+    let powers = squares(rt.alloc(), &POWERS)?;
+    assert_eq!(rt; powers.as_slice(), [3].as_slice());
+    assert_eq!(rt; squares(rt.alloc(), &MAPS)?.len(), 10);
+    Ok(())
+}
