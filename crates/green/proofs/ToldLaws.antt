@@ -15,8 +15,8 @@ use Rattle.cayley.specs.Tables.{edge, word_at, number_in}
 use Rattle.cayley.specs.Whole.{AreTablesOf}
 use Rattle.green.specs.Related.{AreOfLetters, AreRelated, IsIdempotentAt}
 use Rattle.green.specs.Told.{IsGreen, StandTogether}
-use Rattle.green.specs.declared.relations.Relation.{Relation}
-use Rattle.green.specs.declared.relations.Relation.TheVariants.{R, L, H, J}
+use Rattle.theory.specs.declared.Relation.{Relation}
+use Rattle.theory.specs.declared.Relation.TheVariants.{R, L, H, J}
 use Rattle.green.proofs.TourLaws.{reaches_on}
 
 -- what is listed has the property, and what has it is listed

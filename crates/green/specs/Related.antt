@@ -4,8 +4,8 @@ use Rattle.theory.specs.Word.{IsOver}
 use Rattle.theory.specs.Green.{AreConnected, IsEdge, IsEdgeOfEither, follow}
 use Rattle.froidure_pin.specs.declared.tables.CayleyTables.{CayleyTables}
 use Rattle.cayley.specs.Tables.{edge, word_at}
-use Rattle.green.specs.declared.relations.Relation.{Relation}
-use Rattle.green.specs.declared.relations.Relation.TheVariants.{R, L, H, J}
+use Rattle.theory.specs.declared.Relation.{Relation}
+use Rattle.theory.specs.declared.Relation.TheVariants.{R, L, H, J}
 
 -- connected in the right Cayley graph, in the left one, in each of them, in both together
 abbrev pub AreRelated : Relation → CayleyTables → ℕ → ℕ → Type 0

@@ -2,8 +2,8 @@
 use Rattle.std.specs.Prelude.{ℕ, Bool, List, Contains}
 use Rattle.theory.specs.Word.{Word}
 use Rattle.theory.specs.Green.{IsGreenR, IsGreenL, IsGreenH, IsGreenJ}
-use Rattle.green.specs.declared.relations.Relation.{Relation}
-use Rattle.green.specs.declared.relations.Relation.TheVariants.{R, L, H, J}
+use Rattle.theory.specs.declared.Relation.{Relation}
+use Rattle.theory.specs.declared.Relation.TheVariants.{R, L, H, J}
 
 -- Green's relation on the values of words over k generators
 abbrev pub IsGreen : Relation → {V : Type 0} → (V → V → V) → (V → V → Bool) → ℕ → (Word → V) → V

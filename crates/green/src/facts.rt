@@ -9,7 +9,7 @@ ghost use Rattle.cayley.specs.Tables.{FitTogether, number_in};
 ghost use Rattle.cayley.specs.Whole.{AreTablesOf};
 ghost use Rattle.green.specs.Related.{AreOfLetters, AreRelated, IsIdempotentAt};
 ghost use Rattle.green.specs.Told.{IsGreen, StandTogether};
-ghost use Rattle.green.specs.declared.relations.Relation.{Relation};
+ghost use Rattle.theory.specs.declared.Relation.{Relation};
 
 use theory::values::Values;
 

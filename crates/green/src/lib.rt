@@ -12,7 +12,8 @@ mod pairing;
 mod relations;
 
 pub use idempotent::idempotents;
-pub use relations::{Relation, classes};
+pub use relations::classes;
+pub use theory::Relation;
 
 #[cfg(test)]
 mod tests;

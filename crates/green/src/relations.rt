@@ -12,18 +12,7 @@ use crate::pairing::names_of_pairs;
 use froidure_pin::CayleyTables;
 use ports::NoMemory;
 use std::alloc::Global;
-
-/// Green's relations (Howie 1995, chapter 2). Two elements are related by `R` where each is the
-/// other, or the other times an element; by `L` where each is the other, or an element times the
-/// other; by `H` where both hold; by `J` where each is the other with an element or nothing on each
-/// side.
-#[derive(Clone, Copy)]
-pub enum Relation {
-    R,
-    L,
-    H,
-    J,
-}
+use theory::Relation;
 
 // For each number the name of its class.
 fn names(alloc: Global, tables: &CayleyTables, relation: Relation) -> Result<Vec<usize>, NoMemory>

@@ -25,3 +25,15 @@ pub enum Kind {
     Right,
     Left,
 }
+
+/// Green's relations (Howie, *Fundamentals of semigroup theory*, 1995, chapter 2). Two elements are
+/// related by `R` where each is the other, or the other times an element; by `L` where each is the
+/// other, or an element times the other; by `H` where both hold; by `J` where each is the other with
+/// an element or nothing on each side.
+#[derive(Clone, Copy, Debug, PartialEq, Eq)]
+pub enum Relation {
+    R,
+    L,
+    H,
+    J,
+}

@@ -3,7 +3,7 @@ use Rattle.theory.specs.Green.{AreConnected, IsEdge}
 use Rattle.cayley.specs.Tables.{edge}
 use Rattle.green.specs.Naming.{AreNames}
 use Rattle.green.specs.Related.{AreRelated}
-use Rattle.green.specs.declared.relations.Relation.{Relation}
+use Rattle.theory.specs.declared.Relation.{Relation}
 use Rattle.green.proofs.Results.{if_ok}
 use Rattle.green.proofs.RelationLaws.{names_of_either, names_of_both}
 use Rattle.green.proofs.relations.names.Goals as goal
