@@ -1,69 +1,54 @@
--- What a text with no fault is, and how many letters an alphabet has.
-use Rattle.std.proofs.Common.{◌≡◌, ℕ, zero, suc, ◌-◌, ◌<◌, ◌≤◌, Bool, true, false, ◌==◌, eqb, List, [], ◌∷◌, ◌++◌, length, map, All, Option, Some, None, refl, sym, ◌∙◌, arith, append_assoc, append-nil, ◌||◌, ◌⊎◌, inl, inr, Contains, cond, subst}
+-- What a text with no fault is, and what a fault means.
+use Rattle.std.proofs.Common.{◌≡◌, ℕ, zero, suc, ◌-◌, ◌<◌, ◌≤◌, Bool, true, false, ◌==◌, eqb, List, [], ◌∷◌, ◌++◌, length, map, All, Option, Some, None, refl, sym, ◌∙◌, arith, append_assoc, append-nil, ◌&&◌, ◌||◌, ◌⊎◌, inl, inr, Contains, cond, subst}
 use Rattle.std.specs.List.{list_any, IsDistinct, AllByRecursion}
 use Rattle.std.specs.Option.{option_or}
 use Rattle.std.proofs.lemmas.Grind.{common_steps}
-use Rattle.std.proofs.lemmas.List.{length-map}
-use Rattle.std.proofs.lemmas.List.Quantifiers.{position-Some}
 use Rattle.std.proofs.lemmas.Map.Keys.{IsDistinct-push}
 use Rattle.std.proofs.lemmas.Cmp.{nat_eq_equiv}
-use Rattle.std.proofs.lemmas.Map.Steps.{length-le_from_distinct_below}
 use Rattle.words.specs.declared.fault.AlphabetFault.{AlphabetFault}
 use Rattle.words.specs.declared.fault.AlphabetFault.TheVariants.{Empty, NotALetter, Repeated, NoMemory}
-use Rattle.words.specs.Alphabet.{IsAlphabet, IsAlphabetFault, IsSound, IsFirstFault, is_lowercase, fault_at, first_fault, alphabet_fault, place_of}
-
--- ---- how many letters
-
-shift-eqb : (x y : ℕ) → 97 ≤ x → 97 ≤ y → eqb x y ≡ false → eqb (x - 97) (y - 97) ≡ false
-shift-eqb x y h k e = grind (arith, common_steps)
-
-shift_apart : (x : ℕ) (xs : List ℕ) → 97 ≤ x → All (λ b. (97 ≤ b) × (b ≤ 122)) xs → AllByRecursion (λ y. eqb x y ≡ false) xs → AllByRecursion (λ y. eqb (x - 97) y ≡ false) (map (λ b. b - 97) xs)
-shift_apart x [] h low apart = tt
-shift_apart x (y ∷ ys) h low apart =
-    (shift-eqb x y h (low 0 0 (omega arith)).0 apart.0, shift_apart x ys h (λ k d p. low (suc k) d (omega arith)) apart.1)
-
-shift_distinct : (xs : List ℕ) → All (λ b. (97 ≤ b) × (b ≤ 122)) xs → IsDistinct eqb xs → IsDistinct eqb (map (λ b. b - 97) xs)
-unfolding IsDistinct
-shift_distinct [] low distinct = tt
-shift_distinct (x ∷ xs) low distinct =
-    let rest : All (λ b. (97 ≤ b) × (b ≤ 122)) xs = λ k d p. low (suc k) d (omega arith) in
-    (shift_apart x xs (low 0 0 (omega arith)).0 rest distinct.0, shift_distinct xs rest distinct.1)
-
-shift_below : (xs : List ℕ) (q : ℕ) → All (λ b. (97 ≤ b) × (b ≤ 122)) xs → list_any (eqb q) (map (λ b. b - 97) xs) ≡ true → q < 26
-shift_below [] q low h = absurd (cc)
-shift_below (x ∷ xs) q low h =
-    let rest : All (λ b. (97 ≤ b) × (b ≤ 122)) xs = λ k d p. low (suc k) d (omega arith) in
-    by (eqb q (x - 97)) refl (λ t. shift_below xs q rest t)
-  where
-    within : (q x : ℕ) → 97 ≤ x → x ≤ 122 → eqb q (x - 97) ≡ true → q < 26
-    within q x l u e = grind (arith, common_steps)
-
-    by : (b : Bool) → eqb q (x - 97) ≡ b → (list_any (eqb q) (map (λ b. b - 97) xs) ≡ true → q < 26) → q < 26
-    by true e rest = within q x (low 0 0 (omega arith)).0 (low 0 0 (omega arith)).1 e
-    by false e rest = rest (rw e at h)
-
--- an alphabet has at most 26 letters
-pub few_letters : (bytes : List ℕ) → IsAlphabet bytes → length bytes ≤ 26
-few_letters bytes a =
-    let bound : length (map (λ b. b - 97) bytes) ≤ 26 = length-le_from_distinct_below (map (λ b. b - 97) bytes) 26 (shift_distinct bytes a.sound.lowercase a.sound.distinct) (λ q h. shift_below bytes q a.sound.lowercase h) in
-    omega (arith, bound, length-map bytes (λ b. b - 97))
-
--- the place of a letter is a byte
-pub place_fits : (bytes : List ℕ) (byte place : ℕ) → IsAlphabet bytes → place_of bytes byte ≡ Some place → place < 26
-place_fits bytes byte place a e =
-    let at = position-Some (λ y. y == byte) bytes place 0 e in
-    omega (arith, at.0, few_letters bytes a)
+use Rattle.words.specs.Alphabet.{IsAlphabetOf, IsAlphabetFault, IsLetterByte, IsSound, IsFirstFault, is_letter, is_lowercase, is_uppercase, fault_at, first_fault, alphabet_fault}
 
 -- ---- texts with no fault
 
-sound_at : (before : List ℕ) (b : ℕ) → fault_at before b ≡ None → (97 ≤ b) × (b ≤ 122) × (list_any (λ y. y == b) before ≡ false)
-sound_at before b e = by (is_lowercase b) (list_any (λ y. y == b) before) refl refl
-  where
-    lower : (b : ℕ) → is_lowercase b ≡ true → (97 ≤ b) × (b ≤ 122)
-    lower b e = grind (arith, common_steps)
+lower : (b : ℕ) → is_lowercase b ≡ true → (97 ≤ b) × (b ≤ 122)
+lower b e = grind (arith, common_steps)
 
-    by : (x y : Bool) → is_lowercase b ≡ x → list_any (λ y. y == b) before ≡ y → (97 ≤ b) × (b ≤ 122) × (list_any (λ y. y == b) before ≡ false)
-    by true false p q = ((lower b p).0, (lower b p).1, q)
+upper : (b : ℕ) → is_uppercase b ≡ true → (65 ≤ b) × (b ≤ 90)
+upper b e = grind (arith, common_steps)
+
+-- a byte is a letter exactly where it is taken for one
+letter_byte : (wide : Bool) (b : ℕ) → is_letter wide b ≡ true → IsLetterByte wide b
+letter_byte wide b e = by wide (is_lowercase b) (is_uppercase b) refl refl e
+  where
+    by : (wide x y : Bool) → is_lowercase b ≡ x → is_uppercase b ≡ y → x || (wide && y) ≡ true → IsLetterByte wide b
+    by wide true y p q e = inl (lower b p)
+    by true false true p q e = inr (refl, (upper b q).0, (upper b q).1)
+    by true false false p q e = absurd (cc)
+    by false false y p q e = absurd (cc)
+
+is_lower : (b : ℕ) → 97 ≤ b → b ≤ 122 → is_lowercase b ≡ true
+is_lower b l u = grind (arith, common_steps)
+
+is_upper : (b : ℕ) → 65 ≤ b → b ≤ 90 → is_uppercase b ≡ true
+is_upper b l u = grind (arith, common_steps)
+
+lowered : (x y : Bool) → x ≡ true → x || y ≡ true
+lowered x y p = rw p refl
+
+byte_letter : (wide : Bool) (b : ℕ) → IsLetterByte wide b → is_letter wide b ≡ true
+byte_letter wide b (inl h) = lowered (is_lowercase b) (wide && is_uppercase b) (is_lower b h.0 h.1)
+byte_letter wide b (inr h) = either (is_lowercase b) wide (is_uppercase b) h.0 (is_upper b h.1 h.2)
+  where
+    either : (x w y : Bool) → w ≡ true → y ≡ true → x || (w && y) ≡ true
+    either true w y p q = refl
+    either false w y p q = rw (p, q) refl
+
+sound_at : (wide : Bool) (before : List ℕ) (b : ℕ) → fault_at wide before b ≡ None → IsLetterByte wide b × (list_any (λ y. y == b) before ≡ false)
+sound_at wide before b e = by (is_letter wide b) (list_any (λ y. y == b) before) refl refl
+  where
+    by : (x y : Bool) → is_letter wide b ≡ x → list_any (λ y. y == b) before ≡ y → IsLetterByte wide b × (list_any (λ y. y == b) before ≡ false)
+    by true false p q = (letter_byte wide b p, q)
     by true true p q = let bad = rw (p, q) at e in absurd (cc)
     by false y p q = let bad = rw p at e in absurd (cc)
 
@@ -71,32 +56,32 @@ turned : (b : ℕ) (xs : List ℕ) → list_any (λ y. y == b) xs ≡ list_any (
 turned b [] = refl
 turned b (x ∷ xs) = rw (turned b xs, nat_eq_equiv.symm x b) refl
 
-all_push : (xs : List ℕ) (b : ℕ) → All (λ b. (97 ≤ b) × (b ≤ 122)) xs → 97 ≤ b → b ≤ 122 → All (λ b. (97 ≤ b) × (b ≤ 122)) (xs ++ b ∷ [])
-all_push [] b low l u zero d p = (l, u)
-all_push [] b low l u (suc k) d p = absurd (omega arith)
-all_push (x ∷ xs) b low l u zero d p = low 0 d (omega arith)
-all_push (x ∷ xs) b low l u (suc k) d p = all_push xs b (λ k d p. low (suc k) d (omega arith)) l u k d (omega arith)
+all_push : (wide : Bool) (xs : List ℕ) (b : ℕ) → All (IsLetterByte wide) xs → IsLetterByte wide b → All (IsLetterByte wide) (xs ++ b ∷ [])
+all_push wide [] b all h zero d p = h
+all_push wide [] b all h (suc k) d p = absurd (omega arith)
+all_push wide (x ∷ xs) b all h zero d p = all 0 d (omega arith)
+all_push wide (x ∷ xs) b all h (suc k) d p = all_push wide xs b (λ k d p. all (suc k) d (omega arith)) h k d (omega arith)
 
 none_both : (o p : Option AlphabetFault) → option_or o p ≡ None → (o ≡ None) × (p ≡ None)
 none_both None p e = (refl, e)
 none_both (Some f) p e = absurd (cc)
 
-sound : (before bs : List ℕ) → first_fault before bs ≡ None → IsDistinct eqb before → All (λ b. (97 ≤ b) × (b ≤ 122)) before → IsDistinct eqb (before ++ bs) × All (λ b. (97 ≤ b) × (b ≤ 122)) (before ++ bs)
-sound before [] e distinct low = rw append-nil (distinct, low)
-sound before (b ∷ bs) e distinct low =
-    let parts = none_both (fault_at before b) (first_fault (before ++ b ∷ []) bs) e in
-    let here = sound_at before b parts.0 in
-    let more : IsDistinct eqb (before ++ b ∷ []) = IsDistinct-push nat_eq_equiv before b distinct (sym (turned b before) ∙ here.2) in
-    let rest = sound (before ++ b ∷ []) bs parts.1 more (all_push before b low here.0 here.1) in
+sound : (wide : Bool) (before bs : List ℕ) → first_fault wide before bs ≡ None → IsDistinct eqb before → All (IsLetterByte wide) before → IsDistinct eqb (before ++ bs) × All (IsLetterByte wide) (before ++ bs)
+sound wide before [] e distinct all = rw append-nil (distinct, all)
+sound wide before (b ∷ bs) e distinct all =
+    let parts = none_both (fault_at wide before b) (first_fault wide (before ++ b ∷ []) bs) e in
+    let here = sound_at wide before b parts.0 in
+    let more : IsDistinct eqb (before ++ b ∷ []) = IsDistinct-push nat_eq_equiv before b distinct (sym (turned b before) ∙ here.1) in
+    let rest = sound wide (before ++ b ∷ []) bs parts.1 more (all_push wide before b all here.0) in
     rw append_assoc at rest
 
 -- a text with no fault is an alphabet
-pub faultless : (text : List ℕ) → alphabet_fault text ≡ None → IsAlphabet text
+pub faultless : (wide : Bool) (text : List ℕ) → alphabet_fault wide text ≡ None → IsAlphabetOf (IsLetterByte wide) text
 unfolding IsDistinct
-faultless [] e = absurd (cc)
-faultless (b ∷ bs) e =
-    let whole = sound [] (b ∷ bs) e tt (λ k d p. absurd (omega arith)) in
-    record { filled = omega arith; sound = record { distinct = whole.0; lowercase = whole.1 } }
+faultless wide [] e = absurd (cc)
+faultless wide (b ∷ bs) e =
+    let whole = sound wide [] (b ∷ bs) e tt (λ k d p. absurd (omega arith)) in
+    record { filled = omega arith; sound = record { distinct = whole.0; all = whole.1 } }
 
 -- ---- faults
 
@@ -104,26 +89,26 @@ some_either : (o p : Option AlphabetFault) (f : AlphabetFault) → option_or o p
 some_either None p f e h = e
 some_either (Some g) p f e h = absurd (h e)
 
-at_memory : (before : List ℕ) (b : ℕ) → fault_at before b ≡ Some NoMemory → ⊥
-at_memory before b e = by (is_lowercase b) (list_any (λ y. y == b) before) refl refl
+at_memory : (wide : Bool) (before : List ℕ) (b : ℕ) → fault_at wide before b ≡ Some NoMemory → ⊥
+at_memory wide before b e = by (is_letter wide b) (list_any (λ y. y == b) before) refl refl
   where
-    by : (x y : Bool) → is_lowercase b ≡ x → list_any (λ y. y == b) before ≡ y → ⊥
+    by : (x y : Bool) → is_letter wide b ≡ x → list_any (λ y. y == b) before ≡ y → ⊥
     by true false p q = let bad = rw (p, q) at e in cc
     by true true p q = let bad = rw (p, q) at e in cc
     by false y p q = let bad = rw p at e in cc
 
-first_memory : (before bs : List ℕ) → first_fault before bs ≡ Some NoMemory → ⊥
-first_memory before [] e = cc
-first_memory before (b ∷ bs) e =
-    first_memory (before ++ b ∷ []) bs (some_either (fault_at before b) (first_fault (before ++ b ∷ []) bs) NoMemory e (at_memory before b))
+first_memory : (wide : Bool) (before bs : List ℕ) → first_fault wide before bs ≡ Some NoMemory → ⊥
+first_memory wide before [] e = cc
+first_memory wide before (b ∷ bs) e =
+    first_memory wide (before ++ b ∷ []) bs (some_either (fault_at wide before b) (first_fault wide (before ++ b ∷ []) bs) NoMemory e (at_memory wide before b))
 
 -- a fault of a text is why it is refused
-pub refuses : (text : List ℕ) (fault : AlphabetFault) → alphabet_fault text ≡ Some fault → IsAlphabetFault (alphabet_fault text) fault
-refuses text Empty e = e
-refuses text (NotALetter place) e = e
-refuses text (Repeated place) e = e
-refuses [] NoMemory e = absurd (cc)
-refuses (b ∷ bs) NoMemory e = absurd (first_memory [] (b ∷ bs) e)
+pub refuses : (wide : Bool) (text : List ℕ) (fault : AlphabetFault) → alphabet_fault wide text ≡ Some fault → IsAlphabetFault (alphabet_fault wide text) fault
+refuses wide text Empty e = e
+refuses wide text (NotALetter place) e = e
+refuses wide text (Repeated place) e = e
+refuses wide [] NoMemory e = absurd (cc)
+refuses wide (b ∷ bs) NoMemory e = absurd (first_memory wide [] (b ∷ bs) e)
 
 -- ---- alphabets have no fault
 
@@ -131,9 +116,9 @@ middle : (P : ℕ → Type 0) (before : List ℕ) (b : ℕ) (bs : List ℕ) → 
 middle P [] b bs h = h.0
 middle P (x ∷ xs) b bs h = middle P xs b bs h.1
 
-middle_low : (before : List ℕ) (b : ℕ) (bs : List ℕ) → All (λ b. (97 ≤ b) × (b ≤ 122)) (before ++ b ∷ bs) → (97 ≤ b) × (b ≤ 122)
-middle_low [] b bs low = low zero b (omega arith)
-middle_low (x ∷ xs) b bs low = middle_low xs b bs (λ k d p. low (suc k) d (omega arith))
+middle_all : (wide : Bool) (before : List ℕ) (b : ℕ) (bs : List ℕ) → All (IsLetterByte wide) (before ++ b ∷ bs) → IsLetterByte wide b
+middle_all wide [] b bs all = all zero b (omega arith)
+middle_all wide (x ∷ xs) b bs all = middle_all wide xs b bs (λ k d p. all (suc k) d (omega arith))
 
 apart : (before : List ℕ) (b : ℕ) (bs : List ℕ) → IsDistinct eqb (before ++ b ∷ bs) → list_any (λ y. y == b) before ≡ false
 unfolding IsDistinct
@@ -143,23 +128,19 @@ apart (x ∷ xs) b bs distinct =
     let rest : list_any (λ y. y == b) xs ≡ false = apart xs b bs distinct.1 in
     rw (here, rest) refl
 
-unfaulted : (before : List ℕ) (b : ℕ) → 97 ≤ b → b ≤ 122 → list_any (λ y. y == b) before ≡ false → fault_at before b ≡ None
-unfaulted before b l u e = let low : is_lowercase b ≡ true = lower b l u in rw (low, e) refl
-  where
-    lower : (b : ℕ) → 97 ≤ b → b ≤ 122 → is_lowercase b ≡ true
-    lower b l u = grind (arith, common_steps)
+unfaulted : (wide : Bool) (before : List ℕ) (b : ℕ) → IsLetterByte wide b → list_any (λ y. y == b) before ≡ false → fault_at wide before b ≡ None
+unfaulted wide before b h e = let letter : is_letter wide b ≡ true = byte_letter wide b h in rw (letter, e) refl
 
-complete : (before bs : List ℕ) → IsDistinct eqb (before ++ bs) → All (λ b. (97 ≤ b) × (b ≤ 122)) (before ++ bs) → first_fault before bs ≡ None
-complete before [] distinct low = refl
-complete before (b ∷ bs) distinct low =
-    let l = middle_low before b bs low in
-    let here : fault_at before b ≡ None = unfaulted before b l.0 l.1 (apart before b bs distinct) in
-    let rest : first_fault (before ++ b ∷ []) bs ≡ None = complete (before ++ b ∷ []) bs (rw append_assoc distinct) (rw append_assoc low) in
+complete : (wide : Bool) (before bs : List ℕ) → IsDistinct eqb (before ++ bs) → All (IsLetterByte wide) (before ++ bs) → first_fault wide before bs ≡ None
+complete wide before [] distinct all = refl
+complete wide before (b ∷ bs) distinct all =
+    let here : fault_at wide before b ≡ None = unfaulted wide before b (middle_all wide before b bs all) (apart before b bs distinct) in
+    let rest : first_fault wide (before ++ b ∷ []) bs ≡ None = complete wide (before ++ b ∷ []) bs (rw append_assoc distinct) (rw append_assoc all) in
     rw (here, rest) refl
 
-pub unfaulted_alphabet : (text : List ℕ) → IsAlphabet text → alphabet_fault text ≡ None
-unfaulted_alphabet [] a = absurd (let no : 0 < 0 = a.filled in omega arith)
-unfaulted_alphabet (b ∷ bs) a = complete [] (b ∷ bs) a.sound.distinct a.sound.lowercase
+pub unfaulted_alphabet : (wide : Bool) (text : List ℕ) → IsAlphabetOf (IsLetterByte wide) text → alphabet_fault wide text ≡ None
+unfaulted_alphabet wide [] a = absurd (let no : 0 < 0 = a.filled in omega arith)
+unfaulted_alphabet wide (b ∷ bs) a = complete wide [] (b ∷ bs) a.sound.distinct a.sound.all
 
 -- ---- what a fault means
 
@@ -178,34 +159,34 @@ there (x ∷ xs) b h = by (x == b) refl h (there xs b)
     by true e h rest = (zero, omega arith, same x b e)
     by false e h rest = let c = rest h in (suc c.0, omega (arith, c.1), c.2)
 
-wrong_here : (before : List ℕ) (b : ℕ) (bs : List ℕ) (fault : AlphabetFault) → IsSound before → fault_at before b ≡ Some fault → IsFirstFault (before ++ b ∷ bs) fault
-wrong_here before b bs fault fine e = by (is_lowercase b) (list_any (λ y. y == b) before) refl refl fault e
-  where
-    upper : (b : ℕ) → is_lowercase b ≡ false → (97 ≤ b) × (b ≤ 122) → ⊥
-    upper b e h = let l : 97 ≤ b = h.0 in let u : b ≤ 122 = h.1 in grind (arith, common_steps)
+no_letter : (wide : Bool) (b : ℕ) → is_letter wide b ≡ false → ¬ IsLetterByte wide b
+no_letter wide b e h = let bad : false ≡ true = sym e ∙ byte_letter wide b h in cc
 
-    by : (x y : Bool) → is_lowercase b ≡ x → list_any (λ y. y == b) before ≡ y → (fault : AlphabetFault) → cond x (cond y (Some (Repeated (length before))) None) (Some (NotALetter (length before))) ≡ Some fault → IsFirstFault (before ++ b ∷ bs) fault
+wrong_here : (wide : Bool) (before : List ℕ) (b : ℕ) (bs : List ℕ) (fault : AlphabetFault) → IsSound (IsLetterByte wide) before → fault_at wide before b ≡ Some fault → IsFirstFault wide (before ++ b ∷ bs) fault
+wrong_here wide before b bs fault fine e = by (is_letter wide b) (list_any (λ y. y == b) before) refl refl fault e
+  where
+    by : (x y : Bool) → is_letter wide b ≡ x → list_any (λ y. y == b) before ≡ y → (fault : AlphabetFault) → cond x (cond y (Some (Repeated (length before))) None) (Some (NotALetter (length before))) ≡ Some fault → IsFirstFault wide (before ++ b ∷ bs) fault
     by true false p q fault e = absurd (cc)
     by true true p q fault e =
         let is : Repeated (length before) ≡ fault = cc in
-        subst (IsFirstFault (before ++ b ∷ bs)) is (record { before = before; byte = b; after = bs; is = refl; at = refl; sound = fine; wrong = there before b q })
+        subst (IsFirstFault wide (before ++ b ∷ bs)) is (record { before = before; byte = b; after = bs; is = refl; at = refl; sound = fine; wrong = there before b q })
     by false y p q fault e =
         let is : NotALetter (length before) ≡ fault = cc in
-        subst (IsFirstFault (before ++ b ∷ bs)) is (record { before = before; byte = b; after = bs; is = refl; at = refl; sound = fine; wrong = upper b p })
+        subst (IsFirstFault wide (before ++ b ∷ bs)) is (record { before = before; byte = b; after = bs; is = refl; at = refl; sound = fine; wrong = no_letter wide b p })
 
-first_wrong : (before bs : List ℕ) (fault : AlphabetFault) → IsSound before → first_fault before bs ≡ Some fault → IsFirstFault (before ++ bs) fault
-first_wrong before [] fault fine e = absurd (cc)
-first_wrong before (b ∷ bs) fault fine e =
-    elim (none_here (fault_at before b) (first_fault (before ++ b ∷ []) bs) fault e) [
-      | inl here ↦ wrong_here before b bs fault fine here
+first_wrong : (wide : Bool) (before bs : List ℕ) (fault : AlphabetFault) → IsSound (IsLetterByte wide) before → first_fault wide before bs ≡ Some fault → IsFirstFault wide (before ++ bs) fault
+first_wrong wide before [] fault fine e = absurd (cc)
+first_wrong wide before (b ∷ bs) fault fine e =
+    elim (none_here (fault_at wide before b) (first_fault wide (before ++ b ∷ []) bs) fault e) [
+      | inl here ↦ wrong_here wide before b bs fault fine here
       | inr later ↦
-          let h = sound_at before b later.0 in
-          let more : IsDistinct eqb (before ++ b ∷ []) = IsDistinct-push nat_eq_equiv before b fine.distinct (sym (turned b before) ∙ h.2) in
-          let rest : IsFirstFault ((before ++ b ∷ []) ++ bs) fault = first_wrong (before ++ b ∷ []) bs fault (record { distinct = more; lowercase = all_push before b fine.lowercase h.0 h.1 }) later.1 in
-          subst (λ text. IsFirstFault text fault) (append_assoc before (b ∷ []) bs) rest
+          let h = sound_at wide before b later.0 in
+          let more : IsDistinct eqb (before ++ b ∷ []) = IsDistinct-push nat_eq_equiv before b fine.distinct (sym (turned b before) ∙ h.1) in
+          let rest : IsFirstFault wide ((before ++ b ∷ []) ++ bs) fault = first_wrong wide (before ++ b ∷ []) bs fault (record { distinct = more; all = all_push wide before b fine.all h.0 }) later.1 in
+          subst (λ text. IsFirstFault wide text fault) (append_assoc before (b ∷ []) bs) rest
     ]
 
-pub means : (text : List ℕ) (fault : AlphabetFault) → alphabet_fault text ≡ Some fault → IsFirstFault text fault
+pub means : (wide : Bool) (text : List ℕ) (fault : AlphabetFault) → alphabet_fault wide text ≡ Some fault → IsFirstFault wide text fault
 unfolding IsDistinct
-means [] fault e = let is : Empty ≡ fault = cc in subst (IsFirstFault []) is refl
-means (b ∷ bs) fault e = first_wrong [] (b ∷ bs) fault (record { distinct = tt; lowercase = λ k d p. absurd (omega arith) }) e
+means wide [] fault e = let is : Empty ≡ fault = cc in subst (IsFirstFault wide []) is refl
+means wide (b ∷ bs) fault e = first_wrong wide [] (b ∷ bs) fault (record { distinct = tt; all = λ k d p. absurd (omega arith) }) e

@@ -1,5 +1,5 @@
 -- Words that are read and printed.
-use Rattle.std.proofs.Common.{◌≡◌, ℕ, ◌+◌, ◌<◌, ◌≤◌, Bool, true, false, ◌==◌, eqb, nat_le, nat_lt, List, [], ◌∷◌, length, get_or, slice_index, Option, Some, None, is_none, position, Ok, Err, refl, sym, ap, ◌∙◌, arith, cond}
+use Rattle.std.proofs.Common.{◌≡◌, ℕ, ◌+◌, ◌<◌, ◌≤◌, Bool, true, false, ◌==◌, eqb, nat_le, nat_lt, List, [], ◌∷◌, length, get_or, slice_index, Option, Some, None, is_none, position, Ok, Err, refl, sym, ap, ◌∙◌, arith, cond, ◌⊎◌, inl, inr}
 use Rattle.std.specs.List.{cons_option, position_from, position_or_len, IsDistinct}
 use Rattle.std.proofs.lemmas.Grind.{common_steps}
 use Rattle.std.proofs.lemmas.Cmp.{nat_eq_equiv}
@@ -10,7 +10,7 @@ use Rattle.std.proofs.lemmas.Iterator.Adapters.{position_from-zero}
 use Rattle.std.proofs.lemmas.Map.Keys.{apart_from_distinct}
 use Rattle.theory.specs.Word.{Word, IsOver}
 use Rattle.words.specs.declared.fault.WordFault.TheVariants.{EmptyWord}
-use Rattle.words.specs.Alphabet.{IsAlphabet, place_of}
+use Rattle.words.specs.Alphabet.{IsAlphabet, IsSymbol, place_of}
 use Rattle.words.specs.WordText.{most_letters, is_empty_text, first_stranger, letters_of, word_unless, bytes_of, text_of, ReadsBack}
 
 same : (x y : ℕ) → (x == y) ≡ true → x ≡ y
@@ -82,11 +82,21 @@ printed_known alphabet (a ∷ u) i distinct over =
     let head = letter_place alphabet a distinct over.0 in
     rw head (printed_known alphabet u (i + 1) distinct over.1)
 
-no_one : (b : ℕ) → 97 ≤ b → (b == 49) ≡ false
-no_one b h = grind (arith, common_steps)
+no_digit : (b : ℕ) → (b ≡ 49 → ⊥) → (b == 49) ≡ false
+no_digit b h = by (b == 49) refl
+  where
+    by : (t : Bool) → (b == 49) ≡ t → t ≡ false
+    by false e = refl
+    by true e = absurd (h (same b 49 e))
+
+-- no symbol is the digit 1
+no_one : (b : ℕ) → IsSymbol b → (b == 49) ≡ false
+no_one b (inl (inl h)) = no_digit b (λ e. omega (arith, e, h.0))
+no_one b (inl (inr h)) = no_digit b (λ e. omega (arith, e, h.1))
+no_one b (inr h) = no_digit b (λ e. omega (arith, e, h))
 
 not_empty : (alphabet : List ℕ) (a : ℕ) (u : Word) → IsAlphabet alphabet → a < length alphabet → is_empty_text (bytes_of alphabet (a ∷ u)) ≡ false
-not_empty alphabet a [] al h = no_one (slice_index alphabet a) (al.sound.lowercase a 0 h).0
+not_empty alphabet a [] al h = no_one (slice_index alphabet a) (al.sound.all a 0 h)
 not_empty alphabet a (b ∷ u) al h = refl
 
 printed_stranger : (alphabet : List ℕ) (word : Word) → IsDistinct eqb alphabet → IsOver (length alphabet) word → length word ≤ most_letters → first_stranger alphabet (bytes_of alphabet word) ≡ None

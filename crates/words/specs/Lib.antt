@@ -1,2 +1,5 @@
 pub mod Alphabet
+pub mod PowerMarks
+pub mod PowerSteps
+pub mod Powers
 pub mod WordText

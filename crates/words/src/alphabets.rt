@@ -1,7 +1,7 @@
 // Alphabets, and words as texts.
-ghost use Rattle.std.specs.Prelude.{◌≡◌, ◌≢◌, ℕ, ◌<◌, ◌≤◌, List, [], ◌∷◌, length, slice_get, IfOk, IfErr, IfSome};
+ghost use Rattle.std.specs.Prelude.{◌≡◌, ◌≢◌, ℕ, ◌<◌, ◌≤◌, ◌↔◌, Bool, true, false, IsTrue, List, [], ◌∷◌, ◌++◌, length, Contains, slice_get, IfOk, IfErr, IfSome};
 ghost use Rattle.theory.specs.Word.{IsOver};
-ghost use Rattle.words.specs.Alphabet.{IsAlphabet, IsAlphabetFault, alphabet_fault, fault_at, first_fault, place_of};
+ghost use Rattle.words.specs.Alphabet.{IsAlphabet, IsAlphabetFault, IsAlphabetOf, IsLetterByte, alphabet_fault, fault_at, first_fault, is_letter, marker, place_of};
 ghost use Rattle.words.specs.WordText.{IsWordFault, ReadsBack, first_stranger, letters_of, text_of, word_of, is_empty_text};
 
 use crate::fault::{AlphabetFault, WordFault};
@@ -13,8 +13,13 @@ use std::marker::Model;
 // The most letters of a word that is read.
 const MOST_LETTERS: usize = 4096;
 
-/// An alphabet: one or more letters, each a byte from `a` to `z`, no two alike, in order
-/// (libsemigroups, the alphabet of a `Presentation`). There are at most 26.
+/// The byte of the marker: a letter that no text is read to, for words that are set apart from all
+/// that is read.
+pub const MARKER: u8 = b'#';
+
+/// An alphabet: one or more letters, no two alike, in order (libsemigroups, the alphabet of a
+/// `Presentation`). Each is a byte from `a` to `z` or from `A` to `Z`, or the [`MARKER`]; so there
+/// are at most 53.
 #[derive(Drop)]
 pub struct Alphabet {
     bytes: Vec<u8>,
@@ -31,11 +36,18 @@ impl Model for Alphabet {
     ghost invariant = { λ a. IsAlphabet a.bytes.items };
 }
 
-// What is wrong with a byte behind these letters.
-fn fault_at(before: &[u8], byte: u8) -> Option<AlphabetFault>
-    ensures { result ≡ fault_at before.now byte }
+/// Whether the byte is a letter: of lower case, or where letters are wide of one of both cases.
+pub fn is_letter(wide: bool, byte: u8) -> bool
+    ensures { result ≡ is_letter wide byte }
 {
-    if !byte.is_ascii_lowercase() {
+    byte.is_ascii_lowercase() || (wide && byte.is_ascii_uppercase())
+}
+
+// What is wrong with a byte behind these letters.
+fn fault_at(wide: bool, before: &[u8], byte: u8) -> Option<AlphabetFault>
+    ensures { result ≡ fault_at wide before.now byte }
+{
+    if !is_letter(wide, byte) {
         return Some(AlphabetFault::NotALetter(before.len()));
     }
     if before.contains(&byte) {
@@ -45,11 +57,11 @@ fn fault_at(before: &[u8], byte: u8) -> Option<AlphabetFault>
 }
 
 // The first fault from the left.
-fn first_fault(text: &[u8]) -> Option<AlphabetFault>
-    ensures { result ≡ first_fault [] text.now }
+fn first_fault(wide: bool, text: &[u8]) -> Option<AlphabetFault>
+    ensures { result ≡ first_fault wide [] text.now }
 {
     for (place, byte) in text.iter().enumerate() {
-        let fault = fault_at(&text[..place], *byte);
+        let fault = fault_at(wide, &text[..place], *byte);
         if fault.is_some() {
             return fault;
         }
@@ -58,13 +70,13 @@ fn first_fault(text: &[u8]) -> Option<AlphabetFault>
 }
 
 // Why the text is no alphabet.
-fn alphabet_fault(text: &[u8]) -> Option<AlphabetFault>
-    ensures { result ≡ alphabet_fault text.now }
+fn alphabet_fault(wide: bool, text: &[u8]) -> Option<AlphabetFault>
+    ensures { result ≡ alphabet_fault wide text.now }
 {
     if text.is_empty() {
         return Some(AlphabetFault::Empty);
     }
-    first_fault(text)
+    first_fault(wide, text)
 }
 
 // Whether the text stands for the empty word.
@@ -78,29 +90,76 @@ fn is_empty_text(text: &[u8]) -> bool
     }
 }
 
+// The bytes, and one more behind them.
+fn with_byte(alloc: Global, bytes: &[u8], byte: u8) -> Result<Vec<u8>, NoMemory>
+    ensures { IfOk result (λ longer. longer.items ≡ bytes.now ++ byte ∷ []) }
+{
+    let mut longer = Vec::from_slice(alloc, bytes)?;
+    longer.push(byte)?;
+    Ok(longer)
+}
+
 impl Alphabet {
     /// The alphabet of these bytes. Refused with `Empty` exactly where there is no byte, and else
     /// with `NotALetter` or `Repeated` exactly at the first byte from the left that is none of `a`
     /// to `z` or stands at an earlier place too; with `NoMemory` only where there is no such fault.
     pub fn new(alloc: Global, text: &[u8]) -> Result<Alphabet, AlphabetFault>
         ensures ok { IfOk result (λ alphabet. alphabet ≡ text.now) }
-        ensures faultless { IfOk result (λ _. alphabet_fault text.now ≡ None) }
-        ensures alphabet { IfOk result IsAlphabet }
-        ensures err { IfErr result (IsAlphabetFault (alphabet_fault text.now)) }
+        ensures faultless { IfOk result (λ _. alphabet_fault false text.now ≡ None) }
+        ensures alphabet { IfOk result (IsAlphabetOf (IsLetterByte false)) }
+        ensures err { IfErr result (IsAlphabetFault (alphabet_fault false text.now)) }
     {
-        if let Some(fault) = alphabet_fault(text) {
+        Alphabet::of_letters(alloc, false, text)
+    }
+
+    /// The alphabet of these bytes, as [`new`](Alphabet::new) gives it, where `A` to `Z` are
+    /// letters too.
+    pub fn wide(alloc: Global, text: &[u8]) -> Result<Alphabet, AlphabetFault>
+        ensures ok { IfOk result (λ alphabet. alphabet ≡ text.now) }
+        ensures faultless { IfOk result (λ _. alphabet_fault true text.now ≡ None) }
+        ensures alphabet { IfOk result (IsAlphabetOf (IsLetterByte true)) }
+        ensures err { IfErr result (IsAlphabetFault (alphabet_fault true text.now)) }
+    {
+        Alphabet::of_letters(alloc, true, text)
+    }
+
+    // The alphabet of these bytes, of one case or of both.
+    fn of_letters(alloc: Global, wide: bool, text: &[u8]) -> Result<Alphabet, AlphabetFault>
+        ensures ok { IfOk result (λ alphabet. alphabet ≡ text.now) }
+        ensures faultless { IfOk result (λ _. alphabet_fault wide text.now ≡ None) }
+        ensures alphabet { IfOk result (IsAlphabetOf (IsLetterByte wide)) }
+        ensures err { IfErr result (IsAlphabetFault (alphabet_fault wide text.now)) }
+    {
+        if let Some(fault) = alphabet_fault(wide, text) {
             return Err(fault);
         }
         let bytes = Vec::from_slice(alloc, text)?;
         Ok(Alphabet { bytes })
     }
 
-    /// How many letters the alphabet has: from 1 to 26.
+    /// Whether the marker is one of the letters.
+    pub fn has_marker(&self) -> bool
+        ensures { IsTrue result ↔ Contains self.now marker }
+    {
+        self.bytes.contains(&MARKER)
+    }
+
+    /// The alphabet with the marker as one further last letter; it has none yet. Refused only where
+    /// memory is wanting.
+    pub fn with_marker(&self, alloc: Global) -> Result<Alphabet, NoMemory>
+        requires { ¬ Contains self.now marker }
+        ensures { IfOk result (λ alphabet. alphabet ≡ self.now ++ marker ∷ []) }
+    {
+        let bytes = with_byte(alloc, self.bytes.as_slice(), MARKER)?;
+        Ok(Alphabet { bytes })
+    }
+
+    /// How many letters the alphabet has: from 1 to 53.
     pub fn len(&self) -> usize
         ensures len { result ≡ length self.now }
         ensures alphabet { IsAlphabet self.now }
         ensures filled { 0 < result }
-        ensures few { result ≤ 26 }
+        ensures few { result ≤ 53 }
     {
         let bytes = &self.bytes;
         bytes.len()

@@ -1,5 +1,5 @@
 // Letters and words.
-ghost use Rattle.std.specs.Prelude.{◌≡◌, ℕ, ◌<◌, List, [], ◌∷◌, ◌++◌, length, reverse, slice_get, IfOk, OnOk, OnErr, IsTrue, ◌↔◌};
+ghost use Rattle.std.specs.Prelude.{◌≡◌, ℕ, ◌<◌, ◌≤◌, List, [], ◌∷◌, ◌++◌, length, reverse, slice_get, slice_range, IfOk, OnOk, OnErr, IsTrue, ◌↔◌};
 
 use ports::NoMemory;
 use std::alloc::Global;
@@ -98,6 +98,17 @@ impl Word {
         ensures { result.now ≡ self.now }
     {
         self.letters.as_slice()
+    }
+
+    // Puts the letters from one place up to another at the end. Refused only where memory is
+    // wanting.
+    pub(crate) fn append_within(&mut self, start: usize, end: usize) -> Result<(), NoMemory>
+        requires ordered { start ≤ end }
+        requires within { end ≤ length self.old }
+        ensures { OnOk result (self.new ≡ self.old ++ slice_range self.old start end) }
+    {
+        self.letters.extend_from_within(start..end)?;
+        Ok(())
     }
 
     /// The same word in memory of its own. Refused only where memory is wanting.

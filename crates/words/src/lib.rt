@@ -10,11 +10,14 @@ pub mod facts;
 mod fault;
 mod letters;
 mod order;
+mod powers;
 
-pub use alphabets::Alphabet;
-pub use fault::{AlphabetFault, WordFault};
+pub use alphabets::{Alphabet, MARKER, is_letter};
+pub use fault::{AlphabetFault, PowerFault, WordFault};
 pub use letters::{Letter, Word};
 pub use order::shortlex;
 
+#[cfg(test)]
+mod powers_tests;
 #[cfg(test)]
 mod tests;

@@ -25,6 +25,45 @@ fn tells_why_a_text_is_no_alphabet(rt: HostRuntime) -> Result<(), Fail> {
 }
 
 #[test]
+fn letters_of_both_cases_are_wide(rt: HostRuntime) -> Result<(), Fail> {
+    let alloc = rt.alloc();
+    for (text, want) in [
+        (b"".as_slice(), Some(AlphabetFault::Empty)),
+        (b"aB".as_slice(), None),
+        (b"ZzAa".as_slice(), None),
+        (b"aBa".as_slice(), Some(AlphabetFault::Repeated(2))),
+        (b"A[".as_slice(), Some(AlphabetFault::NotALetter(1))),
+        (b"@".as_slice(), Some(AlphabetFault::NotALetter(0))),
+        (b"a#".as_slice(), Some(AlphabetFault::NotALetter(1))),
+    ] {
+        match Alphabet::wide(alloc, text) {
+            Ok(alphabet) => {
+                assert_eq!(rt; want, None);
+                assert_eq!(rt; alphabet.len(), text.len());
+            }
+            Err(fault) => assert_eq!(rt; want, Some(fault)),
+        }
+    }
+    Ok(())
+}
+
+#[test]
+fn the_marker_is_a_further_last_letter(rt: HostRuntime) -> Result<(), Fail> {
+    let alloc = rt.alloc();
+    let Ok(alphabet) = Alphabet::wide(alloc, b"bA") else {
+        return Ok(assert!(rt; false));
+    };
+    assert!(rt; !alphabet.has_marker());
+    let marked = alphabet.with_marker(alloc)?;
+    assert!(rt; marked.has_marker());
+    assert_eq!(rt; marked.len(), 3);
+    assert_eq!(rt; marked.letter(b'b').map(Letter::number), Some(0));
+    assert_eq!(rt; marked.letter(b'A').map(Letter::number), Some(1));
+    assert_eq!(rt; marked.letter(MARKER).map(Letter::number), Some(2));
+    Ok(())
+}
+
+#[test]
 fn reads_words_over_ab(rt: HostRuntime) -> Result<(), Fail> {
     let alloc = rt.alloc();
     let Ok(alphabet) = Alphabet::new(alloc, b"ab") else {

@@ -1,5 +1,5 @@
 use Rattle.std.proofs.Common.{arith}
-use Rattle.words.proofs.AlphabetLemmas.{few_letters}
+use Rattle.words.proofs.Symbols.{few_letters}
 use Rattle.words.proofs.alphabets.Alphabet.len.Goals as goal
 
 pub returns-clause-few : goal.returns-clause-few

@@ -1,5 +1,5 @@
 use Rattle.std.proofs.Common.{sym, arith}
-use Rattle.words.proofs.AlphabetLemmas.{place_fits}
+use Rattle.words.proofs.Symbols.{place_fits}
 use Rattle.words.proofs.TextLaws.{place_below}
 use Rattle.words.proofs.alphabets.Alphabet.letter.Goals as goal
 
