@@ -1,2 +1,3 @@
 pub mod Presented
 pub mod Codes
+pub mod Added

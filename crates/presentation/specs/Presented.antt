@@ -20,12 +20,16 @@ abbrev pub HasEmptySide : Bool → Word → Word → Type 0
 HasEmptySide true u v = ⊥
 HasEmptySide false u v = (u ≡ []) ⊎ (v ≡ [])
 
+-- p with more relations, behind the others
+abbrev pub with_more : Presented → List (Word × Word) → Presented
+with_more p more = record {
+  alphabet = p.alphabet;
+  presentation = with_relations p.presentation more;
+}
+
 -- p with one relation more
 abbrev pub with_relation : Presented → Word → Word → Presented
-with_relation p u v = record {
-  alphabet = p.alphabet;
-  presentation = with_relations p.presentation ((u, v) ∷ []);
-}
+with_relation p u v = with_more p ((u, v) ∷ [])
 
 -- p read from right to left
 abbrev pub backwards : Presented → Presented

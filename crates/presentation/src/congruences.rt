@@ -1,16 +1,18 @@
 // Congruences given by pairs.
-ghost use Rattle.std.specs.Prelude.{◌≡◌, List, [], ◌∷◌, ◌++◌, length, IfOk};
+ghost use Rattle.std.specs.Prelude.{◌≡◌, List, [], ◌∷◌, ◌++◌, length, ◌≢◌, ◌≤◌, ◌+◌, Contains, IfOk};
 ghost use Rattle.theory.specs.Word.{IsElement};
 ghost use Rattle.theory.specs.Congruence.{AreElements, IsWellFormed, is_two_sided};
+ghost use Rattle.theory.specs.Marked.{marked};
+ghost use Rattle.words.specs.Alphabet.{marker};
 ghost use Rattle.presentation.specs.Presented.{IsPosed};
 
 use crate::pair_lists::Pairs;
-use crate::presentations::Presentation;
+use crate::presentations::{MOST_RELATIONS, Presentation};
 use ports::NoMemory;
 use std::alloc::Global;
 use std::marker::Model;
 use theory::Kind;
-use words::Word;
+use words::{Letter, Word};
 
 /// The congruence of a kind that pairs generate on a presentation (libsemigroups, `Congruence`).
 /// The sides of the pairs are elements.
@@ -121,6 +123,27 @@ impl Congruence {
             kind,
             pairs,
         })
+    }
+
+    /// The presentation with one further last letter, the marker `#`, that stands for this one-sided
+    /// congruence: behind the relations, each pair with the marker before both words for right pairs
+    /// and behind both for left pairs. The alphabet has no marker, and relations and pairs are
+    /// together at most [`MOST_RELATIONS`](crate::MOST_RELATIONS). Refused only where memory is
+    /// wanting.
+    pub fn marked(&self, alloc: Global) -> Result<Presentation, NoMemory>
+        requires one_sided { self.now.congruence.kind ≢ Kind.TwoSided }
+        requires unmarked { ¬ Contains self.now.alphabet marker }
+        requires few { length self.now.congruence.presentation.relations
+            + length self.now.congruence.pairs ≤ MOST_RELATIONS }
+        ensures { IfOk result (λ p. p ≡ record {
+          alphabet = self.now.alphabet ++ marker ∷ [];
+          presentation = marked self.now.congruence;
+        }) }
+    {
+        let marker = Letter::new(self.presentation.letters() as u8);
+        let pairs = self.pairs.marked(alloc, self.kind, marker)?;
+        let presentation = self.presentation.with_marker(alloc, &pairs)?;
+        Ok(presentation)
     }
 
     /// The same congruence in memory of its own. Refused only where memory is wanting.

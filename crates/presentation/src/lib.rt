@@ -5,7 +5,9 @@
 //! *Computation with finitely presented groups*, 1994, chapters 1 and 2).
 #![tactic(auto)]
 
+mod added;
 mod congruences;
+pub mod facts;
 mod fault;
 mod pair_lists;
 mod presentations;

@@ -1,11 +1,13 @@
 // Lists of pairs of words.
 ghost use Rattle.std.specs.Prelude.{◌≡◌, ℕ, ◌<◌, List, [], ◌∷◌, ◌++◌, length, map, slice_index_or, IfOk, OnOk, OnErr, IsTrue, ◌↔◌};
 ghost use Rattle.theory.specs.Word.{reversed_pairs};
+ghost use Rattle.theory.specs.Marked.{marked_word, marked_pairs};
 
 use ports::NoMemory;
 use std::alloc::Global;
 use std::marker::Model;
-use words::Word;
+use theory::Kind;
+use words::{Letter, Word};
 
 /// A list of pairs of words.
 #[derive(Drop)]
@@ -20,6 +22,25 @@ impl Model for Pairs {
     ghost Value = { List (Letters × Letters) };
 
     ghost view = { λ p. p.items.items };
+}
+
+// The word with the marker: before it for right pairs, behind it for left pairs.
+fn marked_word(alloc: Global, kind: Kind, marker: Letter, word: &Word) -> Result<Word, NoMemory>
+    ensures { IfOk result (λ marked. marked ≡ marked_word kind marker word.now) }
+{
+    match kind {
+        Kind::TwoSided => word.copy(alloc),
+        Kind::Right => {
+            let mut front = Word::new(alloc);
+            front.push(marker)?;
+            front.concat(alloc, word)
+        }
+        Kind::Left => {
+            let mut marked = word.copy(alloc)?;
+            marked.push(marker)?;
+            Ok(marked)
+        }
+    }
 }
 
 impl Pairs {
@@ -85,6 +106,22 @@ impl Pairs {
         Ok(())
     }
 
+    /// Puts these pairs behind the others, which stay where they are. Refused only where memory is
+    /// wanting, and then the list stays as it was.
+    pub fn append(&mut self, more: Pairs) -> Result<(), NoMemory>
+        ensures ok { OnOk result (self.new ≡ self.old ++ more) }
+        ensures err { OnErr result (self.new ≡ self.old) }
+    {
+        let mut more = more.items;
+        self.items.append(&mut more)?;
+        Ok(())
+    }
+
+    // Where its memory comes from.
+    pub(crate) fn allocator(&self) -> Global {
+        *self.items.allocator()
+    }
+
     /// The same pairs in memory of their own. Refused only where memory is wanting.
     pub fn copy(&self, alloc: Global) -> Result<Pairs, NoMemory>
         ensures { IfOk result (λ p. p ≡ self.now) }
@@ -124,5 +161,24 @@ impl Pairs {
             reversed.push(left, right)?;
         }
         Ok(reversed)
+    }
+
+    // Each word of each pair with the marker, in memory of their own. Refused only where memory is
+    // wanting.
+    pub(crate) fn marked(
+        &self,
+        alloc: Global,
+        kind: Kind,
+        marker: Letter,
+    ) -> Result<Pairs, NoMemory>
+        ensures { IfOk result (λ p. p ≡ marked_pairs kind marker self.now) }
+    {
+        let mut marked = Pairs::new(alloc);
+        for pair in &self.items {
+            let left = marked_word(alloc, kind, marker, &pair.0)?;
+            let right = marked_word(alloc, kind, marker, &pair.1)?;
+            marked.push(left, right)?;
+        }
+        Ok(marked)
     }
 }

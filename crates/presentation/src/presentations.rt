@@ -1,8 +1,10 @@
 // Presentations.
-ghost use Rattle.std.specs.Prelude.{◌≡◌, ℕ, ◌<◌, ◌≤◌, ◌+◌, ◌↔◌, Bool, List, [], ◌∷◌, ◌++◌, length, IfOk, OnOk, OnErr, IsTrue, IfErr};
+ghost use Rattle.std.specs.Prelude.{◌≡◌, ℕ, ◌<◌, ◌≤◌, ◌+◌, ◌↔◌, Bool, List, [], ◌∷◌, ◌++◌, length, Contains, suc, IfOk, OnOk, OnErr, IsTrue, IfErr};
 ghost use Rattle.theory.specs.Word.{IsOver};
 ghost use Rattle.theory.specs.Congruence.{AreElements, with_relations};
-ghost use Rattle.presentation.specs.Presented.{IsPresented, HasEmptySide, with_relation, backwards};
+ghost use Rattle.theory.specs.Marked.{with_marker};
+ghost use Rattle.words.specs.Alphabet.{marker};
+ghost use Rattle.presentation.specs.Presented.{IsPresented, HasEmptySide, with_more, with_relation, backwards};
 
 use crate::fault::AddFault;
 use crate::pair_lists::Pairs;
@@ -69,11 +71,11 @@ impl Presentation {
         &self.alphabet
     }
 
-    /// How many letters the alphabet has: from 1 to 26.
+    /// How many letters the alphabet has: from 1 to 53.
     pub fn letters(&self) -> usize
         ensures letters { result ≡ self.now.presentation.letters }
         ensures some { 0 < result }
-        ensures few { result ≤ 26 }
+        ensures few { result ≤ 53 }
     {
         self.alphabet.len()
     }
@@ -118,6 +120,26 @@ impl Presentation {
         Ok(())
     }
 
+    // Whether there is room for so many relations more.
+    pub(crate) fn has_room(&self, more: usize) -> bool
+        requires { more ≤ MOST_RELATIONS }
+        ensures { IsTrue result ↔ (length self.now.presentation.relations + more ≤ MOST_RELATIONS) }
+    {
+        self.relations.len() <= MOST_RELATIONS - more
+    }
+
+    // Puts relations at the end. Refused only where memory is wanting.
+    pub(crate) fn append(&mut self, more: Pairs) -> Result<(), NoMemory>
+        requires few { length self.old.presentation.relations + length more ≤ MOST_RELATIONS }
+        requires elements { AreElements self.old.presentation.is_monoid
+            self.old.presentation.letters more }
+        ensures ok { OnOk result (self.new ≡ with_more self.old more) }
+        ensures err { OnErr result (self.new ≡ self.old) }
+    {
+        self.relations.append(more)?;
+        Ok(())
+    }
+
     /// The presentation with each side of each relation read from right to left: of the opposite
     /// monoid or semigroup. Refused only where memory is wanting.
     pub fn reversed(&self, alloc: Global) -> Result<Presentation, NoMemory>
@@ -139,13 +161,35 @@ impl Presentation {
         requires few { length self.now.presentation.relations + length pairs.now ≤ MOST_RELATIONS }
         requires elements { AreElements self.now.presentation.is_monoid
             self.now.presentation.letters pairs.now }
-        ensures { IfOk result (λ p. p ≡ record {
-          alphabet = self.now.alphabet;
-          presentation = with_relations self.now.presentation pairs.now;
-        }) }
+        ensures { IfOk result (λ p. p ≡ with_more self.now pairs.now) }
     {
         let alphabet = self.alphabet.copy(alloc)?;
         let relations = self.relations.concat(alloc, pairs)?;
+        Ok(Presentation {
+            alphabet,
+            monoid: self.monoid,
+            relations,
+        })
+    }
+
+    // The presentation with the marker as a further last letter, and marked pairs as further relations.
+    // Refused only where memory is wanting.
+    pub(crate) fn with_marker(
+        &self,
+        alloc: Global,
+        marked: &Pairs,
+    ) -> Result<Presentation, NoMemory>
+        requires unmarked { ¬ Contains self.now.alphabet marker }
+        requires few { length self.now.presentation.relations + length marked.now ≤ MOST_RELATIONS }
+        requires elements { AreElements self.now.presentation.is_monoid
+            (suc self.now.presentation.letters) (self.now.presentation.relations ++ marked.now) }
+        ensures { IfOk result (λ p. p ≡ record {
+          alphabet = self.now.alphabet ++ marker ∷ [];
+          presentation = with_relations (with_marker self.now.presentation) marked.now;
+        }) }
+    {
+        let alphabet = self.alphabet.with_marker(alloc)?;
+        let relations = self.relations.concat(alloc, marked)?;
         Ok(Presentation {
             alphabet,
             monoid: self.monoid,

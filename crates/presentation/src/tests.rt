@@ -5,7 +5,7 @@ use super::*;
 use ports::NoMemory;
 use std::alloc::Global;
 use std::test::Fail;
-use words::{Alphabet, Word};
+use words::{Alphabet, Letter, Word};
 
 // A presentation over `ab` without relations.
 fn over_ab(alloc: Global, monoid: bool) -> Result<Presentation, NoMemory> {
@@ -130,5 +130,153 @@ fn copies_congruences(rt: HostRuntime) -> Result<(), Fail> {
     let copied = congruence.copy(alloc)?;
     assert_eq!(rt; copied.kind(), Kind::Right);
     assert_eq!(rt; copied.presentation().letters(), 2);
+    Ok(())
+}
+
+// The texts of all relations, in order.
+fn texts(presentation: &Presentation, alloc: Global) -> Result<Vec<u8>, NoMemory> {
+    let mut text = Vec::new(alloc);
+    for place in 0..presentation.relations().len() {
+        let sides = relation(presentation, alloc, place)?;
+        text.extend_from_slice(sides.0.as_slice())?;
+        text.push(b'=')?;
+        text.extend_from_slice(sides.1.as_slice())?;
+        text.push(b' ')?;
+    }
+    Ok(text)
+}
+
+// Makes a letter an identity, if it is one of the alphabet's.
+fn add_identity(presentation: &mut Presentation, e: u8) -> Result<(), AddFault> {
+    if usize::from(e) >= presentation.letters() {
+        return Ok(());
+    }
+    presentation.add_identity(Letter::new(e))
+}
+
+// Makes a letter a zero, if it is one of the alphabet's.
+fn add_zero(presentation: &mut Presentation, z: u8) -> Result<(), AddFault> {
+    if usize::from(z) >= presentation.letters() {
+        return Ok(());
+    }
+    presentation.add_zero(Letter::new(z))
+}
+
+// Makes letters inverse, if they are two of the alphabet's, with the empty word.
+fn add_inverse(presentation: &mut Presentation, x: u8, y: u8) -> Result<(), AddFault> {
+    if usize::from(x).max(usize::from(y)) >= presentation.letters() {
+        return Ok(());
+    }
+    presentation.add_inverse(Letter::new(x), Letter::new(y), None)
+}
+
+// Makes the letter inverse to itself, if the alphabet has both, with `e` for the empty word.
+fn add_involution(presentation: &mut Presentation, x: u8, e: u8) -> Result<(), AddFault> {
+    if usize::from(x).max(usize::from(e)) >= presentation.letters() {
+        return Ok(());
+    }
+    presentation.add_inverse(Letter::new(x), Letter::new(x), Some(Letter::new(e)))
+}
+
+#[test]
+fn adds_identities_and_zeros(rt: HostRuntime) -> Result<(), Fail> {
+    let alloc = rt.alloc();
+    let mut presentation = with_one_relation(alloc)?;
+    add_identity(&mut presentation, 1)?;
+    let text = texts(&presentation, alloc)?;
+    assert_eq!(rt; text.as_slice(), b"aab=ba ab=a ba=a bb=b ".as_slice());
+    let mut presentation = over_ab(alloc, false)?;
+    add_zero(&mut presentation, 0)?;
+    let text = texts(&presentation, alloc)?;
+    assert_eq!(rt; text.as_slice(), b"aa=a ba=a ab=a ".as_slice());
+    Ok(())
+}
+
+#[test]
+fn adds_inverses(rt: HostRuntime) -> Result<(), Fail> {
+    let alloc = rt.alloc();
+    let mut presentation = over_ab(alloc, true)?;
+    add_inverse(&mut presentation, 1, 0)?;
+    add_inverse(&mut presentation, 0, 0)?;
+    let text = texts(&presentation, alloc)?;
+    assert_eq!(rt; text.as_slice(), b"ba=1 ab=1 aa=1 ".as_slice());
+    Ok(())
+}
+
+#[test]
+fn adds_inverses_in_semigroups(rt: HostRuntime) -> Result<(), Fail> {
+    let alloc = rt.alloc();
+    let mut presentation = over_ab(alloc, false)?;
+    assert_eq!(rt;
+        add_inverse(&mut presentation, 0, 1),
+        Err(AddFault::EmptyWord)
+    );
+    add_involution(&mut presentation, 0, 1)?;
+    let text = texts(&presentation, alloc)?;
+    assert_eq!(rt; text.as_slice(), b"aa=b ".as_slice());
+    Ok(())
+}
+
+// So many relations over `ab`.
+fn with_many(alloc: Global, count: usize) -> Result<Presentation, AddFault> {
+    let mut presentation = over_ab(alloc, true)?;
+    for _ in 0..count {
+        add(&mut presentation, alloc, b"aa", b"b")?;
+    }
+    Ok(presentation)
+}
+
+#[test]
+fn fills_up_to_8192_relations(rt: HostRuntime) -> Result<(), Fail> {
+    let alloc = rt.alloc();
+    let mut presentation = with_many(alloc, 8189)?;
+    add_identity(&mut presentation, 0)?;
+    assert_eq!(rt; presentation.relations().len(), 8192);
+    let mut presentation = with_many(alloc, 8190)?;
+    assert_eq!(rt; add_identity(&mut presentation, 0), Err(AddFault::TooMany));
+    assert_eq!(rt; add_zero(&mut presentation, 0), Err(AddFault::TooMany));
+    add_inverse(&mut presentation, 0, 1)?;
+    assert_eq!(rt;
+        add_inverse(&mut presentation, 0, 0),
+        Err(AddFault::TooMany)
+    );
+    assert_eq!(rt; presentation.relations().len(), 8192);
+    Ok(())
+}
+
+// The congruence of a kind over `ab` with the relation `aab = ba` and the pair of the same words.
+fn with_pair_of_relation(alloc: Global, kind: Kind) -> Result<Congruence, AddFault> {
+    let presentation = with_one_relation(alloc)?;
+    let pairs = presentation.relations().copy(alloc)?;
+    Ok(Congruence::new(presentation, kind, pairs))
+}
+
+// Its marked presentation, if it is small, one-sided and has no marker.
+fn marked(congruence: &Congruence, alloc: Global) -> Result<Presentation, NoMemory> {
+    let presentation = congruence.presentation();
+    if presentation.relations().len() > 4096 || congruence.pairs().len() > 4096 {
+        return Err(NoMemory);
+    }
+    if congruence.kind() == Kind::TwoSided || presentation.alphabet().has_marker() {
+        return Err(NoMemory);
+    }
+    congruence.marked(alloc)
+}
+
+// The texts of the relations of the marked presentation.
+fn marked_texts(alloc: Global, kind: Kind) -> Result<Vec<u8>, AddFault> {
+    let congruence = with_pair_of_relation(alloc, kind)?;
+    let presentation = marked(&congruence, alloc)?;
+    let text = texts(&presentation, alloc)?;
+    Ok(text)
+}
+
+#[test]
+fn marks_pairs(rt: HostRuntime) -> Result<(), Fail> {
+    let alloc = rt.alloc();
+    let right = marked_texts(alloc, Kind::Right)?;
+    assert_eq!(rt; right.as_slice(), b"aab=ba #aab=#ba ".as_slice());
+    let left = marked_texts(alloc, Kind::Left)?;
+    assert_eq!(rt; left.as_slice(), b"aab=ba aab#=ba# ".as_slice());
     Ok(())
 }
