@@ -27,7 +27,7 @@ pub enum Problem {
 }
 
 impl Problem {
-    /// The letters, from 1 to 26: those of the presentation, or one for each generator. What holds
+    /// The letters, from 1 to 53: those of the presentation, or one for each generator. What holds
     /// of every problem is told here.
     pub fn alphabet(&self) -> &Alphabet
         ensures letters { result.now ≡ letters_of self.now }

@@ -71,12 +71,12 @@ impl<E: Element> Posed<E> {
         &self.alphabet
     }
 
-    /// The generators: from 1 to 26, of one shape.
+    /// The generators: from 1 to 53, of one shape.
     pub fn generators(&self) -> &Vec<E>
         ensures generators { result.now.items ≡ self.now.generators }
         ensures one_each { length self.now.generators ≡ length self.now.letters }
         ensures some { 0 < length self.now.generators }
-        ensures few { length self.now.generators ≤ 26 }
+        ensures few { length self.now.generators ≤ 53 }
         ensures shape { HaveOneShape E.shape self.now.generators }
     {
         prove!(self.generators.as_vec().len() == self.alphabet.len());

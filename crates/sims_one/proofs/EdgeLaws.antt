@@ -56,7 +56,7 @@ path_seen k u node m (a ∷ w) h e = go (slice_get u (node * k + a)) refl e (λ 
 place_there : (k s node a : ℕ) → node < s → a < k → node * k + a < k * s
 place_there k s node a h l = omega (arith, times_more k (suc node) s (omega arith), l)
 
-pub place_within : (k at a : ℕ) → k ≤ 26 → at < 17 → a < k → at * k + a < 442
+pub place_within : (k at a : ℕ) → k ≤ 53 → at < 17 → a < k → at * k + a < 901
 place_within k at a few small over = omega (arith, times_more k (at + 1) 17 (omega arith), few, over)
 
 -- the relations hold in tables

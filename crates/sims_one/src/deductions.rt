@@ -26,7 +26,7 @@ fn deduce(
     letter: usize,
     target: usize,
 ) -> Result<(), NoMemory>
-    requires letters { letters ≤ 26 }
+    requires letters { letters ≤ 53 }
     requires node { node < MOST_NODES }
     requires letter { letter < letters }
     requires target { target < MOST_NODES }

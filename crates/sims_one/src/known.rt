@@ -7,8 +7,8 @@ ghost use Rattle.sims_one.specs.Known.{HasEdges};
 use crate::paths::MOST_NODES;
 use words::Word;
 
-/// The most edges of a table: 26 for each node.
-pub const MOST_EDGES: usize = 442;
+/// The most edges of a table: 53 for each node.
+pub const MOST_EDGES: usize = 901;
 
 // Stands for a target that is not known.
 const UNKNOWN: u8 = 17;
@@ -72,7 +72,7 @@ impl Known {
     /// How far the word leads from the node by known edges.
     pub fn follow(&self, letters: usize, node: usize, word: &Word) -> End
         requires node { node < MOST_NODES }
-        requires letters { letters ≤ 26 }
+        requires letters { letters ≤ 53 }
         requires word { IsOver letters word.now }
         ensures length { result.length ≤ length word.now }
         ensures node { result.node < MOST_NODES }

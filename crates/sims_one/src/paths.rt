@@ -26,7 +26,7 @@ pub fn greatest(targets: &[usize]) -> usize
 // target is wanting.
 fn target_at(letters: usize, targets: &[usize], node: usize, letter: Letter) -> Option<usize>
     requires node { node < MOST_NODES }
-    requires letters { letters ≤ 26 }
+    requires letters { letters ≤ 53 }
     requires letter { letter < letters }
     ensures { result ≡ slice_get targets.now (node * letters + letter) }
 {
@@ -36,7 +36,7 @@ fn target_at(letters: usize, targets: &[usize], node: usize, letter: Letter) -> 
 // Where the word leads from the node. `None` where a target on the way is wanting.
 fn path_in(letters: usize, targets: &[usize], node: usize, word: &Word) -> Option<usize>
     requires node { node < MOST_NODES }
-    requires letters { letters ≤ 26 }
+    requires letters { letters ≤ 53 }
     requires word { IsOver letters word.now }
     requires targets { All (λ m. m < MOST_NODES) targets.now }
     ensures { result ≡ path_in letters targets.now node word.now }
@@ -54,7 +54,7 @@ fn path_in(letters: usize, targets: &[usize], node: usize, word: &Word) -> Optio
 // Whether both words lead from the node to one, unless a target is wanting.
 fn agree(letters: usize, targets: &[usize], node: usize, r: &Word, s: &Word) -> bool
     requires node { node < MOST_NODES }
-    requires letters { letters ≤ 26 }
+    requires letters { letters ≤ 53 }
     requires left { IsOver letters r.now }
     requires right { IsOver letters s.now }
     requires targets { All (λ m. m < MOST_NODES) targets.now }
@@ -72,7 +72,7 @@ fn agree(letters: usize, targets: &[usize], node: usize, r: &Word, s: &Word) -> 
 // Whether the sides of each pair lead from the node to one, unless a target is wanting.
 fn agree_at(letters: usize, targets: &[usize], node: usize, pairs: &Pairs) -> bool
     requires node { node < MOST_NODES }
-    requires letters { letters ≤ 26 }
+    requires letters { letters ≤ 53 }
     requires pairs { All (λ p. IsOver letters p.0 × IsOver letters p.1) pairs.now }
     requires targets { All (λ m. m < MOST_NODES) targets.now }
     ensures { IsTrue result ↔ ((r s : Letters) → Contains pairs.now (r, s)

@@ -14,7 +14,7 @@ broken_here : (p : Presentation) (n : ℕ) (t u : List ℕ) → u ≡ t → (IsT
 broken_here p n t u e h = none_broken p n t (λ sound. let k : false ≡ true = h.1 (subst (λ (xs : List ℕ). IsSound p xs) (sym e) sound) in cc)
 
 -- a place where a target is wanting
-place_small : (k s place : ℕ) → k ≤ 26 → s ≤ 17 → place < k * s → place < 442
+place_small : (k s place : ℕ) → k ≤ 53 → s ≤ 17 → place < k * s → place < 901
 place_small k s place few seen h = omega (arith, h, times_more k s 17 seen, few)
 
 -- the rows of the nodes seen are not full
