@@ -16,3 +16,4 @@ pub mod WalkThere
 pub mod ReprintLaws
 pub mod LevelLaws
 pub mod LevelSteps
+pub mod ImageLaws

@@ -9,3 +9,4 @@ pub mod TableText
 pub mod Table
 pub mod Levels
 pub mod Backwards
+pub mod TwoSided

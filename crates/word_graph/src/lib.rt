@@ -11,6 +11,7 @@ mod graphs;
 mod rows;
 mod tables;
 mod texts;
+mod two_sided;
 mod walks;
 
 pub use fault::TableFault;

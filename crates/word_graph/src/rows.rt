@@ -27,7 +27,7 @@ impl Model for Row {
 }
 
 // The place of the node that an edge leads to.
-fn renumber(places: &[Option<usize>], target: Option<usize>) -> Option<usize>
+pub(crate) fn renumber(places: &[Option<usize>], target: Option<usize>) -> Option<usize>
     ensures { result ≡ renumber places.now target }
 {
     let node = target?;

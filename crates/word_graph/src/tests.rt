@@ -214,3 +214,30 @@ fn a_table_need_not_be_standard(rt: HostRuntime) -> Result<(), Fail> {
     assert_eq!(rt; table.nodes(), 2);
     Ok(())
 }
+
+// Whether the table that a text names is two-sided; none where it is not standard.
+fn two_sided(alloc: Global, letters: u8, text: &[u8]) -> Result<Option<bool>, TableFault> {
+    let table = WordGraph::read_table(alloc, usize::from(letters), text)?;
+    if !table.is_standard() {
+        return Ok(None);
+    }
+    Ok(Some(table.is_two_sided(alloc)?))
+}
+
+// Subgroups of index 2, 3 and 6 of the symmetric group of degree 3, the whole group, and the two
+// congruences of index 2 of the free monoid of one letter.
+#[test]
+fn tells_two_sided_tables(rt: HostRuntime) -> Result<(), Fail> {
+    for (letters, text, want) in [
+        (2, "1,0/0,1", true),
+        (2, "0,1/2,2/1,0", false),
+        (2, "1,2/0,3/4,5/5,4/2,1/3,0", true),
+        (2, "0,0", true),
+        (1, "1/0", true),
+        (1, "1/1", true),
+    ] {
+        let answer = two_sided(rt.alloc(), letters, text.as_bytes())?;
+        assert_eq!(rt; answer, Some(want), "{text}");
+    }
+    Ok(())
+}

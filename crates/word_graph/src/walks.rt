@@ -27,7 +27,7 @@ pub struct Walk {
 }
 
 // No node has a place.
-fn no_places(alloc: Global, nodes: usize) -> Result<Vec<Option<usize>>, NoMemory>
+pub(crate) fn no_places(alloc: Global, nodes: usize) -> Result<Vec<Option<usize>>, NoMemory>
     ensures { IfOk result (λ v. v.items ≡ replicate nodes None) }
 {
     let mut places = Vec::new(alloc);
