@@ -9,6 +9,7 @@ use Rattle.query_lang.specs.declared.cause.Cause.{Cause}
 use Rattle.query_lang.specs.declared.cause.Cause.TheVariants as cause
 use Rattle.query_lang.specs.Script.{ReaderOf}
 use Rattle.query_lang.specs.Script.{Relating, Pairing, Asking}
+use Rattle.query_lang.specs.declared.version.Version.{Version}
 use Rattle.query_lang.specs.Outcome.{and_then}
 use Rattle.std.specs.Option.{ok_or, unwrap_or}
 use Rattle.theory.specs.declared.Kind.{Kind}
@@ -20,13 +21,13 @@ use Rattle.query_lang.specs.declared.script.Query.TheVariants as query
 use Rattle.query_lang.specs.Asked.{ScriptOf}
 use Rattle.query_lang.specs.QueryLines.{NameOf, is_name_barred, is_name_there, name_takes, query_name_of, query_of}
 use Rattle.query_lang.specs.Tables.{congruence_table_of, low_table_of}
-use Rattle.query_lang.specs.Token.{Token, is_word, number_within}
+use Rattle.query_lang.specs.Token.{Token, is_word, number_within, relation_of}
 use Rattle.query_lang.specs.LineWords.{element_of}
 use Rattle.query_lang.specs.Relations.{add_relation, most_relations, relations_of}
 use Rattle.query_lang.specs.Pairing.{add_pair, is_same_kind, most_pairs}
 use Rattle.query_lang.specs.Script.{asked, finished, is_presentation, pair_line, pair_or_query, presentation_line, query_line, relation_line, with_asked}
-use Rattle.query_lang.specs.Grammar.{Partial, is_empty, script_in}
-use Rattle.query_lang.specs.Forms.{Form, Relation, Pair, Index, Equal, Normal, Classes, Rules, Element, Cayley, LowIndex, Meet, Join, ACongruenceTable, forms_of, shapes_of}
+use Rattle.query_lang.specs.Grammar.{Head, Partial, is_empty, script_in}
+use Rattle.query_lang.specs.Forms.{Form, Relation, Pair, Index, Equal, Normal, Classes, Rules, Element, Cayley, LowIndex, Meet, Join, Green, Idempotents, ACongruenceTable, forms_of, shapes_of}
 use Rattle.query_lang.specs.LineCauses.{when, first_of, cause_in, cause_of_token, form_among, form_causes, named_causes, is_barred, is_pair_too_many, is_relation_too_many, mixes_kinds, shape_for, shape_causes}
 use Rattle.query_lang.proofs.FoldLemmas.{partial, reader_of}
 use Rattle.query_lang.proofs.TableLemmas.{causes_in_order}
@@ -59,24 +60,24 @@ relation_sides false (Err c) v f = refl
 relation_sides false (Ok x) (Err c) f = refl
 relation_sides false (Ok x) (Ok y) f = refl
 
-relation_behind : (sizes : ℕ × ℕ) (o : Posed) (tokens : List Token) → cause_in (relation_line (Relating o) tokens) ≡ first_of (causes_behind (partial sizes (Presented o) []) Relation tokens)
-relation_behind sizes o [] = refl
-relation_behind sizes o (s ∷ []) = refl
-relation_behind sizes o (s ∷ t ∷ []) =
+relation_behind : (head : Head) (o : Posed) (tokens : List Token) → cause_in (relation_line head.version (Relating o) tokens) ≡ first_of (causes_behind (partial head (Presented o) []) Relation tokens)
+relation_behind head o [] = refl
+relation_behind head o (s ∷ []) = refl
+relation_behind head o (s ∷ t ∷ []) =
     relation_sides (length o.congruence.presentation.relations == most_relations)
-    (element_of o.alphabet o.congruence.presentation.is_monoid s) (element_of o.alphabet o.congruence.presentation.is_monoid t) (add_relation o)
-relation_behind sizes o (s ∷ t ∷ u ∷ tokens) = refl
+    (element_of head.version o.alphabet o.congruence.presentation.is_monoid s) (element_of head.version o.alphabet o.congruence.presentation.is_monoid t) (add_relation o)
+relation_behind head o (s ∷ t ∷ u ∷ tokens) = refl
 
-relation_by : (no_pair : Bool) (o : Posed) (tokens : List Token) (cs : List (Option Cause)) → cause_in (relation_line (Relating o) tokens) ≡ first_of cs
-    → cause_in (relation_line (if no_pair then Relating o else Pairing (Presented o)) tokens) ≡ first_of (when cause.LineOutOfOrder (nat_lt 2 (if no_pair then 2 else 3)) ∷ None ∷ cs)
-relation_by true o tokens cs h = h
-relation_by false o tokens cs h = refl
+relation_by : (head : Head) (no_pair : Bool) (o : Posed) (tokens : List Token) (cs : List (Option Cause)) → cause_in (relation_line head.version (Relating o) tokens) ≡ first_of cs
+    → cause_in (relation_line head.version (if no_pair then Relating o else Pairing (Presented o)) tokens) ≡ first_of (when cause.LineOutOfOrder (nat_lt 2 (if no_pair then 2 else 3)) ∷ None ∷ cs)
+relation_by head true o tokens cs h = h
+relation_by head false o tokens cs h = refl
 
 -- a relation has the cause that is said
-relation_cause : (sizes : ℕ × ℕ) (o : Posed) (queries : List Query) (tokens : List Token)
-    → cause_in (relation_line (reader_of (partial sizes (Presented o) queries)) tokens) ≡ first_of (form_causes (partial sizes (Presented o) queries) Relation tokens)
-relation_cause sizes o [] tokens = relation_by (length o.congruence.pairs == 0) o tokens _ (relation_behind sizes o tokens)
-relation_cause sizes o (q ∷ queries) tokens = refl
+relation_cause : (head : Head) (o : Posed) (queries : List Query) (tokens : List Token)
+    → cause_in (relation_line head.version (reader_of (partial head (Presented o) queries)) tokens) ≡ first_of (form_causes (partial head (Presented o) queries) Relation tokens)
+relation_cause head o [] tokens = relation_by head (length o.congruence.pairs == 0) o tokens _ (relation_behind head o tokens)
+relation_cause head o (q ∷ queries) tokens = refl
 
 -- pairs
 
@@ -92,22 +93,22 @@ pair_sides false true same (Err c) v f = refl
 pair_sides false true same (Ok x) (Err c) f = refl
 pair_sides false true same (Ok x) (Ok y) f = refl
 
-pair_behind : (p : Partial) (kind : Kind) (tokens : List Token) → cause_in (and_then (λ q. Ok (Pairing q)) (add_pair p.problem kind tokens)) ≡ first_of (causes_behind p (Pair kind) tokens)
+pair_behind : (p : Partial) (kind : Kind) (tokens : List Token) → cause_in (and_then (λ q. Ok (Pairing q)) (add_pair p.head.version p.problem kind tokens)) ≡ first_of (causes_behind p (Pair kind) tokens)
 pair_behind p kind [] = refl
 pair_behind p kind (s ∷ []) = refl
 pair_behind p kind (s ∷ t ∷ []) =
     pair_sides (length (pairs_of p.problem) == most_pairs) (length (pairs_of p.problem) == 0) (is_same_kind (kind_of p.problem) kind)
-    (element_of (letters_of p.problem) (has_empty_word p.problem) s) (element_of (letters_of p.problem) (has_empty_word p.problem) t) (λ s. with_pair p.problem kind s)
+    (element_of p.head.version (letters_of p.problem) (has_empty_word p.problem) s) (element_of p.head.version (letters_of p.problem) (has_empty_word p.problem) t) (λ s. with_pair p.problem kind s)
 pair_behind p kind (s ∷ t ∷ u ∷ tokens) = refl
 
 -- a pair has the cause that is said
-pub pair_cause : (r : ReaderOf) (p : Partial) (kind : Kind) (tokens : List Token) → Come r p → cause_in (pair_line r kind tokens) ≡ first_of (form_causes p (Pair kind) tokens)
+pub pair_cause : (r : ReaderOf) (p : Partial) (kind : Kind) (tokens : List Token) → Come r p → cause_in (pair_line p.head.version r kind tokens) ≡ first_of (form_causes p (Pair kind) tokens)
 pair_cause r p kind tokens (asking f e l late) =
-    ap (λ x. cause_in (and_then (λ problem. and_then (λ q. Ok (Pairing q)) (add_pair problem kind tokens)) x)) e ∙ late_cause _ _ late
+    ap (λ x. cause_in (and_then (λ problem. and_then (λ q. Ok (Pairing q)) (add_pair p.head.version problem kind tokens)) x)) e ∙ late_cause _ _ late
 pair_cause r p kind tokens (posed f e l early) =
-    ap (λ x. cause_in (and_then (λ problem. and_then (λ q. Ok (Pairing q)) (add_pair problem kind tokens)) x)) e ∙ pair_behind p kind tokens ∙ behind _ _ _ early l
+    ap (λ x. cause_in (and_then (λ problem. and_then (λ q. Ok (Pairing q)) (add_pair p.head.version problem kind tokens)) x)) e ∙ pair_behind p kind tokens ∙ behind _ _ _ early l
 pair_cause r p kind tokens (lacking f e l early) =
-    ap (λ x. cause_in (and_then (λ problem. and_then (λ q. Ok (Pairing q)) (add_pair problem kind tokens)) x)) e ∙ lacking_cause _ _ _ early l
+    ap (λ x. cause_in (and_then (λ problem. and_then (λ q. Ok (Pairing q)) (add_pair p.head.version problem kind tokens)) x)) e ∙ lacking_cause _ _ _ early l
 
 -- the causes of a query from the number of its tokens on
 abbrev pub query_causes : Partial → Form → List Token → List (Option Cause)
@@ -119,7 +120,7 @@ abbrev pub query_cause : Partial → NameOf → List Token → Option Cause
 query_cause p name tokens =
     cause_in
     (if not (name_takes name tokens) then Err cause.WrongNumberOfWords else if is_name_barred p.problem name then Err cause.QueryNotAllowed
-    else and_then (λ q. Ok (with_asked (script_in p) q)) (query_of (letters_of p.problem) (has_empty_word p.problem) (relations_of p.problem) name tokens))
+    else and_then (λ q. Ok (with_asked (script_in p) q)) (query_of p.head.version (letters_of p.problem) (has_empty_word p.problem) (relations_of p.problem) name tokens))
 
 pub index_cause : (p : Partial) (tokens : List Token) → query_cause p name.Index tokens ≡ first_of (query_causes p Index tokens)
 index_cause p [] = refl
@@ -139,7 +140,7 @@ one-side p (Err c) = refl
 
 pub normal_cause : (p : Partial) (tokens : List Token) → query_cause p name.Normal tokens ≡ first_of (query_causes p Normal tokens)
 normal_cause p [] = refl
-normal_cause p (s ∷ []) = one-side p (element_of (letters_of p.problem) (has_empty_word p.problem) s)
+normal_cause p (s ∷ []) = one-side p (element_of p.head.version (letters_of p.problem) (has_empty_word p.problem) s)
 normal_cause p (s ∷ t ∷ tokens) = refl
 
 one-value : (p : Partial) (u : Result Word Cause) → cause_in (and_then (λ q. Ok (with_asked (script_in p) q)) (and_then (λ x. Ok (query.ElementOf x)) u)) ≡ first_of (cause_in u ∷ [])
@@ -148,7 +149,7 @@ one-value p (Err c) = refl
 
 pub element_cause : (p : Partial) (tokens : List Token) → query_cause p name.Element tokens ≡ first_of (query_causes p Element tokens)
 element_cause p [] = refl
-element_cause p (s ∷ []) = one-value p (element_of (letters_of p.problem) (has_empty_word p.problem) s)
+element_cause p (s ∷ []) = one-value p (element_of p.head.version (letters_of p.problem) (has_empty_word p.problem) s)
 element_cause p (s ∷ t ∷ tokens) = refl
 
 two-sides : (p : Partial) (u v : Result Word Cause) → cause_in (and_then (λ q. Ok (with_asked (script_in p) q)) (and_then (λ (x : Word × Word). Ok (query.Equal x.0 x.1)) (and_then (λ x. and_then (λ y. Ok (x, y)) v) u))) ≡ first_of (cause_in u ∷ cause_in v ∷ [])
@@ -159,7 +160,7 @@ two-sides p (Ok x) (Ok y) = refl
 pub equal_cause : (p : Partial) (tokens : List Token) → query_cause p name.Equal tokens ≡ first_of (query_causes p Equal tokens)
 equal_cause p [] = refl
 equal_cause p (s ∷ []) = refl
-equal_cause p (s ∷ t ∷ []) = two-sides p (element_of (letters_of p.problem) (has_empty_word p.problem) s) (element_of (letters_of p.problem) (has_empty_word p.problem) t)
+equal_cause p (s ∷ t ∷ []) = two-sides p (element_of p.head.version (letters_of p.problem) (has_empty_word p.problem) s) (element_of p.head.version (letters_of p.problem) (has_empty_word p.problem) t)
 equal_cause p (s ∷ t ∷ u ∷ tokens) = refl
 
 page-number : (p : Partial) (n : Option ℕ) → cause_in (and_then (λ q. Ok (with_asked (script_in p) q)) (and_then (λ m. Ok (query.Classes m None)) (ok_or n cause.BadNumber))) ≡ first_of (when cause.BadNumber (is_none n) ∷ [])
@@ -178,7 +179,7 @@ pub classes_cause : (p : Partial) (tokens : List Token) → query_cause p name.C
 classes_cause p [] = refl
 classes_cause p (s ∷ []) = page-number p (number_within 0 1000000 s)
 classes_cause p (s ∷ t ∷ []) = refl
-classes_cause p (s ∷ t ∷ u ∷ []) = page-behind p (number_within 0 1000000 s) (is_word (codes "after") t) (element_of (letters_of p.problem) (has_empty_word p.problem) u)
+classes_cause p (s ∷ t ∷ u ∷ []) = page-behind p (number_within 0 1000000 s) (is_word (codes "after") t) (element_of p.head.version (letters_of p.problem) (has_empty_word p.problem) u)
 classes_cause p (s ∷ t ∷ u ∷ v ∷ tokens) = refl
 
 pub cayley_cause : (p : Partial) (tokens : List Token) → query_cause p name.Cayley tokens ≡ first_of (query_causes p Cayley tokens)
@@ -256,6 +257,22 @@ join_cause p (s ∷ []) = refl
 join_cause p (s ∷ t ∷ []) = tables-said p (λ g h. query.Join g h) s t
 join_cause p (s ∷ t ∷ u ∷ tokens) = refl
 
+one-relation : {A : Type 0} (p : Partial) (made : A → Query) (barred : Bool) (o : Option A)
+    → cause_in (if barred then Err cause.QueryNotAllowed else and_then (λ q. Ok (with_asked (script_in p) q)) (and_then (λ x. Ok (made x)) (ok_or o cause.UnknownRelation)))
+    ≡ first_of (when cause.QueryNotAllowed barred ∷ when cause.UnknownRelation (is_none o) ∷ [])
+one-relation p made true o = refl
+one-relation p made false None = refl
+one-relation p made false (Some x) = refl
+
+pub green_cause : (p : Partial) (tokens : List Token) → query_cause p name.Green tokens ≡ first_of (query_causes p Green tokens)
+green_cause p [] = refl
+green_cause p (s ∷ []) = one-relation p (λ relation. query.Green relation) (not (length (pairs_of p.problem) == 0)) (relation_of s)
+green_cause p (s ∷ t ∷ tokens) = refl
+
+pub idempotents_cause : (p : Partial) (tokens : List Token) → query_cause p name.Idempotents tokens ≡ first_of (query_causes p Idempotents tokens)
+idempotents_cause p [] = not-barred _ (length (pairs_of p.problem) == 0)
+idempotents_cause p (t ∷ tokens) = refl
+
 pub lift : (late lacks : Bool) (w : Option Cause) (cs : List (Option Cause)) → late ≡ false → lacks ≡ false
     → first_of (w ∷ cs) ≡ first_of (when cause.LineOutOfOrder late ∷ when cause.NoGenerator lacks ∷ w ∷ None ∷ None ∷ None ∷ cs)
 lift late lacks None cs h k = behind late lacks (None ∷ None ∷ None ∷ None ∷ cs) h k
@@ -278,20 +295,24 @@ form_of name.Cayley = Cayley
 form_of name.LowIndex = LowIndex
 form_of name.Meet = Meet
 form_of name.Join = Join
+form_of name.Green = Green
+form_of name.Idempotents = Idempotents
 
 -- a query in a presentation has the cause that is said
-pub query_in_presentation : (sizes : ℕ × ℕ) (o : Posed) (queries : List Query) (name : NameOf) (tokens : List Token) → is_name_there true name ≡ true
-    → cause_in (asked (script_in (partial sizes (Presented o) queries)) name tokens) ≡ first_of (form_causes (partial sizes (Presented o) queries) (form_of name) tokens)
-query_in_presentation sizes o queries name.Index tokens there = index_cause (partial sizes (Presented o) queries) tokens ∙ lift _ _ _ _ (never-late (is_empty queries) (length o.congruence.pairs == 0)) refl
-query_in_presentation sizes o queries name.Equal tokens there = equal_cause (partial sizes (Presented o) queries) tokens ∙ lift _ _ _ _ (never-late (is_empty queries) (length o.congruence.pairs == 0)) refl
-query_in_presentation sizes o queries name.Normal tokens there = normal_cause (partial sizes (Presented o) queries) tokens ∙ lift _ _ _ _ (never-late (is_empty queries) (length o.congruence.pairs == 0)) refl
-query_in_presentation sizes o queries name.Classes tokens there = classes_cause (partial sizes (Presented o) queries) tokens ∙ lift _ _ _ _ (never-late (is_empty queries) (length o.congruence.pairs == 0)) refl
-query_in_presentation sizes o queries name.Rules tokens there = rules_cause (partial sizes (Presented o) queries) tokens ∙ lift _ _ _ _ (never-late (is_empty queries) (length o.congruence.pairs == 0)) refl
-query_in_presentation sizes o queries name.LowIndex tokens there = lowindex_cause (partial sizes (Presented o) queries) tokens ∙ lift _ _ _ _ (never-late (is_empty queries) (length o.congruence.pairs == 0)) refl
-query_in_presentation sizes o queries name.Meet tokens there = meet_cause (partial sizes (Presented o) queries) tokens ∙ lift _ _ _ _ (never-late (is_empty queries) (length o.congruence.pairs == 0)) refl
-query_in_presentation sizes o queries name.Join tokens there = join_cause (partial sizes (Presented o) queries) tokens ∙ lift _ _ _ _ (never-late (is_empty queries) (length o.congruence.pairs == 0)) refl
-query_in_presentation sizes o queries name.Element tokens there = absurd (true≢false (sym there))
-query_in_presentation sizes o queries name.Cayley tokens there = absurd (true≢false (sym there))
+pub query_in_presentation : (head : Head) (o : Posed) (queries : List Query) (name : NameOf) (tokens : List Token) → is_name_there true name ≡ true
+    → cause_in (asked head.version (script_in (partial head (Presented o) queries)) name tokens) ≡ first_of (form_causes (partial head (Presented o) queries) (form_of name) tokens)
+query_in_presentation head o queries name.Index tokens there = index_cause (partial head (Presented o) queries) tokens ∙ lift _ _ _ _ (never-late (is_empty queries) (length o.congruence.pairs == 0)) refl
+query_in_presentation head o queries name.Equal tokens there = equal_cause (partial head (Presented o) queries) tokens ∙ lift _ _ _ _ (never-late (is_empty queries) (length o.congruence.pairs == 0)) refl
+query_in_presentation head o queries name.Normal tokens there = normal_cause (partial head (Presented o) queries) tokens ∙ lift _ _ _ _ (never-late (is_empty queries) (length o.congruence.pairs == 0)) refl
+query_in_presentation head o queries name.Classes tokens there = classes_cause (partial head (Presented o) queries) tokens ∙ lift _ _ _ _ (never-late (is_empty queries) (length o.congruence.pairs == 0)) refl
+query_in_presentation head o queries name.Rules tokens there = rules_cause (partial head (Presented o) queries) tokens ∙ lift _ _ _ _ (never-late (is_empty queries) (length o.congruence.pairs == 0)) refl
+query_in_presentation head o queries name.LowIndex tokens there = lowindex_cause (partial head (Presented o) queries) tokens ∙ lift _ _ _ _ (never-late (is_empty queries) (length o.congruence.pairs == 0)) refl
+query_in_presentation head o queries name.Meet tokens there = meet_cause (partial head (Presented o) queries) tokens ∙ lift _ _ _ _ (never-late (is_empty queries) (length o.congruence.pairs == 0)) refl
+query_in_presentation head o queries name.Join tokens there = join_cause (partial head (Presented o) queries) tokens ∙ lift _ _ _ _ (never-late (is_empty queries) (length o.congruence.pairs == 0)) refl
+query_in_presentation head o queries name.Element tokens there = absurd (true≢false (sym there))
+query_in_presentation head o queries name.Cayley tokens there = absurd (true≢false (sym there))
+query_in_presentation head o queries name.Green tokens there = absurd (true≢false (sym there))
+query_in_presentation head o queries name.Idempotents tokens there = absurd (true≢false (sym there))
 
 pub same-cause : {A B : Type 0} (f : A → B) (r : Result A Cause) → cause_in (and_then (λ x. Ok (f x)) r) ≡ cause_in r
 same-cause f (Ok x) = refl
@@ -313,34 +334,34 @@ pick-query given said none each false false false false false false false true =
 pick-query given said none each false false false false false false false false = none
 
 -- the pair by its kind, or the query
-pub pick_pair : (t g l : Bool) (r : ReaderOf) (first : Token) (tokens : List Token) (said : Option Form → Option Cause) (f : Option Form)
-    → ((kind : Kind) → cause_in (pair_line r kind tokens) ≡ said (Some (Pair kind))) → cause_in (query_line r first tokens) ≡ said f
-    → cause_in (pair_or_query r (if t then Some TwoSided else if g then Some Right else if l then Some Left else None) first tokens)
+pub pick_pair : (version : Version) (t g l : Bool) (r : ReaderOf) (first : Token) (tokens : List Token) (said : Option Form → Option Cause) (f : Option Form)
+    → ((kind : Kind) → cause_in (pair_line version r kind tokens) ≡ said (Some (Pair kind))) → cause_in (query_line version r first tokens) ≡ said f
+    → cause_in (pair_or_query version r (if t then Some TwoSided else if g then Some Right else if l then Some Left else None) first tokens)
     ≡ said (if t then Some (Pair TwoSided) else if g then Some (Pair Right) else if l then Some (Pair Left) else f)
-pick_pair true g l r first tokens said f each hq = each TwoSided
-pick_pair false true l r first tokens said f each hq = each Right
-pick_pair false false true r first tokens said f each hq = each Left
-pick_pair false false false r first tokens said f each hq = hq
+pick_pair version true g l r first tokens said f each hq = each TwoSided
+pick_pair version false true l r first tokens said f each hq = each Right
+pick_pair version false false true r first tokens said f each hq = each Left
+pick_pair version false false false r first tokens said f each hq = hq
 
 pick-line : (r : Bool) (R C : Result ReaderOf Cause) (said : Option Form → Option Cause) (f : Option Form) → cause_in R ≡ said (Some Relation) → cause_in C ≡ said f → cause_in (if r then R else C) ≡ said (if r then Some Relation else f)
 pick-line true R C said f hr hc = hr
 pick-line false R C said f hr hc = hc
 
-query-by-name : (r : ReaderOf) (sizes : ℕ × ℕ) (o : Posed) (queries : List Query) (first : Token) (tokens : List Token) → is_presentation r ≡ true → finished r ≡ Ok (script_in (partial sizes (Presented o) queries))
-    → cause_in (query_line r first tokens) ≡ first_of (named_causes (partial sizes (Presented o) queries) (form_among (Index ∷ Equal ∷ Normal ∷ Classes ∷ Rules ∷ LowIndex ∷ Meet ∷ Join ∷ []) first) tokens)
-query-by-name r sizes o queries first tokens kind h =
-    ap (λ b. cause_in (and_then (λ name. and_then (λ script. and_then (λ s. Ok (Asking s)) (asked script name tokens)) (finished r)) (ok_or (query_name_of b first) cause.UnknownLine))) kind
-    ∙ pick-query (λ x. cause_in (and_then (λ name. and_then (λ script. and_then (λ s. Ok (Asking s)) (asked script name tokens)) (finished r)) x)) (λ form. first_of (named_causes (partial sizes (Presented o) queries) form tokens)) refl
-    (λ name there. ap (λ x. cause_in (and_then (λ script. and_then (λ s. Ok (Asking s)) (asked script name tokens)) x)) h ∙ same-cause (λ s. Asking s) (asked (script_in (partial sizes (Presented o) queries)) name tokens) ∙ query_in_presentation sizes o queries name tokens there)
+query-by-name : (r : ReaderOf) (head : Head) (o : Posed) (queries : List Query) (first : Token) (tokens : List Token) → is_presentation r ≡ true → finished r ≡ Ok (script_in (partial head (Presented o) queries))
+    → cause_in (query_line head.version r first tokens) ≡ first_of (named_causes (partial head (Presented o) queries) (form_among (Index ∷ Equal ∷ Normal ∷ Classes ∷ Rules ∷ LowIndex ∷ Meet ∷ Join ∷ []) first) tokens)
+query-by-name r head o queries first tokens kind h =
+    ap (λ b. cause_in (and_then (λ name. and_then (λ script. and_then (λ s. Ok (Asking s)) (asked head.version script name tokens)) (finished r)) (ok_or (query_name_of b first) cause.UnknownLine))) kind
+    ∙ pick-query (λ x. cause_in (and_then (λ name. and_then (λ script. and_then (λ s. Ok (Asking s)) (asked head.version script name tokens)) (finished r)) x)) (λ form. first_of (named_causes (partial head (Presented o) queries) form tokens)) refl
+    (λ name there. ap (λ x. cause_in (and_then (λ script. and_then (λ s. Ok (Asking s)) (asked head.version script name tokens)) x)) h ∙ same-cause (λ s. Asking s) (asked head.version (script_in (partial head (Presented o) queries)) name tokens) ∙ query_in_presentation head o queries name tokens there)
     (is_word (codes "index") first) (is_word (codes "equal") first) (is_word (codes "normal") first) (is_word (codes "classes") first) (is_word (codes "rules") first) (is_word (codes "lowindex") first)
     (is_word (codes "meet") first) (is_word (codes "join") first)
 
 -- a line of a presentation has the cause that is said
-pub presentation_cause : (sizes : ℕ × ℕ) (o : Posed) (queries : List Query) (first : Token) (tokens : List Token)
-    → cause_in (presentation_line (reader_of (partial sizes (Presented o) queries)) (first ∷ tokens)) ≡ first_of (named_causes (partial sizes (Presented o) queries) (form_among (forms_of true) first) tokens)
-presentation_cause sizes o queries first tokens =
-    let p : Partial = partial sizes (Presented o) queries in
-    let come = come_of sizes (Presented o) queries in
-    pick-line (is_word (codes "rel") first) _ _ (λ form. first_of (named_causes p form tokens)) _ (relation_cause sizes o queries tokens)
-    (pick_pair (is_word (codes "twosided") first) (is_word (codes "right") first) (is_word (codes "left") first) (reader_of p) first tokens (λ form. first_of (named_causes p form tokens)) _
-    (λ kind. pair_cause (reader_of p) p kind tokens come) (query-by-name (reader_of p) sizes o queries first tokens (presentation_kept sizes (Presented o) queries) (finished_by (reader_of p) p come refl)))
+pub presentation_cause : (head : Head) (o : Posed) (queries : List Query) (first : Token) (tokens : List Token)
+    → cause_in (presentation_line head.version (reader_of (partial head (Presented o) queries)) (first ∷ tokens)) ≡ first_of (named_causes (partial head (Presented o) queries) (form_among (forms_of true) first) tokens)
+presentation_cause head o queries first tokens =
+    let p : Partial = partial head (Presented o) queries in
+    let come = come_of head (Presented o) queries in
+    pick-line (is_word (codes "rel") first) _ _ (λ form. first_of (named_causes p form tokens)) _ (relation_cause head o queries tokens)
+    (pick_pair head.version (is_word (codes "twosided") first) (is_word (codes "right") first) (is_word (codes "left") first) (reader_of p) first tokens (λ form. first_of (named_causes p form tokens)) _
+    (λ kind. pair_cause (reader_of p) p kind tokens come) (query-by-name (reader_of p) head o queries first tokens (presentation_kept head (Presented o) queries) (finished_by (reader_of p) p come refl)))

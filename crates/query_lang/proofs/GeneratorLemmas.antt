@@ -17,7 +17,9 @@ use Rattle.query_lang.specs.Fields.{field_of}
 use Rattle.query_lang.specs.Entries.{all_of, below, below_or_dash, bit, is_injective}
 use Rattle.query_lang.specs.declared.script.Query.{Query}
 use Rattle.query_lang.specs.Script.{ReaderOf, Pairing, generator_line}
-use Rattle.query_lang.specs.Grammar.{Partial}
+use Rattle.query_lang.specs.Grammar.{Head, Partial}
+use Rattle.query_lang.specs.declared.version.Version.{Version}
+use Rattle.query_lang.specs.Versions.{is_wide}
 use Rattle.query_lang.specs.LineCauses.{when, first_of, cause_in, entry_count, is_bad_entry, is_taken, has_image_twice, repeats_image, generator_causes}
 use Rattle.query_lang.proofs.FoldLemmas.{opened, partial, reader_of}
 use Rattle.query_lang.proofs.FormLemmas.{same-cause}
@@ -67,55 +69,55 @@ twice f g r = same-cause g (and_then (λ x. Ok (f x)) r) ∙ same-cause f r
 -- the causes of a generator line from its name on
 abbrev name_causes : Partial → Token → List Field → List (Option Cause)
 name_causes p name fields =
-    when cause.NotALetter (is_none (letter_of name)) ∷ when cause.RepeatedLetter (is_taken p (letter_of name)) ∷ when cause.WrongNumberOfEntries (not (length fields == entry_count p.sizes p.problem))
-    ∷ when cause.BadEntry (list_any (is_bad_entry p.sizes p.problem) fields) ∷ when cause.NotInjective (repeats_image p.sizes p.problem fields) ∷ []
+    when cause.NotALetter (is_none (letter_of (is_wide p.head.version) name)) ∷ when cause.RepeatedLetter (is_taken p (letter_of (is_wide p.head.version) name)) ∷ when cause.WrongNumberOfEntries (not (length fields == entry_count p.head.sizes p.problem))
+    ∷ when cause.BadEntry (list_any (is_bad_entry p.head.sizes p.problem) fields) ∷ when cause.NotInjective (repeats_image p.head.sizes p.problem fields) ∷ []
 
-generator_by : (no_pair : Bool) (r : ReaderOf) (p : Problem) (name : Token) (entries : List Token) (cs : List (Option Cause)) → cause_in (generator_line r name entries) ≡ first_of cs
-    → cause_in (generator_line (if no_pair then r else Pairing p) name entries) ≡ first_of (when cause.LineOutOfOrder (nat_lt 2 (if no_pair then 2 else 3)) ∷ cs)
-generator_by true r p name entries cs h = h
-generator_by false r p name entries cs h = refl
+generator_by : (version : Version) (no_pair : Bool) (r : ReaderOf) (p : Problem) (name : Token) (entries : List Token) (cs : List (Option Cause)) → cause_in (generator_line version r name entries) ≡ first_of cs
+    → cause_in (generator_line version (if no_pair then r else Pairing p) name entries) ≡ first_of (when cause.LineOutOfOrder (nat_lt 2 (if no_pair then 2 else 3)) ∷ cs)
+generator_by version true r p name entries cs h = h
+generator_by version false r p name entries cs h = refl
 
 -- a generator line has the cause that is said
-abbrev pub GeneratorCauses : ℕ × ℕ → Problem → List Query → Type 0
-GeneratorCauses sizes p queries = (name : Token) (entries : List Token)
-    → cause_in (generator_line (reader_of (partial sizes p queries)) name entries) ≡ first_of (generator_causes (partial sizes p queries) name (map field_of entries))
+abbrev pub GeneratorCauses : Head → Problem → List Query → Type 0
+GeneratorCauses head p queries = (name : Token) (entries : List Token)
+    → cause_in (generator_line head.version (reader_of (partial head p queries)) name entries) ≡ first_of (generator_causes (partial head p queries) name (map field_of entries))
 
-transf_behind : (sizes : ℕ × ℕ) (g : PosedOf (List ℕ)) (name : Token) (entries : List Token)
-    → cause_in (generator_line (opened sizes (problem.Transf g)) name entries) ≡ first_of (name_causes (partial sizes (problem.Transf g) []) name (map field_of entries))
-transf_behind sizes g name entries =
-    twice _ _ _ ∙ named (partial sizes (problem.Transf g) []) (letter_of name) _ _ _
-    (plain (length (map field_of entries) == sizes.0) (all_of (below sizes.0) (map field_of entries)) _ (some-bad (below sizes.0) (map field_of entries)))
+transf_behind : (head : Head) (g : PosedOf (List ℕ)) (name : Token) (entries : List Token)
+    → cause_in (generator_line head.version (opened head (problem.Transf g)) name entries) ≡ first_of (name_causes (partial head (problem.Transf g) []) name (map field_of entries))
+transf_behind head g name entries =
+    twice _ _ _ ∙ named (partial head (problem.Transf g) []) (letter_of (is_wide head.version) name) _ _ _
+    (plain (length (map field_of entries) == head.sizes.0) (all_of (below head.sizes.0) (map field_of entries)) _ (some-bad (below head.sizes.0) (map field_of entries)))
 
-pub transf_cause : (sizes : ℕ × ℕ) (g : PosedOf (List ℕ)) (queries : List Query) → GeneratorCauses sizes (problem.Transf g) queries
-transf_cause sizes g (q ∷ queries) name entries = refl
-transf_cause sizes g [] name entries = generator_by (length g.pairs == 0) (opened sizes (problem.Transf g)) (problem.Transf g) name entries _ (transf_behind sizes g name entries)
+pub transf_cause : (head : Head) (g : PosedOf (List ℕ)) (queries : List Query) → GeneratorCauses head (problem.Transf g) queries
+transf_cause head g (q ∷ queries) name entries = refl
+transf_cause head g [] name entries = generator_by head.version (length g.pairs == 0) (opened head (problem.Transf g)) (problem.Transf g) name entries _ (transf_behind head g name entries)
 
-pperm_behind : (sizes : ℕ × ℕ) (g : PosedOf (List (Option ℕ))) (name : Token) (entries : List Token)
-    → cause_in (generator_line (opened sizes (problem.PPerm g)) name entries) ≡ first_of (name_causes (partial sizes (problem.PPerm g) []) name (map field_of entries))
-pperm_behind sizes g name entries =
-    twice _ _ _ ∙ named (partial sizes (problem.PPerm g) []) (letter_of name) _ _ _
-    (injective-too (length (map field_of entries) == sizes.0) (all_of (below_or_dash sizes.0) (map field_of entries)) _ (some-bad (below_or_dash sizes.0) (map field_of entries)))
+pperm_behind : (head : Head) (g : PosedOf (List (Option ℕ))) (name : Token) (entries : List Token)
+    → cause_in (generator_line head.version (opened head (problem.PPerm g)) name entries) ≡ first_of (name_causes (partial head (problem.PPerm g) []) name (map field_of entries))
+pperm_behind head g name entries =
+    twice _ _ _ ∙ named (partial head (problem.PPerm g) []) (letter_of (is_wide head.version) name) _ _ _
+    (injective-too (length (map field_of entries) == head.sizes.0) (all_of (below_or_dash head.sizes.0) (map field_of entries)) _ (some-bad (below_or_dash head.sizes.0) (map field_of entries)))
 
-pub pperm_cause : (sizes : ℕ × ℕ) (g : PosedOf (List (Option ℕ))) (queries : List Query) → GeneratorCauses sizes (problem.PPerm g) queries
-pperm_cause sizes g (q ∷ queries) name entries = refl
-pperm_cause sizes g [] name entries = generator_by (length g.pairs == 0) (opened sizes (problem.PPerm g)) (problem.PPerm g) name entries _ (pperm_behind sizes g name entries)
+pub pperm_cause : (head : Head) (g : PosedOf (List (Option ℕ))) (queries : List Query) → GeneratorCauses head (problem.PPerm g) queries
+pperm_cause head g (q ∷ queries) name entries = refl
+pperm_cause head g [] name entries = generator_by head.version (length g.pairs == 0) (opened head (problem.PPerm g)) (problem.PPerm g) name entries _ (pperm_behind head g name entries)
 
-bmat_behind : (sizes : ℕ × ℕ) (g : PosedOf BooleanMatrix) (name : Token) (entries : List Token)
-    → cause_in (generator_line (opened sizes (problem.BMat g)) name entries) ≡ first_of (name_causes (partial sizes (problem.BMat g) []) name (map field_of entries))
-bmat_behind sizes g name entries =
-    twice _ _ _ ∙ named (partial sizes (problem.BMat g) []) (letter_of name) _ _ _
-    (same-cause _ _ ∙ plain (length (map field_of entries) == sizes.0 * sizes.0) (all_of bit (map field_of entries)) _ (some-bad bit (map field_of entries)))
+bmat_behind : (head : Head) (g : PosedOf BooleanMatrix) (name : Token) (entries : List Token)
+    → cause_in (generator_line head.version (opened head (problem.BMat g)) name entries) ≡ first_of (name_causes (partial head (problem.BMat g) []) name (map field_of entries))
+bmat_behind head g name entries =
+    twice _ _ _ ∙ named (partial head (problem.BMat g) []) (letter_of (is_wide head.version) name) _ _ _
+    (same-cause _ _ ∙ plain (length (map field_of entries) == head.sizes.0 * head.sizes.0) (all_of bit (map field_of entries)) _ (some-bad bit (map field_of entries)))
 
-pub bmat_cause : (sizes : ℕ × ℕ) (g : PosedOf BooleanMatrix) (queries : List Query) → GeneratorCauses sizes (problem.BMat g) queries
-bmat_cause sizes g (q ∷ queries) name entries = refl
-bmat_cause sizes g [] name entries = generator_by (length g.pairs == 0) (opened sizes (problem.BMat g)) (problem.BMat g) name entries _ (bmat_behind sizes g name entries)
+pub bmat_cause : (head : Head) (g : PosedOf BooleanMatrix) (queries : List Query) → GeneratorCauses head (problem.BMat g) queries
+bmat_cause head g (q ∷ queries) name entries = refl
+bmat_cause head g [] name entries = generator_by head.version (length g.pairs == 0) (opened head (problem.BMat g)) (problem.BMat g) name entries _ (bmat_behind head g name entries)
 
-mpt_behind : (sizes : ℕ × ℕ) (g : PosedOf TruncatedMatrix) (name : Token) (entries : List Token)
-    → cause_in (generator_line (opened sizes (problem.MaxPlus g)) name entries) ≡ first_of (name_causes (partial sizes (problem.MaxPlus g) []) name (map field_of entries))
-mpt_behind sizes g name entries =
-    twice _ _ _ ∙ named (partial sizes (problem.MaxPlus g) []) (letter_of name) _ _ _
-    (same-cause _ _ ∙ plain (length (map field_of entries) == sizes.0 * sizes.0) (all_of (below_or_dash (sizes.1 + 1)) (map field_of entries)) _ (some-bad (below_or_dash (sizes.1 + 1)) (map field_of entries)))
+mpt_behind : (head : Head) (g : PosedOf TruncatedMatrix) (name : Token) (entries : List Token)
+    → cause_in (generator_line head.version (opened head (problem.MaxPlus g)) name entries) ≡ first_of (name_causes (partial head (problem.MaxPlus g) []) name (map field_of entries))
+mpt_behind head g name entries =
+    twice _ _ _ ∙ named (partial head (problem.MaxPlus g) []) (letter_of (is_wide head.version) name) _ _ _
+    (same-cause _ _ ∙ plain (length (map field_of entries) == head.sizes.0 * head.sizes.0) (all_of (below_or_dash (head.sizes.1 + 1)) (map field_of entries)) _ (some-bad (below_or_dash (head.sizes.1 + 1)) (map field_of entries)))
 
-pub mpt_cause : (sizes : ℕ × ℕ) (g : PosedOf TruncatedMatrix) (queries : List Query) → GeneratorCauses sizes (problem.MaxPlus g) queries
-mpt_cause sizes g (q ∷ queries) name entries = refl
-mpt_cause sizes g [] name entries = generator_by (length g.pairs == 0) (opened sizes (problem.MaxPlus g)) (problem.MaxPlus g) name entries _ (mpt_behind sizes g name entries)
+pub mpt_cause : (head : Head) (g : PosedOf TruncatedMatrix) (queries : List Query) → GeneratorCauses head (problem.MaxPlus g) queries
+mpt_cause head g (q ∷ queries) name entries = refl
+mpt_cause head g [] name entries = generator_by head.version (length g.pairs == 0) (opened head (problem.MaxPlus g)) (problem.MaxPlus g) name entries _ (mpt_behind head g name entries)

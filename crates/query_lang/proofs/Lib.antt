@@ -18,3 +18,4 @@ pub mod StepLaw
 pub mod TotalForms
 pub mod TotalLaw
 pub mod ScriptLaw
+pub mod PowerWordLaws

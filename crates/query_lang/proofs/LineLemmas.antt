@@ -17,35 +17,36 @@ use Rattle.query_lang.specs.Outcome.{and_then}
 use Rattle.query_lang.specs.Query.{is_rule_list, needs_generators, needs_no_pairs, needs_relations}
 use Rattle.query_lang.specs.Texts.{texts}
 use Rattle.query_lang.specs.Token.{Token, is_word}
+use Rattle.query_lang.specs.declared.version.Version.{Version}
 use Rattle.query_lang.specs.Script.{ReaderOf, Posing, Relating, Pairing, Asking}
 use Rattle.query_lang.specs.Script.{common_line, element_line, finished, generator_line, is_presentation}
-use Rattle.query_lang.specs.QueryLines.{NameOf, Index, Equal, Normal, Classes, Rules, Element, Cayley, LowIndex, Meet, Join, count_of, cursor_of, is_name_barred, is_name_there, limits_of, page_of, query_name, query_name_of, search_of, table_cursor_of}
+use Rattle.query_lang.specs.QueryLines.{NameOf, Index, Equal, Normal, Classes, Rules, Element, Cayley, LowIndex, Meet, Join, Green, Idempotents, count_of, cursor_of, is_name_barred, is_name_there, limits_of, page_of, query_name, query_name_of, search_of, table_cursor_of}
 
-pub no_page : (letters : List ℕ) (allow_empty : Bool) (tokens : List (Bor (List ℕ))) → length tokens ≢ 1 → length tokens ≢ 3 → page_of letters allow_empty (texts tokens) ≡ Err WrongNumberOfWords
-no_page letters allow_empty [] h k = refl
-no_page letters allow_empty (s ∷ []) h k = absurd (h refl)
-no_page letters allow_empty (s ∷ t ∷ []) h k = refl
-no_page letters allow_empty (s ∷ t ∷ u ∷ []) h k = absurd (k refl)
-no_page letters allow_empty (s ∷ t ∷ u ∷ v ∷ ts) h k = refl
+pub no_page : (version : Version) (letters : List ℕ) (allow_empty : Bool) (tokens : List (Bor (List ℕ))) → length tokens ≢ 1 → length tokens ≢ 3 → page_of version letters allow_empty (texts tokens) ≡ Err WrongNumberOfWords
+no_page version letters allow_empty [] h k = refl
+no_page version letters allow_empty (s ∷ []) h k = absurd (h refl)
+no_page version letters allow_empty (s ∷ t ∷ []) h k = refl
+no_page version letters allow_empty (s ∷ t ∷ u ∷ []) h k = absurd (k refl)
+no_page version letters allow_empty (s ∷ t ∷ u ∷ v ∷ ts) h k = refl
 
 -- a page whose number is refused
-pub count_refused : (letters : List ℕ) (allow_empty : Bool) (tokens : List (Bor (List ℕ))) (none : Bor (List ℕ)) (cause : Cause) → length tokens ≡ 3 → count_of (get_or tokens 0 none).now ≡ Err cause → page_of letters allow_empty (texts tokens) ≡ Err cause
-count_refused letters allow_empty [] none cause n h = absurd (omega arith)
-count_refused letters allow_empty (s ∷ []) none cause n h = absurd (omega arith)
-count_refused letters allow_empty (s ∷ t ∷ []) none cause n h = absurd (omega arith)
-count_refused letters allow_empty (s ∷ t ∷ u ∷ []) none cause n h =
-    ap (and_then (λ m. and_then (λ w. Ok (query.Classes m (Some w))) (cursor_of letters allow_empty t.now u.now))) h
-count_refused letters allow_empty (s ∷ t ∷ u ∷ v ∷ ts) none cause n h = absurd (omega arith)
+pub count_refused : (version : Version) (letters : List ℕ) (allow_empty : Bool) (tokens : List (Bor (List ℕ))) (none : Bor (List ℕ)) (cause : Cause) → length tokens ≡ 3 → count_of (get_or tokens 0 none).now ≡ Err cause → page_of version letters allow_empty (texts tokens) ≡ Err cause
+count_refused version letters allow_empty [] none cause n h = absurd (omega arith)
+count_refused version letters allow_empty (s ∷ []) none cause n h = absurd (omega arith)
+count_refused version letters allow_empty (s ∷ t ∷ []) none cause n h = absurd (omega arith)
+count_refused version letters allow_empty (s ∷ t ∷ u ∷ []) none cause n h =
+    ap (and_then (λ m. and_then (λ w. Ok (query.Classes m (Some w))) (cursor_of version letters allow_empty t.now u.now))) h
+count_refused version letters allow_empty (s ∷ t ∷ u ∷ v ∷ ts) none cause n h = absurd (omega arith)
 
 -- a line that is no generator line
-pub is_common_line : (r : ReaderOf) (line : List (Bor (List ℕ))) (none : Bor (List ℕ)) → 1 ≤ length line → (length line < 2) ⊎ (is_word (codes "=") (get_or line 1 none).now ≡ false)
-    → common_line r (get_or line 0 none).now (texts (take (length line - 1) (drop 1 line))) ≡ element_line r (texts line)
-is_common_line r [] none h which = absurd (omega arith)
-is_common_line r (s ∷ []) none h which = refl
-is_common_line r (s ∷ t ∷ ts) none h (inl short) = absurd (omega arith)
-is_common_line r (s ∷ t ∷ ts) none h (inr other) =
-    ap (λ tokens. common_line r s.now (texts tokens)) (take_all (length (s ∷ t ∷ ts) - 1) (t ∷ ts) (omega arith))
-    ∙ ap (λ (b : Bool). if b then generator_line r s.now (texts ts) else common_line r s.now (texts (t ∷ ts))) (sym other)
+pub is_common_line : (version : Version) (r : ReaderOf) (line : List (Bor (List ℕ))) (none : Bor (List ℕ)) → 1 ≤ length line → (length line < 2) ⊎ (is_word (codes "=") (get_or line 1 none).now ≡ false)
+    → common_line version r (get_or line 0 none).now (texts (take (length line - 1) (drop 1 line))) ≡ element_line version r (texts line)
+is_common_line version r [] none h which = absurd (omega arith)
+is_common_line version r (s ∷ []) none h which = refl
+is_common_line version r (s ∷ t ∷ ts) none h (inl short) = absurd (omega arith)
+is_common_line version r (s ∷ t ∷ ts) none h (inr other) =
+    ap (λ tokens. common_line version r s.now (texts tokens)) (take_all (length (s ∷ t ∷ ts) - 1) (t ∷ ts) (omega arith))
+    ∙ ap (λ (b : Bool). if b then generator_line version r s.now (texts ts) else common_line version r s.now (texts (t ∷ ts))) (sym other)
 
 -- a query that is not barred
 
@@ -64,6 +65,8 @@ rules_allowed p query.Cayley h e = absurd (true≢false (sym e))
 rules_allowed p (query.LowIndex classes count after) h e = absurd (true≢false (sym e))
 rules_allowed p (query.Meet s t) h e = absurd (true≢false (sym e))
 rules_allowed p (query.Join s t) h e = absurd (true≢false (sym e))
+rules_allowed p (query.Green relation) h e = absurd (true≢false (sym e))
+rules_allowed p query.Idempotents h e = absurd (true≢false (sym e))
 
 no_pairs : {A : Type 0} (xs : List A) → not (length xs == 0) ≡ false → xs ≡ []
 no_pairs [] h = refl
@@ -74,6 +77,8 @@ without_pairs p query.Cayley h e = no_pairs (pairs_of p) h
 without_pairs p (query.LowIndex classes count after) h e = no_pairs (pairs_of p) h
 without_pairs p (query.Meet s t) h e = no_pairs (pairs_of p) h
 without_pairs p (query.Join s t) h e = no_pairs (pairs_of p) h
+without_pairs p (query.Green relation) h e = no_pairs (pairs_of p) h
+without_pairs p query.Idempotents h e = no_pairs (pairs_of p) h
 without_pairs p query.RuleList h e = absurd (true≢false (sym e))
 without_pairs p query.Index h e = absurd (true≢false (sym e))
 without_pairs p (query.Equal u v) h e = absurd (true≢false (sym e))
@@ -98,6 +103,8 @@ needs_none_generated b query.Cayley h e = absent b h e
 needs_none_generated b (query.LowIndex classes count after) h e = refl
 needs_none_generated b (query.Meet s t) h e = refl
 needs_none_generated b (query.Join s t) h e = refl
+needs_none_generated b (query.Green relation) h e = absent b h e
+needs_none_generated b query.Idempotents h e = absent b h e
 
 pub relations_given : (b : Bool) (q : Query) → is_name_there b (query_name q) ≡ true → needs_relations q ≡ true → b ≡ true
 relations_given b (query.LowIndex classes count after) h e = h
@@ -110,32 +117,38 @@ relations_given b (query.Classes count after) h e = absurd (true≢false (sym e)
 relations_given b query.RuleList h e = absurd (true≢false (sym e))
 relations_given b (query.ElementOf u) h e = absurd (true≢false (sym e))
 relations_given b query.Cayley h e = absurd (true≢false (sym e))
+relations_given b (query.Green relation) h e = absurd (true≢false (sym e))
+relations_given b query.Idempotents h e = absurd (true≢false (sym e))
 
 -- a name that a line has is one that its kind of script has
 pub name_is_there : (b : Bool) (t : Token) (name : NameOf) → ok_or (query_name_of b t) UnknownLine ≡ Ok name → is_name_there b name ≡ true
 name_is_there b t name =
     go b (is_word (codes "index") t) (is_word (codes "equal") t) (is_word (codes "normal") t) (is_word (codes "classes") t) (is_word (codes "rules") t)
     (is_word (codes "lowindex") t) (is_word (codes "meet") t) (is_word (codes "join") t) (is_word (codes "element") t) (is_word (codes "cayley") t)
+    (is_word (codes "green") t) (is_word (codes "idempotents") t)
   where
     there : (b : Bool) (one : NameOf) → is_name_there b one ≡ true → ◌≡◌ {A = Result NameOf Cause} (Ok one) (Ok name) → is_name_there b name ≡ true
     there b one h e = let same : one ≡ name = cc in ap (is_name_there b) (sym same) ∙ h
 
-    go : (b i e n c r l m j y z : Bool)
+    go : (b i e n c r l m j y z g d : Bool)
         → ok_or (if i then Some Index else if e then Some Equal else if n then Some Normal else if c then Some Classes else if r then Some Rules
-        else if b && l then Some LowIndex else if b && m then Some Meet else if b && j then Some Join else if not b && y then Some Element else if not b && z then Some Cayley else None) UnknownLine ≡ Ok name
+        else if b && l then Some LowIndex else if b && m then Some Meet else if b && j then Some Join else if not b && y then Some Element else if not b && z then Some Cayley
+        else if not b && g then Some Green else if not b && d then Some Idempotents else None) UnknownLine ≡ Ok name
         → is_name_there b name ≡ true
-    go b true e n c r l m j y z h = there b Index refl h
-    go b false true n c r l m j y z h = there b Equal refl h
-    go b false false true c r l m j y z h = there b Normal refl h
-    go b false false false true r l m j y z h = there b Classes refl h
-    go b false false false false true l m j y z h = there b Rules refl h
-    go true false false false false false true m j y z h = there true LowIndex refl h
-    go true false false false false false false true j y z h = there true Meet refl h
-    go true false false false false false false false true y z h = there true Join refl h
-    go true false false false false false false false false y z h = absurd (cc)
-    go false false false false false false l m j true z h = there false Element refl h
-    go false false false false false false l m j false true h = there false Cayley refl h
-    go false false false false false false l m j false false h = absurd (cc)
+    go b true e n c r l m j y z g d h = there b Index refl h
+    go b false true n c r l m j y z g d h = there b Equal refl h
+    go b false false true c r l m j y z g d h = there b Normal refl h
+    go b false false false true r l m j y z g d h = there b Classes refl h
+    go b false false false false true l m j y z g d h = there b Rules refl h
+    go true false false false false false true m j y z g d h = there true LowIndex refl h
+    go true false false false false false false true j y z g d h = there true Meet refl h
+    go true false false false false false false false true y z g d h = there true Join refl h
+    go true false false false false false false false false y z g d h = absurd (cc)
+    go false false false false false false l m j true z g d h = there false Element refl h
+    go false false false false false false l m j false true g d h = there false Cayley refl h
+    go false false false false false false l m j false false true d h = there false Green refl h
+    go false false false false false false l m j false false false true h = there false Idempotents refl h
+    go false false false false false false l m j false false false false h = absurd (cc)
 
 -- what is posed so far is of the script's kind
 

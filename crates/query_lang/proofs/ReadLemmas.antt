@@ -13,7 +13,7 @@ use Rattle.query_lang.specs.Faults.{IsLineFault, IsScriptFault, fault_at_line}
 use Rattle.query_lang.specs.Grammar.{lines_of}
 use Rattle.query_lang.specs.LineCauses.{AreScript}
 use Rattle.query_lang.specs.Token.{cut_lines}
-use Rattle.query_lang.specs.Script.{ReaderOf}
+use Rattle.query_lang.specs.Script.{ProgressOf, Nothing}
 use Rattle.query_lang.specs.Script.{ScriptOf, take_line, at_line, read_lines, whole_of, script_of}
 use Rattle.query_lang.proofs.ScriptLaw.{fault_is_told, script_is_read}
 
@@ -30,7 +30,7 @@ then-twice f g (Ok x) = refl
 then-twice f g (Err e) = refl
 
 -- lines that were read, and those behind them
-read_lines-append : (n : ℕ) (s : Option ReaderOf) (xs ys : List (List ℕ)) → read_lines n s (xs ++ ys) ≡ and_then (λ t. read_lines (length xs + n) t ys) (read_lines n s xs)
+read_lines-append : (n : ℕ) (s : ProgressOf) (xs ys : List (List ℕ)) → read_lines n s (xs ++ ys) ≡ and_then (λ t. read_lines (length xs + n) t ys) (read_lines n s xs)
 read_lines-append n s [] ys = ap (λ m. read_lines m s ys) (omega arith)
 read_lines-append n s (x ∷ xs) ys =
     then-same (λ t. read_lines (suc n) t (xs ++ ys)) (λ t. and_then (λ u. read_lines (length xs + suc n) u ys) (read_lines (suc n) t xs)) (λ t. read_lines-append (suc n) t xs ys) (at_line n (take_line s x))
@@ -38,41 +38,41 @@ read_lines-append n s (x ∷ xs) ys =
     ∙ ap (λ m. and_then (λ u. read_lines m u ys) (read_lines n s (x ∷ xs))) (let e : length xs + suc n ≡ suc (length xs) + n = omega arith in e)
 
 -- one line more
-pub read_more : (before : List (List ℕ)) (x : List ℕ) (s t : Option ReaderOf) → read_lines 1 None before ≡ Ok s → take_line s x ≡ Ok t → read_lines 1 None (before ++ x ∷ []) ≡ Ok t
+pub read_more : (before : List (List ℕ)) (x : List ℕ) (s t : ProgressOf) → read_lines 1 Nothing before ≡ Ok s → take_line s x ≡ Ok t → read_lines 1 Nothing (before ++ x ∷ []) ≡ Ok t
 read_more before x s t read e =
-    read_lines-append 1 None before (x ∷ [])
+    read_lines-append 1 Nothing before (x ∷ [])
     ∙ ap (and_then (λ u. read_lines (length before + 1) u (x ∷ []))) read
     ∙ ap (λ r. and_then (λ u. read_lines (suc (length before + 1)) u []) (at_line (length before + 1) r)) e
 
 -- a line that is refused
-read_refused : (before after : List (List ℕ)) (x : List ℕ) (s : Option ReaderOf) (cause : Cause) → read_lines 1 None before ≡ Ok s → take_line s x ≡ Err cause → read_lines 1 None (before ++ x ∷ after) ≡ Err (length before + 1, cause)
+read_refused : (before after : List (List ℕ)) (x : List ℕ) (s : ProgressOf) (cause : Cause) → read_lines 1 Nothing before ≡ Ok s → take_line s x ≡ Err cause → read_lines 1 Nothing (before ++ x ∷ after) ≡ Err (length before + 1, cause)
 read_refused before after x s cause read e =
-    read_lines-append 1 None before (x ∷ after)
+    read_lines-append 1 Nothing before (x ∷ after)
     ∙ ap (and_then (λ u. read_lines (length before + 1) u (x ∷ after))) read
     ∙ ap (λ r. and_then (λ u. read_lines (suc (length before + 1)) u after) (at_line (length before + 1) r)) e
 
 -- the fault of a line is the first fault of the script
-pub line_fault : (bytes : List ℕ) (before after : List (List ℕ)) (x : List ℕ) (s : Option ReaderOf) (fault : Option Cause) (n : ℕ) → cut_lines bytes ≡ before ++ x ∷ after → read_lines 1 None before ≡ Ok s → n ≡ length before + 1
+pub line_fault : (bytes : List ℕ) (before after : List (List ℕ)) (x : List ℕ) (s : ProgressOf) (fault : Option Cause) (n : ℕ) → cut_lines bytes ≡ before ++ x ∷ after → read_lines 1 Nothing before ≡ Ok s → n ≡ length before + 1
     → IsLineFault (take_line s x) fault → IsScriptFault bytes (fault_at_line n fault)
 line_fault bytes before after x s (Some cause) n whole read count e =
-    let refused : read_lines 1 None (cut_lines bytes) ≡ Err (n, cause) = ap (read_lines 1 None) whole ∙ read_refused before after x s cause read e ∙ ap (λ m. Err (m, cause)) (sym count) in
+    let refused : read_lines 1 Nothing (cut_lines bytes) ≡ Err (n, cause) = ap (read_lines 1 Nothing) whole ∙ read_refused before after x s cause read e ∙ ap (λ m. Err (m, cause)) (sym count) in
     (cause, fault_is_told bytes n cause (ap (and_then (λ t. at_line (length (cut_lines bytes)) (whole_of t))) refused), refl)
 line_fault bytes before after x s None n whole read count e = tt
 
 -- what is missing at the end is the fault of the script
-pub end_fault : (bytes : List ℕ) (lines : List (List ℕ)) (s : Option ReaderOf) (fault : Option Cause) (n : ℕ) → lines ≡ cut_lines bytes → read_lines 1 None lines ≡ Ok s → n ≡ length lines
+pub end_fault : (bytes : List ℕ) (lines : List (List ℕ)) (s : ProgressOf) (fault : Option Cause) (n : ℕ) → lines ≡ cut_lines bytes → read_lines 1 Nothing lines ≡ Ok s → n ≡ length lines
     → IsLineFault (whole_of s) fault → IsScriptFault bytes (fault_at_line n fault)
 end_fault bytes lines s (Some cause) n whole read count e =
     let told : script_of bytes ≡ Err (n, cause) =
-    ap (λ ls. and_then (λ t. at_line (length ls) (whole_of t)) (read_lines 1 None ls)) (sym whole) ∙ ap (and_then (λ t. at_line (length lines) (whole_of t))) read ∙ ap (at_line (length lines)) e ∙ ap (λ m. Err (m, cause)) (sym count) in
+    ap (λ ls. and_then (λ t. at_line (length ls) (whole_of t)) (read_lines 1 Nothing ls)) (sym whole) ∙ ap (and_then (λ t. at_line (length lines) (whole_of t))) read ∙ ap (at_line (length lines)) e ∙ ap (λ m. Err (m, cause)) (sym count) in
     (cause, fault_is_told bytes n cause told, refl)
 end_fault bytes lines s None n whole read count e = tt
 
 -- the script of lines that were all read
-pub whole_script : (bytes : List ℕ) (lines : List (List ℕ)) (s : Option ReaderOf) (p : ScriptOf) → lines ≡ cut_lines bytes → read_lines 1 None lines ≡ Ok s → whole_of s ≡ Ok p → AreScript (lines_of bytes) p
+pub whole_script : (bytes : List ℕ) (lines : List (List ℕ)) (s : ProgressOf) (p : ScriptOf) → lines ≡ cut_lines bytes → read_lines 1 Nothing lines ≡ Ok s → whole_of s ≡ Ok p → AreScript (lines_of bytes) p
 whole_script bytes lines s p whole read e =
     script_is_read bytes p
-    (ap (λ ls. and_then (λ t. at_line (length ls) (whole_of t)) (read_lines 1 None ls)) (sym whole) ∙ ap (and_then (λ t. at_line (length lines) (whole_of t))) read ∙ ap (at_line (length lines)) e)
+    (ap (λ ls. and_then (λ t. at_line (length ls) (whole_of t)) (read_lines 1 Nothing ls)) (sym whole) ∙ ap (and_then (λ t. at_line (length lines) (whole_of t))) read ∙ ap (at_line (length lines)) e)
 
 -- a `for` at one of the items of a list: those before it, and those behind it
 pub items_around : {S A B : Type 0} {steps : S → Option A → S → Type 0} (s t : S) (v : A → B) (xs : List A) (yielded : Yields steps s xs t) (r : Option A) (u : S) (x : A) → r ≡ Some x → steps t r u → (all : List B) → YieldsList steps v s all

@@ -12,7 +12,7 @@ use Rattle.query_lang.specs.Draft.{AnyDraft}
 use Rattle.query_lang.specs.Generators.{problem_of}
 use Rattle.query_lang.specs.Outcome.{and_then}
 use Rattle.query_lang.specs.Script.{ReaderOf, Posing, Relating, Pairing, finished, is_presentation, paired_so_far}
-use Rattle.query_lang.specs.Grammar.{Partial, lacks_generator, script_in, section_reached}
+use Rattle.query_lang.specs.Grammar.{Head, Partial, lacks_generator, script_in, section_reached}
 use Rattle.query_lang.proofs.FoldLemmas.{partial, reader_of}
 
 -- a query was asked, something is posed, or there is no generator yet
@@ -32,26 +32,26 @@ nothing_lacks true false c = refl
 nothing_lacks true true false = refl
 nothing_lacks true true true = refl
 
-presented_come : (sizes : ℕ × ℕ) (o : Posed) (no_pair : Bool) → Come (if no_pair then Relating o else Pairing (Presented o)) (partial sizes (Presented o) [])
-presented_come sizes o true = posed refl refl refl (pair_in_order (length o.congruence.pairs == 0))
-presented_come sizes o false = posed refl refl refl (pair_in_order (length o.congruence.pairs == 0))
+presented_come : (head : Head) (o : Posed) (no_pair : Bool) → Come (if no_pair then Relating o else Pairing (Presented o)) (partial head (Presented o) [])
+presented_come head o true = posed refl refl refl (pair_in_order (length o.congruence.pairs == 0))
+presented_come head o false = posed refl refl refl (pair_in_order (length o.congruence.pairs == 0))
 
-generated_come : {V : Type 0} (inj : PosedOf V → Problem) (sizes : ℕ × ℕ) (g : PosedOf V) (d : AnyDraft) (none no_pair : Bool)
+generated_come : {V : Type 0} (inj : PosedOf V → Problem) (head : Head) (g : PosedOf V) (d : AnyDraft) (none no_pair : Bool)
     → problem_of d ≡ and_then (λ x. Ok (inj x)) (if none then Err cause.NoGenerator else Ok g)
-    → lacks_generator (partial sizes (inj g) []) ≡ (none && (no_pair && true)) → nat_lt 3 (section_reached (partial sizes (inj g) [])) ≡ false
-    → Come (if no_pair then Posing d else Pairing (inj g)) (partial sizes (inj g) [])
-generated_come inj sizes g d true true h l early = lacking (ap (and_then (λ p. Ok (record { problem = p; queries = [] }))) h) h l early
-generated_come inj sizes g d false true h l early = posed (ap (and_then (λ p. Ok (record { problem = p; queries = [] }))) h) h l early
-generated_come inj sizes g d true false h l early = posed refl refl l early
-generated_come inj sizes g d false false h l early = posed refl refl l early
+    → lacks_generator (partial head (inj g) []) ≡ (none && (no_pair && true)) → nat_lt 3 (section_reached (partial head (inj g) [])) ≡ false
+    → Come (if no_pair then Posing d else Pairing (inj g)) (partial head (inj g) [])
+generated_come inj head g d true true h l early = lacking (ap (and_then (λ p. Ok (record { problem = p; queries = [] }))) h) h l early
+generated_come inj head g d false true h l early = posed (ap (and_then (λ p. Ok (record { problem = p; queries = [] }))) h) h l early
+generated_come inj head g d true false h l early = posed refl refl l early
+generated_come inj head g d false false h l early = posed refl refl l early
 
-pub come_of : (sizes : ℕ × ℕ) (p : Problem) (queries : List Query) → Come (reader_of (partial sizes p queries)) (partial sizes p queries)
-come_of sizes p (q ∷ queries) = asking refl refl (nothing_lacks (not (is_presented p)) (length (letters_of p) == 0) (length (pairs_of p) == 0)) refl
-come_of sizes (Presented o) [] = presented_come sizes o (length o.congruence.pairs == 0)
-come_of sizes (Transf g) [] = generated_come (λ x. Transf x) sizes g (draft.Transf (record { sizes = sizes; posed = g })) (length g.letters == 0) (length g.pairs == 0) refl refl (pair_in_order (length g.pairs == 0))
-come_of sizes (PPerm g) [] = generated_come (λ x. PPerm x) sizes g (draft.PPerm (record { sizes = sizes; posed = g })) (length g.letters == 0) (length g.pairs == 0) refl refl (pair_in_order (length g.pairs == 0))
-come_of sizes (BMat g) [] = generated_come (λ x. BMat x) sizes g (draft.BMat (record { sizes = sizes; posed = g })) (length g.letters == 0) (length g.pairs == 0) refl refl (pair_in_order (length g.pairs == 0))
-come_of sizes (MaxPlus g) [] = generated_come (λ x. MaxPlus x) sizes g (draft.MaxPlus (record { sizes = sizes; posed = g })) (length g.letters == 0) (length g.pairs == 0) refl refl (pair_in_order (length g.pairs == 0))
+pub come_of : (head : Head) (p : Problem) (queries : List Query) → Come (reader_of (partial head p queries)) (partial head p queries)
+come_of head p (q ∷ queries) = asking refl refl (nothing_lacks (not (is_presented p)) (length (letters_of p) == 0) (length (pairs_of p) == 0)) refl
+come_of head (Presented o) [] = presented_come head o (length o.congruence.pairs == 0)
+come_of head (Transf g) [] = generated_come (λ x. Transf x) head g (draft.Transf (record { sizes = head.sizes; posed = g })) (length g.letters == 0) (length g.pairs == 0) refl refl (pair_in_order (length g.pairs == 0))
+come_of head (PPerm g) [] = generated_come (λ x. PPerm x) head g (draft.PPerm (record { sizes = head.sizes; posed = g })) (length g.letters == 0) (length g.pairs == 0) refl refl (pair_in_order (length g.pairs == 0))
+come_of head (BMat g) [] = generated_come (λ x. BMat x) head g (draft.BMat (record { sizes = head.sizes; posed = g })) (length g.letters == 0) (length g.pairs == 0) refl refl (pair_in_order (length g.pairs == 0))
+come_of head (MaxPlus g) [] = generated_come (λ x. MaxPlus x) head g (draft.MaxPlus (record { sizes = head.sizes; posed = g })) (length g.letters == 0) (length g.pairs == 0) refl refl (pair_in_order (length g.pairs == 0))
 
 -- what has a generator, or is a presentation, is a script so far
 pub finished_by : (r : ReaderOf) (p : Partial) → Come r p → lacks_generator p ≡ false → finished r ≡ Ok (script_in p)
@@ -70,10 +70,10 @@ either_kept true r p h = h
 either_kept false r p h = refl
 
 -- whether it is a presentation
-pub presentation_kept : (sizes : ℕ × ℕ) (p : Problem) (queries : List Query) → is_presentation (reader_of (partial sizes p queries)) ≡ is_presented p
-presentation_kept sizes p (q ∷ queries) = refl
-presentation_kept sizes (Presented o) [] = either_kept (length o.congruence.pairs == 0) _ (Presented o) refl
-presentation_kept sizes (Transf g) [] = either_kept (length g.pairs == 0) _ (Transf g) refl
-presentation_kept sizes (PPerm g) [] = either_kept (length g.pairs == 0) _ (PPerm g) refl
-presentation_kept sizes (BMat g) [] = either_kept (length g.pairs == 0) _ (BMat g) refl
-presentation_kept sizes (MaxPlus g) [] = either_kept (length g.pairs == 0) _ (MaxPlus g) refl
+pub presentation_kept : (head : Head) (p : Problem) (queries : List Query) → is_presentation (reader_of (partial head p queries)) ≡ is_presented p
+presentation_kept head p (q ∷ queries) = refl
+presentation_kept head (Presented o) [] = either_kept (length o.congruence.pairs == 0) _ (Presented o) refl
+presentation_kept head (Transf g) [] = either_kept (length g.pairs == 0) _ (Transf g) refl
+presentation_kept head (PPerm g) [] = either_kept (length g.pairs == 0) _ (PPerm g) refl
+presentation_kept head (BMat g) [] = either_kept (length g.pairs == 0) _ (BMat g) refl
+presentation_kept head (MaxPlus g) [] = either_kept (length g.pairs == 0) _ (MaxPlus g) refl

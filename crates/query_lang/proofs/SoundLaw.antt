@@ -8,7 +8,6 @@ use Rattle.theory.specs.declared.Kind.TheVariants.{TwoSided, Right, Left}
 use Rattle.theory.specs.Graph.{Graph}
 use Rattle.theory.specs.Word.{Word}
 use Rattle.words.specs.Alphabet.{alphabet_fault}
-use Rattle.words.specs.WordText.{word_of}
 use Rattle.words.specs.declared.fault.AlphabetFault.{AlphabetFault}
 use Rattle.presentation.specs.Presented.{Posed}
 use Rattle.problem.specs.declared.kinds.Problem.{Problem}
@@ -19,7 +18,10 @@ use Rattle.query_lang.specs.declared.cause.Cause.TheVariants as cause
 use Rattle.query_lang.specs.Draft as draft
 use Rattle.query_lang.specs.QueryLines as name
 use Rattle.query_lang.specs.Script.{ReaderOf}
-use Rattle.query_lang.specs.Script.{Posing, Relating, Pairing, Asking}
+use Rattle.query_lang.specs.Script.{Posing, Relating, Pairing, Asking, Nothing, Versioned, Reading}
+use Rattle.query_lang.specs.declared.version.Version.{Version}
+use Rattle.query_lang.specs.declared.version.Version.TheVariants.{One}
+use Rattle.query_lang.specs.Versions.{is_wide, version_numbered, version_of}
 use Rattle.query_lang.specs.declared.script.Query.{Query}
 use Rattle.query_lang.specs.declared.script.Query.TheVariants as query
 use Rattle.query_lang.specs.Asked.{ScriptOf}
@@ -28,19 +30,19 @@ use Rattle.query_lang.specs.Elements.{boolean_matrix_of, entries_of, partial_per
 use Rattle.query_lang.specs.Entries.{all_of, below, below_or_dash, bit, is_injective}
 use Rattle.query_lang.specs.Fields.{field_of}
 use Rattle.query_lang.specs.Header.{size_of, sizes_of, outline_of}
-use Rattle.query_lang.specs.LineWords.{both_elements, element_of, with_cause}
+use Rattle.query_lang.specs.LineWords.{both_elements, element_of}
 use Rattle.query_lang.specs.Outcome.{and_then}
 use Rattle.query_lang.specs.Relations.{add_relation, free_over, most_relations, relations_of}
 use Rattle.query_lang.specs.Outline.{unless_fault}
 use Rattle.query_lang.specs.Tables.{both_tables, congruence_table_of}
 use Rattle.query_lang.specs.Pairing.{is_same_kind, most_pairs, pair_kind_of, paired, takes_kind}
 use Rattle.query_lang.specs.QueryLines.{NameOf, cursor_of, is_name_barred, limits_of, name_takes, query_name_of, query_of, table_cursor_of}
-use Rattle.query_lang.specs.Script.{asked, common_line, element_line, finished, generator_line, header_line, is_presentation, pair_or_query, presentation_line, read_line, relation_line, with_asked, with_line}
-use Rattle.query_lang.specs.Token.{Token, Line, is_word, letter_of, number_within}
+use Rattle.query_lang.specs.Script.{asked, common_line, element_line, finished, first_line, generator_line, header_line, is_presentation, pair_or_query, presentation_line, read_line, relation_line, with_asked, with_line}
+use Rattle.query_lang.specs.Token.{Token, Line, is_kept, is_word, letter_of, number_of, number_within}
 use Rattle.query_lang.specs.Forms.{name_of, Pair}
-use Rattle.query_lang.specs.Grammar.{AreEntries, HasGenerator, HeaderReads, IsCongruenceTableOf, IsQuery, LineReads, Partial, Step, begin_with, has_sign, is_generator_line, lacks_generator, script_in, section_reached}
+use Rattle.query_lang.specs.Grammar.{AreEntries, HasGenerator, Head, HeaderReads, IsCongruenceTableOf, IsQuery, LineReads, Partial, Step, begin_with, has_sign, is_generator_line, lacks_generator, script_in, section_reached}
 use Rattle.query_lang.specs.Grammar as grammar
-use Rattle.query_lang.proofs.FoldLemmas.{Sound, opened, partial, reader_of, readers}
+use Rattle.query_lang.proofs.FoldLemmas.{Sound, opened, partial, reader_of, readers, take_tokens}
 use Rattle.query_lang.proofs.PairingLemmas.{has_pairs}
 use Rattle.query_lang.proofs.TableLemmas.{congruence_is_taken, low_is_taken}
 use Rattle.query_lang.proofs.ReaderLemmas.{come_of, finished_by, pair_in_order, paired_by, presentation_kept}
@@ -55,22 +57,22 @@ sizes_read D T d t h k =
     ap (λ o. and_then (λ d. and_then (λ t. Ok (d, t)) (ok_or (number_within 0 65535 T) cause.BadNumber)) (ok_or o cause.BadNumber)) h
     ∙ ap (λ o. and_then (λ t. Ok (d, t)) (ok_or o cause.BadNumber)) k
 
-outline_read : (is_monoid : Bool) (L : Token) → alphabet_fault L ≡ None → outline_of is_monoid (L ∷ []) ≡ Ok (free_over is_monoid L)
-outline_read is_monoid L h = ap (λ (o : Option AlphabetFault). and_then (λ letters. Ok (free_over is_monoid letters)) (unless_fault o L)) h
+outline_read : (wide is_monoid : Bool) (L : Token) → alphabet_fault wide L ≡ None → outline_of wide is_monoid (L ∷ []) ≡ Ok (free_over is_monoid L)
+outline_read wide is_monoid L h = ap (λ (o : Option AlphabetFault). and_then (λ letters. Ok (free_over is_monoid letters)) (unless_fault o L)) h
 
 -- a header
-header_read : (line : Line) (q : Partial) → HeaderReads line q → header_line line ≡ Ok (reader_of q)
-header_read line q (grammar.trans {D} {d} is h) = ap header_line is ∙ ap (λ r. and_then (λ e. Ok (Posing e)) (and_then (λ d. Ok (draft.Transf (start_of (d, 0)))) r)) (size_read 64 D d h)
-header_read line q (grammar.pperm {D} {d} is h) = ap header_line is ∙ ap (λ r. and_then (λ e. Ok (Posing e)) (and_then (λ d. Ok (draft.PPerm (start_of (d, 0)))) r)) (size_read 64 D d h)
-header_read line q (grammar.bmat {D} {d} is h) = ap header_line is ∙ ap (λ r. and_then (λ e. Ok (Posing e)) (and_then (λ d. Ok (draft.BMat (start_of (d, 0)))) r)) (size_read 16 D d h)
-header_read line q (grammar.mpt {D} {T} {d} {t} is h k) = ap header_line is ∙ ap (λ r. and_then (λ e. Ok (Posing e)) (and_then (λ sizes. Ok (draft.MaxPlus (start_of sizes))) r)) (sizes_read D T d t h k)
-header_read line q (grammar.monoid {L} is h) = ap header_line is ∙ ap (and_then (λ o. Ok (Relating o))) (outline_read true L h)
-header_read line q (grammar.semigroup {L} is h) = ap header_line is ∙ ap (and_then (λ o. Ok (Relating o))) (outline_read false L h)
+header_read : (version : Version) (line : Line) (q : Partial) → HeaderReads version line q → header_line version line ≡ Ok (reader_of q)
+header_read version line q (grammar.trans {D} {d} is h) = ap (header_line version) is ∙ ap (λ r. and_then (λ e. Ok (Posing e)) (and_then (λ d. Ok (draft.Transf (start_of (d, 0)))) r)) (size_read 64 D d h)
+header_read version line q (grammar.pperm {D} {d} is h) = ap (header_line version) is ∙ ap (λ r. and_then (λ e. Ok (Posing e)) (and_then (λ d. Ok (draft.PPerm (start_of (d, 0)))) r)) (size_read 64 D d h)
+header_read version line q (grammar.bmat {D} {d} is h) = ap (header_line version) is ∙ ap (λ r. and_then (λ e. Ok (Posing e)) (and_then (λ d. Ok (draft.BMat (start_of (d, 0)))) r)) (size_read 16 D d h)
+header_read version line q (grammar.mpt {D} {T} {d} {t} is h k) = ap (header_line version) is ∙ ap (λ r. and_then (λ e. Ok (Posing e)) (and_then (λ sizes. Ok (draft.MaxPlus (start_of sizes))) r)) (sizes_read D T d t h k)
+header_read version line q (grammar.monoid {L} is h) = ap (header_line version) is ∙ ap (and_then (λ o. Ok (Relating o))) (outline_read (is_wide version) true L h)
+header_read version line q (grammar.semigroup {L} is h) = ap (header_line version) is ∙ ap (and_then (λ o. Ok (Relating o))) (outline_read (is_wide version) false L h)
 
 -- one generator more
-generator_read : {V : Type 0} (of : ℕ × ℕ → List Field → Result V Cause) (d : DraftOf V) (name : Token) (fields : List Field) (x : ℕ) (g : V)
-    → letter_of name ≡ Some x → list_any (λ y. y == x) d.posed.letters ≡ false → of d.sizes fields ≡ Ok g → with_generator of d name fields ≡ Ok (add_generator d x g)
-generator_read of d name fields x g named new made =
+generator_read : {V : Type 0} (of : ℕ × ℕ → List Field → Result V Cause) (wide : Bool) (d : DraftOf V) (name : Token) (fields : List Field) (x : ℕ) (g : V)
+    → letter_of wide name ≡ Some x → list_any (λ y. y == x) d.posed.letters ≡ false → of d.sizes fields ≡ Ok g → with_generator of wide d name fields ≡ Ok (add_generator d x g)
+generator_read of wide d name fields x g named new made =
     ap (λ l. and_then (λ x. and_then (λ g. Ok (add_generator d x g)) (of d.sizes fields)) (and_then (λ x. if list_any (λ y. y == x) d.posed.letters then Err cause.RepeatedLetter else Ok x) (ok_or l cause.NotALetter))) named
     ∙ ap (λ b. and_then (λ x. and_then (λ g. Ok (add_generator d x g)) (of d.sizes fields)) (if b then Err cause.RepeatedLetter else Ok x)) new
     ∙ ap (and_then (λ g. Ok (add_generator d x g))) made
@@ -93,75 +95,73 @@ before_pairs true h = refl
 before_pairs false h = absurd (omega arith)
 
 -- a line of an element script
-element_line_read : (sizes : ℕ × ℕ) (problem : Problem) (queries : List Query) (line : Line) → is_presented problem ≡ false
-    → with_line (reader_of (partial sizes problem queries)) line ≡ element_line (reader_of (partial sizes problem queries)) line
-element_line_read sizes problem queries line h =
-    let r : ReaderOf = reader_of (partial sizes problem queries) in ap (λ b. if b then presentation_line r line else element_line r line) (presentation_kept sizes problem queries ∙ h)
+element_line_read : (head : Head) (problem : Problem) (queries : List Query) (line : Line) → is_presented problem ≡ false
+    → with_line head.version (reader_of (partial head problem queries)) line ≡ element_line head.version (reader_of (partial head problem queries)) line
+element_line_read head problem queries line h =
+    let r : ReaderOf = reader_of (partial head problem queries) in ap (λ b. if b then presentation_line head.version r line else element_line head.version r line) (presentation_kept head problem queries ∙ h)
 
 -- a generator before any pair
-generator_kept : (sizes : ℕ × ℕ) (problem next : Problem) (name : Token) (entries : List Token) → is_presented problem ≡ false → section_reached (partial sizes problem []) ≤ 2 → pairs_of next ≡ pairs_of problem
-    → generator_line (opened sizes problem) name entries ≡ Ok (opened sizes next)
-    → with_line (reader_of (partial sizes problem [])) (name ∷ codes "=" ∷ entries) ≡ Ok (reader_of (partial sizes next []))
-generator_kept sizes problem next name entries generated early pairs read =
+generator_kept : (head : Head) (problem next : Problem) (name : Token) (entries : List Token) → is_presented problem ≡ false → section_reached (partial head problem []) ≤ 2 → pairs_of next ≡ pairs_of problem
+    → generator_line head.version (opened head problem) name entries ≡ Ok (opened head next)
+    → with_line head.version (reader_of (partial head problem [])) (name ∷ codes "=" ∷ entries) ≡ Ok (reader_of (partial head next []))
+generator_kept head problem next name entries generated early pairs read =
     let none : (length (pairs_of problem) == 0) ≡ true = before_pairs (length (pairs_of problem) == 0) early in
-    element_line_read sizes problem [] (name ∷ codes "=" ∷ entries) generated
-    ∙ ap (λ b. generator_line (if b then opened sizes problem else Pairing problem) name entries) none
+    element_line_read head problem [] (name ∷ codes "=" ∷ entries) generated
+    ∙ ap (λ b. generator_line head.version (if b then opened head problem else Pairing problem) name entries) none
     ∙ read
-    ∙ ap (λ b. Ok (if b then opened sizes next else Pairing next)) (sym (ap (λ (ps : List (Word × Word)). length ps == 0) pairs ∙ none))
+    ∙ ap (λ b. Ok (if b then opened head next else Pairing next)) (sym (ap (λ (ps : List (Word × Word)). length ps == 0) pairs ∙ none))
 
 -- a generator line
-generator_line_read : (sizes : ℕ × ℕ) (problem next : Problem) (queries : List Query) (name : Token) (x : ℕ) (entries : List Token)
-    → section_reached (partial sizes problem queries) ≤ 2 → letter_of name ≡ Some x → list_any (λ y. y == x) (letters_of problem) ≡ false → HasGenerator sizes x (map field_of entries) problem next
-    → with_line (reader_of (partial sizes problem queries)) (name ∷ codes "=" ∷ entries) ≡ Ok (reader_of (partial sizes next queries))
-generator_line_read sizes problem next (q ∷ queries) name x entries early named new made = absurd (omega arith)
-generator_line_read sizes problem next [] name x entries early named new (grammar.transf {p} {images} are) =
-    generator_kept sizes problem next name entries refl early refl
+generator_line_read : (head : Head) (problem next : Problem) (queries : List Query) (name : Token) (x : ℕ) (entries : List Token)
+    → section_reached (partial head problem queries) ≤ 2 → letter_of (is_wide head.version) name ≡ Some x → list_any (λ y. y == x) (letters_of problem) ≡ false → HasGenerator head.sizes x (map field_of entries) problem next
+    → with_line head.version (reader_of (partial head problem queries)) (name ∷ codes "=" ∷ entries) ≡ Ok (reader_of (partial head next queries))
+generator_line_read head problem next (q ∷ queries) name x entries early named new made = absurd (omega arith)
+generator_line_read head problem next [] name x entries early named new (grammar.transf {p} {images} are) =
+    generator_kept head problem next name entries refl early refl
     (ap (λ r. and_then (λ d. Ok (Posing d)) (and_then (λ e. Ok (draft.Transf e)) r))
-    (generator_read transformation_of (record { sizes = sizes; posed = p }) name (map field_of entries) x images named new
-    (entries_read sizes.0 (below sizes.0) (map field_of entries) images are)))
-generator_line_read sizes problem next [] name x entries early named new (grammar.pperm {p} {images} are once) =
-    generator_kept sizes problem next name entries refl early refl
+    (generator_read transformation_of (is_wide head.version) (record { sizes = head.sizes; posed = p }) name (map field_of entries) x images named new
+    (entries_read head.sizes.0 (below head.sizes.0) (map field_of entries) images are)))
+generator_line_read head problem next [] name x entries early named new (grammar.pperm {p} {images} are once) =
+    generator_kept head problem next name entries refl early refl
     (ap (λ r. and_then (λ d. Ok (Posing d)) (and_then (λ e. Ok (draft.PPerm e)) r))
-    (generator_read partial_permutation_of (record { sizes = sizes; posed = p }) name (map field_of entries) x images named new
-    (images_read sizes (map field_of entries) images are once)))
-generator_line_read sizes problem next [] name x entries early named new (grammar.bmat {p} {entries = bits} are) =
-    generator_kept sizes problem next name entries refl early refl
+    (generator_read partial_permutation_of (is_wide head.version) (record { sizes = head.sizes; posed = p }) name (map field_of entries) x images named new
+    (images_read head.sizes (map field_of entries) images are once)))
+generator_line_read head problem next [] name x entries early named new (grammar.bmat {p} {entries = bits} are) =
+    generator_kept head problem next name entries refl early refl
     (ap (λ r. and_then (λ d. Ok (Posing d)) (and_then (λ e. Ok (draft.BMat e)) r))
-    (generator_read boolean_matrix_of (record { sizes = sizes; posed = p }) name (map field_of entries) x (record { dimension = sizes.0; entries = bits }) named new
-    (ap (and_then (λ bits. Ok (record { dimension = sizes.0; entries = bits }))) (entries_read (sizes.0 * sizes.0) bit (map field_of entries) bits are))))
-generator_line_read sizes problem next [] name x entries early named new (grammar.mpt {p} {entries = values} are) =
-    generator_kept sizes problem next name entries refl early refl
+    (generator_read boolean_matrix_of (is_wide head.version) (record { sizes = head.sizes; posed = p }) name (map field_of entries) x (record { dimension = head.sizes.0; entries = bits }) named new
+    (ap (and_then (λ bits. Ok (record { dimension = head.sizes.0; entries = bits }))) (entries_read (head.sizes.0 * head.sizes.0) bit (map field_of entries) bits are))))
+generator_line_read head problem next [] name x entries early named new (grammar.mpt {p} {entries = values} are) =
+    generator_kept head problem next name entries refl early refl
     (ap (λ r. and_then (λ d. Ok (Posing d)) (and_then (λ e. Ok (draft.MaxPlus e)) r))
-    (generator_read truncated_matrix_of (record { sizes = sizes; posed = p }) name (map field_of entries) x
-    (record { dimension = sizes.0; bound = sizes.1; entries = values }) named new
-    (ap (and_then (λ values. Ok (record { dimension = sizes.0; bound = sizes.1; entries = values })))
-    (entries_read (sizes.0 * sizes.0) (below_or_dash (sizes.1 + 1)) (map field_of entries) values are))))
+    (generator_read truncated_matrix_of (is_wide head.version) (record { sizes = head.sizes; posed = p }) name (map field_of entries) x
+    (record { dimension = head.sizes.0; bound = head.sizes.1; entries = values }) named new
+    (ap (and_then (λ values. Ok (record { dimension = head.sizes.0; bound = head.sizes.1; entries = values })))
+    (entries_read (head.sizes.0 * head.sizes.0) (below_or_dash (head.sizes.1 + 1)) (map field_of entries) values are))))
 
 -- words
 
-element_read : (letters : List ℕ) (empty : Bool) (t : Token) (u : Word) → word_of letters empty t ≡ Ok u → element_of letters empty t ≡ Ok u
-element_read letters empty t u h = ap with_cause h
-
-both_read : (letters : List ℕ) (empty : Bool) (s t : Token) (u v : Word) → word_of letters empty s ≡ Ok u → word_of letters empty t ≡ Ok v → both_elements letters empty s t ≡ Ok (u, v)
-both_read letters empty s t u v h k =
-    ap (λ r. and_then (λ u. and_then (λ v. Ok (u, v)) (element_of letters empty t)) r) (element_read letters empty s u h)
-    ∙ ap (λ r. and_then (λ v. Ok (u, v)) r) (element_read letters empty t v k)
+both_read : (version : Version) (letters : List ℕ) (empty : Bool) (s t : Token) (u v : Word) → element_of version letters empty s ≡ Ok u → element_of version letters empty t ≡ Ok v
+    → both_elements version letters empty s t ≡ Ok (u, v)
+both_read version letters empty s t u v h k =
+    ap (λ r. and_then (λ u. and_then (λ v. Ok (u, v)) (element_of version letters empty t)) r) h
+    ∙ ap (λ r. and_then (λ v. Ok (u, v)) r) k
 
 -- relations
 
-relation_read : (sizes : ℕ × ℕ) (o : Posed) (queries : List Query) (U V : Token) (u v : Word)
-    → section_reached (partial sizes (Presented o) queries) ≤ 2 → length o.congruence.presentation.relations ≢ most_relations
-    → word_of o.alphabet o.congruence.presentation.is_monoid U ≡ Ok u → word_of o.alphabet o.congruence.presentation.is_monoid V ≡ Ok v
-    → with_line (reader_of (partial sizes (Presented o) queries)) (codes "rel" ∷ U ∷ V ∷ []) ≡ Ok (reader_of (partial sizes (Presented (add_relation o (u, v))) queries))
-relation_read sizes o (q ∷ queries) U V u v early few h k = absurd (omega arith)
-relation_read sizes o [] U V u v early few h k =
-    let r : ReaderOf = reader_of (partial sizes (Presented o) []) in
+relation_read : (head : Head) (o : Posed) (queries : List Query) (U V : Token) (u v : Word)
+    → section_reached (partial head (Presented o) queries) ≤ 2 → length o.congruence.presentation.relations ≢ most_relations
+    → element_of head.version o.alphabet o.congruence.presentation.is_monoid U ≡ Ok u → element_of head.version o.alphabet o.congruence.presentation.is_monoid V ≡ Ok v
+    → with_line head.version (reader_of (partial head (Presented o) queries)) (codes "rel" ∷ U ∷ V ∷ []) ≡ Ok (reader_of (partial head (Presented (add_relation o (u, v))) queries))
+relation_read head o (q ∷ queries) U V u v early few h k = absurd (omega arith)
+relation_read head o [] U V u v early few h k =
+    let r : ReaderOf = reader_of (partial head (Presented o) []) in
     let none : (length o.congruence.pairs == 0) ≡ true = before_pairs (length o.congruence.pairs == 0) early in
     let next : Posed = add_relation o (u, v) in
-    ap (λ b. if b then presentation_line r (codes "rel" ∷ U ∷ V ∷ []) else element_line r (codes "rel" ∷ U ∷ V ∷ [])) (presentation_kept sizes (Presented o) [])
-    ∙ ap (λ b. relation_line (if b then Relating o else Pairing (Presented o)) (U ∷ V ∷ [])) none
-    ∙ ap (λ b. and_then (λ o. Ok (Relating o)) (if b then Err cause.TooManyRelations else and_then (λ p. Ok (add_relation o p)) (both_elements o.alphabet o.congruence.presentation.is_monoid U V))) (ne_eqb (length o.congruence.presentation.relations) most_relations few)
-    ∙ ap (λ r. and_then (λ o. Ok (Relating o)) (and_then (λ p. Ok (add_relation o p)) r)) (both_read o.alphabet o.congruence.presentation.is_monoid U V u v h k)
+    ap (λ b. if b then presentation_line head.version r (codes "rel" ∷ U ∷ V ∷ []) else element_line head.version r (codes "rel" ∷ U ∷ V ∷ [])) (presentation_kept head (Presented o) [])
+    ∙ ap (λ b. relation_line head.version (if b then Relating o else Pairing (Presented o)) (U ∷ V ∷ [])) none
+    ∙ ap (λ b. and_then (λ o. Ok (Relating o)) (if b then Err cause.TooManyRelations else and_then (λ p. Ok (add_relation o p)) (both_elements head.version o.alphabet o.congruence.presentation.is_monoid U V))) (ne_eqb (length o.congruence.presentation.relations) most_relations few)
+    ∙ ap (λ r. and_then (λ o. Ok (Relating o)) (and_then (λ p. Ok (add_relation o p)) r)) (both_read head.version o.alphabet o.congruence.presentation.is_monoid U V u v h k)
     ∙ ap (λ b. Ok (if b then Relating next else Pairing (Presented next))) (sym none)
 
 -- pairs
@@ -179,13 +179,13 @@ kind_taken : (p : Problem) (kind : Kind) → (pairs_of p ≡ []) ⊎ (kind_of p 
 kind_taken p kind (inl e) = ap (λ (ps : List (Word × Word)). (length ps == 0) || is_same_kind (kind_of p) kind) e
 kind_taken p kind (inr e) = ap (λ k. (length (pairs_of p) == 0) || is_same_kind k kind) e ∙ ap (λ b. (length (pairs_of p) == 0) || b) (same_kind kind) ∙ or_true (length (pairs_of p) == 0)
 
-paired_read : (p : Problem) (kind : Kind) (U V : Token) (u v : Word) → length (pairs_of p) ≢ most_pairs → (pairs_of p ≡ []) ⊎ (kind_of p ≡ kind)
-    → word_of (letters_of p) (has_empty_word p) U ≡ Ok u → word_of (letters_of p) (has_empty_word p) V ≡ Ok v
-    → paired p kind U V ≡ Ok (with_pair p kind (u, v))
-paired_read p kind U V u v few kinds h k =
-    ap (λ b. if b then Err cause.TooManyPairs else if takes_kind p kind then and_then (λ s. Ok (with_pair p kind s)) (both_elements (letters_of p) (has_empty_word p) U V) else Err cause.MixedKinds) (ne_eqb (length (pairs_of p)) most_pairs few)
-    ∙ ap (λ b. if b then and_then (λ s. Ok (with_pair p kind s)) (both_elements (letters_of p) (has_empty_word p) U V) else Err cause.MixedKinds) (kind_taken p kind kinds)
-    ∙ ap (and_then (λ s. Ok (with_pair p kind s))) (both_read (letters_of p) (has_empty_word p) U V u v h k)
+paired_read : (version : Version) (p : Problem) (kind : Kind) (U V : Token) (u v : Word) → length (pairs_of p) ≢ most_pairs → (pairs_of p ≡ []) ⊎ (kind_of p ≡ kind)
+    → element_of version (letters_of p) (has_empty_word p) U ≡ Ok u → element_of version (letters_of p) (has_empty_word p) V ≡ Ok v
+    → paired version p kind U V ≡ Ok (with_pair p kind (u, v))
+paired_read version p kind U V u v few kinds h k =
+    ap (λ b. if b then Err cause.TooManyPairs else if takes_kind p kind then and_then (λ s. Ok (with_pair p kind s)) (both_elements version (letters_of p) (has_empty_word p) U V) else Err cause.MixedKinds) (ne_eqb (length (pairs_of p)) most_pairs few)
+    ∙ ap (λ b. if b then and_then (λ s. Ok (with_pair p kind s)) (both_elements version (letters_of p) (has_empty_word p) U V) else Err cause.MixedKinds) (kind_taken p kind kinds)
+    ∙ ap (and_then (λ s. Ok (with_pair p kind s))) (both_read version (letters_of p) (has_empty_word p) U V u v h k)
 
 kind_named : (kind : Kind) → pair_kind_of (name_of (Pair kind)) ≡ Some kind
 kind_named TwoSided = refl
@@ -198,29 +198,29 @@ no_relation Right = refl
 no_relation Left = refl
 
 -- a line that is no generator line and no relation
-common_line_read : (r : ReaderOf) (presented : Bool) (first : Token) (tokens : List Token) → is_presentation r ≡ presented → (not presented && has_sign (first ∷ tokens)) ≡ false → is_word (codes "rel") first ≡ false
-    → with_line r (first ∷ tokens) ≡ common_line r first tokens
-common_line_read r true first tokens is sign other =
-    ap (λ b. if b then presentation_line r (first ∷ tokens) else element_line r (first ∷ tokens)) is
-    ∙ ap (λ b. if b then relation_line r tokens else common_line r first tokens) other
-common_line_read r false first [] is sign other = ap (λ b. if b then presentation_line r (first ∷ []) else element_line r (first ∷ [])) is
-common_line_read r false first (second ∷ tokens) is sign other =
-    ap (λ b. if b then presentation_line r (first ∷ second ∷ tokens) else element_line r (first ∷ second ∷ tokens)) is
-    ∙ ap (λ b. if b then generator_line r first tokens else common_line r first (second ∷ tokens)) sign
+common_line_read : (version : Version) (r : ReaderOf) (presented : Bool) (first : Token) (tokens : List Token) → is_presentation r ≡ presented → (not presented && has_sign (first ∷ tokens)) ≡ false → is_word (codes "rel") first ≡ false
+    → with_line version r (first ∷ tokens) ≡ common_line version r first tokens
+common_line_read version r true first tokens is sign other =
+    ap (λ b. if b then presentation_line version r (first ∷ tokens) else element_line version r (first ∷ tokens)) is
+    ∙ ap (λ b. if b then relation_line version r tokens else common_line version r first tokens) other
+common_line_read version r false first [] is sign other = ap (λ b. if b then presentation_line version r (first ∷ []) else element_line version r (first ∷ [])) is
+common_line_read version r false first (second ∷ tokens) is sign other =
+    ap (λ b. if b then presentation_line version r (first ∷ second ∷ tokens) else element_line version r (first ∷ second ∷ tokens)) is
+    ∙ ap (λ b. if b then generator_line version r first tokens else common_line version r first (second ∷ tokens)) sign
 
-pair_read : (sizes : ℕ × ℕ) (p : Problem) (queries : List Query) (kind : Kind) (U V : Token) (s : Word × Word)
-    → lacks_generator (partial sizes p queries) ≡ false → is_generator_line (partial sizes p queries) (name_of (Pair kind) ∷ U ∷ V ∷ []) ≡ false
-    → section_reached (partial sizes p queries) ≤ 3 → paired p kind U V ≡ Ok (with_pair p kind s)
-    → with_line (reader_of (partial sizes p queries)) (name_of (Pair kind) ∷ U ∷ V ∷ []) ≡ Ok (reader_of (partial sizes (with_pair p kind s) queries))
-pair_read sizes p (q ∷ queries) kind U V s some sign early h = absurd (omega arith)
-pair_read sizes p [] kind U V s some sign early h =
-    let r : ReaderOf = reader_of (partial sizes p []) in
+pair_read : (head : Head) (p : Problem) (queries : List Query) (kind : Kind) (U V : Token) (s : Word × Word)
+    → lacks_generator (partial head p queries) ≡ false → is_generator_line (partial head p queries) (name_of (Pair kind) ∷ U ∷ V ∷ []) ≡ false
+    → section_reached (partial head p queries) ≤ 3 → paired head.version p kind U V ≡ Ok (with_pair p kind s)
+    → with_line head.version (reader_of (partial head p queries)) (name_of (Pair kind) ∷ U ∷ V ∷ []) ≡ Ok (reader_of (partial head (with_pair p kind s) queries))
+pair_read head p (q ∷ queries) kind U V s some sign early h = absurd (omega arith)
+pair_read head p [] kind U V s some sign early h =
+    let r : ReaderOf = reader_of (partial head p []) in
     let next : Problem = with_pair p kind s in
-    common_line_read r (is_presented p) (name_of (Pair kind)) (U ∷ V ∷ []) (presentation_kept sizes p []) sign (no_relation kind)
-    ∙ ap (λ k. pair_or_query r k (name_of (Pair kind)) (U ∷ V ∷ [])) (kind_named kind)
-    ∙ ap (and_then (λ problem. and_then (λ p. Ok (Pairing p)) (paired problem kind U V))) (paired_by r (partial sizes p []) (come_of sizes p []) some (pair_in_order (length (pairs_of p) == 0)))
+    common_line_read head.version r (is_presented p) (name_of (Pair kind)) (U ∷ V ∷ []) (presentation_kept head p []) sign (no_relation kind)
+    ∙ ap (λ k. pair_or_query head.version r k (name_of (Pair kind)) (U ∷ V ∷ [])) (kind_named kind)
+    ∙ ap (and_then (λ problem. and_then (λ p. Ok (Pairing p)) (paired head.version problem kind U V))) (paired_by r (partial head p []) (come_of head p []) some (pair_in_order (length (pairs_of p) == 0)))
     ∙ ap (and_then (λ p. Ok (Pairing p))) h
-    ∙ ap (λ b. Ok (if b then opened sizes next else Pairing next)) (sym (has_pairs p kind s))
+    ∙ ap (λ b. Ok (if b then opened head next else Pairing next)) (sym (has_pairs p kind s))
 
 -- queries
 
@@ -229,44 +229,44 @@ abbrev more_asked : Partial → Query → Partial
 more_asked p q = record p { queries = p.queries ++ q ∷ [] }
 
 -- what has a generator, or is a presentation, is a script so far
-pub finished_read : (sizes : ℕ × ℕ) (problem : Problem) (queries : List Query) → lacks_generator (partial sizes problem queries) ≡ false
-    → finished (reader_of (partial sizes problem queries)) ≡ Ok (script_in (partial sizes problem queries))
-finished_read sizes problem queries h = finished_by (reader_of (partial sizes problem queries)) (partial sizes problem queries) (come_of sizes problem queries) h
+pub finished_read : (head : Head) (problem : Problem) (queries : List Query) → lacks_generator (partial head problem queries) ≡ false
+    → finished (reader_of (partial head problem queries)) ≡ Ok (script_in (partial head problem queries))
+finished_read head problem queries h = finished_by (reader_of (partial head problem queries)) (partial head problem queries) (come_of head problem queries) h
 
-asking_kept : (sizes : ℕ × ℕ) (problem : Problem) (queries : List Query) (q : Query)
-    → Asking (script_in (more_asked (partial sizes problem queries) q)) ≡ reader_of (more_asked (partial sizes problem queries) q)
-asking_kept sizes problem [] q = refl
-asking_kept sizes problem (r ∷ queries) q = refl
+asking_kept : (head : Head) (problem : Problem) (queries : List Query) (q : Query)
+    → Asking (script_in (more_asked (partial head problem queries) q)) ≡ reader_of (more_asked (partial head problem queries) q)
+asking_kept head problem [] q = refl
+asking_kept head problem (r ∷ queries) q = refl
 
 -- no name of a relation or a pair
 record IsOtherName (first : Token) : Type 0 where
   no_rel : is_word (codes "rel") first ≡ false
   no_pair : pair_kind_of first ≡ None
 
-asked_read : (s : ScriptOf) (name : NameOf) (tokens : List Token) (q : Query) → name_takes name tokens ≡ true → is_name_barred s.problem name ≡ false
-    → query_of (letters_of s.problem) (has_empty_word s.problem) (relations_of s.problem) name tokens ≡ Ok q → asked s name tokens ≡ Ok (with_asked s q)
-asked_read s name tokens q taken allowed is =
-    let last : Result ScriptOf Cause = and_then (λ q. Ok (with_asked s q)) (query_of (letters_of s.problem) (has_empty_word s.problem) (relations_of s.problem) name tokens) in
+asked_read : (version : Version) (s : ScriptOf) (name : NameOf) (tokens : List Token) (q : Query) → name_takes name tokens ≡ true → is_name_barred s.problem name ≡ false
+    → query_of version (letters_of s.problem) (has_empty_word s.problem) (relations_of s.problem) name tokens ≡ Ok q → asked version s name tokens ≡ Ok (with_asked s q)
+asked_read version s name tokens q taken allowed is =
+    let last : Result ScriptOf Cause = and_then (λ q. Ok (with_asked s q)) (query_of version (letters_of s.problem) (has_empty_word s.problem) (relations_of s.problem) name tokens) in
     ap (λ b. if not b then Err cause.WrongNumberOfWords else if is_name_barred s.problem name then Err cause.QueryNotAllowed else last) taken
     ∙ ap (λ b. if b then Err cause.QueryNotAllowed else last) allowed
     ∙ ap (and_then (λ q. Ok (with_asked s q))) is
 
 -- a line that is a query of this name
-asked_line : (sizes : ℕ × ℕ) (problem : Problem) (queries : List Query) (name : NameOf) (line : Line) (first : Token) (tokens : List Token) (q : Query)
-    → lacks_generator (partial sizes problem queries) ≡ false → is_generator_line (partial sizes problem queries) line ≡ false
+asked_line : (head : Head) (problem : Problem) (queries : List Query) (name : NameOf) (line : Line) (first : Token) (tokens : List Token) (q : Query)
+    → lacks_generator (partial head problem queries) ≡ false → is_generator_line (partial head problem queries) line ≡ false
     → line ≡ first ∷ tokens → IsOtherName first → query_name_of (is_presented problem) first ≡ Some name
     → name_takes name tokens ≡ true → is_name_barred problem name ≡ false
-    → query_of (letters_of problem) (has_empty_word problem) (relations_of problem) name tokens ≡ Ok q
-    → with_line (reader_of (partial sizes problem queries)) line ≡ Ok (reader_of (more_asked (partial sizes problem queries) q))
-asked_line sizes problem queries name line first tokens q some sign is other named taken allowed read =
-    let p : Partial = partial sizes problem queries in
-    ap (with_line (reader_of p)) is
-    ∙ common_line_read (reader_of p) (is_presented problem) first tokens (presentation_kept sizes problem queries) (sym (ap (is_generator_line p) is) ∙ sign) other.no_rel
-    ∙ ap (λ k. pair_or_query (reader_of p) k first tokens) other.no_pair
-    ∙ ap (λ o. and_then (λ name. and_then (λ script. and_then (λ s. Ok (Asking s)) (asked script name tokens)) (finished (reader_of p))) (ok_or o cause.UnknownLine)) (ap (λ b. query_name_of b first) (presentation_kept sizes problem queries) ∙ named)
-    ∙ ap (and_then (λ script. and_then (λ s. Ok (Asking s)) (asked script name tokens))) (finished_read sizes problem queries some)
-    ∙ ap (and_then (λ s. Ok (Asking s))) (asked_read (script_in p) name tokens q taken allowed read)
-    ∙ ap (λ r. Ok r) (asking_kept sizes problem queries q)
+    → query_of head.version (letters_of problem) (has_empty_word problem) (relations_of problem) name tokens ≡ Ok q
+    → with_line head.version (reader_of (partial head problem queries)) line ≡ Ok (reader_of (more_asked (partial head problem queries) q))
+asked_line head problem queries name line first tokens q some sign is other named taken allowed read =
+    let p : Partial = partial head problem queries in
+    ap (with_line head.version (reader_of p)) is
+    ∙ common_line_read head.version (reader_of p) (is_presented problem) first tokens (presentation_kept head problem queries) (sym (ap (is_generator_line p) is) ∙ sign) other.no_rel
+    ∙ ap (λ k. pair_or_query head.version (reader_of p) k first tokens) other.no_pair
+    ∙ ap (λ o. and_then (λ name. and_then (λ script. and_then (λ s. Ok (Asking s)) (asked head.version script name tokens)) (finished (reader_of p))) (ok_or o cause.UnknownLine)) (ap (λ b. query_name_of b first) (presentation_kept head problem queries) ∙ named)
+    ∙ ap (and_then (λ script. and_then (λ s. Ok (Asking s)) (asked head.version script name tokens))) (finished_read head problem queries some)
+    ∙ ap (and_then (λ s. Ok (Asking s))) (asked_read head.version (script_in p) name tokens q taken allowed read)
+    ∙ ap (λ r. Ok r) (asking_kept head problem queries q)
 
 other : (first : Token) → is_word (codes "rel") first ≡ false → pair_kind_of first ≡ None → IsOtherName first
 other first a b = record { no_rel = a; no_pair = b }
@@ -290,73 +290,120 @@ tables_read p S T s t left right =
     ∙ ap (λ r. and_then (λ h. Ok (s, h)) r) (congruence_is_taken is_monoid k relations T t right.0 right.1)
 
 -- a query
-query_read : (sizes : ℕ × ℕ) (problem : Problem) (queries : List Query) (line : Line) (q : Query) → lacks_generator (partial sizes problem queries) ≡ false
-    → is_generator_line (partial sizes problem queries) line ≡ false → IsQuery (partial sizes problem queries) line q
-    → with_line (reader_of (partial sizes problem queries)) line ≡ Ok (reader_of (more_asked (partial sizes problem queries) q))
-query_read sizes problem queries line q some sign (grammar.index is) =
-    asked_line sizes problem queries name.Index line (codes "index") [] q some sign is (other (codes "index") refl refl) refl refl refl refl
-query_read sizes problem queries line q some sign (grammar.equal {U} {V} {u} {v} is h k) =
-    asked_line sizes problem queries name.Equal line (codes "equal") (U ∷ V ∷ []) q some sign is (other (codes "equal") refl refl) refl refl refl
-    (ap (and_then (λ (p : Word × Word). Ok (query.Equal p.0 p.1))) (both_read (letters_of problem) (has_empty_word problem) U V u v h k))
-query_read sizes problem queries line q some sign (grammar.normal {U} {u} is h) =
-    asked_line sizes problem queries name.Normal line (codes "normal") (U ∷ []) q some sign is (other (codes "normal") refl refl) refl refl refl
-    (ap (and_then (λ u. Ok (query.Normal u))) (element_read (letters_of problem) (has_empty_word problem) U u h))
-query_read sizes problem queries line q some sign (grammar.classes {N} {n} is h) =
-    asked_line sizes problem queries name.Classes line (codes "classes") (N ∷ []) q some sign is (other (codes "classes") refl refl) refl refl refl
+query_read : (head : Head) (problem : Problem) (queries : List Query) (line : Line) (q : Query) → lacks_generator (partial head problem queries) ≡ false
+    → is_generator_line (partial head problem queries) line ≡ false → IsQuery (partial head problem queries) line q
+    → with_line head.version (reader_of (partial head problem queries)) line ≡ Ok (reader_of (more_asked (partial head problem queries) q))
+query_read head problem queries line q some sign (grammar.index is) =
+    asked_line head problem queries name.Index line (codes "index") [] q some sign is (other (codes "index") refl refl) refl refl refl refl
+query_read head problem queries line q some sign (grammar.equal {U} {V} {u} {v} is h k) =
+    asked_line head problem queries name.Equal line (codes "equal") (U ∷ V ∷ []) q some sign is (other (codes "equal") refl refl) refl refl refl
+    (ap (and_then (λ (p : Word × Word). Ok (query.Equal p.0 p.1))) (both_read head.version (letters_of problem) (has_empty_word problem) U V u v h k))
+query_read head problem queries line q some sign (grammar.normal {U} {u} is h) =
+    asked_line head problem queries name.Normal line (codes "normal") (U ∷ []) q some sign is (other (codes "normal") refl refl) refl refl refl
+    (ap (and_then (λ u. Ok (query.Normal u))) h)
+query_read head problem queries line q some sign (grammar.classes {N} {n} is h) =
+    asked_line head problem queries name.Classes line (codes "classes") (N ∷ []) q some sign is (other (codes "classes") refl refl) refl refl refl
     (ap (λ o. and_then (λ n. Ok (query.Classes n None)) (ok_or o cause.BadNumber)) h)
-query_read sizes problem queries line q some sign (grammar.classes_after {N} {U} {n} {u} is h k) =
-    asked_line sizes problem queries name.Classes line (codes "classes") (N ∷ codes "after" ∷ U ∷ []) q some sign is (other (codes "classes") refl refl) refl refl refl
-    (ap (λ o. and_then (λ n. and_then (λ u. Ok (query.Classes n (Some u))) (cursor_of (letters_of problem) (has_empty_word problem) (codes "after") U)) (ok_or o cause.BadNumber)) h
-    ∙ ap (and_then (λ u. Ok (query.Classes n (Some u)))) (element_read (letters_of problem) (has_empty_word problem) U u k))
-query_read sizes problem queries line q some sign (grammar.rules is h) =
-    asked_line sizes problem queries name.Rules line (codes "rules") [] q some sign is (other (codes "rules") refl refl) refl refl (ap not h) refl
-query_read sizes problem queries line q some sign (grammar.element {U} {u} is h k) =
-    asked_line sizes problem queries name.Element line (codes "element") (U ∷ []) q some sign is (other (codes "element") refl refl) (ap (λ b. query_name_of b (codes "element")) h) refl refl
-    (ap (and_then (λ u. Ok (query.ElementOf u))) (element_read (letters_of problem) (has_empty_word problem) U u k))
-query_read sizes problem queries line q some sign (grammar.cayley is h none) =
-    asked_line sizes problem queries name.Cayley line (codes "cayley") [] q some sign is (other (codes "cayley") refl refl) (ap (λ b. query_name_of b (codes "cayley")) h) refl
+query_read head problem queries line q some sign (grammar.classes_after {N} {U} {n} {u} is h k) =
+    asked_line head problem queries name.Classes line (codes "classes") (N ∷ codes "after" ∷ U ∷ []) q some sign is (other (codes "classes") refl refl) refl refl refl
+    (ap (λ o. and_then (λ n. and_then (λ u. Ok (query.Classes n (Some u))) (cursor_of head.version (letters_of problem) (has_empty_word problem) (codes "after") U)) (ok_or o cause.BadNumber)) h
+    ∙ ap (and_then (λ u. Ok (query.Classes n (Some u)))) k)
+query_read head problem queries line q some sign (grammar.rules is h) =
+    asked_line head problem queries name.Rules line (codes "rules") [] q some sign is (other (codes "rules") refl refl) refl refl (ap not h) refl
+query_read head problem queries line q some sign (grammar.element {U} {u} is h k) =
+    asked_line head problem queries name.Element line (codes "element") (U ∷ []) q some sign is (other (codes "element") refl refl) (ap (λ b. query_name_of b (codes "element")) h) refl refl
+    (ap (and_then (λ u. Ok (query.ElementOf u))) k)
+query_read head problem queries line q some sign (grammar.cayley is h none) =
+    asked_line head problem queries name.Cayley line (codes "cayley") [] q some sign is (other (codes "cayley") refl refl) (ap (λ b. query_name_of b (codes "cayley")) h) refl
     (ap (λ (ps : List (Word × Word)). not (length ps == 0)) none) refl
-query_read sizes problem queries line q some sign (grammar.lowindex {N} {M} {n} {m} is h none few most) =
-    asked_line sizes problem queries name.LowIndex line (codes "lowindex") (N ∷ M ∷ []) q some sign is (other (codes "lowindex") refl refl) (ap (λ b. query_name_of b (codes "lowindex")) h) refl
+query_read head problem queries line q some sign (grammar.lowindex {N} {M} {n} {m} is h none few most) =
+    asked_line head problem queries name.LowIndex line (codes "lowindex") (N ∷ M ∷ []) q some sign is (other (codes "lowindex") refl refl) (ap (λ b. query_name_of b (codes "lowindex")) h) refl
     (ap (λ (ps : List (Word × Word)). not (length ps == 0)) none)
     (ap (and_then (λ (l : ℕ × ℕ). Ok (query.LowIndex l.0 l.1 None))) (limits_read N M n m few most))
-query_read sizes problem queries line q some sign (grammar.lowindex_after {N} {M} {T} {n} {m} {g} is h none few most table) =
+query_read head problem queries line q some sign (grammar.lowindex_after {N} {M} {T} {n} {m} {g} is h none few most table) =
     let letters : List ℕ = letters_of problem in
     let is_monoid : Bool = has_empty_word problem in
-    asked_line sizes problem queries name.LowIndex line (codes "lowindex") (N ∷ M ∷ codes "after" ∷ T ∷ []) q some sign is (other (codes "lowindex") refl refl) (ap (λ b. query_name_of b (codes "lowindex")) h) refl
+    asked_line head problem queries name.LowIndex line (codes "lowindex") (N ∷ M ∷ codes "after" ∷ T ∷ []) q some sign is (other (codes "lowindex") refl refl) (ap (λ b. query_name_of b (codes "lowindex")) h) refl
     (ap (λ (ps : List (Word × Word)). not (length ps == 0)) none)
     (ap (and_then (λ (l : ℕ × ℕ). and_then (λ g. Ok (query.LowIndex l.0 l.1 (Some g))) (table_cursor_of letters is_monoid l.0 (codes "after") T))) (limits_read N M n m few most)
     ∙ ap (and_then (λ g. Ok (query.LowIndex n m (Some g)))) (low_is_taken is_monoid (length letters) n T g table.0 table.1))
-query_read sizes problem queries line q some sign (grammar.meet {S} {T} {s} {t} is h none left right) =
-    asked_line sizes problem queries name.Meet line (codes "meet") (S ∷ T ∷ []) q some sign is (other (codes "meet") refl refl) (ap (λ b. query_name_of b (codes "meet")) h) refl
+query_read head problem queries line q some sign (grammar.meet {S} {T} {s} {t} is h none left right) =
+    asked_line head problem queries name.Meet line (codes "meet") (S ∷ T ∷ []) q some sign is (other (codes "meet") refl refl) (ap (λ b. query_name_of b (codes "meet")) h) refl
     (ap (λ (ps : List (Word × Word)). not (length ps == 0)) none)
-    (ap (and_then (λ (p : Graph × Graph). Ok (query.Meet p.0 p.1))) (tables_read (partial sizes problem queries) S T s t left right))
-query_read sizes problem queries line q some sign (grammar.join {S} {T} {s} {t} is h none left right) =
-    asked_line sizes problem queries name.Join line (codes "join") (S ∷ T ∷ []) q some sign is (other (codes "join") refl refl) (ap (λ b. query_name_of b (codes "join")) h) refl
+    (ap (and_then (λ (p : Graph × Graph). Ok (query.Meet p.0 p.1))) (tables_read (partial head problem queries) S T s t left right))
+query_read head problem queries line q some sign (grammar.join {S} {T} {s} {t} is h none left right) =
+    asked_line head problem queries name.Join line (codes "join") (S ∷ T ∷ []) q some sign is (other (codes "join") refl refl) (ap (λ b. query_name_of b (codes "join")) h) refl
     (ap (λ (ps : List (Word × Word)). not (length ps == 0)) none)
-    (ap (and_then (λ (p : Graph × Graph). Ok (query.Join p.0 p.1))) (tables_read (partial sizes problem queries) S T s t left right))
+    (ap (and_then (λ (p : Graph × Graph). Ok (query.Join p.0 p.1))) (tables_read (partial head problem queries) S T s t left right))
+query_read head problem queries line q some sign (grammar.green {X} is h none named) =
+    asked_line head problem queries name.Green line (codes "green") (X ∷ []) q some sign is (other (codes "green") refl refl) (ap (λ b. query_name_of b (codes "green")) h) refl
+    (ap (λ (ps : List (Word × Word)). not (length ps == 0)) none)
+    (ap (λ o. and_then (λ relation. Ok (query.Green relation)) (ok_or o cause.UnknownRelation)) named)
+query_read head problem queries line q some sign (grammar.idempotents is h none) =
+    asked_line head problem queries name.Idempotents line (codes "idempotents") [] q some sign is (other (codes "idempotents") refl refl) (ap (λ b. query_name_of b (codes "idempotents")) h) refl
+    (ap (λ (ps : List (Word × Word)). not (length ps == 0)) none) refl
 
 -- a line behind the header
-line_read : (sizes : ℕ × ℕ) (problem : Problem) (queries : List Query) (line : Line) (q : Partial) → LineReads (partial sizes problem queries) line q
-    → with_line (reader_of (partial sizes problem queries)) line ≡ Ok (reader_of q)
-line_read sizes problem queries line q (grammar.generator {name} {x} {entries} {problem = next} is early named new made) =
-    ap (with_line (reader_of (partial sizes problem queries))) is ∙ generator_line_read sizes problem next queries name x entries early named new made
-line_read sizes problem queries line q (grammar.relation {U} {V} {u} {v} {o} is poses early few h k) =
-    ap (with_line (reader_of (partial sizes problem queries))) is
-    ∙ subst (λ (problem : Problem). section_reached (partial sizes problem queries) ≤ 2 → length (relations_of problem) ≢ most_relations
-    → word_of (letters_of problem) (has_empty_word problem) U ≡ Ok u → word_of (letters_of problem) (has_empty_word problem) V ≡ Ok v
-    → with_line (reader_of (partial sizes problem queries)) (codes "rel" ∷ U ∷ V ∷ []) ≡ Ok (reader_of (partial sizes (Presented (add_relation o (u, v))) queries)))
-    (sym poses) (relation_read sizes o queries U V u v) early few h k
-line_read sizes problem queries line q (grammar.pair {U} {V} {u} {v} kind some sign is early few kinds h k) =
-    let p : Partial = partial sizes problem queries in
-    ap (with_line (reader_of p)) is
-    ∙ pair_read sizes problem queries kind U V (u, v) some (sym (ap (is_generator_line p) is) ∙ sign) early (paired_read problem kind U V u v few kinds h k)
-line_read sizes problem queries line q (grammar.query {q = one} some sign is) = query_read sizes problem queries line one some sign is
+line_read : (head : Head) (problem : Problem) (queries : List Query) (line : Line) (q : Partial) → LineReads (partial head problem queries) line q
+    → with_line head.version (reader_of (partial head problem queries)) line ≡ Ok (reader_of q)
+line_read head problem queries line q (grammar.generator {name} {x} {entries} {problem = next} is early named new made) =
+    ap (with_line head.version (reader_of (partial head problem queries))) is ∙ generator_line_read head problem next queries name x entries early named new made
+line_read head problem queries line q (grammar.relation {U} {V} {u} {v} {o} is poses early few h k) =
+    ap (with_line head.version (reader_of (partial head problem queries))) is
+    ∙ subst (λ (problem : Problem). section_reached (partial head problem queries) ≤ 2 → length (relations_of problem) ≢ most_relations
+    → element_of head.version (letters_of problem) (has_empty_word problem) U ≡ Ok u → element_of head.version (letters_of problem) (has_empty_word problem) V ≡ Ok v
+    → with_line head.version (reader_of (partial head problem queries)) (codes "rel" ∷ U ∷ V ∷ []) ≡ Ok (reader_of (partial head (Presented (add_relation o (u, v))) queries)))
+    (sym poses) (relation_read head o queries U V u v) early few h k
+line_read head problem queries line q (grammar.pair {U} {V} {u} {v} kind some sign is early few kinds h k) =
+    let p : Partial = partial head problem queries in
+    ap (with_line head.version (reader_of p)) is
+    ∙ pair_read head problem queries kind U V (u, v) some (sym (ap (is_generator_line p) is) ∙ sign) early (paired_read head.version problem kind U V u v few kinds h k)
+line_read head problem queries line q (grammar.query {q = one} some sign is) = query_read head problem queries line one some sign is
+
+-- a header in the place of the first line
+first_read : (line : Line) (q : Partial) → HeaderReads One line q → first_line line ≡ and_then (λ r. Ok (Reading One r)) (header_line One line)
+first_read line q (grammar.trans is h) = ap first_line is ∙ ap (λ l. and_then (λ r. Ok (Reading One r)) (header_line One l)) (sym is)
+first_read line q (grammar.pperm is h) = ap first_line is ∙ ap (λ l. and_then (λ r. Ok (Reading One r)) (header_line One l)) (sym is)
+first_read line q (grammar.bmat is h) = ap first_line is ∙ ap (λ l. and_then (λ r. Ok (Reading One r)) (header_line One l)) (sym is)
+first_read line q (grammar.mpt is h k) = ap first_line is ∙ ap (λ l. and_then (λ r. Ok (Reading One r)) (header_line One l)) (sym is)
+first_read line q (grammar.monoid is h) = ap first_line is ∙ ap (λ l. and_then (λ r. Ok (Reading One r)) (header_line One l)) (sym is)
+first_read line q (grammar.semigroup is h) = ap first_line is ∙ ap (λ l. and_then (λ r. Ok (Reading One r)) (header_line One l)) (sym is)
+
+head_version : (version : Version) (line : Line) (q : Partial) → HeaderReads version line q → q.head.version ≡ version
+head_version version line q (grammar.trans is h) = refl
+head_version version line q (grammar.pperm is h) = refl
+head_version version line q (grammar.bmat is h) = refl
+head_version version line q (grammar.mpt is h k) = refl
+head_version version line q (grammar.monoid is h) = refl
+head_version version line q (grammar.semigroup is h) = refl
+
+pub sound_header : (line : Line) (q : Partial) → is_kept line ≡ true → HeaderReads One line q → take_tokens Nothing line ≡ Ok (Reading One (reader_of q))
+sound_header line q k h =
+    ap (λ b. if b then first_line line else Ok Nothing) k ∙ first_read line q h ∙ ap (and_then (λ r. Ok (Reading One r))) (header_read One line q h)
+
+pub sound_behind : (version : Version) (line : Line) (q : Partial) → is_kept line ≡ true → HeaderReads version line q → take_tokens (Versioned version) line ≡ Ok (Reading version (reader_of q))
+sound_behind version line q k h =
+    ap (λ b. if b then and_then (λ r. Ok (Reading version r)) (header_line version line) else Ok (Versioned version)) k ∙ ap (and_then (λ r. Ok (Reading version r))) (header_read version line q h)
+
+version_read : (N : Token) (n : ℕ) (v : Version) → number_of N ≡ Some n → version_numbered n ≡ Some v → version_of (N ∷ []) ≡ Ok v
+version_read N n v h k =
+    ap (λ o. and_then (λ n. ok_or (version_numbered n) cause.UnknownVersion) (ok_or o cause.BadNumber)) h ∙ ap (λ o. ok_or o cause.UnknownVersion) k
+
+-- the version stays
+version_stays : (p q : Partial) (line : Line) → LineReads p line q → q.head.version ≡ p.head.version
+version_stays p q line (grammar.generator is early named new made) = refl
+version_stays p q line (grammar.relation is poses early few h k) = refl
+version_stays p q line (grammar.pair kind some sign is early few kinds h k) = refl
+version_stays p q line (grammar.query some sign is) = refl
 
 -- a line that the grammar reads is read to the same
 pub sound : Sound
-sound s t line (grammar.skipped h) = ap (λ b. if b then and_then (λ r. Ok (Some r)) (read_line (readers s) line) else Ok (readers s)) h
-sound s t line (grammar.header {q} k h) =
-    ap (λ b. if b then and_then (λ r. Ok (Some r)) (header_line line) else Ok None) k ∙ ap (and_then (λ r. Ok (Some r))) (header_read line q h)
+sound s t line (grammar.skipped h) = ap (λ b. if b then read_line (readers s) line else Ok (readers s)) h
+sound s t line (grammar.version {N} {n} {v} k is h i) =
+    ap (λ b. if b then first_line line else Ok Nothing) k ∙ ap first_line is ∙ ap (and_then (λ v. Ok (Versioned v))) (version_read N n v h i)
+sound s t line (grammar.header {q} k h) = sound_header line q k h ∙ ap (λ v. Ok (Reading v (reader_of q))) (sym (head_version One line q h))
+sound s t line (grammar.header_behind {v} {q} k h) = sound_behind v line q k h ∙ ap (λ w. Ok (Reading w (reader_of q))) (sym (head_version v line q h))
 sound s t line (grammar.further {p} {q} k h) =
-    ap (λ b. if b then and_then (λ r. Ok (Some r)) (with_line (reader_of p) line) else Ok (Some (reader_of p))) k ∙ ap (and_then (λ r. Ok (Some r))) (line_read p.sizes p.problem p.queries line q h)
+    ap (λ b. if b then and_then (λ r. Ok (Reading p.head.version r)) (with_line p.head.version (reader_of p) line) else Ok (Reading p.head.version (reader_of p))) k
+    ∙ ap (and_then (λ r. Ok (Reading p.head.version r))) (line_read p.head p.problem p.queries line q h)
+    ∙ ap (λ v. Ok (Reading v (reader_of q))) (sym (version_stays p q line h))

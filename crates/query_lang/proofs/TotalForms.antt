@@ -9,17 +9,15 @@ use Rattle.theory.specs.declared.Kind.TheVariants.{TwoSided, Right, Left}
 use Rattle.presentation.specs.Presented.{Posed}
 use Rattle.problem.specs.Problem.{has_empty_word, is_presented, letters_of}
 use Rattle.problem.specs.declared.kinds.Problem.TheVariants as problem
-use Rattle.words.specs.declared.fault.WordFault.{WordFault}
 use Rattle.theory.specs.Graph.{Graph}
 use Rattle.query_lang.specs.declared.cause.Cause.{Cause}
 use Rattle.query_lang.specs.declared.script.Query.{Query}
 use Rattle.query_lang.specs.Tables.{congruence_table_of}
-use Rattle.query_lang.specs.Token.{Token, Line, is_word}
-use Rattle.query_lang.specs.LineWords.{with_cause}
+use Rattle.query_lang.specs.Token.{Token, Line, is_word, relation_of}
 use Rattle.query_lang.specs.Pairing.{is_same_kind}
 use Rattle.query_lang.specs.Grammar as grammar
-use Rattle.query_lang.specs.Grammar.{IsCongruenceTableOf, IsLowTableOf, Partial, section_reached, LineReads, is_generator_line, lacks_generator}
-use Rattle.query_lang.specs.Forms.{Form, Relation, Pair, Index, Equal, Normal, Classes, Rules, Element, Cayley, LowIndex, Meet, Join, ACongruenceTable, name_of, shapes_of, section_of, forms_of}
+use Rattle.query_lang.specs.Grammar.{Head, IsCongruenceTableOf, IsLowTableOf, Partial, section_reached, LineReads, is_generator_line, lacks_generator}
+use Rattle.query_lang.specs.Forms.{Form, Relation, Pair, Index, Equal, Normal, Classes, Rules, Element, Cayley, LowIndex, Meet, Join, Green, Idempotents, ACongruenceTable, name_of, shapes_of, section_of, forms_of}
 use Rattle.query_lang.specs.Relations.{relations_of}
 use Rattle.query_lang.specs.LineCauses.{when, first_of, cause_in, cause_of_token, shape_for, shape_causes, is_relation_too_many, is_pair_too_many, mixes_kinds, is_barred, form_causes, form_among, named_causes}
 use Rattle.query_lang.proofs.TableLemmas.{causes_in_order, congruence_taken_is, low_taken_is}
@@ -47,9 +45,9 @@ is-some None h = absurd (true≢false h)
 is-some (Some x) h = (x, refl)
 
 -- a word is read where its cause does not apply
-word-read : (r : Result Word WordFault) (cs : List (Option Cause)) → first_of (cause_in (with_cause r) ∷ cs) ≡ None → (u : Word) × (r ≡ Ok u) × (first_of cs ≡ None)
+word-read : (r : Result Word Cause) (cs : List (Option Cause)) → first_of (cause_in r ∷ cs) ≡ None → (u : Word) × (r ≡ Ok u) × (first_of cs ≡ None)
 word-read (Ok u) cs h = (u, refl, h)
-word-read (Err fault) cs h = absurd (some-is-none h)
+word-read (Err c) cs h = absurd (some-is-none h)
 
 -- a name picks one of two, and the line has the name or has it not
 pub branch : {A : Type 0} (P : A → Type 0) (G : Type 0) (text name : Token) (x y : A) → (name ≡ text → P x → G) → (P y → G) → P (if is_word text name then x else y) → G
@@ -110,15 +108,15 @@ by-form p first tokens forms (also {forms = others} form reads each) =
 
 -- a relation and a pair
 
-relation-read : (sizes : ℕ × ℕ) (o : Posed) (queries : List Query) (first : Token) (tokens : List Token) →
-    let p : Partial = record { sizes = sizes; problem = problem.Presented o; queries = queries } in FormReads p first tokens Relation
-relation-read sizes o queries first [] e c = absurd (true≢false c.shaped)
-relation-read sizes o queries first (s ∷ []) e c = absurd (true≢false c.shaped)
-relation-read sizes o queries first (s ∷ t ∷ []) e c =
+relation-read : (head : Head) (o : Posed) (queries : List Query) (first : Token) (tokens : List Token) →
+    let p : Partial = record { head = head; problem = problem.Presented o; queries = queries } in FormReads p first tokens Relation
+relation-read head o queries first [] e c = absurd (true≢false c.shaped)
+relation-read head o queries first (s ∷ []) e c = absurd (true≢false c.shaped)
+relation-read head o queries first (s ∷ t ∷ []) e c =
     let u = word-read _ _ c.tokens_read in
     let v = word-read _ _ u.2 in
     (_, grammar.relation (ap (λ n. n ∷ s ∷ t ∷ []) e) refl (ltb-false _ _ c.in_order) (eqb-false _ _ c.few_relations) u.1 v.1)
-relation-read sizes o queries first (s ∷ t ∷ w ∷ tokens) e c = absurd (true≢false c.shaped)
+relation-read head o queries first (s ∷ t ∷ w ∷ tokens) e c = absurd (true≢false c.shaped)
 
 no-elements : {A : Type 0} (xs : List A) → (length xs == 0) ≡ true → xs ≡ []
 no-elements [] h = refl
@@ -275,15 +273,26 @@ join-read p first (s ∷ t ∷ []) k g e c =
     (_, grammar.query c.has_generator g (grammar.join (ap (λ n. n ∷ s ∷ t ∷ []) e) k (no-elements _ (not-applies _ c.allowed)) a.1 b.1))
 join-read p first (s ∷ t ∷ w ∷ tokens) k g e c = absurd (true≢false c.shaped)
 
+green-read : (p : Partial) (first : Token) (tokens : List Token) → is_presented p.problem ≡ false → is_generator_line p (first ∷ tokens) ≡ false → FormReads p first tokens Green
+green-read p first [] k g e c = absurd (true≢false c.shaped)
+green-read p first (s ∷ []) k g e c =
+    let named = is-some (relation_of s) (passed _ _ _ c.tokens_read).0 in
+    (_, grammar.query c.has_generator g (grammar.green (ap (λ n. n ∷ s ∷ []) e) k (no-elements _ (not-applies _ c.allowed)) named.1))
+green-read p first (s ∷ t ∷ tokens) k g e c = absurd (true≢false c.shaped)
+
+idempotents-read : (p : Partial) (first : Token) (tokens : List Token) → is_presented p.problem ≡ false → is_generator_line p (first ∷ tokens) ≡ false → FormReads p first tokens Idempotents
+idempotents-read p first [] k g e c = (_, grammar.query c.has_generator g (grammar.idempotents (ap (λ n. n ∷ []) e) k (no-elements _ (not-applies _ c.allowed))))
+idempotents-read p first (s ∷ tokens) k g e c = absurd (true≢false c.shaped)
+
 -- a line of a presentation
 
-pub presented-read : (sizes : ℕ × ℕ) (o : Posed) (queries : List Query) (first : Token) (tokens : List Token) →
-    let p : Partial = record { sizes = sizes; problem = problem.Presented o; queries = queries } in
+pub presented-read : (head : Head) (o : Posed) (queries : List Query) (first : Token) (tokens : List Token) →
+    let p : Partial = record { head = head; problem = problem.Presented o; queries = queries } in
     first_of (named_causes p (form_among (forms_of true) first) tokens) ≡ None → IsRead p (first ∷ tokens)
-presented-read sizes o queries first tokens =
-    let p : Partial = record { sizes = sizes; problem = problem.Presented o; queries = queries } in
+presented-read head o queries first tokens =
+    let p : Partial = record { head = head; problem = problem.Presented o; queries = queries } in
     by-form p first tokens (forms_of true)
-    (also Relation (relation-read sizes o queries first tokens)
+    (also Relation (relation-read head o queries first tokens)
     (also (Pair TwoSided) (pair-read p first tokens TwoSided refl)
     (also (Pair Right) (pair-read p first tokens Right refl)
     (also (Pair Left) (pair-read p first tokens Left refl)
@@ -310,5 +319,7 @@ asked-read p first tokens k g h =
     (also Classes (classes-read p first tokens g)
     (also Rules (rules-read p first tokens g)
     (also Element (element-read p first tokens k g)
-    (also Cayley (cayley-read p first tokens k g) every))))))))))
+    (also Cayley (cayley-read p first tokens k g)
+    (also Green (green-read p first tokens k g)
+    (also Idempotents (idempotents-read p first tokens k g) every))))))))))))
     (subst (λ b. first_of (named_causes p (form_among (forms_of b) first) tokens) ≡ None) k h)

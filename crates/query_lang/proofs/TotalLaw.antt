@@ -10,14 +10,18 @@ use Rattle.problem.specs.declared.kinds.Problem.TheVariants as problem
 use Rattle.words.specs.declared.fault.AlphabetFault.{AlphabetFault}
 use Rattle.words.specs.Alphabet.{alphabet_fault}
 use Rattle.query_lang.specs.declared.script.Query.{Query}
-use Rattle.query_lang.specs.Token.{Token, Line, is_kept, is_word, letter_of}
+use Rattle.query_lang.specs.Token.{Token, Line, is_kept, is_word, letter_of, number_of}
 use Rattle.query_lang.specs.Fields.{field_of}
 use Rattle.query_lang.specs.Outline.{unless_fault}
 use Rattle.query_lang.specs.Entries.{all_of, below, below_or_dash, bit}
 use Rattle.query_lang.specs.Grammar as grammar
-use Rattle.query_lang.specs.Grammar.{AreEntries, Partial, section_reached, IsNumber, HasGenerator, HeaderReads, Step, is_generator_line}
+use Rattle.query_lang.specs.Versions.{is_wide, version_numbered}
+use Rattle.query_lang.specs.declared.version.Version.{Version}
+use Rattle.query_lang.specs.declared.version.Version.TheVariants.{One}
+use Rattle.query_lang.specs.declared.cause.Cause.TheVariants as cause
+use Rattle.query_lang.specs.Grammar.{AreEntries, Head, Partial, Said, Nothing, OfVersion, Begun, section_reached, IsNumber, HasGenerator, HeaderReads, Step, is_generator_line}
 use Rattle.query_lang.specs.Forms.{forms_of}
-use Rattle.query_lang.specs.LineCauses.{first_of, cause_in, form_among, named_causes, entry_count, is_bad_entry, has_image_twice, repeats_image, is_taken, generator_causes, line_causes, HeaderForm, Numbers, Letters, header_form_causes, header_causes, causes_after, cause_of_line}
+use Rattle.query_lang.specs.LineCauses.{first_of, cause_in, form_among, named_causes, entry_count, is_bad_entry, has_image_twice, repeats_image, is_taken, generator_causes, line_causes, HeaderForm, Numbers, Letters, header_form_causes, header_causes, causes_after, cause_of_line, first_line_causes, version_causes, version_number_causes, when}
 use Rattle.query_lang.proofs.TotalForms.{IsRead, some-is-none, passed, not-applies, is-some, branch, presented-read, asked-read}
 
 -- a generator line
@@ -25,11 +29,11 @@ use Rattle.query_lang.proofs.TotalForms.{IsRead, some-is-none, passed, not-appli
 -- no cause of a generator line applies
 record Generates (p : Partial) (name : Token) (fields : List Field) : Type 0 where
   in_order : nat_lt 2 (section_reached p) ≡ false
-  named : is_none (letter_of name) ≡ false
-  new : is_taken p (letter_of name) ≡ false
-  counted : not (length fields == entry_count p.sizes p.problem) ≡ false
-  good : list_any (is_bad_entry p.sizes p.problem) fields ≡ false
-  injective : repeats_image p.sizes p.problem fields ≡ false
+  named : is_none (letter_of (is_wide p.head.version) name) ≡ false
+  new : is_taken p (letter_of (is_wide p.head.version) name) ≡ false
+  counted : not (length fields == entry_count p.head.sizes p.problem) ≡ false
+  good : list_any (is_bad_entry p.head.sizes p.problem) fields ≡ false
+  injective : repeats_image p.head.sizes p.problem fields ≡ false
 
 generates : (p : Partial) (name : Token) (fields : List Field) → first_of (generator_causes p name fields) ≡ None → Generates p name fields
 generates p name fields h =
@@ -75,8 +79,8 @@ generator-read : (p : Partial) (name sign : Token) (entries : List Token) → is
     → first_of (generator_causes p name (map field_of entries)) ≡ None → IsRead p (name ∷ sign ∷ entries)
 generator-read p name sign entries k e h =
     let c = generates p name (map field_of entries) h in
-    let x = is-some (letter_of name) c.named in
-    let g = has-generator p.sizes p.problem x.0 (map field_of entries) k c.counted c.good c.injective in
+    let x = is-some (letter_of (is_wide p.head.version) name) c.named in
+    let g = has-generator p.head.sizes p.problem x.0 (map field_of entries) k c.counted c.good c.injective in
     (_, grammar.generator (ap (λ s. name ∷ s ∷ entries) e) (ltb-false _ _ c.in_order) x.1 (ap (is_taken p) (sym x.1) ∙ c.new) g.1)
 
 -- a line of an element script
@@ -98,73 +102,95 @@ elements-read p first (second ∷ tokens) k h = split (is_generator_line p (firs
     split false e h = asked-read p first (second ∷ tokens) k e h
 
 -- a line behind the header
-line-read : (sizes : ℕ × ℕ) (p : Problem) (queries : List Query) (line : Line) →
-    let s : Partial = record { sizes = sizes; problem = p; queries = queries } in first_of (line_causes s line) ≡ None → IsRead s line
-line-read sizes p queries [] h = absurd (some-is-none h)
-line-read sizes (problem.Presented o) queries (first ∷ []) h = presented-read sizes o queries first [] h
-line-read sizes (problem.Presented o) queries (first ∷ second ∷ tokens) h = presented-read sizes o queries first (second ∷ tokens) h
-line-read sizes (problem.Transf g) queries (first ∷ tokens) h = elements-read (record { sizes = sizes; problem = problem.Transf g; queries = queries }) first tokens refl h
-line-read sizes (problem.PPerm g) queries (first ∷ tokens) h = elements-read (record { sizes = sizes; problem = problem.PPerm g; queries = queries }) first tokens refl h
-line-read sizes (problem.BMat g) queries (first ∷ tokens) h = elements-read (record { sizes = sizes; problem = problem.BMat g; queries = queries }) first tokens refl h
-line-read sizes (problem.MaxPlus g) queries (first ∷ tokens) h = elements-read (record { sizes = sizes; problem = problem.MaxPlus g; queries = queries }) first tokens refl h
+line-read : (head : Head) (p : Problem) (queries : List Query) (line : Line) →
+    let s : Partial = record { head = head; problem = p; queries = queries } in first_of (line_causes s line) ≡ None → IsRead s line
+line-read head p queries [] h = absurd (some-is-none h)
+line-read head (problem.Presented o) queries (first ∷ []) h = presented-read head o queries first [] h
+line-read head (problem.Presented o) queries (first ∷ second ∷ tokens) h = presented-read head o queries first (second ∷ tokens) h
+line-read head (problem.Transf g) queries (first ∷ tokens) h = elements-read (record { head = head; problem = problem.Transf g; queries = queries }) first tokens refl h
+line-read head (problem.PPerm g) queries (first ∷ tokens) h = elements-read (record { head = head; problem = problem.PPerm g; queries = queries }) first tokens refl h
+line-read head (problem.BMat g) queries (first ∷ tokens) h = elements-read (record { head = head; problem = problem.BMat g; queries = queries }) first tokens refl h
+line-read head (problem.MaxPlus g) queries (first ∷ tokens) h = elements-read (record { head = head; problem = problem.MaxPlus g; queries = queries }) first tokens refl h
 
 -- a header
 
-abbrev IsHeader : Line → Type 0
-IsHeader line = (q : Partial) × HeaderReads line q
+abbrev IsHeader : Version → Line → Type 0
+IsHeader version line = (q : Partial) × HeaderReads version line q
 
 -- one number behind the name
-size-read : (name : Token) (low high : ℕ) (tokens : List Token) → first_of (header_form_causes (Some (Numbers ((low, high) ∷ []))) tokens) ≡ None
+size-read : (version : Version) (name : Token) (low high : ℕ) (tokens : List Token) → first_of (header_form_causes version (Some (Numbers ((low, high) ∷ []))) tokens) ≡ None
     → (t : Token) × (n : ℕ) × (name ∷ tokens ≡ name ∷ t ∷ []) × IsNumber low high t n
-size-read name low high [] h = absurd (some-is-none h)
-size-read name low high (s ∷ []) h =
+size-read version name low high [] h = absurd (some-is-none h)
+size-read version name low high (s ∷ []) h =
     let n = is-some _ (passed _ _ _ h).0 in
     (s, n.0, refl, n.1)
-size-read name low high (s ∷ t ∷ tokens) h = absurd (some-is-none h)
+size-read version name low high (s ∷ t ∷ tokens) h = absurd (some-is-none h)
 
 -- letters behind the name
 letters-fit : (fault : Option AlphabetFault) (t : Token) → first_of (cause_in (unless_fault fault t) ∷ []) ≡ None → fault ≡ None
 letters-fit None t h = refl
 letters-fit (Some fault) t h = absurd (some-is-none h)
 
-letters-read : (name : Token) (tokens : List Token) → first_of (header_form_causes (Some Letters) tokens) ≡ None → (t : Token) × (name ∷ tokens ≡ name ∷ t ∷ []) × (alphabet_fault t ≡ None)
-letters-read name [] h = absurd (some-is-none h)
-letters-read name (s ∷ []) h = (s, refl, letters-fit (alphabet_fault s) s h)
-letters-read name (s ∷ t ∷ tokens) h = absurd (some-is-none h)
+letters-read : (version : Version) (name : Token) (tokens : List Token) → first_of (header_form_causes version (Some Letters) tokens) ≡ None → (t : Token) × (name ∷ tokens ≡ name ∷ t ∷ []) × (alphabet_fault (is_wide version) t ≡ None)
+letters-read version name [] h = absurd (some-is-none h)
+letters-read version name (s ∷ []) h = (s, refl, letters-fit (alphabet_fault (is_wide version) s) s h)
+letters-read version name (s ∷ t ∷ tokens) h = absurd (some-is-none h)
 
-mpt-read : (name : Token) (tokens : List Token) → name ≡ codes "mpt" → first_of (header_form_causes (Some (Numbers ((1, 16) ∷ (0, 65535) ∷ []))) tokens) ≡ None → IsHeader (name ∷ tokens)
-mpt-read name [] e h = absurd (some-is-none h)
-mpt-read name (s ∷ []) e h = absurd (some-is-none h)
-mpt-read name (s ∷ t ∷ []) e h =
+mpt-read : (version : Version) (name : Token) (tokens : List Token) → name ≡ codes "mpt" → first_of (header_form_causes version (Some (Numbers ((1, 16) ∷ (0, 65535) ∷ []))) tokens) ≡ None → IsHeader version (name ∷ tokens)
+mpt-read version name [] e h = absurd (some-is-none h)
+mpt-read version name (s ∷ []) e h = absurd (some-is-none h)
+mpt-read version name (s ∷ t ∷ []) e h =
     let d = passed _ _ _ h in
     let n = is-some _ d.0 in
     let m = is-some _ (passed _ _ _ d.1).0 in
     (_, grammar.mpt (ap (λ n. n ∷ s ∷ t ∷ []) e) n.1 m.1)
-mpt-read name (s ∷ t ∷ u ∷ tokens) e h = absurd (some-is-none h)
+mpt-read version name (s ∷ t ∷ u ∷ tokens) e h = absurd (some-is-none h)
 
-header-read : (name : Token) (tokens : List Token) → first_of (header_causes (name ∷ tokens)) ≡ None → IsHeader (name ∷ tokens)
-header-read name tokens =
-    pick (codes "monoid") _ _ (λ e h. let l = letters-read name tokens h in (_, grammar.monoid (l.1 ∙ ap (λ n. n ∷ l.0 ∷ []) e) l.2))
-    (pick (codes "semigroup") _ _ (λ e h. let l = letters-read name tokens h in (_, grammar.semigroup (l.1 ∙ ap (λ n. n ∷ l.0 ∷ []) e) l.2))
-    (pick (codes "trans") _ _ (λ e h. let d = size-read name 1 64 tokens h in (_, grammar.trans (d.2 ∙ ap (λ n. n ∷ d.0 ∷ []) e) d.3))
-    (pick (codes "pperm") _ _ (λ e h. let d = size-read name 1 64 tokens h in (_, grammar.pperm (d.2 ∙ ap (λ n. n ∷ d.0 ∷ []) e) d.3))
-    (pick (codes "bmat") _ _ (λ e h. let d = size-read name 1 16 tokens h in (_, grammar.bmat (d.2 ∙ ap (λ n. n ∷ d.0 ∷ []) e) d.3))
-    (pick (codes "mpt") _ _ (λ e h. mpt-read name tokens e h) (λ h. absurd (some-is-none h)))))))
+header-read : (version : Version) (name : Token) (tokens : List Token) → first_of (header_causes version (name ∷ tokens)) ≡ None → IsHeader version (name ∷ tokens)
+header-read version name tokens =
+    pick (codes "monoid") _ _ (λ e h. let l = letters-read version name tokens h in (_, grammar.monoid (l.1 ∙ ap (λ n. n ∷ l.0 ∷ []) e) l.2))
+    (pick (codes "semigroup") _ _ (λ e h. let l = letters-read version name tokens h in (_, grammar.semigroup (l.1 ∙ ap (λ n. n ∷ l.0 ∷ []) e) l.2))
+    (pick (codes "trans") _ _ (λ e h. let d = size-read version name 1 64 tokens h in (_, grammar.trans (d.2 ∙ ap (λ n. n ∷ d.0 ∷ []) e) d.3))
+    (pick (codes "pperm") _ _ (λ e h. let d = size-read version name 1 64 tokens h in (_, grammar.pperm (d.2 ∙ ap (λ n. n ∷ d.0 ∷ []) e) d.3))
+    (pick (codes "bmat") _ _ (λ e h. let d = size-read version name 1 16 tokens h in (_, grammar.bmat (d.2 ∙ ap (λ n. n ∷ d.0 ∷ []) e) d.3))
+    (pick (codes "mpt") _ _ (λ e h. mpt-read version name tokens e h) (λ h. absurd (some-is-none h)))))))
   where
-    pick : (text : Token) (x y : Option HeaderForm) → (name ≡ text → first_of (header_form_causes x tokens) ≡ None → IsHeader (name ∷ tokens)) → (first_of (header_form_causes y tokens) ≡ None → IsHeader (name ∷ tokens))
-        → first_of (header_form_causes (if is_word text name then x else y) tokens) ≡ None → IsHeader (name ∷ tokens)
-    pick text x y = branch (λ f. first_of (header_form_causes f tokens) ≡ None) (IsHeader (name ∷ tokens)) text name x y
+    pick : (text : Token) (x y : Option HeaderForm) → (name ≡ text → first_of (header_form_causes version x tokens) ≡ None → IsHeader version (name ∷ tokens)) → (first_of (header_form_causes version y tokens) ≡ None → IsHeader version (name ∷ tokens))
+        → first_of (header_form_causes version (if is_word text name then x else y) tokens) ≡ None → IsHeader version (name ∷ tokens)
+    pick text x y = branch (λ f. first_of (header_form_causes version f tokens) ≡ None) (IsHeader version (name ∷ tokens)) text name x y
+
+-- the number of a version
+version-number : (t : Token) → first_of (version_number_causes (t ∷ [])) ≡ None → (n : ℕ) × (v : Version) × (number_of t ≡ Some n) × (version_numbered n ≡ Some v)
+version-number t h = by (number_of t) refl h
+  where
+    by : (number : Option ℕ) → number_of t ≡ number
+        → first_of (when cause.BadNumber (is_none number) ∷ when cause.UnknownVersion (is_none (option_and_then version_numbered number)) ∷ []) ≡ None
+        → (n : ℕ) × (v : Version) × (number_of t ≡ Some n) × (version_numbered n ≡ Some v)
+    by None e h = absurd (some-is-none h)
+    by (Some n) e h = let v = is-some (version_numbered n) (passed _ _ _ h).0 in (n, v.0, e, v.1)
+
+version-read : (name : Token) (tokens : List Token) → is_kept (name ∷ tokens) ≡ true → name ≡ codes "version" → first_of (version_causes tokens) ≡ None → (t : Said) × Step Nothing (name ∷ tokens) t
+version-read name [] k e h = absurd (some-is-none h)
+version-read name (t ∷ []) k e h = let n = version-number t h in (OfVersion n.1, grammar.version k (ap (λ x. x ∷ t ∷ []) e) n.2 n.3)
+version-read name (t ∷ u ∷ tokens) k e h = absurd (some-is-none h)
+
+first-read : (name : Token) (tokens : List Token) → is_kept (name ∷ tokens) ≡ true → first_of (first_line_causes (name ∷ tokens)) ≡ None → (t : Said) × Step Nothing (name ∷ tokens) t
+first-read name tokens k =
+    branch (λ causes. first_of causes ≡ None) ((t : Said) × Step Nothing (name ∷ tokens) t) (codes "version") name (version_causes tokens) (header_causes One (name ∷ tokens))
+    (λ e h. version-read name tokens k e h) (λ h. let q = header-read One name tokens h in (Begun q.0, grammar.header k q.1))
 
 -- a line that is not skipped
-kept-read : (s : Option Partial) (line : Line) → is_kept line ≡ true → first_of (causes_after s line) ≡ None → (t : Option Partial) × Step s line t
-kept-read None [] k h = absurd (some-is-none h)
-kept-read None (name ∷ tokens) k h = let q = header-read name tokens h in (Some q.0, grammar.header k q.1)
-kept-read (Some p) line k h = let q = line-read p.sizes p.problem p.queries line h in (Some q.0, grammar.further k q.1)
+kept-read : (s : Said) (line : Line) → is_kept line ≡ true → first_of (causes_after s line) ≡ None → (t : Said) × Step s line t
+kept-read Nothing [] k h = absurd (some-is-none h)
+kept-read Nothing (name ∷ tokens) k h = first-read name tokens k h
+kept-read (OfVersion version) [] k h = absurd (some-is-none h)
+kept-read (OfVersion version) (name ∷ tokens) k h = let q = header-read version name tokens h in (Begun q.0, grammar.header_behind k q.1)
+kept-read (Begun p) line k h = let q = line-read p.head p.problem p.queries line h in (Begun q.0, grammar.further k q.1)
 
--- each line without a cause is read, after each partial script
-pub total : (s : Option Partial) (line : Line) → cause_of_line s line ≡ None → (t : Option Partial) × Step s line t
+-- each line without a cause is read, after whatever the lines before it say
+pub total : (s : Said) (line : Line) → cause_of_line s line ≡ None → (t : Said) × Step s line t
 total s line = split (is_kept line) refl
   where
-    split : (kept : Bool) → is_kept line ≡ kept → (if kept then first_of (causes_after s line) else None) ≡ None → (t : Option Partial) × Step s line t
+    split : (kept : Bool) → is_kept line ≡ kept → (if kept then first_of (causes_after s line) else None) ≡ None → (t : Said) × Step s line t
     split true k h = kept-read s line k h
     split false k h = (s, grammar.skipped k)

@@ -1,7 +1,7 @@
 -- The numbers and the texts of the causes of refusal.
 use Rattle.std.specs.Prelude.{ℕ, List, [], codes, ◌==◌, if◌then◌else◌}
 use Rattle.query_lang.specs.declared.cause.Cause.{Cause}
-use Rattle.query_lang.specs.declared.cause.Cause.TheVariants.{HeaderMissing, UnknownHeader, WrongNumberOfWords, BadNumber, NotALetter, RepeatedLetter, UnknownLine, LineOutOfOrder, NoGenerator, WrongNumberOfEntries, BadEntry, NotInjective, NotInAlphabet, WordTooLong, EmptyWord, TooManyRelations, TooManyPairs, MixedKinds, QueryNotAllowed, BadTable, AfterExpected, TableBreaksRelation}
+use Rattle.query_lang.specs.declared.cause.Cause.TheVariants.{HeaderMissing, UnknownHeader, WrongNumberOfWords, BadNumber, NotALetter, RepeatedLetter, UnknownLine, LineOutOfOrder, NoGenerator, WrongNumberOfEntries, BadEntry, NotInjective, NotInAlphabet, WordTooLong, EmptyWord, TooManyRelations, TooManyPairs, MixedKinds, QueryNotAllowed, BadTable, AfterExpected, UnknownRelation, TableBreaksRelation, UnknownVersion, BadPower}
 
 abbrev pub number_of_cause : Cause → ℕ
 number_of_cause HeaderMissing = 1
@@ -25,6 +25,9 @@ number_of_cause MixedKinds = 18
 number_of_cause QueryNotAllowed = 19
 number_of_cause BadTable = 20
 number_of_cause AfterExpected = 21
+number_of_cause UnknownVersion = 22
+number_of_cause BadPower = 23
+number_of_cause UnknownRelation = 24
 number_of_cause TableBreaksRelation = 25
 
 -- the text of the cause of this number
@@ -51,5 +54,8 @@ cause_text n =
     else if n == 19 then codes "query not allowed with pairs"
     else if n == 20 then codes "bad table"
     else if n == 21 then codes "after expected"
+    else if n == 22 then codes "unknown version"
+    else if n == 23 then codes "bad power"
+    else if n == 24 then codes "unknown relation"
     else if n == 25 then codes "table breaks a relation"
     else []

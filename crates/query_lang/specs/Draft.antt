@@ -1,5 +1,5 @@
 -- Generators that lines give, one after another.
-use Rattle.std.specs.Prelude.{◌≡◌, ℕ, ◌==◌, List, [], ◌∷◌, ◌++◌, length, All, if◌then◌else◌, Option, None, Result, Ok, Err, refl}
+use Rattle.std.specs.Prelude.{◌≡◌, ℕ, ◌==◌, Bool, true, List, [], ◌∷◌, ◌++◌, length, All, if◌then◌else◌, Option, None, Result, Ok, Err, refl}
 use Rattle.std.specs.Coded.{Coded, code_by, coded×, coded_ℕ}
 use Rattle.std.specs.List.{list_any}
 use Rattle.std.specs.Option.{ok_or}
@@ -40,23 +40,22 @@ pub data AnyDraft : Type 0 where
   BMat : DraftOf BooleanMatrix → AnyDraft
   MaxPlus : DraftOf TruncatedMatrix → AnyDraft
 
--- each generator has a letter and is of the one shape, and the letters are different ones from
--- `a` to `z`
+-- each generator has a letter and is of the one shape, and the letters are different ones
 pub record IsDraft {V : Type 0} (shape_of : V → ℕ × ℕ) (shape : ℕ × ℕ) (letters : List ℕ)
     (generators : List V) : Type 0 where
   pub one_each : length generators ≡ length letters
   pub one_shape : All (λ g. shape_of g ≡ shape) generators
-  pub sound : first_fault [] letters ≡ None
+  pub sound : first_fault true [] letters ≡ None
 
 -- no generator yet
 abbrev pub start_of : {V : Type 0} → ℕ × ℕ → DraftOf V
 start_of sizes = record { sizes = sizes; posed = without_pairs [] [] }
 
 -- a letter that no generator has yet
-abbrev pub new_letter_of : List ℕ → Token → Result ℕ Cause
-new_letter_of letters name = and_then
+abbrev pub new_letter_of : (wide : Bool) → List ℕ → Token → Result ℕ Cause
+new_letter_of wide letters name = and_then
     (λ x. if list_any (λ y. y == x) letters then Err RepeatedLetter else Ok x)
-    (ok_or (letter_of name) NotALetter)
+    (ok_or (letter_of wide name) NotALetter)
 
 -- one generator more
 abbrev pub add_generator : {V : Type 0} → DraftOf V → ℕ → V → DraftOf V
@@ -69,11 +68,11 @@ add_generator d x g =
     }
 
 -- the generator with this name and these entries, which are read by the numbers of the header
-abbrev pub with_generator : {V : Type 0} → (ℕ × ℕ → List Field → Result V Cause) → DraftOf V → Token
-    → List Field → Result (DraftOf V) Cause
-with_generator generator_of d name fields =
+abbrev pub with_generator : {V : Type 0} → (ℕ × ℕ → List Field → Result V Cause) → Bool → DraftOf V
+    → Token → List Field → Result (DraftOf V) Cause
+with_generator generator_of wide d name fields =
     and_then (λ x. and_then (λ g. Ok (add_generator d x g)) (generator_of d.sizes fields))
-    (new_letter_of d.posed.letters name)
+    (new_letter_of wide d.posed.letters name)
 
 -- the generators with their letters, of which there are some
 abbrev pub posed_of : {V : Type 0} → DraftOf V → Result (PosedOf V) Cause

@@ -6,10 +6,12 @@ use Rattle.words.specs.declared.fault.AlphabetFault.{AlphabetFault}
 use Rattle.words.specs.declared.fault.AlphabetFault.TheVariants as alphabet
 use Rattle.words.specs.declared.fault.WordFault.{WordFault}
 use Rattle.words.specs.declared.fault.WordFault.TheVariants as word
+use Rattle.words.specs.declared.fault.PowerFault.{PowerFault}
+use Rattle.words.specs.declared.fault.PowerFault.TheVariants as power
 use Rattle.word_graph.specs.declared.fault.TableFault.{TableFault}
 use Rattle.word_graph.specs.declared.fault.TableFault.TheVariants as table
 use Rattle.query_lang.specs.declared.cause.Cause.{Cause}
-use Rattle.query_lang.specs.declared.cause.Cause.TheVariants.{NotALetter, RepeatedLetter, WrongNumberOfEntries, BadEntry, NotInjective, NotInAlphabet, WordTooLong, EmptyWord, BadTable}
+use Rattle.query_lang.specs.declared.cause.Cause.TheVariants.{NotALetter, RepeatedLetter, WrongNumberOfEntries, BadEntry, NotInjective, NotInAlphabet, WordTooLong, EmptyWord, BadPower, BadTable}
 use Rattle.query_lang.specs.declared.fault.ScriptFault.{ScriptFault}
 use Rattle.query_lang.specs.declared.fault.ScriptFault.TheVariants as script
 use Rattle.query_lang.specs.Causes.{number_of_cause}
@@ -41,6 +43,14 @@ fault_of_word word.EmptyWord = Some EmptyWord
 fault_of_word (word.NotInAlphabet place) = Some NotInAlphabet
 fault_of_word word.TooLong = Some WordTooLong
 fault_of_word word.NoMemory = None
+
+-- the fault of a line with a word with powers that is refused
+abbrev pub fault_of_powers : PowerFault → Option Cause
+fault_of_powers power.EmptyWord = Some EmptyWord
+fault_of_powers (power.NotInAlphabet place) = Some NotInAlphabet
+fault_of_powers (power.BadPower place) = Some BadPower
+fault_of_powers power.TooLong = Some WordTooLong
+fault_of_powers power.NoMemory = None
 
 -- the fault of a line with a table that is refused
 abbrev pub fault_of_table : TableFault → Option Cause

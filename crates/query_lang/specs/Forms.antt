@@ -11,6 +11,7 @@ pub data Place : Type 0 where
   After : Place
   ALowTable : Place
   ACongruenceTable : Place
+  ARelation : Place
 
 -- the forms of lines behind the header that begin with a name, in all scripts
 pub data Form : Type 0 where
@@ -26,6 +27,8 @@ pub data Form : Type 0 where
   LowIndex : Form
   Meet : Form
   Join : Form
+  Green : Form
+  Idempotents : Form
 
 -- the name of the form
 abbrev pub name_of : Form → Token
@@ -43,6 +46,8 @@ name_of Cayley = codes "cayley"
 name_of LowIndex = codes "lowindex"
 name_of Meet = codes "meet"
 name_of Join = codes "join"
+name_of Green = codes "green"
+name_of Idempotents = codes "idempotents"
 
 -- what stands behind the name
 abbrev pub shapes_of : Form → List (List Place)
@@ -59,6 +64,8 @@ shapes_of LowIndex = (ANumber 1 16 ∷ ANumber 0 1000000 ∷ [])
     ∷ (ANumber 1 16 ∷ ANumber 0 1000000 ∷ After ∷ ALowTable ∷ []) ∷ []
 shapes_of Meet = (ACongruenceTable ∷ ACongruenceTable ∷ []) ∷ []
 shapes_of Join = (ACongruenceTable ∷ ACongruenceTable ∷ []) ∷ []
+shapes_of Green = (ARelation ∷ []) ∷ []
+shapes_of Idempotents = [] ∷ []
 
 -- the section of the form
 abbrev pub section_of : Form → ℕ
@@ -74,10 +81,12 @@ section_of Cayley = 4
 section_of LowIndex = 4
 section_of Meet = 4
 section_of Join = 4
+section_of Green = 4
+section_of Idempotents = 4
 
 -- the forms that a script of this kind has: a presentation, or generators
 abbrev pub forms_of : (is_presentation : Bool) → List Form
 forms_of true = Relation ∷ Pair TwoSided ∷ Pair Right ∷ Pair Left
     ∷ Index ∷ Equal ∷ Normal ∷ Classes ∷ Rules ∷ LowIndex ∷ Meet ∷ Join ∷ []
 forms_of false = Pair TwoSided ∷ Pair Right ∷ Pair Left
-    ∷ Index ∷ Equal ∷ Normal ∷ Classes ∷ Rules ∷ Element ∷ Cayley ∷ []
+    ∷ Index ∷ Equal ∷ Normal ∷ Classes ∷ Rules ∷ Element ∷ Cayley ∷ Green ∷ Idempotents ∷ []

@@ -1,5 +1,5 @@
 -- Generators of one kind.
-use Rattle.std.specs.Prelude.{List, Result, Ok}
+use Rattle.std.specs.Prelude.{Bool, List, Result, Ok}
 use Rattle.elements.specs.declared.field.Field.{Field}
 use Rattle.problem.specs.declared.kinds.Problem.{Problem}
 use Rattle.problem.specs.declared.kinds.Problem.TheVariants as problem
@@ -10,15 +10,15 @@ use Rattle.query_lang.specs.Draft.{AnyDraft, Transf, PPerm, BMat, MaxPlus, with_
 use Rattle.query_lang.specs.Elements.{transformation_of, partial_permutation_of, boolean_matrix_of, truncated_matrix_of}
 
 -- the generator of the draft's kind with this name and these entries
-abbrev pub draft_with : AnyDraft → Token → List Field → Result AnyDraft Cause
-draft_with (Transf d) name fields = and_then (λ e. Ok (Transf e))
-    (with_generator transformation_of d name fields)
-draft_with (PPerm d) name fields = and_then (λ e. Ok (PPerm e))
-    (with_generator partial_permutation_of d name fields)
-draft_with (BMat d) name fields = and_then (λ e. Ok (BMat e))
-    (with_generator boolean_matrix_of d name fields)
-draft_with (MaxPlus d) name fields = and_then (λ e. Ok (MaxPlus e))
-    (with_generator truncated_matrix_of d name fields)
+abbrev pub draft_with : (wide : Bool) → AnyDraft → Token → List Field → Result AnyDraft Cause
+draft_with wide (Transf d) name fields = and_then (λ e. Ok (Transf e))
+    (with_generator transformation_of wide d name fields)
+draft_with wide (PPerm d) name fields = and_then (λ e. Ok (PPerm e))
+    (with_generator partial_permutation_of wide d name fields)
+draft_with wide (BMat d) name fields = and_then (λ e. Ok (BMat e))
+    (with_generator boolean_matrix_of wide d name fields)
+draft_with wide (MaxPlus d) name fields = and_then (λ e. Ok (MaxPlus e))
+    (with_generator truncated_matrix_of wide d name fields)
 
 -- what the generators pose
 abbrev pub problem_of : AnyDraft → Result Problem Cause

@@ -7,10 +7,10 @@ use Rattle.elements.specs.MaxPlus.{TruncatedMatrix}
 use Rattle.elements.specs.declared.field.Field.{Field}
 use Rattle.theory.specs.declared.Kind.{Kind}
 use Rattle.theory.specs.declared.Kind.TheVariants.{TwoSided}
+use Rattle.theory.specs.declared.Relation.{Relation}
 use Rattle.theory.specs.Graph.{Graph}
 use Rattle.theory.specs.Word.{Word}
 use Rattle.words.specs.Alphabet.{alphabet_fault}
-use Rattle.words.specs.WordText.{word_of}
 use Rattle.presentation.specs.Presented.{Posed}
 use Rattle.problem.specs.Posed.{PosedOf}
 use Rattle.problem.specs.declared.kinds.Problem.{Problem}
@@ -18,19 +18,28 @@ use Rattle.problem.specs.declared.kinds.Problem.TheVariants.{Presented, Transf, 
 use Rattle.problem.specs.Problem.{allows_rules, has_empty_word, is_presented, kind_of, letters_of, pairs_of, with_pair}
 use Rattle.query_lang.specs.declared.script.Query.{Query}
 use Rattle.query_lang.specs.declared.script.Query.TheVariants as ask
+use Rattle.query_lang.specs.declared.version.Version.{Version}
+use Rattle.query_lang.specs.declared.version.Version.TheVariants.{One}
 use Rattle.query_lang.specs.Asked.{ScriptOf}
 use Rattle.query_lang.specs.Fields.{field_of}
 use Rattle.query_lang.specs.Entries.{all_of, below, below_or_dash, bit, is_injective}
 use Rattle.query_lang.specs.Forms.{Pair, name_of}
+use Rattle.query_lang.specs.LineWords.{element_of}
 use Rattle.query_lang.specs.Pairing.{most_pairs}
 use Rattle.query_lang.specs.Relations.{add_relation, free_over, most_relations, relations_of}
 use Rattle.query_lang.specs.Tables.{IsCongruenceTable, IsLowTable, IsTextOf}
-use Rattle.query_lang.specs.Token.{Token, Line, cut_lines, is_kept, is_word, letter_of, number_within, tokens_of}
+use Rattle.query_lang.specs.Token.{Token, Line, cut_lines, is_kept, is_word, letter_of, number_of, number_within, relation_of, tokens_of}
+use Rattle.query_lang.specs.Versions.{is_wide, version_numbered}
 
--- what the lines so far say: the numbers of the header, 0 in the place of one that it has not;
--- what is posed so far; and the queries
-pub record Partial : Type 0 where
+-- what is said at the head of a script: the version, and the numbers of the header, 0 in the place
+-- of one that it has not
+pub record Head : Type 0 where
+  pub version : Version
   pub sizes : ℕ × ℕ
+
+-- what the lines so far say: the head, what is posed so far, and the queries
+pub record Partial : Type 0 where
+  pub head : Head
   pub problem : Problem
   pub queries : List Query
 
@@ -59,9 +68,10 @@ lacks_generator p = not (is_presented p.problem)
     && ((length (letters_of p.problem) == 0)
     && ((length (pairs_of p.problem) == 0) && is_empty p.queries))
 
--- the token is this word of the script
+-- the token is this word of the script, with powers in the second version
 abbrev pub IsWordOf : Partial → Token → Word → Type 0
-IsWordOf p t u = word_of (letters_of p.problem) (has_empty_word p.problem) t ≡ Ok u
+IsWordOf p t u =
+    element_of p.head.version (letters_of p.problem) (has_empty_word p.problem) t ≡ Ok u
 
 -- the token is this number, which is in the range
 abbrev pub IsNumber : ℕ → ℕ → Token → ℕ → Type 0
@@ -138,13 +148,19 @@ pub data IsQuery (p : Partial) (line : Line) : Query → Type 0 where
   join : {S T : Token} {s t : Graph} → line ≡ codes "join" ∷ S ∷ T ∷ []
       → is_presented p.problem ≡ true → pairs_of p.problem ≡ []
       → IsCongruenceTableOf p S s → IsCongruenceTableOf p T t → IsQuery p line (ask.Join s t)
+  green : {X : Token} {relation : Relation} → line ≡ codes "green" ∷ X ∷ []
+      → is_presented p.problem ≡ false → pairs_of p.problem ≡ []
+      → relation_of X ≡ Some relation → IsQuery p line (ask.Green relation)
+  idempotents : line ≡ codes "idempotents" ∷ [] → is_presented p.problem ≡ false
+      → pairs_of p.problem ≡ [] → IsQuery p line ask.Idempotents
 
 -- a line behind the header, and what the lines say with it
 pub data LineReads (p : Partial) (line : Line) : Partial → Type 0 where
   generator : {name : Token} {x : ℕ} {entries : List Token} {problem : Problem}
       → line ≡ name ∷ codes "=" ∷ entries → section_reached p ≤ 2
-      → letter_of name ≡ Some x → list_any (λ y. y == x) (letters_of p.problem) ≡ false
-      → HasGenerator p.sizes x (map field_of entries) p.problem problem
+      → letter_of (is_wide p.head.version) name ≡ Some x
+      → list_any (λ y. y == x) (letters_of p.problem) ≡ false
+      → HasGenerator p.head.sizes x (map field_of entries) p.problem problem
       → LineReads p line (record p { problem = problem })
   relation : {U V : Token} {u v : Word} {o : Posed} → line ≡ codes "rel" ∷ U ∷ V ∷ []
       → p.problem ≡ Presented o → section_reached p ≤ 2
@@ -164,36 +180,53 @@ abbrev pub no_generators : {V : Type 0} → PosedOf V
 no_generators = record { letters = []; generators = []; kind = TwoSided; pairs = [] }
 
 -- what the header says
-abbrev pub begin_with : ℕ × ℕ → Problem → Partial
-begin_with sizes problem = record { sizes = sizes; problem = problem; queries = [] }
+abbrev pub begin_with : Version → ℕ × ℕ → Problem → Partial
+begin_with version sizes problem = record {
+  head = record { version = version; sizes = sizes };
+  problem = problem;
+  queries = [];
+}
 
--- a header, and what it says
-pub data HeaderReads (line : Line) : Partial → Type 0 where
+-- a header in a script of this version, and what it says
+pub data HeaderReads (version : Version) (line : Line) : Partial → Type 0 where
   trans : {D : Token} {d : ℕ} → line ≡ codes "trans" ∷ D ∷ [] → IsNumber 1 64 D d
-      → HeaderReads line (begin_with (d, 0) (Transf no_generators))
+      → HeaderReads version line (begin_with version (d, 0) (Transf no_generators))
   pperm : {D : Token} {d : ℕ} → line ≡ codes "pperm" ∷ D ∷ [] → IsNumber 1 64 D d
-      → HeaderReads line (begin_with (d, 0) (PPerm no_generators))
+      → HeaderReads version line (begin_with version (d, 0) (PPerm no_generators))
   bmat : {D : Token} {d : ℕ} → line ≡ codes "bmat" ∷ D ∷ [] → IsNumber 1 16 D d
-      → HeaderReads line (begin_with (d, 0) (BMat no_generators))
+      → HeaderReads version line (begin_with version (d, 0) (BMat no_generators))
   mpt : {D T : Token} {d t : ℕ} → line ≡ codes "mpt" ∷ D ∷ T ∷ [] → IsNumber 1 16 D d
-      → IsNumber 0 65535 T t → HeaderReads line (begin_with (d, t) (MaxPlus no_generators))
-  monoid : {L : Token} → line ≡ codes "monoid" ∷ L ∷ [] → alphabet_fault L ≡ None
-      → HeaderReads line (begin_with (0, 0) (Presented (free_over true L)))
-  semigroup : {L : Token} → line ≡ codes "semigroup" ∷ L ∷ [] → alphabet_fault L ≡ None
-      → HeaderReads line (begin_with (0, 0) (Presented (free_over false L)))
+      → IsNumber 0 65535 T t
+      → HeaderReads version line (begin_with version (d, t) (MaxPlus no_generators))
+  monoid : {L : Token} → line ≡ codes "monoid" ∷ L ∷ [] → alphabet_fault (is_wide version) L ≡ None
+      → HeaderReads version line (begin_with version (0, 0) (Presented (free_over true L)))
+  semigroup : {L : Token} → line ≡ codes "semigroup" ∷ L ∷ []
+      → alphabet_fault (is_wide version) L ≡ None
+      → HeaderReads version line (begin_with version (0, 0) (Presented (free_over false L)))
 
--- one line after what the lines before it say: nothing, before the header
-pub data Step : Option Partial → Line → Option Partial → Type 0 where
-  skipped : {s : Option Partial} {line : Line} → is_kept line ≡ false → Step s line s
-  header : {line : Line} {q : Partial} → is_kept line ≡ true → HeaderReads line q
-      → Step None line (Some q)
+-- what the lines so far say: nothing, the version alone, or more
+pub data Said : Type 0 where
+  Nothing : Said
+  OfVersion : Version → Said
+  Begun : Partial → Said
+
+-- one line after what the lines before it say; without a version line the version is the first one
+pub data Step : Said → Line → Said → Type 0 where
+  skipped : {s : Said} {line : Line} → is_kept line ≡ false → Step s line s
+  version : {line : Line} {N : Token} {n : ℕ} {v : Version} → is_kept line ≡ true
+      → line ≡ codes "version" ∷ N ∷ [] → number_of N ≡ Some n → version_numbered n ≡ Some v
+      → Step Nothing line (OfVersion v)
+  header : {line : Line} {q : Partial} → is_kept line ≡ true → HeaderReads One line q
+      → Step Nothing line (Begun q)
+  header_behind : {v : Version} {line : Line} {q : Partial} → is_kept line ≡ true
+      → HeaderReads v line q → Step (OfVersion v) line (Begun q)
   further : {p q : Partial} {line : Line} → is_kept line ≡ true → LineReads p line q
-      → Step (Some p) line (Some q)
+      → Step (Begun p) line (Begun q)
 
 -- lines, one after another
-pub data Reads : Option Partial → List Line → Option Partial → Type 0 where
-  none : {s : Option Partial} → Reads s [] s
-  more : {s t u : Option Partial} {line : Line} {lines : List Line} → Step s line t
+pub data Reads : Said → List Line → Said → Type 0 where
+  none : {s : Said} → Reads s [] s
+  more : {s t u : Said} {line : Line} {lines : List Line} → Step s line t
       → Reads t lines u → Reads s (line ∷ lines) u
 
 -- the lines of bytes, each as its tokens

@@ -24,9 +24,9 @@ sizes_of (dimension ∷ bound ∷ []) =
 sizes_of tokens = Err WrongNumberOfWords
 
 -- the letters of a monoid or a semigroup
-abbrev pub outline_of : Bool → List Token → Result Posed Cause
-outline_of is_monoid tokens = and_then (λ letters. Ok (free_over is_monoid letters))
-    (and_then alphabet_of (one_token tokens))
+abbrev pub outline_of : (wide is_monoid : Bool) → List Token → Result Posed Cause
+outline_of wide is_monoid tokens = and_then (λ letters. Ok (free_over is_monoid letters))
+    (and_then (alphabet_of wide) (one_token tokens))
 
 -- `trans D`, `pperm D`, `bmat D` or `mpt D T`
 abbrev pub header_of : Line → Result AnyDraft Cause

@@ -21,3 +21,5 @@ pub mod Script
 pub mod Forms
 pub mod Grammar
 pub mod LineCauses
+pub mod Versions
+pub mod PowerWords

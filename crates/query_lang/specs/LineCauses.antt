@@ -1,5 +1,5 @@
 -- The causes of refusal of each line, in the order in which they are looked at.
-use Rattle.std.specs.Prelude.{◌≡◌, ℕ, suc, ◌+◌, ◌*◌, Bool, true, false, not, ◌&&◌, ◌==◌, nat_lt, ◌⊎◌, List, [], ◌∷◌, ◌++◌, length, map, codes, if◌then◌else◌, is_none, Option, Some, None, Result, Ok, Err}
+use Rattle.std.specs.Prelude.{◌≡◌, ℕ, suc, ◌+◌, ◌*◌, Bool, true, false, not, ◌&&◌, ◌==◌, nat_lt, ◌⊎◌, List, [], ◌∷◌, ◌++◌, length, map, codes, if◌then◌else◌, is_none, option_and_then, Option, Some, None, Result, Ok, Err}
 use Rattle.std.specs.List.{list_any}
 use Rattle.std.specs.Option.{unwrap_or}
 use Rattle.problem.specs.declared.kinds.Problem.{Problem}
@@ -9,17 +9,20 @@ use Rattle.elements.specs.declared.field.Field.{Field}
 use Rattle.word_graph.specs.TableText.{table_read}
 use Rattle.query_lang.specs.declared.cause.Cause.{Cause}
 use Rattle.query_lang.specs.declared.cause.Cause.TheVariants as cause
+use Rattle.query_lang.specs.declared.version.Version.{Version}
+use Rattle.query_lang.specs.declared.version.Version.TheVariants.{One}
 use Rattle.query_lang.specs.Asked.{ScriptOf}
 use Rattle.query_lang.specs.Entries.{all_of, below, below_or_dash, bit, is_injective}
 use Rattle.query_lang.specs.Fields.{field_of}
 use Rattle.query_lang.specs.LineWords.{element_of}
-use Rattle.query_lang.specs.Forms.{Form, Relation, Pair, Rules, Cayley, LowIndex, Meet, Join, Place, AWord, ANumber, After, ALowTable, ACongruenceTable, name_of, shapes_of, section_of, forms_of}
+use Rattle.query_lang.specs.Forms.{Form, Relation, Pair, Rules, Cayley, LowIndex, Meet, Join, Green, Idempotents, Place, AWord, ANumber, After, ALowTable, ACongruenceTable, ARelation, name_of, shapes_of, section_of, forms_of}
 use Rattle.query_lang.specs.Outline.{alphabet_of}
 use Rattle.query_lang.specs.Pairing.{is_same_kind, most_pairs}
 use Rattle.query_lang.specs.Relations.{most_relations, relations_of}
 use Rattle.query_lang.specs.Tables.{is_table, low_table_of, meets_relations}
-use Rattle.query_lang.specs.Token.{Token, Line, is_kept, is_word, letter_of, number_within}
-use Rattle.query_lang.specs.Grammar.{Partial, lacks_generator, section_reached, is_generator_line, Reads, script_in}
+use Rattle.query_lang.specs.Token.{Token, Line, is_kept, is_word, letter_of, number_of, number_within, relation_of}
+use Rattle.query_lang.specs.Versions.{is_wide, version_numbered}
+use Rattle.query_lang.specs.Grammar.{Partial, Said, Nothing, OfVersion, Begun, lacks_generator, section_reached, is_generator_line, Reads, script_in}
 
 -- the cause, where it applies
 abbrev pub when : Cause → Bool → Option Cause
@@ -44,7 +47,7 @@ classes_in (t ∷ tokens) = unwrap_or (number_within 1 16 t) 0
 -- the cause of a token in its place, where these are all the tokens
 abbrev pub cause_of_token : Partial → List Token → Place → Token → Option Cause
 cause_of_token p all AWord t =
-    cause_in (element_of (letters_of p.problem) (has_empty_word p.problem) t)
+    cause_in (element_of p.head.version (letters_of p.problem) (has_empty_word p.problem) t)
 cause_of_token p all (ANumber low high) t =
     when cause.BadNumber (is_none (number_within low high t))
 cause_of_token p all After t = when cause.AfterExpected (not (is_word (codes "after") t))
@@ -55,6 +58,7 @@ cause_of_token p all ACongruenceTable t = first_of
     (not (is_table (has_empty_word p.problem) (length (letters_of p.problem)) t))
     ∷ when cause.TableBreaksRelation
     (not (meets_relations (relations_of p.problem) (table_read t))) ∷ [])
+cause_of_token p all ARelation t = when cause.UnknownRelation (is_none (relation_of t))
 
 -- the causes of the tokens, from the left, where these are all
 abbrev pub token_causes : Partial → List Token → List Place → List Token → List (Option Cause)
@@ -104,6 +108,8 @@ is_barred p Cayley = not (length (pairs_of p.problem) == 0)
 is_barred p LowIndex = not (length (pairs_of p.problem) == 0)
 is_barred p Meet = not (length (pairs_of p.problem) == 0)
 is_barred p Join = not (length (pairs_of p.problem) == 0)
+is_barred p Green = not (length (pairs_of p.problem) == 0)
+is_barred p Idempotents = not (length (pairs_of p.problem) == 0)
 is_barred p form = false
 
 -- a line of this form: 8, 9, 3, 16, 17, 18, 19, then its tokens from the left
@@ -166,11 +172,11 @@ is_taken p (Some x) = list_any (λ y. y == x) (letters_of p.problem)
 abbrev pub generator_causes : Partial → Token → List Field → List (Option Cause)
 generator_causes p name fields =
     when cause.LineOutOfOrder (nat_lt 2 (section_reached p))
-    ∷ when cause.NotALetter (is_none (letter_of name))
-    ∷ when cause.RepeatedLetter (is_taken p (letter_of name))
-    ∷ when cause.WrongNumberOfEntries (not (length fields == entry_count p.sizes p.problem))
-    ∷ when cause.BadEntry (list_any (is_bad_entry p.sizes p.problem) fields)
-    ∷ when cause.NotInjective (repeats_image p.sizes p.problem fields)
+    ∷ when cause.NotALetter (is_none (letter_of (is_wide p.head.version) name))
+    ∷ when cause.RepeatedLetter (is_taken p (letter_of (is_wide p.head.version) name))
+    ∷ when cause.WrongNumberOfEntries (not (length fields == entry_count p.head.sizes p.problem))
+    ∷ when cause.BadEntry (list_any (is_bad_entry p.head.sizes p.problem) fields)
+    ∷ when cause.NotInjective (repeats_image p.head.sizes p.problem fields)
     ∷ []
 
 -- a line behind the header
@@ -213,35 +219,56 @@ is_one (t ∷ []) = true
 is_one (t ∷ u ∷ tokens) = false
 
 -- the first byte of LETTERS that is no letter (5) or came before (6)
-abbrev pub letters_causes : List Token → List (Option Cause)
-letters_causes [] = []
-letters_causes (t ∷ tokens) = cause_in (alphabet_of t) ∷ []
+abbrev pub letters_causes : Version → List Token → List (Option Cause)
+letters_causes version [] = []
+letters_causes version (t ∷ tokens) = cause_in (alphabet_of (is_wide version) t) ∷ []
 
 -- the header: 2, 3, then its tokens from the left
-abbrev pub header_form_causes : Option HeaderForm → List Token → List (Option Cause)
-header_form_causes None tokens = Some cause.UnknownHeader ∷ []
-header_form_causes (Some (Numbers ranges)) tokens =
+abbrev pub header_form_causes : Version → Option HeaderForm → List Token → List (Option Cause)
+header_form_causes version None tokens = Some cause.UnknownHeader ∷ []
+header_form_causes version (Some (Numbers ranges)) tokens =
     when cause.WrongNumberOfWords (not (as_many ranges tokens)) ∷ number_causes ranges tokens
-header_form_causes (Some Letters) tokens =
-    when cause.WrongNumberOfWords (not (is_one tokens)) ∷ letters_causes tokens
+header_form_causes version (Some Letters) tokens =
+    when cause.WrongNumberOfWords (not (is_one tokens)) ∷ letters_causes version tokens
 
-abbrev pub header_causes : Line → List (Option Cause)
-header_causes [] = Some cause.UnknownHeader ∷ []
-header_causes (name ∷ tokens) = header_form_causes (header_named name) tokens
+abbrev pub header_causes : Version → Line → List (Option Cause)
+header_causes version [] = Some cause.UnknownHeader ∷ []
+header_causes version (name ∷ tokens) = header_form_causes version (header_named name) tokens
+
+-- the number of a version: 4, then 22
+abbrev pub version_number_causes : List Token → List (Option Cause)
+version_number_causes [] = []
+version_number_causes (t ∷ tokens) =
+    when cause.BadNumber (is_none (number_of t))
+    ∷ when cause.UnknownVersion (is_none (option_and_then version_numbered (number_of t))) ∷ []
+
+-- a version line: 3, then its number
+abbrev pub version_causes : List Token → List (Option Cause)
+version_causes tokens =
+    when cause.WrongNumberOfWords (not (is_one tokens)) ∷ version_number_causes tokens
+
+-- the first line that is not skipped: of the version, or else the header
+abbrev pub first_line_causes : Line → List (Option Cause)
+first_line_causes [] = Some cause.UnknownHeader ∷ []
+first_line_causes (name ∷ tokens) =
+    if is_word (codes "version") name then version_causes tokens
+    else header_causes One (name ∷ tokens)
 
 -- the causes of a line that is not skipped, after what the lines before it say
-abbrev pub causes_after : Option Partial → Line → List (Option Cause)
-causes_after None line = header_causes line
-causes_after (Some p) line = line_causes p line
+abbrev pub causes_after : Said → Line → List (Option Cause)
+causes_after Nothing line = first_line_causes line
+causes_after (OfVersion version) line = header_causes version line
+causes_after (Begun p) line = line_causes p line
 
 -- the cause of a line after what the lines before it say; a line that is skipped has none
-abbrev pub cause_of_line : Option Partial → Line → Option Cause
+abbrev pub cause_of_line : Said → Line → Option Cause
 cause_of_line s line = if is_kept line then first_of (causes_after s line) else None
 
 -- what may be missing at the end: the header, or every generator
-abbrev pub cause_at_end : Option Partial → Option Cause
-cause_at_end None = Some cause.HeaderMissing
-cause_at_end (Some p) = when cause.NoGenerator (lacks_generator p)
+abbrev pub cause_at_end : Said → Option Cause
+cause_at_end Nothing = Some cause.HeaderMissing
+cause_at_end (OfVersion version) = Some cause.HeaderMissing
+cause_at_end (Begun p) = when cause.NoGenerator (lacks_generator p)
 
 -- the lines before this one are read, and it has the cause; so it is the first line with one, since
 -- a line that is read has none
@@ -249,17 +276,17 @@ pub record IsFaultOfLine (lines : List Line) (n : ℕ) (cause : Cause) : Type 0 
   pub before : List Line
   pub line : Line
   pub after : List Line
-  pub said : Option Partial
+  pub said : Said
   pub whole : lines ≡ before ++ line ∷ after
   pub number : n ≡ suc (length before)
-  pub reads : Reads None before said
+  pub reads : Reads Nothing before said
   pub faulty : cause_of_line said line ≡ Some cause
 
 -- all lines are read, and something is missing at the end, at the last line
 pub record IsFaultAtEnd (lines : List Line) (n : ℕ) (cause : Cause) : Type 0 where
-  pub said : Option Partial
+  pub said : Said
   pub number : n ≡ length lines
-  pub reads : Reads None lines said
+  pub reads : Reads Nothing lines said
   pub missing : cause_at_end said ≡ Some cause
 
 -- the first fault of the lines
@@ -269,6 +296,6 @@ IsFirstFault lines n cause = IsFaultOfLine lines n cause ⊎ IsFaultAtEnd lines 
 -- all lines are read to this script, and nothing is missing
 pub record AreScript (lines : List Line) (script : ScriptOf) : Type 0 where
   pub said : Partial
-  pub reads : Reads None lines (Some said)
-  pub whole : cause_at_end (Some said) ≡ None
+  pub reads : Reads Nothing lines (Begun said)
+  pub whole : cause_at_end (Begun said) ≡ None
   pub is : script_in said ≡ script

@@ -5,6 +5,7 @@ use Rattle.theory.specs.declared.Kind.TheVariants.{TwoSided, Right, Left}
 use Rattle.theory.specs.Word.{Word}
 use Rattle.problem.specs.declared.kinds.Problem.{Problem}
 use Rattle.problem.specs.Problem.{has_empty_word, kind_of, letters_of, pairs_of, with_pair}
+use Rattle.query_lang.specs.declared.version.Version.{Version}
 use Rattle.query_lang.specs.declared.cause.Cause.{Cause}
 use Rattle.query_lang.specs.declared.cause.Cause.TheVariants as cause
 use Rattle.query_lang.specs.Outcome.{and_then}
@@ -40,16 +41,17 @@ abbrev pub takes_kind : Problem → Kind → Bool
 takes_kind p kind = (length (pairs_of p) == 0) || is_same_kind (kind_of p) kind
 
 -- two elements
-abbrev pub sides_of : Problem → Token → Token → Result (Word × Word) Cause
-sides_of p = both_elements (letters_of p) (has_empty_word p)
+abbrev pub sides_of : Version → Problem → Token → Token → Result (Word × Word) Cause
+sides_of version p = both_elements version (letters_of p) (has_empty_word p)
 
 -- the pair of this kind with these sides, if there may be one more
-abbrev pub paired : Problem → Kind → Token → Token → Result Problem Cause
-paired p kind left right =
+abbrev pub paired : Version → Problem → Kind → Token → Token → Result Problem Cause
+paired version p kind left right =
     if length (pairs_of p) == most_pairs then Err cause.TooManyPairs
-    else if takes_kind p kind then and_then (λ s. Ok (with_pair p kind s)) (sides_of p left right)
+    else if takes_kind p kind
+    then and_then (λ s. Ok (with_pair p kind s)) (sides_of version p left right)
     else Err cause.MixedKinds
 
 -- `U V` of a pair
-abbrev pub add_pair : Problem → Kind → List Token → Result Problem Cause
-add_pair p kind tokens = and_then (λ t. paired p kind t.0 t.1) (two_tokens tokens)
+abbrev pub add_pair : Version → Problem → Kind → List Token → Result Problem Cause
+add_pair version p kind tokens = and_then (λ t. paired version p kind t.0 t.1) (two_tokens tokens)

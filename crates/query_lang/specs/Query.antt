@@ -4,7 +4,7 @@ use Rattle.theory.specs.Word.{IsElement, Word}
 use Rattle.problem.specs.declared.kinds.Problem.{Problem}
 use Rattle.problem.specs.Problem.{allows_rules, has_empty_word, is_presented, letters_of, pairs_of}
 use Rattle.query_lang.specs.declared.script.Query.{Query}
-use Rattle.query_lang.specs.declared.script.Query.TheVariants.{Index, Equal, Normal, Classes, RuleList, ElementOf, Cayley, LowIndex, Meet, Join}
+use Rattle.query_lang.specs.declared.script.Query.TheVariants.{Index, Equal, Normal, Classes, RuleList, ElementOf, Cayley, LowIndex, Meet, Join, Green, Idempotents}
 use Rattle.query_lang.specs.Relations.{relations_of}
 use Rattle.query_lang.specs.Tables.{IsCongruenceTable, IsLowTable}
 
@@ -30,6 +30,8 @@ IsQueryOver empty k relations (Meet s t) =
     IsCongruenceTable empty k relations s × IsCongruenceTable empty k relations t
 IsQueryOver empty k relations (Join s t) =
     IsCongruenceTable empty k relations s × IsCongruenceTable empty k relations t
+IsQueryOver empty k relations (Green relation) = Unit {0}
+IsQueryOver empty k relations Idempotents = Unit {0}
 
 -- whether the query is there only where generators are given
 abbrev pub needs_generators : Query → Bool
@@ -43,6 +45,8 @@ needs_generators Cayley = true
 needs_generators (LowIndex classes count after) = false
 needs_generators (Meet s t) = false
 needs_generators (Join s t) = false
+needs_generators (Green relation) = true
+needs_generators Idempotents = true
 
 -- whether the query is there only where relations are given
 abbrev pub needs_relations : Query → Bool
@@ -56,6 +60,8 @@ needs_relations Cayley = false
 needs_relations (LowIndex classes count after) = true
 needs_relations (Meet s t) = true
 needs_relations (Join s t) = true
+needs_relations (Green relation) = false
+needs_relations Idempotents = false
 
 -- whether the query asks for the rules
 abbrev pub is_rule_list : Query → Bool
@@ -69,6 +75,8 @@ is_rule_list Cayley = false
 is_rule_list (LowIndex classes count after) = false
 is_rule_list (Meet s t) = false
 is_rule_list (Join s t) = false
+is_rule_list (Green relation) = false
+is_rule_list Idempotents = false
 
 -- whether the query is there only without pairs
 abbrev pub needs_no_pairs : Query → Bool
@@ -82,6 +90,8 @@ needs_no_pairs Cayley = true
 needs_no_pairs (LowIndex classes count after) = true
 needs_no_pairs (Meet s t) = true
 needs_no_pairs (Join s t) = true
+needs_no_pairs (Green relation) = true
+needs_no_pairs Idempotents = true
 
 -- the query is one of this problem: it is there for it, rules are allowed where it asks for them,
 -- there are no pairs where it needs that, its words and tables are over the letters, and the

@@ -3,15 +3,17 @@ use Rattle.std.specs.Prelude.{ℕ, Bool, true, false, not, ◌&&◌, ◌==◌, L
 use Rattle.std.specs.Option.{ok_or}
 use Rattle.theory.specs.Graph.{Graph}
 use Rattle.theory.specs.Word.{Word}
+use Rattle.theory.specs.declared.Relation.{Relation}
 use Rattle.problem.specs.declared.kinds.Problem.{Problem}
 use Rattle.problem.specs.Problem.{allows_rules, pairs_of}
+use Rattle.query_lang.specs.declared.version.Version.{Version}
 use Rattle.query_lang.specs.declared.cause.Cause.{Cause}
-use Rattle.query_lang.specs.declared.cause.Cause.TheVariants.{WrongNumberOfWords, BadNumber, AfterExpected}
+use Rattle.query_lang.specs.declared.cause.Cause.TheVariants.{WrongNumberOfWords, BadNumber, AfterExpected, UnknownRelation}
 use Rattle.query_lang.specs.declared.script.Query.{Query}
 use Rattle.query_lang.specs.declared.script.Query.TheVariants as ask
 use Rattle.query_lang.specs.Outcome.{and_then}
-use Rattle.query_lang.specs.Token.{Token, is_word, number_within}
-use Rattle.query_lang.specs.LineWords.{element_of, one_word, two_words}
+use Rattle.query_lang.specs.Token.{Token, is_word, number_within, relation_of}
+use Rattle.query_lang.specs.LineWords.{element_of, one_token, one_word, two_words}
 use Rattle.query_lang.specs.Tables.{low_table_of, two_tables}
 
 -- the names of queries
@@ -26,6 +28,8 @@ pub data NameOf : Type 0 where
   LowIndex : NameOf
   Meet : NameOf
   Join : NameOf
+  Green : NameOf
+  Idempotents : NameOf
 
 -- the query that a line's first token names in a presentation, or in a script of generators
 abbrev pub query_name_of : (is_presentation : Bool) → Token → Option NameOf
@@ -40,6 +44,8 @@ query_name_of is_presentation t =
     else if is_presentation && is_word (codes "join") t then Some Join
     else if not is_presentation && is_word (codes "element") t then Some Element
     else if not is_presentation && is_word (codes "cayley") t then Some Cayley
+    else if not is_presentation && is_word (codes "green") t then Some Green
+    else if not is_presentation && is_word (codes "idempotents") t then Some Idempotents
     else None
 
 -- whether a presentation has a query of this name, or a script of generators
@@ -54,6 +60,8 @@ is_name_there is_presentation Cayley = not is_presentation
 is_name_there is_presentation LowIndex = is_presentation
 is_name_there is_presentation Meet = is_presentation
 is_name_there is_presentation Join = is_presentation
+is_name_there is_presentation Green = not is_presentation
+is_name_there is_presentation Idempotents = not is_presentation
 
 -- whether a query of this name is not there for the pairs of the problem
 abbrev pub is_name_barred : Problem → NameOf → Bool
@@ -67,6 +75,8 @@ is_name_barred p Cayley = not (length (pairs_of p) == 0)
 is_name_barred p LowIndex = not (length (pairs_of p) == 0)
 is_name_barred p Meet = not (length (pairs_of p) == 0)
 is_name_barred p Join = not (length (pairs_of p) == 0)
+is_name_barred p Green = not (length (pairs_of p) == 0)
+is_name_barred p Idempotents = not (length (pairs_of p) == 0)
 
 -- the name of the query
 abbrev pub query_name : Query → NameOf
@@ -80,6 +90,8 @@ query_name ask.Cayley = Cayley
 query_name (ask.LowIndex classes count after) = LowIndex
 query_name (ask.Meet s t) = Meet
 query_name (ask.Join s t) = Join
+query_name (ask.Green relation) = Green
+query_name ask.Idempotents = Idempotents
 
 -- no token, one, two, one or three, or two or four
 abbrev pub are_none : List Token → Bool
@@ -116,6 +128,8 @@ name_takes Cayley tokens = are_none tokens
 name_takes LowIndex tokens = are_two_or_four tokens
 name_takes Meet tokens = are_two tokens
 name_takes Join tokens = are_two tokens
+name_takes Green tokens = are_one tokens
+name_takes Idempotents tokens = are_none tokens
 
 -- a query without words
 abbrev pub bare : Query → List Token → Result Query Cause
@@ -127,17 +141,18 @@ abbrev pub count_of : Token → Result ℕ Cause
 count_of t = ok_or (number_within 0 1000000 t) BadNumber
 
 -- the word behind which a page begins
-abbrev pub cursor_of : List ℕ → Bool → Token → Token → Result Word Cause
-cursor_of letters allow_empty after t = if is_word
-    (codes "after") after then element_of letters allow_empty t else Err AfterExpected
+abbrev pub cursor_of : Version → List ℕ → Bool → Token → Token → Result Word Cause
+cursor_of version letters allow_empty after t = if is_word
+    (codes "after") after then element_of version letters allow_empty t else Err AfterExpected
 
 -- `N`, or `N after U`
-abbrev pub page_of : List ℕ → Bool → List Token → Result Query Cause
-page_of letters allow_empty (count ∷ []) = and_then (λ n. Ok (ask.Classes n None)) (count_of count)
-page_of letters allow_empty (count ∷ after ∷ cursor ∷ []) =
+abbrev pub page_of : Version → List ℕ → Bool → List Token → Result Query Cause
+page_of version letters allow_empty (count ∷ []) =
+    and_then (λ n. Ok (ask.Classes n None)) (count_of count)
+page_of version letters allow_empty (count ∷ after ∷ cursor ∷ []) =
     and_then (λ n. and_then (λ u. Ok (ask.Classes n (Some u)))
-    (cursor_of letters allow_empty after cursor)) (count_of count)
-page_of letters allow_empty tokens = Err WrongNumberOfWords
+    (cursor_of version letters allow_empty after cursor)) (count_of count)
+page_of version letters allow_empty tokens = Err WrongNumberOfWords
 
 -- how many classes tables may have, and how many tables are asked for
 abbrev pub limits_of : Token → Token → Result (ℕ × ℕ) Cause
@@ -160,20 +175,30 @@ search_of letters is_monoid (classes ∷ count ∷ after ∷ t ∷ []) =
     (table_cursor_of letters is_monoid l.0 after t)) (limits_of classes count)
 search_of letters is_monoid tokens = Err WrongNumberOfWords
 
+-- one of Green's relations
+abbrev pub one_relation : List Token → Result Relation Cause
+one_relation tokens = and_then (λ t. ok_or (relation_of t) UnknownRelation) (one_token tokens)
+
 -- the query of this name, by the tokens behind the name
-abbrev pub query_of : List ℕ → Bool → List (Word × Word) → NameOf → List Token → Result Query Cause
-query_of letters allow_empty relations Index tokens = bare ask.Index tokens
-query_of letters allow_empty relations Equal tokens = and_then (λ p. Ok (ask.Equal p.0 p.1))
-    (two_words letters allow_empty tokens)
-query_of letters allow_empty relations Normal tokens = and_then (λ u. Ok (ask.Normal u))
-    (one_word letters allow_empty tokens)
-query_of letters allow_empty relations Classes tokens = page_of letters allow_empty tokens
-query_of letters allow_empty relations Rules tokens = bare ask.RuleList tokens
-query_of letters allow_empty relations Element tokens = and_then (λ u. Ok (ask.ElementOf u))
-    (one_word letters allow_empty tokens)
-query_of letters allow_empty relations Cayley tokens = bare ask.Cayley tokens
-query_of letters allow_empty relations LowIndex tokens = search_of letters allow_empty tokens
-query_of letters allow_empty relations Meet tokens = and_then (λ p. Ok (ask.Meet p.0 p.1))
+abbrev pub query_of : Version → List ℕ → Bool → List (Word × Word) → NameOf → List Token
+    → Result Query Cause
+query_of version letters allow_empty relations Index tokens = bare ask.Index tokens
+query_of version letters allow_empty relations Equal tokens = and_then (λ p. Ok (ask.Equal p.0 p.1))
+    (two_words version letters allow_empty tokens)
+query_of version letters allow_empty relations Normal tokens = and_then (λ u. Ok (ask.Normal u))
+    (one_word version letters allow_empty tokens)
+query_of version letters allow_empty relations Classes tokens =
+    page_of version letters allow_empty tokens
+query_of version letters allow_empty relations Rules tokens = bare ask.RuleList tokens
+query_of version letters allow_empty relations Element tokens = and_then (λ u. Ok (ask.ElementOf u))
+    (one_word version letters allow_empty tokens)
+query_of version letters allow_empty relations Cayley tokens = bare ask.Cayley tokens
+query_of version letters allow_empty relations LowIndex tokens =
+    search_of letters allow_empty tokens
+query_of version letters allow_empty relations Meet tokens = and_then (λ p. Ok (ask.Meet p.0 p.1))
     (two_tables allow_empty (length letters) relations tokens)
-query_of letters allow_empty relations Join tokens = and_then (λ p. Ok (ask.Join p.0 p.1))
+query_of version letters allow_empty relations Join tokens = and_then (λ p. Ok (ask.Join p.0 p.1))
     (two_tables allow_empty (length letters) relations tokens)
+query_of version letters allow_empty relations Green tokens =
+    and_then (λ relation. Ok (ask.Green relation)) (one_relation tokens)
+query_of version letters allow_empty relations Idempotents tokens = bare ask.Idempotents tokens

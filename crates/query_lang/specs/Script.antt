@@ -10,6 +10,8 @@ use Rattle.problem.specs.Problem.{has_empty_word, is_presented, letters_of}
 use Rattle.query_lang.specs.declared.cause.Cause.{Cause}
 use Rattle.query_lang.specs.declared.cause.Cause.TheVariants.{HeaderMissing, UnknownHeader, UnknownLine, LineOutOfOrder, QueryNotAllowed, WrongNumberOfWords}
 use Rattle.query_lang.specs.declared.script.Query.{Query}
+use Rattle.query_lang.specs.declared.version.Version.{Version}
+use Rattle.query_lang.specs.declared.version.Version.TheVariants.{One}
 use Rattle.query_lang.specs.Outcome.{and_then}
 use Rattle.query_lang.specs.Token.{Token, Line, tokens_of, is_kept, cut_lines, is_word}
 use Rattle.query_lang.specs.Draft.{AnyDraft}
@@ -19,6 +21,7 @@ use Rattle.query_lang.specs.Header.{header_of, outline_of}
 use Rattle.query_lang.specs.Outline.{with_relation}
 use Rattle.query_lang.specs.Pairing.{add_pair, pair_kind_of}
 use Rattle.query_lang.specs.Relations.{relations_of}
+use Rattle.query_lang.specs.Versions.{is_wide, version_of}
 use Rattle.query_lang.specs.QueryLines.{NameOf, is_name_barred, name_takes, query_name_of, query_of}
 
 -- what the lines so far have given: generators or a presentation, from the first pair on a problem,
@@ -34,12 +37,12 @@ abbrev pub with_asked : ScriptOf → Query → ScriptOf
 with_asked s query = record s { queries = s.queries ++ query ∷ [] }
 
 -- one query more
-abbrev pub asked : ScriptOf → NameOf → List Token → Result ScriptOf Cause
-asked s name tokens =
+abbrev pub asked : Version → ScriptOf → NameOf → List Token → Result ScriptOf Cause
+asked version s name tokens =
     if not (name_takes name tokens) then Err WrongNumberOfWords
     else if is_name_barred s.problem name then Err QueryNotAllowed
     else and_then (λ query. Ok (with_asked s query))
-    (query_of (letters_of s.problem) (has_empty_word s.problem) (relations_of s.problem)
+    (query_of version (letters_of s.problem) (has_empty_word s.problem) (relations_of s.problem)
     name tokens)
 
 -- whether the script is a presentation
@@ -58,12 +61,12 @@ finished (Pairing problem) = Ok (record { problem = problem; queries = [] })
 finished (Asking script) = Ok script
 
 -- the generator line `x = ENTRIES`, which may stand before the pairs
-abbrev pub generator_line : ReaderOf → Token → List Token → Result ReaderOf Cause
-generator_line (Posing draft) name entries = and_then (λ d. Ok (Posing d))
-    (draft_with draft name (map field_of entries))
-generator_line (Relating outline) name entries = Err UnknownLine
-generator_line (Pairing problem) name entries = Err LineOutOfOrder
-generator_line (Asking script) name entries = Err LineOutOfOrder
+abbrev pub generator_line : Version → ReaderOf → Token → List Token → Result ReaderOf Cause
+generator_line version (Posing draft) name entries = and_then (λ d. Ok (Posing d))
+    (draft_with (is_wide version) draft name (map field_of entries))
+generator_line version (Relating outline) name entries = Err UnknownLine
+generator_line version (Pairing problem) name entries = Err LineOutOfOrder
+generator_line version (Asking script) name entries = Err LineOutOfOrder
 
 -- the relations so far, which stand before the pairs
 abbrev pub outline_so_far : ReaderOf → Result Posed Cause
@@ -73,9 +76,10 @@ outline_so_far (Pairing problem) = Err LineOutOfOrder
 outline_so_far (Asking script) = Err LineOutOfOrder
 
 -- the relation `rel U V`
-abbrev pub relation_line : ReaderOf → List Token → Result ReaderOf Cause
-relation_line r tokens = and_then
-    (λ outline. and_then (λ o. Ok (Relating o)) (with_relation outline tokens)) (outline_so_far r)
+abbrev pub relation_line : Version → ReaderOf → List Token → Result ReaderOf Cause
+relation_line version r tokens = and_then
+    (λ outline. and_then (λ o. Ok (Relating o)) (with_relation version outline tokens))
+    (outline_so_far r)
 
 -- the problem and its pairs so far, which stand before the queries
 abbrev pub paired_so_far : ReaderOf → Result Problem Cause
@@ -85,62 +89,80 @@ paired_so_far (Pairing problem) = Ok problem
 paired_so_far (Asking script) = Err LineOutOfOrder
 
 -- the pair `twosided U V`, `right U V` or `left U V`
-abbrev pub pair_line : ReaderOf → Kind → List Token → Result ReaderOf Cause
-pair_line r kind tokens = and_then
-    (λ problem. and_then (λ p. Ok (Pairing p)) (add_pair problem kind tokens)) (paired_so_far r)
+abbrev pub pair_line : Version → ReaderOf → Kind → List Token → Result ReaderOf Cause
+pair_line version r kind tokens = and_then
+    (λ problem. and_then (λ p. Ok (Pairing p)) (add_pair version problem kind tokens))
+    (paired_so_far r)
 
 -- a query, which may stand after whatever is posed
-abbrev pub query_line : ReaderOf → Token → List Token → Result ReaderOf Cause
-query_line r first tokens =
-    and_then (λ name. and_then (λ script. and_then (λ s. Ok (Asking s)) (asked script name tokens))
-    (finished r)) (ok_or (query_name_of (is_presentation r) first) UnknownLine)
+abbrev pub query_line : Version → ReaderOf → Token → List Token → Result ReaderOf Cause
+query_line version r first tokens =
+    and_then (λ name. and_then (λ script.
+    and_then (λ s. Ok (Asking s)) (asked version script name tokens)) (finished r))
+    (ok_or (query_name_of (is_presentation r) first) UnknownLine)
 
 -- a pair of this kind, if there is one, or else a query
-abbrev pub pair_or_query : ReaderOf → Option Kind → Token → List Token → Result ReaderOf Cause
-pair_or_query r (Some kind) first tokens = pair_line r kind tokens
-pair_or_query r None first tokens = query_line r first tokens
+abbrev pub pair_or_query : Version → ReaderOf → Option Kind → Token → List Token
+    → Result ReaderOf Cause
+pair_or_query version r (Some kind) first tokens = pair_line version r kind tokens
+pair_or_query version r None first tokens = query_line version r first tokens
 
 -- a pair or a query, by its first token
-abbrev pub common_line : ReaderOf → Token → List Token → Result ReaderOf Cause
-common_line r first tokens = pair_or_query r (pair_kind_of first) first tokens
+abbrev pub common_line : Version → ReaderOf → Token → List Token → Result ReaderOf Cause
+common_line version r first tokens = pair_or_query version r (pair_kind_of first) first tokens
 
 -- a line after the header of a presentation
-abbrev pub presentation_line : ReaderOf → Line → Result ReaderOf Cause
-presentation_line r [] = Err UnknownLine
-presentation_line r (first ∷ tokens) =
-    if is_word (codes "rel") first then relation_line r tokens
-    else common_line r first tokens
+abbrev pub presentation_line : Version → ReaderOf → Line → Result ReaderOf Cause
+presentation_line version r [] = Err UnknownLine
+presentation_line version r (first ∷ tokens) =
+    if is_word (codes "rel") first then relation_line version r tokens
+    else common_line version r first tokens
 
 -- a line after the header of generators; the second token of a generator line is `=`
-abbrev pub element_line : ReaderOf → Line → Result ReaderOf Cause
-element_line r [] = Err UnknownLine
-element_line r (first ∷ []) = common_line r first []
-element_line r (first ∷ second ∷ tokens) =
-    if is_word (codes "=") second then generator_line r first tokens
-    else common_line r first (second ∷ tokens)
+abbrev pub element_line : Version → ReaderOf → Line → Result ReaderOf Cause
+element_line version r [] = Err UnknownLine
+element_line version r (first ∷ []) = common_line version r first []
+element_line version r (first ∷ second ∷ tokens) =
+    if is_word (codes "=") second then generator_line version r first tokens
+    else common_line version r first (second ∷ tokens)
 
 -- a line after the header
-abbrev pub with_line : ReaderOf → Line → Result ReaderOf Cause
-with_line r line = if is_presentation r then presentation_line r line else element_line r line
+abbrev pub with_line : Version → ReaderOf → Line → Result ReaderOf Cause
+with_line version r line =
+    if is_presentation r then presentation_line version r line else element_line version r line
 
 -- `monoid LETTERS`, `semigroup LETTERS`, or a header of generators
-abbrev pub header_line : Line → Result ReaderOf Cause
-header_line [] = Err UnknownHeader
-header_line (name ∷ tokens) =
-    if is_word (codes "monoid") name then and_then (λ o. Ok (Relating o)) (outline_of true tokens)
+abbrev pub header_line : Version → Line → Result ReaderOf Cause
+header_line version [] = Err UnknownHeader
+header_line version (name ∷ tokens) =
+    if is_word (codes "monoid") name then and_then (λ o. Ok (Relating o))
+    (outline_of (is_wide version) true tokens)
     else if is_word (codes "semigroup") name then and_then (λ o. Ok (Relating o))
-    (outline_of false tokens)
+    (outline_of (is_wide version) false tokens)
     else and_then (λ d. Ok (Posing d)) (header_of (name ∷ tokens))
 
--- a line that is not skipped, after what the lines before it gave: nothing, before the header
-abbrev pub read_line : Option ReaderOf → Line → Result ReaderOf Cause
-read_line None line = header_line line
-read_line (Some r) line = with_line r line
+-- what the lines so far have given: nothing, the version alone, or more
+pub data ProgressOf : Type 0 where
+  Nothing : ProgressOf
+  Versioned : Version → ProgressOf
+  Reading : Version → ReaderOf → ProgressOf
+
+-- the first line: of the version, or else the header
+abbrev pub first_line : Line → Result ProgressOf Cause
+first_line [] = Err UnknownHeader
+first_line (name ∷ tokens) =
+    if is_word (codes "version") name then and_then (λ v. Ok (Versioned v)) (version_of tokens)
+    else and_then (λ r. Ok (Reading One r)) (header_line One (name ∷ tokens))
+
+-- a line that is not skipped, after what the lines before it gave
+abbrev pub read_line : ProgressOf → Line → Result ProgressOf Cause
+read_line Nothing line = first_line line
+read_line (Versioned v) line = and_then (λ r. Ok (Reading v r)) (header_line v line)
+read_line (Reading v r) line = and_then (λ next. Ok (Reading v next)) (with_line v r line)
 
 -- a line, which may be skipped
-abbrev pub take_line : Option ReaderOf → List ℕ → Result (Option ReaderOf) Cause
-take_line s bytes = if is_kept (tokens_of bytes) then and_then (λ r. Ok (Some r))
-    (read_line s (tokens_of bytes)) else Ok s
+abbrev pub take_line : ProgressOf → List ℕ → Result ProgressOf Cause
+take_line s bytes = if is_kept (tokens_of bytes) then read_line s (tokens_of bytes) else Ok s
 
 -- the fault of a line: its number and its cause
 abbrev pub at_line : {A : Type 0} → ℕ → Result A Cause → Result A (ℕ × Cause)
@@ -148,18 +170,19 @@ at_line n (Ok x) = Ok x
 at_line n (Err cause) = Err (n, cause)
 
 -- the lines from the number n on: what they give, or the first fault
-abbrev pub read_lines : ℕ → Option ReaderOf → List (List ℕ) → Result (Option ReaderOf) (ℕ × Cause)
+abbrev pub read_lines : ℕ → ProgressOf → List (List ℕ) → Result ProgressOf (ℕ × Cause)
 read_lines n s [] = Ok s
 read_lines n s (bytes ∷ lines) = and_then (λ t. read_lines (suc n) t lines)
     (at_line n (take_line s bytes))
 
 -- a script has a header, and a generator where it is no presentation
-abbrev pub whole_of : Option ReaderOf → Result ScriptOf Cause
-whole_of None = Err HeaderMissing
-whole_of (Some r) = finished r
+abbrev pub whole_of : ProgressOf → Result ScriptOf Cause
+whole_of Nothing = Err HeaderMissing
+whole_of (Versioned v) = Err HeaderMissing
+whole_of (Reading v r) = finished r
 
 -- the script that the bytes are, or their first fault; what is missing at the end is a fault of
 -- the last line
 abbrev pub script_of : List ℕ → Result ScriptOf (ℕ × Cause)
 script_of bytes = and_then (λ s. at_line (length (cut_lines bytes)) (whole_of s))
-    (read_lines 1 None (cut_lines bytes))
+    (read_lines 1 Nothing (cut_lines bytes))

@@ -1,7 +1,10 @@
 -- The lines of a script and their tokens.
-use Rattle.std.specs.Prelude.{ℕ, ◌+◌, ◌-◌, ◌*◌, Bool, true, false, not, ◌&&◌, ◌||◌, ◌==◌, nat_le, List, [], ◌∷◌, length, filter, fold, if◌then◌else◌, Option, Some, None, option_and_then}
+use Rattle.std.specs.Prelude.{ℕ, ◌+◌, ◌-◌, ◌*◌, Bool, true, false, not, ◌&&◌, ◌||◌, ◌==◌, nat_le, List, [], ◌∷◌, length, codes, filter, fold, if◌then◌else◌, Option, Some, None, option_and_then}
 use Rattle.std.specs.List.{slice_split, list_all}
 use Rattle.std.specs.Cmp.Lexicographic.{pointwise}
+use Rattle.words.specs.Alphabet.{is_letter}
+use Rattle.theory.specs.declared.Relation.{Relation}
+use Rattle.theory.specs.declared.Relation.TheVariants.{R, L, H, J}
 
 abbrev pub Token : Type 0
 Token = List ℕ
@@ -46,8 +49,17 @@ abbrev pub number_within : ℕ → ℕ → Token → Option ℕ
 number_within low high t = option_and_then
     (λ n. if nat_le low n && nat_le n high then Some n else None) (number_of t)
 
--- one of the bytes `a` to `z`
-abbrev pub letter_of : Token → Option ℕ
-letter_of (b ∷ []) = if nat_le 97 b && nat_le b 122 then Some b else None
-letter_of (b ∷ c ∷ t) = None
-letter_of [] = None
+-- one letter; of both cases where they are wide
+abbrev pub letter_of : (wide : Bool) → Token → Option ℕ
+letter_of wide (b ∷ []) = if is_letter wide b then Some b else None
+letter_of wide (b ∷ c ∷ t) = None
+letter_of wide [] = None
+
+-- one of Green's relations, by its letter
+abbrev pub relation_of : Token → Option Relation
+relation_of t =
+    if is_word (codes "r") t then Some R
+    else if is_word (codes "l") t then Some L
+    else if is_word (codes "h") t then Some H
+    else if is_word (codes "j") t then Some J
+    else None

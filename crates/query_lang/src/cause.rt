@@ -44,14 +44,21 @@ pub enum Cause {
     TooManyPairs = 17,
     /// A pair is of another kind than the first one.
     MixedKinds = 18,
-    /// The rules are asked for, and the script has right or left pairs; or the Cayley graphs,
-    /// tables of low index, a meet or a join are, and it has pairs.
+    /// The rules are asked for, and the script has right or left pairs; or the Cayley graphs, the
+    /// classes of one of Green's relations, the idempotents, tables of low index, a meet or a join
+    /// are, and it has pairs.
     QueryNotAllowed = 19,
     /// A table is out of form, not standard, or of too many classes, or one of its edges leads into
     /// the root, and the script poses no monoid.
     BadTable = 20,
     /// The token in the place of `after` is another.
     AfterExpected = 21,
+    /// The number of the version is neither 1 nor 2.
+    UnknownVersion = 22,
+    /// A word of version 2 is of no such form.
+    BadPower = 23,
+    /// The token in the place of one of Green's relations is none of `r`, `l`, `h` and `j`.
+    UnknownRelation = 24,
     /// From some node of a table the two sides of a relation lead to different nodes.
     TableBreaksRelation = 25,
 }
@@ -91,6 +98,9 @@ pub fn cause_text(number: u8) -> &'static [u8]
         19 => b"query not allowed with pairs",
         20 => b"bad table",
         21 => b"after expected",
+        22 => b"unknown version",
+        23 => b"bad power",
+        24 => b"unknown relation",
         25 => b"table breaks a relation",
         _ => b"",
     }

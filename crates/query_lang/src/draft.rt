@@ -43,10 +43,10 @@ impl<E: Generator> Model for Listed<E> {
 }
 
 // A letter that is not there yet.
-fn new_letter_of(letters: &[u8], name: &[u8]) -> Result<u8, Cause>
-    ensures { result ≡ new_letter_of letters.now name.now }
+fn new_letter_of(wide: bool, letters: &[u8], name: &[u8]) -> Result<u8, Cause>
+    ensures { result ≡ new_letter_of wide letters.now name.now }
 {
-    let letter = letter_of(name).ok_or(Cause::NotALetter)?;
+    let letter = letter_of(wide, name).ok_or(Cause::NotALetter)?;
     if letters.contains(&letter) {
         Err(Cause::RepeatedLetter)
     } else {
@@ -70,20 +70,21 @@ impl<E: Generator> Listed<E> {
     fn with_generator(
         self,
         alloc: Global,
+        wide: bool,
         name: &[u8],
         fields: &[Field],
     ) -> Result<Listed<E>, LineFault>
-        ensures ok { IfOk result (λ next. with_generator E.generator_of self name.now fields.now
-            ≡ Ok next) }
+        ensures ok { IfOk result (λ next. with_generator E.generator_of wide self name.now
+            fields.now ≡ Ok next) }
         ensures err { IfErr result (IsLineFault
-            (with_generator E.generator_of self name.now fields.now)) }
+            (with_generator E.generator_of wide self name.now fields.now)) }
     {
         let Listed {
             sizes,
             mut letters,
             mut generators,
         } = self;
-        let letter = new_letter_of(&letters, name)?;
+        let letter = new_letter_of(wide, &letters, name)?;
         let generator = E::generator(alloc, sizes, fields)?;
         letters.push(letter)?;
         generators.push(generator)?;
@@ -100,7 +101,7 @@ impl<E: Generator> Listed<E> {
         ensures unpaired { IfOk result (λ posed. posed.pairs ≡ []) }
         ensures err { IfErr result (IsLineFault (posed_of self)) }
     {
-        match Alphabet::new(alloc, &self.letters) {
+        match Alphabet::wide(alloc, &self.letters) {
             Ok(alphabet) => {
                 let generators = Gens::from_vec(self.generators);
                 let pairs = Pairs::new(alloc);
@@ -180,35 +181,36 @@ impl Draft {
         }
     }
 
-    /// The generator with this name and these entries behind the others. Refused with the cause of
-    /// its line, or for want of memory.
+    /// The generator with this name and these entries behind the others; the name is a letter, of
+    /// both cases where letters are wide. Refused with the cause of its line, or for want of memory.
     pub fn with_generator(
         self,
         alloc: Global,
+        wide: bool,
         name: &[u8],
         entries: &[&[u8]],
     ) -> Result<Draft, LineFault>
-        ensures ok { IfOk result (λ next. draft_with self name.now
+        ensures ok { IfOk result (λ next. draft_with wide self name.now
             (map field_of (texts entries.now)) ≡ Ok next) }
         ensures err { IfErr result (IsLineFault
-            (draft_with self name.now (map field_of (texts entries.now)))) }
+            (draft_with wide self name.now (map field_of (texts entries.now)))) }
     {
         let fields = fields_of(alloc, entries)?;
         match self.listed {
             AnyListed::Transf(draft) => {
-                let listed = AnyListed::Transf(draft.with_generator(alloc, name, &fields)?);
+                let listed = AnyListed::Transf(draft.with_generator(alloc, wide, name, &fields)?);
                 Ok(Draft { listed })
             }
             AnyListed::PPerm(draft) => {
-                let listed = AnyListed::PPerm(draft.with_generator(alloc, name, &fields)?);
+                let listed = AnyListed::PPerm(draft.with_generator(alloc, wide, name, &fields)?);
                 Ok(Draft { listed })
             }
             AnyListed::BMat(draft) => {
-                let listed = AnyListed::BMat(draft.with_generator(alloc, name, &fields)?);
+                let listed = AnyListed::BMat(draft.with_generator(alloc, wide, name, &fields)?);
                 Ok(Draft { listed })
             }
             AnyListed::MaxPlus(draft) => {
-                let listed = AnyListed::MaxPlus(draft.with_generator(alloc, name, &fields)?);
+                let listed = AnyListed::MaxPlus(draft.with_generator(alloc, wide, name, &fields)?);
                 Ok(Draft { listed })
             }
         }

@@ -2,11 +2,14 @@
 ghost use Rattle.std.specs.Prelude.{◌≡◌, ℕ, Bool, ◌↔◌, ◌⊎◌, List, Option, None, Result, Ok, Err};
 ghost use Rattle.theory.specs.Graph.{Graph};
 ghost use Rattle.theory.specs.Word.{Word};
+ghost use Rattle.words.specs.Alphabet.{IsAlphabet};
+ghost use Rattle.words.specs.Powers.{IsOutcome, IsReadable, IsWordText};
 ghost use Rattle.query_lang.specs.declared.cause.Cause.{Cause};
 ghost use Rattle.query_lang.specs.declared.cause.Cause.TheVariants.{BadTable, TableBreaksRelation};
 ghost use Rattle.query_lang.specs.Asked.{ScriptOf};
-ghost use Rattle.query_lang.specs.Grammar.{Partial, Step, lines_of};
+ghost use Rattle.query_lang.specs.Grammar.{Said, Step, lines_of};
 ghost use Rattle.query_lang.specs.LineCauses.{AreScript, IsFirstFault, cause_of_line};
+ghost use Rattle.query_lang.specs.PowerWords.{powers_of};
 ghost use Rattle.query_lang.specs.Script.{script_of};
 ghost use Rattle.query_lang.specs.Tables.{BreaksRelation, IsCongruenceTable, IsLowTable, IsTable, IsTextOf, congruence_table_of, low_table_of};
 ghost use Rattle.query_lang.specs.Token.{Line, Token};
@@ -14,11 +17,11 @@ ghost use Rattle.query_lang.specs.Token.{Line, Token};
 /// After whatever lines, a line is read exactly where it has no cause of refusal, and then to one
 /// partial script.
 pub fn line_is_read_or_refused()
-    ensures read { (before : Option Partial) (line : Line) → cause_of_line before line ≡ None
-        → (after : Option Partial) × Step before line after }
-    ensures not_both { (before after : Option Partial) (line : Line) → Step before line after
+    ensures read { (before : Said) (line : Line) → cause_of_line before line ≡ None
+        → (after : Said) × Step before line after }
+    ensures not_both { (before after : Said) (line : Line) → Step before line after
         → cause_of_line before line ≡ None }
-    ensures one { (before one other : Option Partial) (line : Line)
+    ensures one { (before one other : Said) (line : Line)
         → Step before line one → Step before line other → one ≡ other }
 {}
 
@@ -51,6 +54,16 @@ pub fn tables_are_read()
     ensures breaks { (is_monoid : Bool) (k : ℕ) (relations : List (Word × Word)) (t : Token)
         → (congruence_table_of is_monoid k relations t ≡ Err TableBreaksRelation)
         ↔ ((g : Graph) × IsTextOf k t g × IsTable is_monoid k g × BreaksRelation relations g) }
+{}
+
+/// A word with powers is read exactly as the grammar of these words says, and refused with the
+/// fault that it has.
+pub fn powers_are_read()
+    ensures outcome { (alphabet : List ℕ) (allow_empty : Bool) (t : Token) → IsAlphabet alphabet
+        → IsOutcome alphabet allow_empty t (powers_of alphabet allow_empty t) }
+    ensures word { (alphabet : List ℕ) (allow_empty : Bool) (t : Token) (u : Word)
+        → IsAlphabet alphabet → (powers_of alphabet allow_empty t ≡ Ok u)
+        ↔ (IsWordText alphabet t u × IsReadable allow_empty u) }
 {}
 
 /// What the reader makes of bytes is the script that they are, or their first fault.

@@ -1,6 +1,6 @@
 // Why a script is refused.
 ghost use Rattle.std.specs.Prelude.{◌≡◌, None, Some};
-ghost use Rattle.query_lang.specs.Faults.{fault_at_line, fault_of_alphabet, fault_of_element, fault_of_table, fault_of_word};
+ghost use Rattle.query_lang.specs.Faults.{fault_at_line, fault_of_alphabet, fault_of_element, fault_of_powers, fault_of_table, fault_of_word};
 
 use crate::cause::Cause;
 use elements::ElementFault;
@@ -9,7 +9,7 @@ use std::alloc::{AllocError, AllocFailed};
 use std::marker::Model;
 use thiserror::Error;
 use word_graph::TableFault;
-use words::{AlphabetFault, WordFault};
+use words::{AlphabetFault, PowerFault, WordFault};
 
 /// Why bytes make no script.
 #[derive(Clone, Copy, Debug, PartialEq, Eq, Error)]
@@ -111,6 +111,20 @@ impl From<WordFault> for LineFault {
             WordFault::NotInAlphabet(_) => LineFault::refused(Cause::NotInAlphabet),
             WordFault::TooLong => LineFault::refused(Cause::WordTooLong),
             WordFault::NoMemory => LineFault::no_memory(),
+        }
+    }
+}
+
+impl From<PowerFault> for LineFault {
+    ghost from_gives = { λ fault e. e ≡ fault_of_powers fault };
+
+    fn from(fault: PowerFault) -> LineFault {
+        match fault {
+            PowerFault::EmptyWord => LineFault::refused(Cause::EmptyWord),
+            PowerFault::NotInAlphabet(_) => LineFault::refused(Cause::NotInAlphabet),
+            PowerFault::BadPower(_) => LineFault::refused(Cause::BadPower),
+            PowerFault::TooLong => LineFault::refused(Cause::WordTooLong),
+            PowerFault::NoMemory => LineFault::no_memory(),
         }
     }
 }

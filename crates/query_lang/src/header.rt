@@ -1,5 +1,6 @@
 // The header of a script.
-ghost use Rattle.std.specs.Prelude.{◌≡◌, IfOk, IfErr, Ok};
+ghost use Rattle.std.specs.Prelude.{◌≡◌, IfOk, IfErr, None, Ok};
+ghost use Rattle.words.specs.Alphabet.{IsAlphabetFault, alphabet_fault};
 ghost use Rattle.query_lang.specs.Faults.{IsLineFault};
 ghost use Rattle.query_lang.specs.Header.{header_of, outline_of, size_of, sizes_of};
 ghost use Rattle.query_lang.specs.Texts.{texts};
@@ -11,7 +12,7 @@ use crate::line_words::one_token;
 use crate::outline::Outline;
 use crate::tokens::{is_word, number_within};
 use std::alloc::Global;
-use words::Alphabet;
+use words::{Alphabet, AlphabetFault};
 
 // The degree or the dimension of a header, by the tokens behind its name.
 fn size_of(greatest: u32, tokens: &[&[u8]]) -> Result<u32, Cause>
@@ -37,14 +38,34 @@ fn sizes_of(tokens: &[&[u8]]) -> Result<(u32, u32), Cause>
     }
 }
 
+// The alphabet of these letters, of both cases where they are wide.
+fn alphabet_of(alloc: Global, wide: bool, letters: &[u8]) -> Result<Alphabet, AlphabetFault>
+    ensures ok { IfOk result (λ alphabet. alphabet ≡ letters.now) }
+    ensures faultless { IfOk result (λ _. alphabet_fault wide letters.now ≡ None) }
+    ensures err { IfErr result (IsAlphabetFault (alphabet_fault wide letters.now)) }
+{
+    if wide {
+        Alphabet::wide(alloc, letters)
+    } else {
+        Alphabet::new(alloc, letters)
+    }
+}
+
 /// What the header of a monoid or a semigroup gives, by the tokens behind its name: no relation
-/// yet. Refused for their cause, or for want of memory.
-pub fn outline_of(alloc: Global, monoid: bool, tokens: &[&[u8]]) -> Result<Outline, LineFault>
-    ensures ok { IfOk result (λ outline. outline_of monoid (texts tokens.now) ≡ Ok outline) }
-    ensures err { IfErr result (IsLineFault (outline_of monoid (texts tokens.now))) }
+/// yet. Letters are of both cases where they are wide. Refused for the cause of the tokens, or for
+/// want of memory.
+pub fn outline_of(
+    alloc: Global,
+    wide: bool,
+    monoid: bool,
+    tokens: &[&[u8]],
+) -> Result<Outline, LineFault>
+    ensures ok { IfOk result (λ outline. outline_of wide monoid (texts tokens.now)
+        ≡ Ok outline) }
+    ensures err { IfErr result (IsLineFault (outline_of wide monoid (texts tokens.now))) }
 {
     let letters = one_token(tokens)?;
-    let alphabet = Alphabet::new(alloc, letters)?;
+    let alphabet = alphabet_of(alloc, wide, letters)?;
     Ok(Outline::new(alloc, alphabet, monoid))
 }
 

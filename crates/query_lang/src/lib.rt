@@ -17,6 +17,7 @@ mod reader;
 mod script;
 mod tables;
 mod tokens;
+mod version;
 
 pub use cause::{Cause, cause_text};
 pub use fault::ScriptFault;
@@ -24,3 +25,5 @@ pub use script::{Query, Script, read_script};
 
 #[cfg(test)]
 mod tests;
+#[cfg(test)]
+mod version_tests;

@@ -9,6 +9,7 @@ ghost use Rattle.query_lang.specs.Texts.{texts};
 use crate::cause::Cause;
 use crate::fault::LineFault;
 use crate::line_words::{both_elements, two_tokens};
+use crate::version::Version;
 use ports::NoMemory;
 use presentation::{AddFault, Congruence, Kind, Pairs, Presentation};
 use problem::Problem;
@@ -48,15 +49,22 @@ impl Outline {
     }
 
     // The two elements that the tokens are.
-    fn sides(&self, alloc: Global, left: &[u8], right: &[u8]) -> Result<(Word, Word), LineFault>
-        ensures ok { IfOk result (λ sides. sides_of self.now left.now right.now ≡ Ok sides) }
+    fn sides(
+        &self,
+        alloc: Global,
+        version: Version,
+        left: &[u8],
+        right: &[u8],
+    ) -> Result<(Word, Word), LineFault>
+        ensures ok { IfOk result (λ sides. sides_of version self.now left.now right.now
+            ≡ Ok sides) }
         ensures left { IfOk result (λ sides. IsSide self.now sides.0) }
         ensures right { IfOk result (λ sides. IsSide self.now sides.1) }
-        ensures err { IfErr result (IsLineFault (sides_of self.now left.now right.now)) }
+        ensures err { IfErr result (IsLineFault (sides_of version self.now left.now right.now)) }
     {
         let alphabet = self.presentation.alphabet();
         let allow_empty = self.presentation.is_monoid();
-        both_elements(alloc, alphabet, allow_empty, left, right)
+        both_elements(alloc, version, alphabet, allow_empty, left, right)
     }
 
     // The relation of these two elements behind the others.
@@ -76,15 +84,20 @@ impl Outline {
 
     /// The relation of these two words behind the others. Refused with the cause of its line, or
     /// for want of memory.
-    pub fn with_relation(self, alloc: Global, tokens: &[&[u8]]) -> Result<Outline, LineFault>
-        ensures ok { IfOk result (λ next. with_relation self (texts tokens.now) ≡ Ok next) }
-        ensures err { IfErr result (IsLineFault (with_relation self (texts tokens.now))) }
+    pub fn with_relation(
+        self,
+        alloc: Global,
+        version: Version,
+        tokens: &[&[u8]],
+    ) -> Result<Outline, LineFault>
+        ensures ok { IfOk result (λ next. with_relation version self (texts tokens.now) ≡ Ok next) }
+        ensures err { IfErr result (IsLineFault (with_relation version self (texts tokens.now))) }
     {
         let (left, right) = two_tokens(tokens)?;
         if self.presentation.relations().len() == MOST_RELATIONS {
             return Err(LineFault::refused(Cause::TooManyRelations));
         }
-        let (left, right) = self.sides(alloc, left, right)?;
+        let (left, right) = self.sides(alloc, version, left, right)?;
         Ok(self.add_relation(left, right)?)
     }
 

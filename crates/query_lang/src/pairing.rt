@@ -10,6 +10,7 @@ use crate::cause::Cause;
 use crate::fault::LineFault;
 use crate::line_words::{both_elements, two_tokens};
 use crate::tokens::is_word;
+use crate::version::Version;
 use ports::NoMemory;
 use presentation::Kind;
 use problem::Problem;
@@ -73,17 +74,24 @@ impl Paired {
     }
 
     // The two elements that the tokens are.
-    fn sides(&self, alloc: Global, left: &[u8], right: &[u8]) -> Result<(Word, Word), LineFault>
-        ensures ok { IfOk result (λ sides. sides_of self.now left.now right.now ≡ Ok sides) }
+    fn sides(
+        &self,
+        alloc: Global,
+        version: Version,
+        left: &[u8],
+        right: &[u8],
+    ) -> Result<(Word, Word), LineFault>
+        ensures ok { IfOk result (λ sides. sides_of version self.now left.now right.now
+            ≡ Ok sides) }
         ensures left { IfOk result (λ sides. IsElement
             (has_empty_word self.now) (length (letters_of self.now)) sides.0) }
         ensures right { IfOk result (λ sides. IsElement
             (has_empty_word self.now) (length (letters_of self.now)) sides.1) }
-        ensures err { IfErr result (IsLineFault (sides_of self.now left.now right.now)) }
+        ensures err { IfErr result (IsLineFault (sides_of version self.now left.now right.now)) }
     {
         let alphabet = self.problem.alphabet();
         let allow_empty = self.problem.has_empty_word();
-        both_elements(alloc, alphabet, allow_empty, left, right)
+        both_elements(alloc, version, alphabet, allow_empty, left, right)
     }
 
     // Whether a pair of this kind may come.
@@ -107,9 +115,15 @@ impl Paired {
 
     /// The pair of this kind and of these two words behind the others. Refused with the cause of
     /// its line, or for want of memory.
-    pub fn with_pair(self, alloc: Global, kind: Kind, tokens: &[&[u8]]) -> Result<Paired, LineFault>
-        ensures ok { IfOk result (λ next. add_pair self kind (texts tokens.now) ≡ Ok next) }
-        ensures err { IfErr result (IsLineFault (add_pair self kind (texts tokens.now))) }
+    pub fn with_pair(
+        self,
+        alloc: Global,
+        version: Version,
+        kind: Kind,
+        tokens: &[&[u8]],
+    ) -> Result<Paired, LineFault>
+        ensures ok { IfOk result (λ next. add_pair version self kind (texts tokens.now) ≡ Ok next) }
+        ensures err { IfErr result (IsLineFault (add_pair version self kind (texts tokens.now))) }
     {
         let (left, right) = two_tokens(tokens)?;
         if self.problem.pairs().len() == MOST_PAIRS {
@@ -118,7 +132,7 @@ impl Paired {
         if !self.takes(kind) {
             return Err(LineFault::refused(Cause::MixedKinds));
         }
-        let (left, right) = self.sides(alloc, left, right)?;
+        let (left, right) = self.sides(alloc, version, left, right)?;
         Ok(self.with_sides(kind, left, right)?)
     }
 

@@ -3,20 +3,22 @@ ghost use Rattle.std.specs.Prelude.{◌≡◌, ◌≤◌, List, IfOk, IfErr, Ok,
 ghost use Rattle.theory.specs.Word.{IsElement, Word as Letters};
 ghost use Rattle.query_lang.specs.Faults.{IsLineFault};
 ghost use Rattle.query_lang.specs.Query.{AreLimits, IsQueryOver};
-ghost use Rattle.query_lang.specs.QueryLines.{bare, count_of, cursor_of, is_name_barred, limits_of, name_takes, page_of, query_name, query_name_of, query_of, search_of, table_cursor_of};
+ghost use Rattle.query_lang.specs.QueryLines.{bare, count_of, cursor_of, is_name_barred, limits_of, name_takes, one_relation, page_of, query_name, query_name_of, query_of, search_of, table_cursor_of};
 ghost use Rattle.query_lang.specs.QueryLines as said;
 ghost use Rattle.query_lang.specs.Tables.{IsLowTable};
 ghost use Rattle.query_lang.specs.Texts.{texts};
 
 use crate::cause::Cause;
 use crate::fault::LineFault;
-use crate::line_words::{element_of, one_word, two_words};
+use crate::line_words::{element_of, one_token, one_word, two_words};
 use crate::script::Query;
 use crate::tables::{low_table_of, two_tables};
-use crate::tokens::{is_word, number_within};
+use crate::tokens::{is_word, number_within, relation_of};
+use crate::version::Version;
 use problem::Problem;
 use std::alloc::Global;
 use std::marker::Model;
+use theory::Relation;
 use word_graph::WordGraph;
 use words::{Alphabet, Word};
 
@@ -43,6 +45,10 @@ enum Name {
     Meet,
     /// `join`
     Join,
+    /// `green`
+    Green,
+    /// `idempotents`
+    Idempotents,
 }
 
 /// What a query line begins with. Contracts see which name it is.
@@ -69,21 +75,27 @@ impl Model for QueryName {
       | kept.LowIndex ↦ said.LowIndex
       | kept.Meet ↦ said.Meet
       | kept.Join ↦ said.Join
+      | kept.Green ↦ said.Green
+      | kept.Idempotents ↦ said.Idempotents
     ] };
 }
 
 impl QueryName {
     /// Whether a query of this name is not there for the pairs of the problem: the rules for right
-    /// or left pairs, the Cayley graphs, tables of low index, meets and joins for any.
+    /// or left pairs, the Cayley graphs, tables of low index, meets, joins, Green's relations and
+    /// idempotents for any.
     pub fn is_barred(&self, problem: &Problem) -> bool
         ensures { result ≡ is_name_barred problem.now self.now }
     {
         match self.name {
             Name::Index | Name::Equal | Name::Normal | Name::Classes | Name::Element => false,
             Name::Rules => !problem.allows_rules(),
-            Name::Cayley | Name::LowIndex | Name::Meet | Name::Join => {
-                !problem.pairs().is_empty()
-            }
+            Name::Cayley
+            | Name::LowIndex
+            | Name::Meet
+            | Name::Join
+            | Name::Green
+            | Name::Idempotents => !problem.pairs().is_empty(),
         }
     }
 
@@ -92,8 +104,8 @@ impl QueryName {
         ensures { result ≡ name_takes self.now (texts tokens.now) }
     {
         match self.name {
-            Name::Index | Name::Rules | Name::Cayley => tokens.is_empty(),
-            Name::Normal | Name::Element => matches!(tokens, [_]),
+            Name::Index | Name::Rules | Name::Cayley | Name::Idempotents => tokens.is_empty(),
+            Name::Normal | Name::Element | Name::Green => matches!(tokens, [_]),
             Name::Equal | Name::Meet | Name::Join => matches!(tokens, [_, _]),
             Name::Classes => matches!(tokens, [_] | [_, _, _]),
             Name::LowIndex => matches!(tokens, [_, _] | [_, _, _, _]),
@@ -116,6 +128,8 @@ pub fn query_name_of(is_presentation: bool, first: &[u8]) -> Option<QueryName>
         text if is_presentation && is_word(b"join", text) => Name::Join,
         text if !is_presentation && is_word(b"element", text) => Name::Element,
         text if !is_presentation && is_word(b"cayley", text) => Name::Cayley,
+        text if !is_presentation && is_word(b"green", text) => Name::Green,
+        text if !is_presentation && is_word(b"idempotents", text) => Name::Idempotents,
         _ => return None,
     };
     Some(QueryName { name })
@@ -142,19 +156,20 @@ fn count_of(token: &[u8]) -> Result<usize, Cause>
 // The word behind which a page begins.
 fn cursor_of(
     alloc: Global,
+    version: Version,
     alphabet: &Alphabet,
     allow_empty: bool,
     after: &[u8],
     token: &[u8],
 ) -> Result<Word, LineFault>
-    ensures ok { IfOk result (λ word. cursor_of alphabet.now allow_empty after.now token.now
+    ensures ok { IfOk result (λ word. cursor_of version alphabet.now allow_empty after.now token.now
         ≡ Ok word) }
     ensures element { IfOk result (IsElement allow_empty (length alphabet.now)) }
     ensures err { IfErr result (IsLineFault
-        (cursor_of alphabet.now allow_empty after.now token.now)) }
+        (cursor_of version alphabet.now allow_empty after.now token.now)) }
 {
     if is_word(b"after", after) {
-        element_of(alloc, alphabet, allow_empty, token)
+        element_of(alloc, version, alphabet, allow_empty, token)
     } else {
         Err(LineFault::refused(Cause::AfterExpected))
     }
@@ -163,16 +178,18 @@ fn cursor_of(
 // The page of classes that the tokens behind `classes` ask for.
 fn page_of(
     alloc: Global,
+    version: Version,
     alphabet: &Alphabet,
     allow_empty: bool,
     tokens: &[&[u8]],
 ) -> Result<Query, LineFault>
-    ensures ok { IfOk result (λ query. page_of alphabet.now allow_empty (texts tokens.now)
+    ensures ok { IfOk result (λ query. page_of version alphabet.now allow_empty (texts tokens.now)
         ≡ Ok query) }
     ensures over { (relations : List (Letters × Letters)) → IfOk result
         (IsQueryOver allow_empty (length alphabet.now) relations) }
     ensures name { IfOk result (λ query. query_name query ≡ said.Classes) }
-    ensures err { IfErr result (IsLineFault (page_of alphabet.now allow_empty (texts tokens.now))) }
+    ensures err { IfErr result (IsLineFault
+        (page_of version alphabet.now allow_empty (texts tokens.now))) }
 {
     match tokens {
         [count] => Ok(Query::Classes {
@@ -181,7 +198,7 @@ fn page_of(
         }),
         [count, after, cursor] => {
             let count = count_of(count)?;
-            let cursor = cursor_of(alloc, alphabet, allow_empty, after, cursor)?;
+            let cursor = cursor_of(alloc, version, alphabet, allow_empty, after, cursor)?;
             Ok(Query::Classes {
                 count,
                 after: Some(cursor),
@@ -260,34 +277,48 @@ fn search_of(
     }
 }
 
+// The one of Green's relations that the tokens are.
+fn one_relation(tokens: &[&[u8]]) -> Result<Relation, Cause>
+    ensures { result ≡ one_relation (texts tokens.now) }
+{
+    relation_of(one_token(tokens)?).ok_or(Cause::UnknownRelation)
+}
+
 /// The query of this name, by the tokens behind the name; the relations hold at the tables of a
 /// meet or a join. Refused for their cause, or for want of memory.
 pub fn query_of(
     alloc: Global,
+    version: Version,
     alphabet: &Alphabet,
     allow_empty: bool,
     relations: &[(Word, Word)],
     name: QueryName,
     tokens: &[&[u8]],
 ) -> Result<Query, LineFault>
-    ensures ok { IfOk result (λ query. query_of alphabet.now allow_empty relations.now name
+    ensures ok { IfOk result (λ query. query_of version alphabet.now allow_empty relations.now name
         (texts tokens.now) ≡ Ok query) }
     ensures over { IfOk result (IsQueryOver allow_empty (length alphabet.now) relations.now) }
     ensures name { IfOk result (λ query. query_name query ≡ name) }
     ensures err { IfErr result (IsLineFault
-        (query_of alphabet.now allow_empty relations.now name (texts tokens.now))) }
+        (query_of version alphabet.now allow_empty relations.now name (texts tokens.now))) }
 {
     let letters = alphabet.len();
     match name.name {
         Name::Index => Ok(bare(Query::Index, tokens)?),
         Name::Equal => {
-            let (left, right) = two_words(alloc, alphabet, allow_empty, tokens)?;
+            let (left, right) = two_words(alloc, version, alphabet, allow_empty, tokens)?;
             Ok(Query::Equal(left, right))
         }
-        Name::Normal => Ok(Query::Normal(one_word(alloc, alphabet, allow_empty, tokens)?)),
-        Name::Classes => page_of(alloc, alphabet, allow_empty, tokens),
+        Name::Normal => Ok(Query::Normal(one_word(alloc, version, alphabet, allow_empty, tokens)?)),
+        Name::Classes => page_of(alloc, version, alphabet, allow_empty, tokens),
         Name::Rules => Ok(bare(Query::RuleList, tokens)?),
-        Name::Element => Ok(Query::ElementOf(one_word(alloc, alphabet, allow_empty, tokens)?)),
+        Name::Element => Ok(Query::ElementOf(one_word(
+            alloc,
+            version,
+            alphabet,
+            allow_empty,
+            tokens,
+        )?)),
         Name::Cayley => Ok(bare(Query::Cayley, tokens)?),
         Name::LowIndex => search_of(alloc, alphabet, allow_empty, tokens),
         Name::Meet => {
@@ -298,5 +329,7 @@ pub fn query_of(
             let (left, right) = two_tables(alloc, allow_empty, letters, relations, tokens)?;
             Ok(Query::Join(left, right))
         }
+        Name::Green => Ok(Query::Green(one_relation(tokens)?)),
+        Name::Idempotents => Ok(bare(Query::Idempotents, tokens)?),
     }
 }

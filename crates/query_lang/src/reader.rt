@@ -1,7 +1,7 @@
 // What the lines of a script give, one after another.
 ghost use Rattle.std.specs.Prelude.{◌≡◌, IfOk, IfErr, Ok};
 ghost use Rattle.query_lang.specs.Faults.{IsLineFault};
-ghost use Rattle.query_lang.specs.Script.{common_line, element_line, finished, generator_line, header_line, is_presentation, outline_so_far, pair_line, paired_so_far, presentation_line, query_line, read_line, relation_line, take_line, whole_of, with_line};
+ghost use Rattle.query_lang.specs.Script.{common_line, element_line, finished, first_line, generator_line, header_line, is_presentation, outline_so_far, pair_line, paired_so_far, presentation_line, query_line, read_line, relation_line, take_line, whole_of, with_line};
 ghost use Rattle.query_lang.specs.Script as said;
 ghost use Rattle.query_lang.specs.Texts.{texts};
 
@@ -14,6 +14,7 @@ use crate::pairing::{Paired, pair_kind_of};
 use crate::query_line::query_name_of;
 use crate::script::Script;
 use crate::tokens::{is_kept, is_word, tokens_of};
+use crate::version::{Version, version_of};
 use presentation::Kind;
 use std::alloc::Global;
 use std::marker::Model;
@@ -125,16 +126,20 @@ impl Reader {
     fn add_generator(
         self,
         alloc: Global,
+        version: Version,
         name: &[u8],
         entries: &[&[u8]],
     ) -> Result<Reader, LineFault>
-        ensures ok { IfOk result (λ next. generator_line self name.now (texts entries.now)
+        ensures ok { IfOk result (λ next. generator_line version self name.now (texts entries.now)
             ≡ Ok next) }
         ensures err { IfErr result (IsLineFault
-            (generator_line self name.now (texts entries.now))) }
+            (generator_line version self name.now (texts entries.now))) }
     {
         match self.stage {
-            Stage::Posing(draft) => Ok(posing(draft.with_generator(alloc, name, entries)?)),
+            Stage::Posing(draft) => {
+                let wide = version.is_wide();
+                Ok(posing(draft.with_generator(alloc, wide, name, entries)?))
+            }
             Stage::Relating(_) => Err(LineFault::refused(Cause::UnknownLine)),
             Stage::Pairing(_) | Stage::Asking(_) => {
                 Err(LineFault::refused(Cause::LineOutOfOrder))
@@ -153,12 +158,17 @@ impl Reader {
         }
     }
 
-    fn add_relation(self, alloc: Global, tokens: &[&[u8]]) -> Result<Reader, LineFault>
-        ensures ok { IfOk result (λ next. relation_line self (texts tokens.now) ≡ Ok next) }
-        ensures err { IfErr result (IsLineFault (relation_line self (texts tokens.now))) }
+    fn add_relation(
+        self,
+        alloc: Global,
+        version: Version,
+        tokens: &[&[u8]],
+    ) -> Result<Reader, LineFault>
+        ensures ok { IfOk result (λ next. relation_line version self (texts tokens.now) ≡ Ok next) }
+        ensures err { IfErr result (IsLineFault (relation_line version self (texts tokens.now))) }
     {
         let outline = self.into_outline()?;
-        Ok(relating(outline.with_relation(alloc, tokens)?))
+        Ok(relating(outline.with_relation(alloc, version, tokens)?))
     }
 
     // The problem and its pairs so far, which stand before the queries.
@@ -175,128 +185,237 @@ impl Reader {
     }
 
     // A pair of this kind.
-    fn add_pair(self, alloc: Global, kind: Kind, tokens: &[&[u8]]) -> Result<Reader, LineFault>
-        ensures ok { IfOk result (λ next. pair_line self kind (texts tokens.now) ≡ Ok next) }
-        ensures err { IfErr result (IsLineFault (pair_line self kind (texts tokens.now))) }
+    fn add_pair(
+        self,
+        alloc: Global,
+        version: Version,
+        kind: Kind,
+        tokens: &[&[u8]],
+    ) -> Result<Reader, LineFault>
+        ensures ok { IfOk result (λ next. pair_line version self kind (texts tokens.now)
+            ≡ Ok next) }
+        ensures err { IfErr result (IsLineFault (pair_line version self kind (texts tokens.now))) }
     {
         let paired = self.into_paired(alloc)?;
-        Ok(pairing(paired.with_pair(alloc, kind, tokens)?))
+        Ok(pairing(paired.with_pair(alloc, version, kind, tokens)?))
     }
 
-    fn add_query(self, alloc: Global, first: &[u8], tokens: &[&[u8]]) -> Result<Reader, LineFault>
-        ensures ok { IfOk result (λ next. query_line self first.now (texts tokens.now) ≡ Ok next) }
-        ensures err { IfErr result (IsLineFault (query_line self first.now (texts tokens.now))) }
+    fn add_query(
+        self,
+        alloc: Global,
+        version: Version,
+        first: &[u8],
+        tokens: &[&[u8]],
+    ) -> Result<Reader, LineFault>
+        ensures ok { IfOk result (λ next. query_line version self first.now (texts tokens.now)
+            ≡ Ok next) }
+        ensures err { IfErr result (IsLineFault
+            (query_line version self first.now (texts tokens.now))) }
     {
         let name = query_name_of(self.is_presentation(), first).ok_or(Cause::UnknownLine)?;
         let script = self.finish(alloc)?;
-        Ok(asking(script.with_query(alloc, name, tokens)?))
+        Ok(asking(script.with_query(alloc, version, name, tokens)?))
     }
 
     // A pair or a query, which all scripts have.
     fn add_common_line(
         self,
         alloc: Global,
+        version: Version,
         first: &[u8],
         tokens: &[&[u8]],
     ) -> Result<Reader, LineFault>
-        ensures ok { IfOk result (λ next. common_line self first.now (texts tokens.now)
+        ensures ok { IfOk result (λ next. common_line version self first.now (texts tokens.now)
             ≡ Ok next) }
-        ensures err { IfErr result (IsLineFault (common_line self first.now (texts tokens.now))) }
+        ensures err { IfErr result (IsLineFault
+            (common_line version self first.now (texts tokens.now))) }
     {
         match pair_kind_of(first) {
-            Some(kind) => self.add_pair(alloc, kind, tokens),
-            None => self.add_query(alloc, first, tokens),
+            Some(kind) => self.add_pair(alloc, version, kind, tokens),
+            None => self.add_query(alloc, version, first, tokens),
         }
     }
 
     // A line after the header of a presentation.
-    fn add_presentation_line(self, alloc: Global, line: &[&[u8]]) -> Result<Reader, LineFault>
-        ensures ok { IfOk result (λ next. presentation_line self (texts line.now) ≡ Ok next) }
-        ensures err { IfErr result (IsLineFault (presentation_line self (texts line.now))) }
+    fn add_presentation_line(
+        self,
+        alloc: Global,
+        version: Version,
+        line: &[&[u8]],
+    ) -> Result<Reader, LineFault>
+        ensures ok { IfOk result (λ next. presentation_line version self (texts line.now)
+            ≡ Ok next) }
+        ensures err { IfErr result (IsLineFault (presentation_line version self (texts line.now))) }
     {
         match line {
-            [first, tokens @ ..] if is_word(b"rel", first) => self.add_relation(alloc, tokens),
-            [first, tokens @ ..] => self.add_common_line(alloc, first, tokens),
+            [first, tokens @ ..] if is_word(b"rel", first) => self.add_relation(
+                alloc, version, tokens,
+            ),
+            [first, tokens @ ..] => self.add_common_line(alloc, version, first, tokens),
             [] => Err(LineFault::refused(Cause::UnknownLine)),
         }
     }
 
     // A line after the header of generators.
-    fn add_element_line(self, alloc: Global, line: &[&[u8]]) -> Result<Reader, LineFault>
-        ensures ok { IfOk result (λ next. element_line self (texts line.now) ≡ Ok next) }
-        ensures err { IfErr result (IsLineFault (element_line self (texts line.now))) }
+    fn add_element_line(
+        self,
+        alloc: Global,
+        version: Version,
+        line: &[&[u8]],
+    ) -> Result<Reader, LineFault>
+        ensures ok { IfOk result (λ next. element_line version self (texts line.now) ≡ Ok next) }
+        ensures err { IfErr result (IsLineFault (element_line version self (texts line.now))) }
     {
         match line {
             [name, sign, entries @ ..] if is_word(b"=", sign) => {
-                self.add_generator(alloc, name, entries)
+                self.add_generator(alloc, version, name, entries)
             }
-            [first, tokens @ ..] => self.add_common_line(alloc, first, tokens),
+            [first, tokens @ ..] => self.add_common_line(alloc, version, first, tokens),
             [] => Err(LineFault::refused(Cause::UnknownLine)),
         }
     }
 
     // A line after the header.
-    fn add_line(self, alloc: Global, line: &[&[u8]]) -> Result<Reader, LineFault>
-        ensures ok { IfOk result (λ next. with_line self (texts line.now) ≡ Ok next) }
-        ensures err { IfErr result (IsLineFault (with_line self (texts line.now))) }
+    fn add_line(self, alloc: Global, version: Version, line: &[&[u8]]) -> Result<Reader, LineFault>
+        ensures ok { IfOk result (λ next. with_line version self (texts line.now) ≡ Ok next) }
+        ensures err { IfErr result (IsLineFault (with_line version self (texts line.now))) }
     {
         if self.is_presentation() {
-            self.add_presentation_line(alloc, line)
+            self.add_presentation_line(alloc, version, line)
         } else {
-            self.add_element_line(alloc, line)
+            self.add_element_line(alloc, version, line)
         }
     }
 }
 
-// The header.
-fn header_line(alloc: Global, line: &[&[u8]]) -> Result<Reader, LineFault>
-    ensures ok { IfOk result (λ next. header_line (texts line.now) ≡ Ok next) }
-    ensures err { IfErr result (IsLineFault (header_line (texts line.now))) }
+// The header, in a script of this version.
+fn header_line(alloc: Global, version: Version, line: &[&[u8]]) -> Result<Reader, LineFault>
+    ensures ok { IfOk result (λ next. header_line version (texts line.now) ≡ Ok next) }
+    ensures err { IfErr result (IsLineFault (header_line version (texts line.now))) }
 {
+    let wide = version.is_wide();
     match line {
         [name, tokens @ ..] if is_word(b"monoid", name) => {
-            Ok(relating(outline_of(alloc, true, tokens)?))
+            Ok(relating(outline_of(alloc, wide, true, tokens)?))
         }
         [name, tokens @ ..] if is_word(b"semigroup", name) => {
-            Ok(relating(outline_of(alloc, false, tokens)?))
+            Ok(relating(outline_of(alloc, wide, false, tokens)?))
         }
         _ => Ok(posing(header_of(alloc, line)?)),
     }
 }
 
-// A line that is not skipped.
-fn read_line(alloc: Global, reader: Option<Reader>, line: &[&[u8]]) -> Result<Reader, LineFault>
-    ensures ok { IfOk result (λ next. read_line reader (texts line.now) ≡ Ok next) }
-    ensures err { IfErr result (IsLineFault (read_line reader (texts line.now))) }
+// How far the lines so far have come.
+#[derive(Drop)]
+enum Begun {
+    // Nothing yet.
+    Nothing,
+    // The version line alone.
+    Versioned(Version),
+    // The header, and what stands behind it.
+    Reading(Version, Reader),
+}
+
+/// What the lines so far have given, from the first one on: nothing, the version of the script, or
+/// what stands behind its header too.
+#[derive(Drop)]
+pub struct Progress {
+    begun: Begun,
+}
+
+impl Model for Progress {
+    ghost use Rattle.query_lang.specs.Script.{ProgressOf};
+    ghost use Rattle.query_lang.specs.Script as said;
+    ghost use Rattle.query_lang.specs.declared.reader.Begun.TheVariants as kept;
+
+    ghost Value = { ProgressOf };
+
+    ghost view = { λ p. elim p.begun [
+      | kept.Nothing ↦ said.Nothing
+      | kept.Versioned version ↦ said.Versioned version
+      | kept.Reading version reader ↦ said.Reading version reader
+    ] };
+}
+
+// The version line, or else the header.
+fn first_line(alloc: Global, line: &[&[u8]]) -> Result<Progress, LineFault>
+    ensures ok { IfOk result (λ next. first_line (texts line.now) ≡ Ok next) }
+    ensures err { IfErr result (IsLineFault (first_line (texts line.now))) }
 {
-    match reader {
-        None => header_line(alloc, line),
-        Some(reader) => reader.add_line(alloc, line),
+    match line {
+        [name, tokens @ ..] if is_word(b"version", name) => Ok(versioned(version_of(tokens)?)),
+        _ => Ok(reading(Version::One, header_line(alloc, Version::One, line)?)),
     }
 }
 
-/// One line more: the header, a line after it, or one that is skipped. Refused with the cause of
-/// the line, or for want of memory.
-pub fn take_line(
-    alloc: Global,
-    reader: Option<Reader>,
-    line: &[u8],
-) -> Result<Option<Reader>, LineFault>
-    ensures ok { IfOk result (λ next. take_line reader line.now ≡ Ok next) }
-    ensures err { IfErr result (IsLineFault (take_line reader line.now)) }
+// The version alone.
+fn versioned(version: Version) -> Progress
+    ensures { result ≡ said.Versioned version }
 {
-    let tokens = tokens_of(alloc, line)?;
-    if !is_kept(&tokens) {
-        return Ok(reader);
+    Progress {
+        begun: Begun::Versioned(version),
     }
-    Ok(Some(read_line(alloc, reader, &tokens)?))
 }
 
-/// The script of all lines. Refused where the header is missing, or every generator of a script
-/// that is no presentation, or for want of memory.
-pub fn whole_of(alloc: Global, reader: Option<Reader>) -> Result<Script, LineFault>
-    ensures ok { IfOk result (λ script. whole_of reader ≡ Ok script) }
-    ensures err { IfErr result (IsLineFault (whole_of reader)) }
+// The version, and what stands from the header on.
+fn reading(version: Version, reader: Reader) -> Progress
+    ensures { result ≡ said.Reading version reader }
 {
-    reader.ok_or(Cause::HeaderMissing)?.finish(alloc)
+    Progress {
+        begun: Begun::Reading(version, reader),
+    }
+}
+
+impl Progress {
+    /// No line yet.
+    pub fn new() -> Progress
+        ensures { result ≡ said.Nothing }
+    {
+        Progress {
+            begun: Begun::Nothing,
+        }
+    }
+
+    // A line that is not skipped.
+    fn read_line(self, alloc: Global, line: &[&[u8]]) -> Result<Progress, LineFault>
+        ensures ok { IfOk result (λ next. read_line self (texts line.now) ≡ Ok next) }
+        ensures err { IfErr result (IsLineFault (read_line self (texts line.now))) }
+    {
+        match self.begun {
+            Begun::Nothing => first_line(alloc, line),
+            Begun::Versioned(version) => {
+                Ok(reading(version, header_line(alloc, version, line)?))
+            }
+            Begun::Reading(version, reader) => {
+                Ok(reading(version, reader.add_line(alloc, version, line)?))
+            }
+        }
+    }
+
+    /// One line more: of the version, the header, a line after it, or one that is skipped. Refused
+    /// with the cause of the line, or for want of memory.
+    pub fn take_line(self, alloc: Global, line: &[u8]) -> Result<Progress, LineFault>
+        ensures ok { IfOk result (λ next. take_line self line.now ≡ Ok next) }
+        ensures err { IfErr result (IsLineFault (take_line self line.now)) }
+    {
+        let tokens = tokens_of(alloc, line)?;
+        if !is_kept(&tokens) {
+            return Ok(self);
+        }
+        self.read_line(alloc, &tokens)
+    }
+
+    /// The script of all lines. Refused where the header is missing, or every generator of a script
+    /// that is no presentation, or for want of memory.
+    pub fn whole(self, alloc: Global) -> Result<Script, LineFault>
+        ensures ok { IfOk result (λ script. whole_of self ≡ Ok script) }
+        ensures err { IfErr result (IsLineFault (whole_of self)) }
+    {
+        match self.begun {
+            Begun::Nothing | Begun::Versioned(_) => {
+                Err(LineFault::refused(Cause::HeaderMissing))
+            }
+            Begun::Reading(_, reader) => reader.finish(alloc),
+        }
+    }
 }

@@ -13,10 +13,12 @@ ghost use Rattle.query_lang.specs.Texts.{texts};
 use crate::cause::Cause;
 use crate::fault::{LineFault, ScriptFault};
 use crate::query_line::{QueryName, query_of};
-use crate::reader::{take_line, whole_of};
+use crate::reader::Progress;
+use crate::version::Version;
 use problem::Problem;
 use std::alloc::Global;
 use std::marker::Model;
+use theory::Relation;
 use word_graph::WordGraph;
 use words::Word;
 
@@ -56,6 +58,10 @@ pub enum Query {
     /// The join of two right congruences, by their tables. Relations are given, and no pairs; the
     /// relations hold at both tables.
     Join(WordGraph, WordGraph),
+    /// The classes of one of Green's relations, where generators are given, and no pairs.
+    Green(Relation),
+    /// The idempotents, where generators are given, and no pairs.
+    Idempotents,
 }
 
 // The relations of a problem; generators have none.
@@ -106,12 +112,13 @@ impl Script {
     pub(crate) fn with_query(
         self,
         alloc: Global,
+        version: Version,
         name: QueryName,
         tokens: &[&[u8]],
     ) -> Result<Script, LineFault>
         requires { is_name_there (is_presented self.problem) name ≡ true }
-        ensures ok { IfOk result (λ next. asked self name (texts tokens.now) ≡ Ok next) }
-        ensures err { IfErr result (IsLineFault (asked self name (texts tokens.now))) }
+        ensures ok { IfOk result (λ next. asked version self name (texts tokens.now) ≡ Ok next) }
+        ensures err { IfErr result (IsLineFault (asked version self name (texts tokens.now))) }
     {
         let Script {
             problem,
@@ -127,6 +134,7 @@ impl Script {
         let relations = relations_of(&problem);
         let query = query_of(
             alloc,
+            version,
             problem.alphabet(),
             allow_empty,
             relations,
@@ -161,16 +169,16 @@ pub fn read_script(alloc: Global, bytes: &[u8]) -> Result<Script, ScriptFault>
     ensures ok { IfOk result (λ script. AreScript (lines_of bytes.now) script) }
     ensures err { IfErr result (IsScriptFault bytes.now) }
 {
-    let mut reader = None;
+    let mut progress = Progress::new();
     let mut number = 0;
     for line in bytes.split(|byte| *byte == b'\n') {
         number += 1;
-        reader = match take_line(alloc, reader, line) {
+        progress = match progress.take_line(alloc, line) {
             Ok(next) => next,
             Err(fault) => return Err(fault.at_line(number)),
         };
     }
-    match whole_of(alloc, reader) {
+    match progress.whole(alloc) {
         Ok(script) => Ok(script),
         Err(fault) => Err(fault.at_line(number)),
     }

@@ -5,6 +5,7 @@ use presentation::Kind;
 use problem::{Posed, Problem};
 use std::alloc::Global;
 use std::test::Fail;
+use theory::Relation;
 
 // The fault of a script: its line and its cause; 0 and 0 where there is none.
 fn fault_of(alloc: Global, script: &str) -> Result<(usize, u8), Fail> {
@@ -413,6 +414,67 @@ fn meets_and_joins_depend_on_the_header(rt: HostRuntime) -> Result<(), Fail> {
 }
 
 #[test]
+fn green_and_idempotents_are_read_or_refused(rt: HostRuntime) -> Result<(), Fail> {
+    let alloc = rt.alloc();
+    for (script, line, cause) in [
+        (
+            "trans 2\na = 0 1\ngreen r\ngreen l\nidempotents\n",
+            0usize,
+            0u8,
+        ),
+        ("bmat 1\na = 1\nindex\ngreen h\ngreen j\n", 0, 0),
+        ("trans 2\na = 0 1\ngreen d\n", 3, 24),
+        ("trans 2\na = 0 1\ngreen R\n", 3, 24),
+        ("trans 2\na = 0 1\ngreen rl\n", 3, 24),
+        ("trans 2\na = 0 1\ngreen\n", 3, 3),
+        ("trans 2\na = 0 1\ngreen r l\n", 3, 3),
+        ("trans 2\na = 0 1\nidempotents x\n", 3, 3),
+        ("trans 2\na = 0 1\ntwosided a a\ngreen r\n", 4, 19),
+        ("trans 2\na = 0 1\nleft a a\nindex\ngreen d\n", 5, 19),
+        ("trans 2\na = 0 1\nright a a\ngreen d e\n", 4, 3),
+        ("trans 2\na = 0 1\nright a a\nidempotents\n", 4, 19),
+        ("trans 2\na = 0 1\nleft a a\nidempotents x\n", 4, 3),
+        ("trans 2\ngreen d\n", 2, 9),
+        ("trans 2\nidempotents\n", 2, 9),
+        ("trans 2\na = 0 1\ngreen r\nb = 1 0\n", 4, 8),
+        ("monoid a\ngreen r\n", 2, 7),
+        ("monoid a\nleft a 1\ngreen d\n", 3, 7),
+        ("semigroup a\nidempotents\n", 2, 7),
+    ] {
+        assert_eq!(rt; fault_of(alloc, script)?, (line, cause), "{script}");
+    }
+    Ok(())
+}
+
+// The relation that a query asks for.
+fn relation_in(query: &Query) -> Option<Relation> {
+    match query {
+        Query::Green(relation) => Some(*relation),
+        _ => None,
+    }
+}
+
+#[test]
+fn each_letter_names_its_relation(rt: HostRuntime) -> Result<(), Fail> {
+    let alloc = rt.alloc();
+    let script = read_script(
+        alloc,
+        b"mpt 1 0\na = -\ngreen r\ngreen l\ngreen h\ngreen j\nidempotents\n",
+    )?;
+    assert_eq!(rt; script.queries().len(), 5);
+    for (query, want) in script.queries().iter().zip([
+        Some(Relation::R),
+        Some(Relation::L),
+        Some(Relation::H),
+        Some(Relation::J),
+        None,
+    ]) {
+        assert_eq!(rt; relation_in(query), want);
+    }
+    Ok(())
+}
+
+#[test]
 fn a_script_holds_its_tables(rt: HostRuntime) -> Result<(), Fail> {
     let alloc = rt.alloc();
     let script = read_script(
@@ -531,6 +593,8 @@ fn text_of(alloc: Global, problem: &Problem, query: &Query) -> Result<String, Fa
         Query::Join(left, right) => {
             Ok(format!(in alloc; "join {} {}", left.nodes(), right.nodes())?)
         }
+        Query::Green(relation) => Ok(format!(in alloc; "green {relation:?}")?),
+        Query::Idempotents => Ok(format!(in alloc; "idempotents")?),
     }
 }
 
@@ -558,7 +622,8 @@ fn a_script_holds_what_was_read(rt: HostRuntime) -> Result<(), Fail> {
     assert_eq!(rt; cause_text(18), b"mixed kinds of pairs".as_slice());
     assert_eq!(rt; cause_text(19), b"query not allowed with pairs".as_slice());
     assert_eq!(rt; cause_text(20), b"bad table".as_slice());
-    assert_eq!(rt; cause_text(22), b"".as_slice());
+    assert_eq!(rt; cause_text(26), b"".as_slice());
+    assert_eq!(rt; cause_text(24), b"unknown relation".as_slice());
     assert_eq!(rt; cause_text(25), b"table breaks a relation".as_slice());
     Ok(())
 }

@@ -1,9 +1,11 @@
 // Lines, cut into tokens.
 ghost use Rattle.std.specs.Prelude.{◌≡◌, IfOk};
-ghost use Rattle.query_lang.specs.Token.{is_blank, tokens_of, is_kept, is_word, number_of, number_within, letter_of};
+ghost use Rattle.query_lang.specs.Token.{is_blank, tokens_of, is_kept, is_word, number_of, number_within, letter_of, relation_of};
 ghost use Rattle.query_lang.specs.Texts.{texts};
 
 use std::alloc::{AllocError, Global};
+use theory::Relation;
+use words::is_letter;
 
 fn is_blank(byte: u8) -> bool
     ensures { result ≡ is_blank byte }
@@ -61,12 +63,25 @@ pub fn number_within(low: u32, high: u32, token: &[u8]) -> Option<u32>
     number_of(token).filter(|number| low <= *number && *number <= high)
 }
 
-/// The letter from `a` to `z`, if the token is one.
-pub fn letter_of(token: &[u8]) -> Option<u8>
-    ensures { result ≡ letter_of token.now }
+/// The letter, if the token is one; of both cases where letters are wide.
+pub fn letter_of(wide: bool, token: &[u8]) -> Option<u8>
+    ensures { result ≡ letter_of wide token.now }
 {
     match token {
-        [letter] if letter.is_ascii_lowercase() => Some(*letter),
+        [letter] if is_letter(wide, *letter) => Some(*letter),
+        _ => None,
+    }
+}
+
+/// The one of Green's relations that the token names, if it names one.
+pub fn relation_of(token: &[u8]) -> Option<Relation>
+    ensures { result ≡ relation_of token.now }
+{
+    match token {
+        text if is_word(b"r", text) => Some(Relation::R),
+        text if is_word(b"l", text) => Some(Relation::L),
+        text if is_word(b"h", text) => Some(Relation::H),
+        text if is_word(b"j", text) => Some(Relation::J),
         _ => None,
     }
 }

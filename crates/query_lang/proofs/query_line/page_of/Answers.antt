@@ -11,12 +11,12 @@ use Rattle.query_lang.proofs.query_line.page_of.Goals.{in_default-via-then-token
 pub returns-in_err-count-in-len3-clause-err : goal.returns-in_err-count-in-len3-clause-err
 returns-in_err-count-in-len3-clause-err c =
     let three : length c.args.tokens.now ≡ 3 = omega arith in
-    handed_on _ _ _ c.from_residual-in_err-count-in-len3.ensures.1 (count_refused c.args.alphabet.now c.args.allow_empty c.args.tokens.now _ c.in_err-count-in-len3.field-0.0 three (sym c.in_err-count-in-len3.ensures))
+    handed_on _ _ _ c.from_residual-in_err-count-in-len3.ensures.1 (count_refused c.args.version c.args.alphabet.now c.args.allow_empty c.args.tokens.now _ c.in_err-count-in-len3.field-0.0 three (sym c.in_err-count-in-len3.ensures))
 
 pub returns-in_default-clause-err : goal.returns-in_default-clause-err
 returns-in_default-clause-err c =
-    subst (IsLineFault (page_of c.args.alphabet.now c.args.allow_empty (texts c.args.tokens.now))) (sym c.refused.ensures)
-    (no_page c.args.alphabet.now c.args.allow_empty c.args.tokens.now
+    subst (IsLineFault (page_of c.args.version c.args.alphabet.now c.args.allow_empty (texts c.args.tokens.now))) (sym c.refused.ensures)
+    (no_page c.args.version c.args.alphabet.now c.args.allow_empty c.args.tokens.now
     (elim c.in_default.branch [
       | in_default-via-then-tokens-lt1 w ↦ omega (arith, ltb-true, ltb-false)
       | in_default-via-else-tokens-lt1+else-tokens-lt2+then-tokens-lt3 w ↦ omega (arith, ltb-true, ltb-false)

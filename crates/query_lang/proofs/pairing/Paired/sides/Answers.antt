@@ -6,6 +6,6 @@ use Rattle.query_lang.proofs.pairing.Paired.sides.Goals as goal
 
 pub returns-clause-err : goal.returns-clause-err
 returns-clause-err c =
-    subst₂ (λ letters empty. IfErr c.both_elements.result (IsLineFault (both_elements letters empty c.args.left.now c.args.right.now)))
+    subst₂ (λ letters empty. IfErr c.both_elements.result (IsLineFault (both_elements c.args.version letters empty c.args.left.now c.args.right.now)))
     (c.alphabet-alphabet.ensures.letters ∙ ap letters_of c.self.view_is) (c.has_empty_word-allow_empty.ensures ∙ ap has_empty_word c.self.view_is)
     c.both_elements.ensures.err
