@@ -12,7 +12,7 @@ AreAlike R S = (u v : Word) → R u v ↔ S u v
 least_to : (R S : Word → Word → Type 0) → AreAlike R S → (u : Word) → IsLeast R u → IsLeast S u
 least_to R S alike u h = record { element = (alike u u).0 h.element; none_less = λ v s. h.none_less v ((alike u v).1 s) }
 
-classes_alike : (R S : Word → Word → Type 0) → AreAlike R S → (words : List Word) → IsClassList R words → IsClassList S words
+pub classes_alike : (R S : Word → Word → Type 0) → AreAlike R S → (words : List Word) → IsClassList R words → IsClassList S words
 classes_alike R S alike = list_same (IsLeast R) (IsLeast S) ◌≺◌ (λ u. (least_to R S alike u, least_to S R (λ x y. ((alike x y).1, (alike x y).0)) u)) None
 
 pub graphs_alike : (R S : Word → Word → Type 0) → AreAlike R S → (k : ℕ) (words : List Word) (right left : ℕ → ℕ → ℕ) → AreCayleyGraphs R k words right left → AreCayleyGraphs S k words right left

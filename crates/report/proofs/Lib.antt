@@ -4,8 +4,12 @@ pub mod ListingLemmas
 pub mod GraphLemmas
 pub mod AnswerLemmas
 pub mod AnswerBytes
+pub mod OneNumber
+pub mod OneGreen
 pub mod UniqueAnswer
 pub mod PageLemmas
 pub mod TablePages
 pub mod SolvedLemmas
 pub mod TableAnswers
+pub mod GreenTables
+pub mod GreenLists

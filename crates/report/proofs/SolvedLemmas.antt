@@ -12,7 +12,7 @@ use Rattle.theory.specs.Class.{IsLeast, IsNormal, HasIndex, IsInfinite, IsRuleLi
 use Rattle.froidure_pin.specs.declared.tables.CayleyTables.{CayleyTables}
 use Rattle.cayley.specs.Tables.{edge}
 use Rattle.problem.specs.declared.kinds.Problem.{Problem}
-use Rattle.problem.specs.Problem.{SameClassOf, SameValueOf, IsWellPosed, count_of, is_presented, letters_of}
+use Rattle.problem.specs.Problem.{SameClassOf, SameValueOf, HasOneShape, IsWellPosed, count_of, is_presented, letters_of, pairs_of}
 use Rattle.problem.proofs.RelatedByValue.{related_by_value}
 use Rattle.congruence.specs.declared.answers.Index.{Index}
 use Rattle.congruence.specs.declared.answers.Index.TheVariants.{Finite, Infinite, Over}
@@ -93,10 +93,17 @@ is_generated p q r is needs asked = generated (is_presented p) asked.there
     generated true there = absurd (true≢false (sym needs ∙ sym (ap needs_generators is) ∙ there refl))
     generated false there = refl
 
+-- generators are of one shape
+pub solved_shape : (p : Problem) (q r : Query) → q ≡ r → needs_generators r ≡ true → IsWellPosed p → IsQueryOf p q → HasOneShape p
+solved_shape p q r is needs posed asked = one_shape p (is_generated p q r is needs asked) posed
+
+-- there are no pairs
+pub solved_unpaired : (p : Problem) (q r : Query) → q ≡ r → needs_no_pairs r ≡ true → IsQueryOf p q → pairs_of p ≡ []
+solved_unpaired p q r is needs asked = asked.unpaired (ap needs_no_pairs is ∙ needs)
+
 -- without pairs the Cayley graphs are those of the elements
 pub solved_cayley : (p : Problem) (bound : ℕ) (q : Query) (t : CayleyTables) → q ≡ query.Cayley → IsWellPosed p → IsQueryOf p q → AreTablesFor p t
     → AreLines p bound query.Cayley (cayley_lines (letters_of p) (count_of p) t.words (edge t.right) (edge t.left) ++ end_line false ∷ [])
 solved_cayley p bound q t is posed asked tables =
-    let shape = one_shape p (is_generated p q query.Cayley is refl asked) posed in
-    let alike = related_by_value p shape (asked.unpaired (ap needs_no_pairs is)) in
+    let alike = related_by_value p (solved_shape p q query.Cayley is refl posed asked) (solved_unpaired p q query.Cayley is refl asked) in
     (t.words, edge t.right, edge t.left, graphs_alike (SameValueOf p) (SameClassOf p) (λ u v. ((alike u v).1, (alike u v).0)) (count_of p) t.words (edge t.right) (edge t.left) tables.graphs, refl)

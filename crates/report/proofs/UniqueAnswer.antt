@@ -2,18 +2,15 @@
 use Rattle.std.proofs.Common.{◌≡◌, ℕ, zero, suc, ◌+◌, ◌<◌, ◌≤◌, Bool, true, false, inl, inr, List, [], ◌∷◌, ◌++◌, length, get_or, map, Option, None, option_map, refl, sym, ap, ap₂, subst, ◌∙◌, arith}
 use Rattle.std.specs.Prelude.{codes, decimal}
 use Rattle.std.specs.List.{flat_map, range_with_len}
-use Rattle.std.proofs.lemmas.Bool.{cases_lt}
 use Rattle.std.proofs.lemmas.List.Concat.{flat_map_single}
-use Rattle.std.proofs.Math.Nat.{eq-or-lt_of_le}
 use Rattle.theory.specs.Word.{Word}
 use Rattle.theory.specs.ShortLex.{◌≺◌}
-use Rattle.theory.specs.Class.{IsLeast, HasIndex, IsClassList, IsInfinite, IsReducedRule, RuleBefore}
+use Rattle.theory.specs.Class.{IsLeast, HasIndex, IsInfinite, IsReducedRule, RuleBefore}
 use Rattle.theory.specs.Graph.{Graph, SameEnd}
 use Rattle.theory.specs.Lattice as lattice
 use Rattle.theory.specs.LowIndex.{graph_of, IsLowIndex, TableLess}
 use Rattle.theory.specs.Value.{IsProduct, SameValue, SameElement, HasAtMostValues, HasMoreValues}
 use Rattle.theory.specs.declared.Kind.{Kind}
-use Rattle.theory.proofs.Words.{before_irrefl}
 use Rattle.theory.proofs.Chains.{joined_congruence}
 use Rattle.theory.proofs.Listings.{IsStrictOrder, list_unique, page_unique, start_no_longer}
 use Rattle.theory.proofs.Completeness.{normal_unique}
@@ -25,19 +22,19 @@ use Rattle.elements.specs.TransfLaws.{composed_products}
 use Rattle.elements.specs.PPermLaws.{partial_products}
 use Rattle.elements.specs.BMatLaws.{boolean_products}
 use Rattle.elements.specs.MaxPlusLaws.{truncated_products}
-use Rattle.froidure_pin.proofs.Starts.{start_ascending, ascending_between}
 use Rattle.problem.specs.declared.budgets.Budgets.{Budgets}
 use Rattle.problem.specs.declared.kinds.Problem.{Problem}
 use Rattle.problem.specs.declared.kinds.Problem.TheVariants as problem
 use Rattle.problem.specs.Problem.{SameClassOf, IsDecided, IsUndecided, letters_of, count_of, no_matrix, no_truncated_matrix}
-use Rattle.congruence.specs.CayleyGraphs.{IsNumbered, AreCayleyGraphs}
+use Rattle.congruence.specs.CayleyGraphs.{AreCayleyGraphs}
 use Rattle.query_lang.specs.Tables.{rows_in}
 use Rattle.query_lang.specs.declared.script.Query.{Query}
-use Rattle.query_lang.specs.declared.script.Query.TheVariants.{Index, Equal, Normal, Classes, RuleList, ElementOf, Cayley, LowIndex, Meet, Join}
+use Rattle.query_lang.specs.declared.script.Query.TheVariants.{Index, Equal, Normal, Classes, RuleList, ElementOf, Cayley, LowIndex, Meet, Join, Green, Idempotents}
 use Rattle.report.specs.Lines.{index_line, end_line, normal_line, page_lines, word_line, rule_line, table_line, numbers_text, cayley_line, meet_line, join_line}
 use Rattle.report.specs.Pages.{ArePageLines}
 use Rattle.report.specs.Answer.{cayley_lines, AreLines, AreTableLines, IsTableAnswer, IsAnswer}
-use Rattle.report.proofs.Elements.{list_start, listed_least}
+use Rattle.report.proofs.OneGreen.{one_green, one_idempotents}
+use Rattle.report.proofs.OneNumber.{one_list, one_number}
 use Rattle.report.proofs.TablePages.{table_order}
 
 joined_same : {A : Type 0} (f g : ℕ → List A) (from n : ℕ) → ((i : ℕ) → from ≤ i → i < from + n → f i ≡ g i) → flat_map f (range_with_len from n) ≡ flat_map g (range_with_len from n)
@@ -52,32 +49,14 @@ numbers_same : (f g : ℕ → ℕ) (k : ℕ) → ((a : ℕ) → a < k → f a �
 numbers_same f g k h = joined_same (λ a. codes " " ++ decimal (f a)) (λ a. codes " " ++ decimal (g a)) 0 k (λ a _ high. ap (λ n. codes " " ++ decimal n) (h a (omega arith)))
 
 module _ (R : Word → Word → Type 0) (known : IsPartialEquivalence R) where
-  one_list : (xs ys : List Word) → IsClassList R xs → IsClassList R ys → xs ≡ ys
-  one_list = list_unique (IsLeast R) ◌≺◌ (shortlex_strict (IsLeast R)) None
-
   one_index : (m n : ℕ) → HasIndex R m → HasIndex R n → m ≡ n
-  one_index m n p q = sym p.2 ∙ ap length (one_list p.0 q.0 p.1 q.1) ∙ q.2
+  one_index m n p q = sym p.2 ∙ ap length (one_list R p.0 q.0 p.1 q.1) ∙ q.2
 
   -- finitely many classes are not infinitely many
   not_infinite : (n : ℕ) → HasIndex R n → IsInfinite R → ⊥
   not_infinite n h g =
       let more = g n in
       omega (arith, start_no_longer (IsLeast R) ◌≺◌ (shortlex_strict (IsLeast R)) None h.0 more.0 h.1 more.1, h.2, more.2)
-
-  -- a class has one number
-  one_number : (words : List Word) → IsClassList R words → (i j : ℕ) (u : Word) → IsNumbered R words i u → IsNumbered R words j u → i ≡ j
-  one_number words listed i j u p q =
-      let start = list_start (IsLeast R) None words listed in
-      let least = listed_least R words listed in
-      let same : get_or words i [] ≡ get_or words j [] = normal_unique R known.symmetric known.transitive u (get_or words i []) (get_or words j []) (record { related = p.1; least = least i p.0 }) (record { related = q.1; least = least j q.0 }) in
-      let up : (m n : ℕ) → m < n → n < length words → get_or words m [] ≺ get_or words n [] = ascending_between None words (start_ascending (IsLeast R) None words start) in
-      elim (cases_lt i j) [
-        | inl less ↦ absurd (before_irrefl (get_or words j []) (subst (λ w. w ≺ get_or words j []) same (up i j less q.0)))
-        | inr more ↦ elim (eq-or-lt_of_le more) [
-          | inl e ↦ sym e
-          | inr less ↦ absurd (before_irrefl (get_or words j []) (subst (λ w. get_or words j [] ≺ w) same (up j i less p.0)))
-        ]
-      ]
 
   graphs_same : (letters : List ℕ) (k : ℕ) (words : List Word) (right left right' left' : ℕ → ℕ → ℕ) → AreCayleyGraphs R k words right left → AreCayleyGraphs R k words right' left'
       → cayley_lines letters k words right left ≡ cayley_lines letters k words right' left'
@@ -86,8 +65,8 @@ module _ (R : Word → Word → Type 0) (known : IsPartialEquivalence R) where
     where
       row : (i : ℕ) → i < length words → cayley_line letters k i (get_or words i []) (right i) (left i) ≡ cayley_line letters k i (get_or words i []) (right' i) (left' i)
       row i within =
-          let on_right : numbers_text k (right i) ≡ numbers_text k (right' i) = numbers_same (right i) (right' i) k (λ a below. one_number words g.listed (right i a) (right' i a) (get_or words i [] ++ a ∷ []) (g.on_right i a within below) (h.on_right i a within below)) in
-          let on_left : numbers_text k (left i) ≡ numbers_text k (left' i) = numbers_same (left i) (left' i) k (λ a below. one_number words g.listed (left i a) (left' i a) (a ∷ get_or words i []) (g.on_left i a within below) (h.on_left i a within below)) in
+          let on_right : numbers_text k (right i) ≡ numbers_text k (right' i) = numbers_same (right i) (right' i) k (λ a below. one_number R known words g.listed (right i a) (right' i a) (get_or words i [] ++ a ∷ []) (g.on_right i a within below) (h.on_right i a within below)) in
+          let on_left : numbers_text k (left i) ≡ numbers_text k (left' i) = numbers_same (left i) (left' i) k (λ a below. one_number R known words g.listed (left i a) (left' i a) (a ∷ get_or words i []) (g.on_left i a within below) (h.on_left i a within below)) in
           rw (on_right, on_left) refl
 
 module _ {V : Type 0} {product : V → V → V} {equal : V → V → Bool} (generators : List V) (unused : V) where
@@ -173,7 +152,7 @@ module _ (p : Problem) (bound : ℕ) where
       h.2 ∙ ap (λ rules. map (rule_line (letters_of p)) rules ++ end_line false ∷ []) (list_unique (λ rule. IsReducedRule R rule.0 rule.1) RuleBefore (rule_order R known) None h.0 g.0 h.1 g.1) ∙ sym g.2
   one_lines (ElementOf u) lines others h g = h ∙ sym g
   one_lines Cayley lines others h g =
-      let words : g.0 ≡ h.0 = one_list R known g.0 h.0 g.3.listed h.3.listed in
+      let words : g.0 ≡ h.0 = one_list R g.0 h.0 g.3.listed h.3.listed in
       let moved : AreCayleyGraphs R (count_of p) h.0 g.1 g.2 = subst (λ ws. AreCayleyGraphs R (count_of p) ws g.1 g.2) words g.3 in
       h.4
       ∙ ap (λ rows. rows ++ end_line false ∷ []) (graphs_same R known (letters_of p) (count_of p) h.0 h.1 h.2 g.1 g.2 h.3 moved ∙ ap (λ ws. cayley_lines (letters_of p) (count_of p) ws g.1 g.2) (sym words))
@@ -181,6 +160,8 @@ module _ (p : Problem) (bound : ℕ) where
   one_lines (LowIndex classes count after) lines others h g = one_table_page p classes count after lines others h g
   one_lines (Meet s t) lines others h g = one_table_line meet_line (length (letters_of p)) (lattice.Meet s t) lines others h g
   one_lines (Join s t) lines others h g = one_table_line join_line (length (letters_of p)) (lattice.Join (length (letters_of p)) s t) lines others h g
+  one_lines (Green relation) lines others h g = one_green p relation lines others h g
+  one_lines Idempotents lines others h g = one_idempotents p lines others h g
 
 pub one_answer : (p : Problem) (budgets : Budgets) (bound : ℕ) (query : Query) (lines others : List (List ℕ)) (undecided other : Bool)
     → IsAnswer p budgets bound query lines undecided → IsAnswer p budgets bound query others other → (lines ≡ others) × (undecided ≡ other)

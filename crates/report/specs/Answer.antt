@@ -15,10 +15,11 @@ use Rattle.problem.specs.declared.kinds.Problem.TheVariants.{Presented, Transf, 
 use Rattle.problem.specs.Problem.{SameClassOf, IsDecided, IsUndecided, letters_of, count_of, value_text}
 use Rattle.query_lang.specs.Tables.{rows_in}
 use Rattle.query_lang.specs.declared.script.Query.{Query}
-use Rattle.query_lang.specs.declared.script.Query.TheVariants.{Index, Equal, Normal, Classes, RuleList, ElementOf, Cayley, LowIndex, Meet, Join}
+use Rattle.query_lang.specs.declared.script.Query.TheVariants.{Index, Equal, Normal, Classes, RuleList, ElementOf, Cayley, LowIndex, Meet, Join, Green, Idempotents}
 use Rattle.congruence.specs.CayleyGraphs.{AreCayleyGraphs}
 use Rattle.report.specs.Lines.{undecided_line, index_line, infinite_line, equal_line, element_line, end_line, normal_line, word_line, rule_line, table_line, cayley_line, meet_line, join_line}
 use Rattle.report.specs.Pages.{ArePageLines}
+use Rattle.report.specs.Greens.{AreGreenLines, AreIdempotentLines}
 
 -- the lines of all rows of the Cayley graphs
 abbrev pub cayley_lines : List ℕ → ℕ → List Word → (ℕ → ℕ → ℕ) → (ℕ → ℕ → ℕ) → List (List ℕ)
@@ -69,6 +70,8 @@ AreLines p bound (Meet s t) lines =
     IsTableAnswer meet_line (length (letters_of p)) (lattice.Meet s t) lines
 AreLines p bound (Join s t) lines =
     IsTableAnswer join_line (length (letters_of p)) (lattice.Join (length (letters_of p)) s t) lines
+AreLines p bound (Green relation) lines = AreGreenLines relation p lines
+AreLines p bound Idempotents lines = AreIdempotentLines p lines
 
 -- whether a query is answered only where the problem is decided
 abbrev pub waits : Query → Bool
@@ -82,6 +85,8 @@ waits Cayley = true
 waits (LowIndex classes count after) = false
 waits (Meet s t) = false
 waits (Join s t) = false
+waits (Green relation) = true
+waits Idempotents = true
 
 -- the answer of a query is defined: the problem is decided within the budgets, where the query
 -- waits for that

@@ -1,6 +1,6 @@
 -- The lines of a report; each ends with a line feed.
-use Rattle.std.specs.Prelude.{ℕ, Bool, List, [], ◌∷◌, ◌++◌, map, codes, decimal, nat_le, if◌then◌else◌}
-use Rattle.std.specs.List.{flat_map, range_with_len}
+use Rattle.std.specs.Prelude.{ℕ, Bool, List, [], ◌∷◌, ◌++◌, map, codes, decimal, nat_le, if◌then◌else◌, slice_index_or}
+use Rattle.std.specs.List.{flat_map, join_by, range_with_len}
 use Rattle.theory.specs.Word.{Word}
 use Rattle.theory.specs.Graph.{Graph}
 use Rattle.theory.specs.LowIndex.{Rows, graph_of}
@@ -71,3 +71,10 @@ module _ (letters : List ℕ) where
   cayley_line k i w right left =
       decimal i ++ (codes " " ++ (text_of letters w ++ (codes " right"
       ++ (numbers_text k right ++ (codes " left" ++ (numbers_text k left ++ codes "\n"))))))
+
+  -- the words of these numbers, with a space between each two
+  abbrev pub class_text : List Word → List ℕ → List ℕ
+  class_text words = join_by (λ i. text_of letters (slice_index_or words i [])) (codes " ")
+
+  abbrev pub class_line : List Word → List ℕ → List ℕ
+  class_line words class = class_text words class ++ codes "\n"

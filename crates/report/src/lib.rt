@@ -5,6 +5,9 @@ mod answers;
 mod facts;
 mod graphs;
 #[cfg(test)]
+mod green_tests;
+mod greens;
+#[cfg(test)]
 mod lattice_tests;
 mod line;
 mod listings;

@@ -12,6 +12,7 @@ ghost use Rattle.report.specs.Lines.{word_line};
 ghost use Rattle.report.specs.Pages.{ArePageLines};
 
 use crate::graphs::write_cayley;
+use crate::greens::{write_green, write_idempotents};
 use crate::listings::{write_end, write_rules, write_word};
 use crate::single::{write_count, write_equal, write_infinite, write_normal_form, write_over};
 use congruence::{Index, Solved};
@@ -96,6 +97,8 @@ pub fn write_solved<O: Sink>(
             write_rules(alloc, alphabet, &rules, sink)
         }
         Query::Cayley => write_cayley(alloc, problem, solved.tables(), sink),
+        Query::Green(relation) => { write_green(alloc, problem, solved.tables(), *relation, sink) }
+        Query::Idempotents => write_idempotents(alloc, problem, solved.tables(), sink),
         Query::ElementOf(_) | Query::LowIndex { .. } | Query::Meet(..) | Query::Join(..) => {
             unreachable!()
         }

@@ -35,7 +35,7 @@ fn answer_in<R: Threads + Sync>(
 }
 
 // The same of a script's text.
-fn answer<R: Threads + Sync + AllocGlobal>(
+pub(crate) fn answer<R: Threads + Sync + AllocGlobal>(
     rt: &R,
     script: &str,
     length: usize,

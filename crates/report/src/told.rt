@@ -143,6 +143,8 @@ pub fn write_told<O: Sink>(
         | Query::Normal(_)
         | Query::Classes { .. }
         | Query::RuleList
-        | Query::Cayley => unreachable!(),
+        | Query::Cayley
+        | Query::Green(_)
+        | Query::Idempotents => unreachable!(),
     }
 }

@@ -13,7 +13,8 @@ use Rattle.report.specs.Answer.{cayley_lines}
 use Rattle.report.specs.Lines.{count_line, over_line, infinite_line, equal_line, normal_line, rule_line, end_line}
 use Rattle.report.specs.Gains.{bytes_of}
 use Rattle.report.proofs.AnswerLemmas.{writes_lines, one_line}
-use Rattle.report.proofs.SolvedLemmas.{solved_count, solved_infinite, solved_over, solved_equal, normal_over, solved_normal, solved_rules, solved_rules_over, solved_page, solved_cayley}
+use Rattle.report.proofs.SolvedLemmas.{solved_count, solved_infinite, solved_over, solved_equal, normal_over, solved_normal, solved_rules, solved_rules_over, solved_page, solved_cayley, solved_shape, solved_unpaired}
+use Rattle.report.proofs.TableAnswers.{lines_told}
 use Rattle.report.proofs.solved.write_solved.Goals as goal
 
 pub returns-in-Finite : goal.returns-in-Finite
@@ -90,3 +91,23 @@ returns-in-Cayley g c =
     writes_lines g.O.Sink p c.args.bound c.args.query.now query.Cayley lines c.in-Cayley.is
     (solved_cayley p c.args.bound c.args.query.now t c.in-Cayley.is c.alphabet-alphabet.ensures.posed c.requires.query tables)
     _ _ _ _ refl c.write_cayley.ensures
+
+pub write_green-requires-clause-shape : goal.write_green-requires-clause-shape
+write_green-requires-clause-shape g c =
+    solved_shape c.args.problem.now c.args.query.now (query.Green c.in-Green.relation) c.in-Green.is refl c.alphabet-alphabet.ensures.posed c.requires.query
+
+pub write_green-requires-clause-unpaired : goal.write_green-requires-clause-unpaired
+write_green-requires-clause-unpaired g c = solved_unpaired c.args.problem.now c.args.query.now (query.Green c.in-Green.relation) c.in-Green.is refl c.requires.query
+
+pub returns-in-Green : goal.returns-in-Green
+returns-in-Green g c = lines_told g.O.Sink c.args.problem.now c.args.bound c.args.query.now (query.Green c.in-Green.relation) c.in-Green.is _ _ _ c.write_green.ensures
+
+pub write_idempotents-requires-clause-shape : goal.write_idempotents-requires-clause-shape
+write_idempotents-requires-clause-shape g c =
+    solved_shape c.args.problem.now c.args.query.now query.Idempotents c.in-Idempotents.is refl c.alphabet-alphabet.ensures.posed c.requires.query
+
+pub write_idempotents-requires-clause-unpaired : goal.write_idempotents-requires-clause-unpaired
+write_idempotents-requires-clause-unpaired g c = solved_unpaired c.args.problem.now c.args.query.now query.Idempotents c.in-Idempotents.is refl c.requires.query
+
+pub returns-in-Idempotents : goal.returns-in-Idempotents
+returns-in-Idempotents g c = lines_told g.O.Sink c.args.problem.now c.args.bound c.args.query.now query.Idempotents c.in-Idempotents.is _ _ _ c.write_idempotents.ensures

@@ -1,0 +1,25 @@
+use Rattle.std.proofs.Common.{List, ℕ, map, length, Global, Vec, sym, subst}
+use Rattle.ports.proofs.WriteLemmas.{handed_on, refused}
+use Rattle.theory.specs.Green.{AreClasses}
+use Rattle.froidure_pin.specs.declared.tables.CayleyTables.{CayleyTables}
+use Rattle.green.specs.Related.{AreRelated}
+use Rattle.report.proofs.GreenLists.{classes_below, green_told}
+use Rattle.report.proofs.greens.write_green.Goals as goal
+
+pub returns-in_err-found : goal.returns-in_err-found
+returns-in_err-found g c = handed_on g.O.Sink _ _ _ _ c.from_residual.ensures.1 (refused g.O.Sink c.args.sink.now)
+
+pub write_lines-requires-clause-numbers : goal.write_lines-requires-clause-numbers
+write_lines-requires-clause-numbers g c =
+    let t : CayleyTables = c.args.tables.now in
+    let items : Vec ℕ Global → List ℕ = λ class. class.items in
+    classes_below items (length t.words) (AreRelated c.args.relation t) c.deref.result.now
+    (subst (λ (found : List (Vec ℕ Global)). AreClasses (length t.words) (AreRelated c.args.relation t) (map items found)) (sym c.deref.ensures.value) c.in_ok-found.ensures)
+
+pub returns : goal.returns
+returns g c =
+    let t : CayleyTables = c.args.tables.now in
+    let items : Vec ℕ Global → List ℕ = λ class. class.items in
+    green_told c.args.problem.now t c.requires.shape c.requires.unpaired c.requires.tables g.O.Sink c.args.relation items c.deref.result.now
+    (subst (λ (found : List (Vec ℕ Global)). AreClasses (length t.words) (AreRelated c.args.relation t) (map items found)) (sym c.deref.ensures.value) c.in_ok-found.ensures)
+    _ _ _ c.write_lines.ensures

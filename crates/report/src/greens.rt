@@ -1,0 +1,136 @@
+// Green's classes and idempotents, as lines.
+ghost use Rattle.std.specs.Prelude.{◌≡◌, ◌+◌, ◌<◌, ◌++◌, ◌∷◌, [], length, map, slice_index_or, take, All, OnOk, IfOk, false};
+ghost use Rattle.ports.specs.Writes.{Writes, WritesBytes};
+ghost use Rattle.congruence.specs.CayleyGraphs.{AreTablesFor};
+ghost use Rattle.problem.specs.Problem.{HasOneShape, letters_of, pairs_of};
+ghost use Rattle.report.specs.Gains.{AreBytesOf, bytes_of};
+ghost use Rattle.report.specs.Greens.{AreGreenLines, AreIdempotentLines};
+ghost use Rattle.report.specs.Lines.{class_line, class_text, end_line, word_line};
+
+use crate::line::Line;
+use crate::listings::{write_end, write_word};
+use froidure_pin::CayleyTables;
+use green::{Relation, classes, idempotents};
+use ports::{NoMemory, Sink, WriteFault};
+use problem::Problem;
+use std::alloc::Global;
+
+// Puts a word of a class behind those before it, after a space if there are any.
+fn put_word(
+    alloc: Global,
+    problem: &Problem,
+    tables: &CayleyTables,
+    class: &[usize],
+    place: usize,
+    line: &mut Line,
+) -> Result<(), NoMemory>
+    requires tables { AreTablesFor problem.now tables.now }
+    requires numbers { All (λ i. i < length tables.now.words) class.now }
+    requires place { place < length class.now }
+    requires before { line.old
+        ≡ class_text (letters_of problem.now) tables.now.words (take place class.now) }
+    ensures { OnOk result (line.new
+        ≡ class_text (letters_of problem.now) tables.now.words (take (place + 1) class.now)) }
+{
+    let word = tables.words.word(class[place])?;
+    if 0 < place {
+        line.text(b" ")?;
+    }
+    line.word(alloc, problem.alphabet(), &word)
+}
+
+// The line of a class, without its end.
+fn line_of(
+    alloc: Global,
+    problem: &Problem,
+    tables: &CayleyTables,
+    class: &[usize],
+) -> Result<Line, NoMemory>
+    requires tables { AreTablesFor problem.now tables.now }
+    requires numbers { All (λ i. i < length tables.now.words) class.now }
+    ensures { IfOk result (λ line. line
+        ≡ class_text (letters_of problem.now) tables.now.words class.now) }
+{
+    let mut line = Line::starting(alloc, b"")?;
+    for place in 0..class.len() {
+        put_word(alloc, problem, tables, class, place, &mut line)?;
+    }
+    Ok(line)
+}
+
+// Writes a line for each class, and the end of the list.
+fn write_lines<O: Sink>(
+    alloc: Global,
+    problem: &Problem,
+    tables: &CayleyTables,
+    found: &[Vec<usize>],
+    sink: &mut O,
+) -> Result<(), WriteFault>
+    requires tables { AreTablesFor problem.now tables.now }
+    requires numbers { All (λ class. All (λ i. i < length tables.now.words) class.items) found.now }
+    ensures { WritesBytes O.Sink (bytes_of (map (λ class.
+        class_line (letters_of problem.now) tables.now.words class.items) found.now
+        ++ end_line false ∷ [])) sink.old sink.new result }
+{
+    for class in found {
+        line_of(alloc, problem, tables, class)?.write(sink)?;
+    }
+    write_end(false, sink)
+}
+
+// Writes the words of these numbers, and the end of the list.
+fn write_words<O: Sink>(
+    alloc: Global,
+    problem: &Problem,
+    tables: &CayleyTables,
+    numbers: &[usize],
+    sink: &mut O,
+) -> Result<(), WriteFault>
+    requires tables { AreTablesFor problem.now tables.now }
+    requires numbers { All (λ i. i < length tables.now.words) numbers.now }
+    ensures { WritesBytes O.Sink (bytes_of (map (λ i.
+        word_line (letters_of problem.now) (slice_index_or tables.now.words i [])) numbers.now
+        ++ end_line false ∷ [])) sink.old sink.new result }
+{
+    for number in numbers {
+        let word = tables.words.word(*number)?;
+        write_word(alloc, problem.alphabet(), &word, sink)?;
+    }
+    write_end(false, sink)
+}
+
+/// Writes a line for each class of elements under one of Green's relations, by the least words of
+/// its elements, and the end of the list.
+pub fn write_green<O: Sink>(
+    alloc: Global,
+    problem: &Problem,
+    tables: &CayleyTables,
+    relation: Relation,
+    sink: &mut O,
+) -> Result<(), WriteFault>
+    requires tables { AreTablesFor problem.now tables.now }
+    requires shape { HasOneShape problem.now }
+    requires unpaired { pairs_of problem.now ≡ [] }
+    ensures { Writes O.Sink (λ _. AreBytesOf (AreGreenLines relation problem.now))
+        sink.old sink.new result }
+{
+    let found = classes(alloc, tables, relation)?;
+    write_lines(alloc, problem, tables, &found, sink)
+}
+
+/// Writes the least words of the idempotents, and the end of the list.
+pub fn write_idempotents<O: Sink>(
+    alloc: Global,
+    problem: &Problem,
+    tables: &CayleyTables,
+    sink: &mut O,
+) -> Result<(), WriteFault>
+    requires tables { AreTablesFor problem.now tables.now }
+    requires shape { HasOneShape problem.now }
+    requires unpaired { pairs_of problem.now ≡ [] }
+    ensures { Writes O.Sink (λ _. AreBytesOf (AreIdempotentLines problem.now))
+        sink.old sink.new result }
+{
+    let found = idempotents(alloc, tables)?;
+    write_words(alloc, problem, tables, &found, sink)
+}
