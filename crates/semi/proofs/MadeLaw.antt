@@ -1,5 +1,5 @@
 -- The made script is a script.
-use Rattle.std.proofs.Common.{◌≡◌, ◌∙◌, ℕ, zero, suc, ◌≤◌, ◌==◌, Bool, true, false, not, cond, List, [], ◌∷◌, ◌++◌, length, replicate, take, map, Some, None, Ok, codes, if◌then◌else◌, refl, sym, ap, subst, arith, append-nil}
+use Rattle.std.proofs.Common.{◌≡◌, ◌∙◌, ℕ, zero, suc, ◌≤◌, ◌==◌, Bool, true, false, not, cond, List, [], ◌∷◌, ◌++◌, length, replicate, take, map, None, Ok, codes, if◌then◌else◌, refl, sym, ap, subst, arith, append-nil}
 use Rattle.std.specs.Prelude.{filter, slice_index}
 use Rattle.std.specs.List.{onto_first, slice_split}
 use Rattle.std.proofs.lemmas.Bool.Decides.{nat_tests}
@@ -7,14 +7,17 @@ use Rattle.std.proofs.lemmas.List.{length-append, length-replicate}
 use Rattle.theory.specs.Word.{IsOver, Word}
 use Rattle.words.specs.WordText.{word_of}
 use Rattle.words.proofs.AlphabetLemmas.{faultless}
+use Rattle.words.proofs.Symbols.{letters_alphabet}
 use Rattle.words.proofs.TextLaws.{prints_back}
 use Rattle.presentation.specs.Presented.{Posed}
 use Rattle.problem.specs.declared.kinds.Problem.TheVariants.{Presented}
 use Rattle.query_lang.specs.declared.script.Query.{Query}
 use Rattle.query_lang.specs.declared.script.Query.TheVariants as ask
+use Rattle.query_lang.specs.declared.version.Version.TheVariants.{One}
 use Rattle.query_lang.specs.Asked.{ScriptOf}
 use Rattle.query_lang.specs.Grammar as grammar
-use Rattle.query_lang.specs.Grammar.{Partial, Reads, Step, begin_with, lines_of, script_in}
+use Rattle.query_lang.specs.Grammar.{Begun, Nothing, Partial, Reads, Step, begin_with, lines_of, script_in}
+use Rattle.query_lang.specs.LineWords.{with_cause}
 use Rattle.query_lang.specs.Relations.{add_relation, free_over}
 use Rattle.query_lang.specs.Token.{Line, cut_lines, is_blank, tokens_of}
 use Rattle.semi.specs.Limits.{most_bytes}
@@ -79,13 +82,13 @@ word_power : (k : ℕ) → 1 ≤ k → k ≤ 200 → word_of (codes "ab") true (
 word_power zero least most = absurd (omega arith)
 word_power (suc k) least most =
     subst (λ (t : List ℕ). word_of (codes "ab") true t ≡ Ok (replicate (suc k) 1)) (bytes_power (suc k))
-    (prints_back (codes "ab") (replicate (suc k) 1) (faultless (codes "ab") refl) (over_power (suc k)) true
+    (prints_back (codes "ab") (replicate (suc k) 1) (letters_alphabet false (codes "ab") (faultless false (codes "ab") refl)) (over_power (suc k)) true
     (let n : length {A = ℕ} (replicate k 1) ≡ k = length-replicate k 1 in omega arith) (λ e. cc))
 
 -- ---- line by line
 
 abbrev begun : Partial
-begun = begin_with (0, 0) (Presented (free_over true (codes "ab")))
+begun = begin_with One (0, 0) (Presented (free_over true (codes "ab")))
 
 -- one relation more
 abbrev related : Posed → Word → Posed
@@ -95,16 +98,16 @@ abbrev posed : ℕ → Posed
 posed k = related (related (related (free_over true (codes "ab")) (0 ∷ 0 ∷ [])) (replicate k 1)) (0 ∷ 1 ∷ 0 ∷ 1 ∷ [])
 
 abbrev said_of : Posed → List Query → Partial
-said_of o queries = record { sizes = (0, 0); problem = Presented o; queries = queries }
+said_of o queries = record { head = record { version = One; sizes = (0, 0) }; problem = Presented o; queries = queries }
 
 -- a relation to the empty word, after no more than two
 relation_line : (o : Posed) (U : List ℕ) (u : Word) → o.alphabet ≡ codes "ab" → o.congruence.presentation.is_monoid ≡ true → o.congruence.pairs ≡ []
     → length o.congruence.presentation.relations ≤ 2 → word_of (codes "ab") true U ≡ Ok u
-    → Step (Some (said_of o [])) (codes "rel" ∷ U ∷ codes "1" ∷ []) (Some (said_of (related o u) []))
+    → Step (Begun (said_of o [])) (codes "rel" ∷ U ∷ codes "1" ∷ []) (Begun (said_of (related o u) []))
 relation_line o U u letters is_monoid no_pairs few reads =
     grammar.further refl
     (grammar.relation {U = U} {V = codes "1"} {u = u} {v = []} {o = o} refl refl (reached o.congruence.pairs no_pairs) (λ e. absurd (omega arith))
-    (rw (letters, is_monoid) reads) (rw is_monoid refl))
+    (rw (letters, is_monoid) (ap with_cause reads)) (rw is_monoid refl))
   where
     reached : {A : Type 0} (pairs : List A) → pairs ≡ [] → (if length pairs == 0 then 2 else 3) ≤ 2
     reached [] e = omega arith
@@ -114,17 +117,17 @@ abbrev asked : ℕ → List Query
 asked n = take n (ask.Index ∷ ask.Equal (0 ∷ 1 ∷ []) (1 ∷ 0 ∷ []) ∷ ask.Normal (0 ∷ 1 ∷ 0 ∷ []) ∷ ask.Classes 3 None ∷ [])
 
 -- the queries
-queries_read : (k : ℕ) → Reads (Some (said_of (posed k) [])) (map tokens_of (cut_lines (codes "index\nequal ab ba\nnormal aba\nclasses 3\n"))) (Some (said_of (posed k) (asked 4)))
+queries_read : (k : ℕ) → Reads (Begun (said_of (posed k) [])) (map tokens_of (cut_lines (codes "index\nequal ab ba\nnormal aba\nclasses 3\n"))) (Begun (said_of (posed k) (asked 4)))
 queries_read k =
-    grammar.more {t = Some (said_of (posed k) (asked 1))} (grammar.further refl (grammar.query refl refl (grammar.index refl)))
-    (grammar.more {t = Some (said_of (posed k) (asked 2))} (grammar.further refl (grammar.query refl refl (grammar.equal refl refl refl)))
-    (grammar.more {t = Some (said_of (posed k) (asked 3))} (grammar.further refl (grammar.query refl refl (grammar.normal refl refl)))
-    (grammar.more {t = Some (said_of (posed k) (asked 4))} (grammar.further refl (grammar.query refl refl (grammar.classes refl refl)))
+    grammar.more {t = Begun (said_of (posed k) (asked 1))} (grammar.further refl (grammar.query refl refl (grammar.index refl)))
+    (grammar.more {t = Begun (said_of (posed k) (asked 2))} (grammar.further refl (grammar.query refl refl (grammar.equal refl refl refl)))
+    (grammar.more {t = Begun (said_of (posed k) (asked 3))} (grammar.further refl (grammar.query refl refl (grammar.normal refl refl)))
+    (grammar.more {t = Begun (said_of (posed k) (asked 4))} (grammar.further refl (grammar.query refl refl (grammar.classes refl refl)))
     (grammar.more (grammar.skipped refl) grammar.none))))
 
-lines_read : (k : ℕ) → 1 ≤ k → k ≤ 200 → Reads None (lines_of (made_script k)) (Some (said_of (posed k) (asked 4)))
+lines_read : (k : ℕ) → 1 ≤ k → k ≤ 200 → Reads Nothing (lines_of (made_script k)) (Begun (said_of (posed k) (asked 4)))
 lines_read k least most =
-    subst (λ (lines : List Line). Reads None lines (Some (said_of (posed k) (asked 4)))) (sym (lines_made k least))
+    subst (λ (lines : List Line). Reads Nothing lines (Begun (said_of (posed k) (asked 4)))) (sym (lines_made k least))
     (grammar.more (grammar.header refl (grammar.monoid {L = codes "ab"} refl refl))
     (grammar.more (relation_line (free_over true (codes "ab")) (codes "aa") (0 ∷ 0 ∷ []) refl refl refl (omega arith) refl)
     (grammar.more (relation_line (related (free_over true (codes "ab")) (0 ∷ 0 ∷ [])) (replicate k 98) (replicate k 1) refl refl refl (omega arith) (word_power k least most))

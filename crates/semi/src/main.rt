@@ -23,6 +23,8 @@ mod table_tests;
 #[cfg(test)]
 mod tests;
 mod top;
+#[cfg(test)]
+mod version_tests;
 mod whole;
 #[cfg(test)]
 mod worker_tests;
