@@ -63,8 +63,16 @@ fn letters_go_by_the_version(rt: HostRuntime) -> Result<(), Fail> {
 fn words_with_powers_are_read_or_refused(rt: HostRuntime) -> Result<(), Fail> {
     let alloc = rt.alloc();
     for (script, line, cause) in [
-        ("version 2\nmonoid ab\nrel (ab)^2 1\nrel a^2b^3 (a(ba)^2)^2\n", 0usize, 0u8),
-        ("version 2\nmonoid ab\nright a^2 (b)\nnormal ((a)^2)^12\n", 0, 0),
+        (
+            "version 2\nmonoid ab\nrel (ab)^2 1\nrel a^2b^3 (a(ba)^2)^2\n",
+            0usize,
+            0u8,
+        ),
+        (
+            "version 2\nmonoid ab\nright a^2 (b)\nnormal ((a)^2)^12\n",
+            0,
+            0,
+        ),
         ("version 2\nmonoid ab\nrel (ab 1\n", 3, 23),
         ("version 2\nmonoid ab\nrel 1 a^0\n", 3, 23),
         ("version 2\nmonoid ab\nleft a a^2^2\n", 3, 23),

@@ -11,10 +11,7 @@ fn scripts_of_version_2_are_answered(rt: HostRuntime) -> Result<(), Fail> {
              normal a((ba)^2b)^2\n",
             "index 6\nnormal ba\n",
         ),
-        (
-            "version 2\ntrans 2\nA = 1 0\nequal A^3 A\n",
-            "equal yes\n",
-        ),
+        ("version 2\ntrans 2\nA = 1 0\nequal A^3 A\n", "equal yes\n"),
         (
             "version 2\nmonoid aA\nrel aA 1\nrel Aa 1\nindex\nnormal a^3A^2\n",
             "index infinite\nnormal a\n",
