@@ -89,7 +89,7 @@ named-query r p first tokens kind come =
 
 -- a pair or a query
 named-line : (r : ReaderOf) (p : Partial) (first : Token) (tokens : List Token) → is_presentation r ≡ false → Come r p
-    → cause_in (common_line p.head.version r first tokens) ≡ first_of (named_causes p (form_among (forms_of false) first) tokens)
+    → cause_in (common_line p.head.version r first tokens) ≡ first_of (named_causes p (form_among (forms_of p.head.version false) first) tokens)
 named-line r p first tokens kind come =
     pick_pair p.head.version (is_word (codes "twosided") first) (is_word (codes "right") first) (is_word (codes "left") first) r first tokens (λ form. first_of (named_causes p form tokens)) _
     (λ kind. pair_cause r p kind tokens come) (named-query r p first tokens kind come)
@@ -103,8 +103,8 @@ pub elements_cause : (head : Head) (problem : Problem) (queries : List Query) (f
     → cause_in (element_line head.version (reader_of (partial head problem queries)) (first ∷ tokens)) ≡ first_of (line_causes (partial head problem queries) (first ∷ tokens))
 elements_cause head problem queries first [] h g =
     let p : Partial = partial head problem queries in
-    named-line (reader_of p) p first [] (presentation_kept head problem queries ∙ h) (come_of head problem queries) ∙ ap (λ b. first_of (named_causes p (form_among (forms_of b) first) [])) (sym h)
+    named-line (reader_of p) p first [] (presentation_kept head problem queries ∙ h) (come_of head problem queries) ∙ ap (λ b. first_of (named_causes p (form_among (forms_of head.version b) first) [])) (sym h)
 elements_cause head problem queries first (second ∷ tokens) h g =
     let p : Partial = partial head problem queries in
     either (is_word (codes "=") second) _ _ _ _ (g first tokens) (named-line (reader_of p) p first (second ∷ tokens) (presentation_kept head problem queries ∙ h) (come_of head problem queries))
-    ∙ ap (λ b. first_of (if not b && is_word (codes "=") second then generator_causes p first (map field_of tokens) else named_causes p (form_among (forms_of b) first) (second ∷ tokens))) (sym h)
+    ∙ ap (λ b. first_of (if not b && is_word (codes "=") second then generator_causes p first (map field_of tokens) else named_causes p (form_among (forms_of head.version b) first) (second ∷ tokens))) (sym h)

@@ -1,8 +1,9 @@
 -- The causes of lines as the reader gives them.
-use Rattle.std.proofs.Common.{◌≡◌, ℕ, ◌==◌, nat_lt, Bool, true, false, not, ◌&&◌, ◌||◌, if◌then◌else◌, List, [], ◌∷◌, length, Option, Some, None, Result, Ok, Err, is_none, codes, refl, sym, ap, ap₂, ◌∙◌, true≢false}
+use Rattle.std.proofs.Common.{◌≡◌, ℕ, ◌==◌, nat_lt, Bool, true, false, not, ◌&&◌, ◌||◌, if◌then◌else◌, List, [], ◌∷◌, ◌++◌, length, Option, Some, None, Result, Ok, Err, is_none, codes, refl, sym, ap, ap₂, ◌∙◌, true≢false}
 use Rattle.theory.specs.Graph.{Graph}
 use Rattle.theory.specs.Word.{Word}
 use Rattle.presentation.specs.Presented.{Posed}
+use Rattle.presentation.specs.Added.{identity_relations, zero_relations, inverse_relations}
 use Rattle.problem.specs.declared.kinds.Problem.{Problem}
 use Rattle.problem.specs.declared.kinds.Problem.TheVariants.{Presented}
 use Rattle.query_lang.specs.declared.cause.Cause.{Cause}
@@ -10,6 +11,7 @@ use Rattle.query_lang.specs.declared.cause.Cause.TheVariants as cause
 use Rattle.query_lang.specs.Script.{ReaderOf}
 use Rattle.query_lang.specs.Script.{Relating, Pairing, Asking}
 use Rattle.query_lang.specs.declared.version.Version.{Version}
+use Rattle.query_lang.specs.declared.version.Version.TheVariants.{One, Two}
 use Rattle.query_lang.specs.Outcome.{and_then}
 use Rattle.std.specs.Option.{ok_or, unwrap_or}
 use Rattle.theory.specs.declared.Kind.{Kind}
@@ -23,11 +25,14 @@ use Rattle.query_lang.specs.QueryLines.{NameOf, is_name_barred, is_name_there, n
 use Rattle.query_lang.specs.Tables.{congruence_table_of, low_table_of}
 use Rattle.query_lang.specs.Token.{Token, is_word, number_within, relation_of}
 use Rattle.query_lang.specs.LineWords.{element_of}
-use Rattle.query_lang.specs.Relations.{add_relation, most_relations, relations_of}
+use Rattle.query_lang.specs.Relations.{add_relation, add_relations, most_relations, relations_of}
 use Rattle.query_lang.specs.Pairing.{add_pair, is_same_kind, most_pairs}
-use Rattle.query_lang.specs.Script.{asked, finished, is_presentation, pair_line, pair_or_query, presentation_line, query_line, relation_line, with_asked}
+use Rattle.query_lang.specs.declared.role.Role.{Role}
+use Rattle.query_lang.specs.declared.role.Role.TheVariants as role
+use Rattle.query_lang.specs.Roles.{count_for, count_for_both, inverse_tokens, is_too_many, letter_in, role_of, with_inverse}
+use Rattle.query_lang.specs.Script.{asked, common_line, finished, is_presentation, pair_line, pair_or_query, presentation_line, query_line, relation_line, role_line, role_or_common, with_asked}
 use Rattle.query_lang.specs.Grammar.{Head, Partial, is_empty, script_in}
-use Rattle.query_lang.specs.Forms.{Form, Relation, Pair, Index, Equal, Normal, Classes, Rules, Element, Cayley, LowIndex, Meet, Join, Green, Idempotents, ACongruenceTable, forms_of, shapes_of}
+use Rattle.query_lang.specs.Forms.{Form, Relation, OfRole, Pair, Index, Equal, Normal, Classes, Rules, Element, Cayley, LowIndex, Meet, Join, Green, Idempotents, ACongruenceTable, asked_of_relations, forms_of, inverse_shape, roles_of, shapes_of}
 use Rattle.query_lang.specs.LineCauses.{when, first_of, cause_in, cause_of_token, form_among, form_causes, named_causes, is_barred, is_pair_too_many, is_relation_too_many, mixes_kinds, shape_for, shape_causes}
 use Rattle.query_lang.proofs.FoldLemmas.{partial, reader_of}
 use Rattle.query_lang.proofs.TableLemmas.{causes_in_order}
@@ -47,8 +52,8 @@ lacking_cause late lacks cs h k = ap (λ b. first_of (when cause.NoGenerator b �
 -- the causes of a line from the number of its tokens on
 abbrev pub causes_behind : Partial → Form → List Token → List (Option Cause)
 causes_behind p form tokens =
-    when cause.WrongNumberOfWords (is_none (shape_for tokens (shapes_of form))) ∷ when cause.TooManyRelations (is_relation_too_many p form) ∷ when cause.TooManyPairs (is_pair_too_many p form) ∷ when cause.MixedKinds (mixes_kinds p form)
-    ∷ when cause.QueryNotAllowed (is_barred p form) ∷ shape_causes p (shape_for tokens (shapes_of form)) tokens
+    when cause.WrongNumberOfWords (is_none (shape_for tokens (shapes_of (has_empty_word p.problem) form))) ∷ when cause.TooManyRelations (is_relation_too_many p form tokens) ∷ when cause.TooManyPairs (is_pair_too_many p form) ∷ when cause.MixedKinds (mixes_kinds p form)
+    ∷ when cause.QueryNotAllowed (is_barred p form) ∷ shape_causes p (shape_for tokens (shapes_of (has_empty_word p.problem) form)) tokens
 
 -- relations
 
@@ -78,6 +83,79 @@ relation_cause : (head : Head) (o : Posed) (queries : List Query) (tokens : List
     → cause_in (relation_line head.version (reader_of (partial head (Presented o) queries)) tokens) ≡ first_of (form_causes (partial head (Presented o) queries) Relation tokens)
 relation_cause head o [] tokens = relation_by head (length o.congruence.pairs == 0) o tokens _ (relation_behind head o tokens)
 relation_cause head o (q ∷ queries) tokens = refl
+
+-- letters that get a role
+
+one_letter : (many : Bool) (x : Result ℕ Cause) (f : ℕ → Posed)
+    → cause_in (and_then (λ (o : Posed). Ok (Relating o)) (if many then Err cause.TooManyRelations else and_then (λ x. Ok (f x)) x))
+    ≡ first_of (when cause.TooManyRelations many ∷ None ∷ None ∷ None ∷ cause_in x ∷ [])
+one_letter true x f = refl
+one_letter false (Err c) f = refl
+one_letter false (Ok x) f = refl
+
+two_letters : (many : Bool) (x y : Result ℕ Cause) (f : ℕ → ℕ → Posed)
+    → cause_in (and_then (λ (o : Posed). Ok (Relating o)) (if many then Err cause.TooManyRelations else and_then (λ x. and_then (λ y. Ok (f x y)) y) x))
+    ≡ first_of (when cause.TooManyRelations many ∷ None ∷ None ∷ None ∷ cause_in x ∷ cause_in y ∷ [])
+two_letters true x y f = refl
+two_letters false (Err c) y f = refl
+two_letters false (Ok x) (Err c) f = refl
+two_letters false (Ok x) (Ok y) f = refl
+
+inverse_behind : (head : Head) (o : Posed) (tokens : List Token) → cause_in (role_line head.version (Relating o) role.Inverse tokens) ≡ first_of (causes_behind (partial head (Presented o) []) (OfRole role.Inverse) tokens)
+inverse_behind head o tokens = by o.congruence.presentation.is_monoid tokens
+  where
+    letter : Token → Result ℕ Cause
+    letter = letter_in head.version o.alphabet
+
+    given : List Token → Bool → Option Cause
+    given tokens is_monoid = cause_in (and_then (λ (o : Posed). Ok (Relating o)) (and_then (with_inverse head.version o) (inverse_tokens is_monoid tokens)))
+
+    said : List Token → Bool → Option Cause
+    said tokens is_monoid = first_of
+        (when cause.WrongNumberOfWords (is_none (shape_for tokens (inverse_shape is_monoid ∷ []))) ∷ when cause.TooManyRelations (is_relation_too_many (partial head (Presented o) []) (OfRole role.Inverse) tokens)
+        ∷ None ∷ None ∷ None ∷ shape_causes (partial head (Presented o) []) (shape_for tokens (inverse_shape is_monoid ∷ [])) tokens)
+
+    third : (many : Bool) (x y e : Result ℕ Cause)
+        → cause_in (and_then (λ (o : Posed). Ok (Relating o)) (if many then Err cause.TooManyRelations else and_then (λ x. and_then (λ y. and_then (λ e. Ok (add_relations o (inverse_relations x y e))) (and_then (λ x. Ok (Some x)) e)) y) x))
+        ≡ first_of (when cause.TooManyRelations many ∷ None ∷ None ∷ None ∷ cause_in x ∷ cause_in y ∷ cause_in e ∷ [])
+    third true x y e = refl
+    third false (Err c) y e = refl
+    third false (Ok x) (Err c) e = refl
+    third false (Ok x) (Ok y) (Err c) = refl
+    third false (Ok x) (Ok y) (Ok e) = refl
+
+    by : (is_monoid : Bool) (tokens : List Token) → given tokens is_monoid ≡ said tokens is_monoid
+    by true [] = refl
+    by true (x ∷ []) = refl
+    by true (x ∷ y ∷ []) = two_letters (is_too_many o (count_for_both x y)) (letter x) (letter y) (λ x y. add_relations o (inverse_relations x y None))
+    by true (x ∷ y ∷ e ∷ tokens) = refl
+    by false [] = refl
+    by false (x ∷ []) = refl
+    by false (x ∷ y ∷ []) = refl
+    by false (x ∷ y ∷ e ∷ []) = third (is_too_many o (count_for_both x y)) (letter x) (letter y) (letter e)
+    by false (x ∷ y ∷ e ∷ t ∷ tokens) = refl
+
+role_behind : (head : Head) (o : Posed) (role : Role) (tokens : List Token) → cause_in (role_line head.version (Relating o) role tokens) ≡ first_of (causes_behind (partial head (Presented o) []) (OfRole role) tokens)
+role_behind head o role.Identity [] = refl
+role_behind head o role.Identity (e ∷ []) =
+    one_letter (is_too_many o (count_for o.alphabet e)) (letter_in head.version o.alphabet e) (λ x. add_relations o (identity_relations (length o.alphabet) x))
+role_behind head o role.Identity (e ∷ t ∷ tokens) = refl
+role_behind head o role.Zero [] = refl
+role_behind head o role.Zero (z ∷ []) =
+    one_letter (is_too_many o (count_for o.alphabet z)) (letter_in head.version o.alphabet z) (λ x. add_relations o (zero_relations (length o.alphabet) x))
+role_behind head o role.Zero (z ∷ t ∷ tokens) = refl
+role_behind head o role.Inverse tokens = inverse_behind head o tokens
+
+role_by : (head : Head) (no_pair : Bool) (o : Posed) (role : Role) (tokens : List Token) (cs : List (Option Cause)) → cause_in (role_line head.version (Relating o) role tokens) ≡ first_of cs
+    → cause_in (role_line head.version (if no_pair then Relating o else Pairing (Presented o)) role tokens) ≡ first_of (when cause.LineOutOfOrder (nat_lt 2 (if no_pair then 2 else 3)) ∷ None ∷ cs)
+role_by head true o role tokens cs h = h
+role_by head false o role tokens cs h = refl
+
+-- a line of a role has the cause that is said
+role_cause : (head : Head) (o : Posed) (queries : List Query) (role : Role) (tokens : List Token)
+    → cause_in (role_line head.version (reader_of (partial head (Presented o) queries)) role tokens) ≡ first_of (form_causes (partial head (Presented o) queries) (OfRole role) tokens)
+role_cause head o [] role tokens = role_by head (length o.congruence.pairs == 0) o role tokens _ (role_behind head o role tokens)
+role_cause head o (q ∷ queries) role tokens = refl
 
 -- pairs
 
@@ -113,7 +191,7 @@ pair_cause r p kind tokens (lacking f e l early) =
 -- the causes of a query from the number of its tokens on
 abbrev pub query_causes : Partial → Form → List Token → List (Option Cause)
 query_causes p form tokens =
-    when cause.WrongNumberOfWords (is_none (shape_for tokens (shapes_of form))) ∷ when cause.QueryNotAllowed (is_barred p form) ∷ shape_causes p (shape_for tokens (shapes_of form)) tokens
+    when cause.WrongNumberOfWords (is_none (shape_for tokens (shapes_of (has_empty_word p.problem) form))) ∷ when cause.QueryNotAllowed (is_barred p form) ∷ shape_causes p (shape_for tokens (shapes_of (has_empty_word p.problem) form)) tokens
 
 -- the cause of a query that this kind of script has
 abbrev pub query_cause : Partial → NameOf → List Token → Option Cause
@@ -347,6 +425,16 @@ pick-line : (r : Bool) (R C : Result ReaderOf Cause) (said : Option Form → Opt
 pick-line true R C said f hr hc = hr
 pick-line false R C said f hr hc = hc
 
+-- the role by its name, or a pair or a query
+pick-role : (version : Version) (i z v : Bool) (r : ReaderOf) (first : Token) (tokens : List Token) (said : Option Form → Option Cause) (f : Option Form)
+    → ((role : Role) → cause_in (role_line version r role tokens) ≡ said (Some (OfRole role))) → cause_in (common_line version r first tokens) ≡ said f
+    → cause_in (role_or_common version r (if i then Some role.Identity else if z then Some role.Zero else if v then Some role.Inverse else None) first tokens)
+    ≡ said (if i then Some (OfRole role.Identity) else if z then Some (OfRole role.Zero) else if v then Some (OfRole role.Inverse) else f)
+pick-role version true z v r first tokens said f each h = each role.Identity
+pick-role version false true v r first tokens said f each h = each role.Zero
+pick-role version false false true r first tokens said f each h = each role.Inverse
+pick-role version false false false r first tokens said f each h = h
+
 query-by-name : (r : ReaderOf) (head : Head) (o : Posed) (queries : List Query) (first : Token) (tokens : List Token) → is_presentation r ≡ true → finished r ≡ Ok (script_in (partial head (Presented o) queries))
     → cause_in (query_line head.version r first tokens) ≡ first_of (named_causes (partial head (Presented o) queries) (form_among (Index ∷ Equal ∷ Normal ∷ Classes ∷ Rules ∷ LowIndex ∷ Meet ∷ Join ∷ []) first) tokens)
 query-by-name r head o queries first tokens kind h =
@@ -356,12 +444,29 @@ query-by-name r head o queries first tokens kind h =
     (is_word (codes "index") first) (is_word (codes "equal") first) (is_word (codes "normal") first) (is_word (codes "classes") first) (is_word (codes "rules") first) (is_word (codes "lowindex") first)
     (is_word (codes "meet") first) (is_word (codes "join") first)
 
--- a line of a presentation has the cause that is said
-pub presentation_cause : (head : Head) (o : Posed) (queries : List Query) (first : Token) (tokens : List Token)
-    → cause_in (presentation_line head.version (reader_of (partial head (Presented o) queries)) (first ∷ tokens)) ≡ first_of (named_causes (partial head (Presented o) queries) (form_among (forms_of true) first) tokens)
-presentation_cause head o queries first tokens =
+-- a pair or a query has the cause that is said
+common_cause : (head : Head) (o : Posed) (queries : List Query) (first : Token) (tokens : List Token)
+    → cause_in (common_line head.version (reader_of (partial head (Presented o) queries)) first tokens) ≡ first_of (named_causes (partial head (Presented o) queries) (form_among asked_of_relations first) tokens)
+common_cause head o queries first tokens =
     let p : Partial = partial head (Presented o) queries in
     let come = come_of head (Presented o) queries in
-    pick-line (is_word (codes "rel") first) _ _ (λ form. first_of (named_causes p form tokens)) _ (relation_cause head o queries tokens)
-    (pick_pair head.version (is_word (codes "twosided") first) (is_word (codes "right") first) (is_word (codes "left") first) (reader_of p) first tokens (λ form. first_of (named_causes p form tokens)) _
-    (λ kind. pair_cause (reader_of p) p kind tokens come) (query-by-name (reader_of p) head o queries first tokens (presentation_kept head (Presented o) queries) (finished_by (reader_of p) p come refl)))
+    pick_pair head.version (is_word (codes "twosided") first) (is_word (codes "right") first) (is_word (codes "left") first) (reader_of p) first tokens (λ form. first_of (named_causes p form tokens)) _
+    (λ kind. pair_cause (reader_of p) p kind tokens come) (query-by-name (reader_of p) head o queries first tokens (presentation_kept head (Presented o) queries) (finished_by (reader_of p) p come refl))
+
+-- a line that is no relation has the cause that is said
+other_cause : (version : Version) (sizes : ℕ × ℕ) (o : Posed) (queries : List Query) (first : Token) (tokens : List Token) →
+    let p : Partial = partial (record { version = version; sizes = sizes }) (Presented o) queries in
+    cause_in (role_or_common version (reader_of p) (role_of version first) first tokens) ≡ first_of (named_causes p (form_among (roles_of version ++ asked_of_relations) first) tokens)
+other_cause One sizes o queries first tokens = common_cause (record { version = One; sizes = sizes }) o queries first tokens
+other_cause Two sizes o queries first tokens =
+    let head : Head = record { version = Two; sizes = sizes } in
+    let p : Partial = partial head (Presented o) queries in
+    pick-role Two (is_word (codes "identity") first) (is_word (codes "zero") first) (is_word (codes "inverse") first) (reader_of p) first tokens (λ form. first_of (named_causes p form tokens)) _
+    (λ role. role_cause head o queries role tokens) (common_cause head o queries first tokens)
+
+-- a line of a presentation has the cause that is said
+pub presentation_cause : (head : Head) (o : Posed) (queries : List Query) (first : Token) (tokens : List Token)
+    → cause_in (presentation_line head.version (reader_of (partial head (Presented o) queries)) (first ∷ tokens)) ≡ first_of (named_causes (partial head (Presented o) queries) (form_among (forms_of head.version true) first) tokens)
+presentation_cause head o queries first tokens =
+    pick-line (is_word (codes "rel") first) _ _ (λ form. first_of (named_causes (partial head (Presented o) queries) form tokens)) _ (relation_cause head o queries tokens)
+    (other_cause head.version head.sizes o queries first tokens)

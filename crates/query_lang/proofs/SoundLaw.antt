@@ -1,5 +1,6 @@
 -- The reader reads each line that the grammar reads, and to the same.
 use Rattle.std.proofs.Common.{◌≡◌, ◌≢◌, ℕ, ◌+◌, ◌*◌, ◌==◌, ◌≤◌, Bool, true, false, not, ◌&&◌, ◌||◌, ◌⊎◌, inl, inr, if◌then◌else◌, List, [], ◌∷◌, ◌++◌, length, map, codes, Option, Some, None, Result, Ok, Err, refl, sym, ap, ◌∙◌, subst, arith, eq-eqb, ne_eqb}
+use Rattle.std.proofs.lemmas.Bool.{le-ltb}
 use Rattle.std.specs.List.{list_any}
 use Rattle.std.specs.Option.{ok_or}
 use Rattle.elements.specs.declared.field.Field.{Field}
@@ -10,6 +11,7 @@ use Rattle.theory.specs.Word.{Word}
 use Rattle.words.specs.Alphabet.{alphabet_fault}
 use Rattle.words.specs.declared.fault.AlphabetFault.{AlphabetFault}
 use Rattle.presentation.specs.Presented.{Posed}
+use Rattle.presentation.specs.Added.{identity_relations, zero_relations, inverse_relations}
 use Rattle.problem.specs.declared.kinds.Problem.{Problem}
 use Rattle.problem.specs.declared.kinds.Problem.TheVariants.{Presented}
 use Rattle.problem.specs.Problem.{has_empty_word, is_presented, kind_of, letters_of, pairs_of, with_pair}
@@ -20,7 +22,11 @@ use Rattle.query_lang.specs.QueryLines as name
 use Rattle.query_lang.specs.Script.{ReaderOf}
 use Rattle.query_lang.specs.Script.{Posing, Relating, Pairing, Asking, Nothing, Versioned, Reading}
 use Rattle.query_lang.specs.declared.version.Version.{Version}
-use Rattle.query_lang.specs.declared.version.Version.TheVariants.{One}
+use Rattle.query_lang.specs.declared.version.Version.TheVariants.{One, Two}
+use Rattle.query_lang.specs.declared.role.Role.{Role}
+use Rattle.query_lang.specs.declared.role.Role.TheVariants as role
+use Rattle.query_lang.specs.Roles.{count_for, count_for_both, inverse_tokens, is_too_many, letter_if, letter_in, role_named, role_of, with_inverse, with_letter, with_role}
+use Rattle.query_lang.proofs.RoleLemmas.{both_counted, count_is}
 use Rattle.query_lang.specs.Versions.{is_wide, version_numbered, version_of}
 use Rattle.query_lang.specs.declared.script.Query.{Query}
 use Rattle.query_lang.specs.declared.script.Query.TheVariants as query
@@ -32,15 +38,15 @@ use Rattle.query_lang.specs.Fields.{field_of}
 use Rattle.query_lang.specs.Header.{size_of, sizes_of, outline_of}
 use Rattle.query_lang.specs.LineWords.{both_elements, element_of}
 use Rattle.query_lang.specs.Outcome.{and_then}
-use Rattle.query_lang.specs.Relations.{add_relation, free_over, most_relations, relations_of}
+use Rattle.query_lang.specs.Relations.{add_relation, add_relations, free_over, most_relations, relations_of}
 use Rattle.query_lang.specs.Outline.{unless_fault}
 use Rattle.query_lang.specs.Tables.{both_tables, congruence_table_of}
 use Rattle.query_lang.specs.Pairing.{is_same_kind, most_pairs, pair_kind_of, paired, takes_kind}
 use Rattle.query_lang.specs.QueryLines.{NameOf, cursor_of, is_name_barred, limits_of, name_takes, query_name_of, query_of, table_cursor_of}
-use Rattle.query_lang.specs.Script.{asked, common_line, element_line, finished, first_line, generator_line, header_line, is_presentation, pair_or_query, presentation_line, read_line, relation_line, with_asked, with_line}
+use Rattle.query_lang.specs.Script.{asked, common_line, element_line, finished, first_line, generator_line, header_line, is_presentation, pair_or_query, presentation_line, read_line, relation_line, role_line, role_or_common, with_asked, with_line}
 use Rattle.query_lang.specs.Token.{Token, Line, is_kept, is_word, letter_of, number_of, number_within}
 use Rattle.query_lang.specs.Forms.{name_of, Pair}
-use Rattle.query_lang.specs.Grammar.{AreEntries, HasGenerator, Head, HeaderReads, IsCongruenceTableOf, IsQuery, LineReads, Partial, Step, begin_with, has_sign, is_generator_line, lacks_generator, script_in, section_reached}
+use Rattle.query_lang.specs.Grammar.{AreEntries, HasGenerator, HasRoleRelations, Head, HeaderReads, IsCongruenceTableOf, IsQuery, LineReads, Partial, Step, begin_with, has_sign, is_generator_line, lacks_generator, script_in, section_reached}
 use Rattle.query_lang.specs.Grammar as grammar
 use Rattle.query_lang.proofs.FoldLemmas.{Sound, opened, partial, reader_of, readers, take_tokens}
 use Rattle.query_lang.proofs.PairingLemmas.{has_pairs}
@@ -164,6 +170,71 @@ relation_read head o [] U V u v early few h k =
     ∙ ap (λ r. and_then (λ o. Ok (Relating o)) (and_then (λ p. Ok (add_relation o p)) r)) (both_read head.version o.alphabet o.congruence.presentation.is_monoid U V u v h k)
     ∙ ap (λ b. Ok (if b then Relating next else Pairing (Presented next))) (sym none)
 
+-- letters that get a role
+
+-- a line of a role, before any pair
+role_kept : (head : Head) (o next : Posed) (name : Token) (role : Role) (tokens : List Token) → is_word (codes "rel") name ≡ false → role_of head.version name ≡ Some role
+    → section_reached (partial head (Presented o) []) ≤ 2 → pairs_of (Presented next) ≡ pairs_of (Presented o) → with_role head.version o role tokens ≡ Ok next
+    → with_line head.version (reader_of (partial head (Presented o) [])) (name ∷ tokens) ≡ Ok (reader_of (partial head (Presented next) []))
+role_kept head o next name role tokens other named early pairs read =
+    let r : ReaderOf = reader_of (partial head (Presented o) []) in
+    let none : (length o.congruence.pairs == 0) ≡ true = before_pairs (length o.congruence.pairs == 0) early in
+    ap (λ b. if b then presentation_line head.version r (name ∷ tokens) else element_line head.version r (name ∷ tokens)) (presentation_kept head (Presented o) [])
+    ∙ ap (λ b. if b then relation_line head.version r tokens else role_or_common head.version r (role_of head.version name) name tokens) other
+    ∙ ap (λ role. role_or_common head.version r role name tokens) named
+    ∙ ap (λ b. role_line head.version (if b then Relating o else Pairing (Presented o)) role tokens) none
+    ∙ ap (and_then (λ o. Ok (Relating o))) read
+    ∙ ap (λ b. Ok (if b then Relating next else Pairing (Presented next))) (sym (ap (λ (ps : List (Word × Word)). length ps == 0) pairs ∙ none))
+
+-- relations that are not too many are not too many by their texts
+not_many : (o : Posed) (count said : ℕ) → count ≡ said → length o.congruence.presentation.relations + count ≤ most_relations → is_too_many o said ≡ false
+not_many o count said e h = le-ltb most_relations (length o.congruence.presentation.relations + said) (subst (λ n. length o.congruence.presentation.relations + n ≤ most_relations) e h)
+
+letter_read : (version : Version) (o : Posed) (relations_with : ℕ → ℕ → List (Word × Word)) (t : Token) (x : ℕ) → is_too_many o (count_for o.alphabet t) ≡ false → letter_in version o.alphabet t ≡ Ok x
+    → with_letter version o relations_with t ≡ Ok (add_relations o (relations_with (length o.alphabet) x))
+letter_read version o relations_with t x few h =
+    ap (λ b. if b then Err cause.TooManyRelations else and_then (λ x. Ok (add_relations o (relations_with (length o.alphabet) x))) (letter_in version o.alphabet t)) few
+    ∙ ap (and_then (λ x. Ok (add_relations o (relations_with (length o.alphabet) x)))) h
+
+inverse_read : (version : Version) (o : Posed) (s t : Token) (unit : Option Token) (x y : ℕ) (e : Option ℕ) → is_too_many o (count_for_both s t) ≡ false
+    → letter_in version o.alphabet s ≡ Ok x → letter_in version o.alphabet t ≡ Ok y → letter_if version o.alphabet unit ≡ Ok e
+    → with_inverse version o (s, t, unit) ≡ Ok (add_relations o (inverse_relations x y e))
+inverse_read version o s t unit x y e few h k l =
+    let last : ℕ → ℕ → Result Posed Cause = λ x y. and_then (λ e. Ok (add_relations o (inverse_relations x y e))) (letter_if version o.alphabet unit) in
+    ap (λ b. if b then Err cause.TooManyRelations else and_then (λ x. and_then (λ y. last x y) (letter_in version o.alphabet t)) (letter_in version o.alphabet s)) few
+    ∙ ap (and_then (λ x. and_then (λ y. last x y) (letter_in version o.alphabet t))) h
+    ∙ ap (and_then (λ y. last x y)) k
+    ∙ ap (and_then (λ e. Ok (add_relations o (inverse_relations x y e)))) l
+
+-- the relations of a line are those that the reader adds
+role_read : (head : Head) (o : Posed) (line : Line) (relations : List (Word × Word)) → head.version ≡ Two → section_reached (partial head (Presented o) []) ≤ 2
+    → HasRoleRelations (partial head (Presented o) []) line relations → length o.congruence.presentation.relations + length relations ≤ most_relations
+    → with_line head.version (reader_of (partial head (Presented o) [])) line ≡ Ok (reader_of (partial head (Presented (add_relations o relations)) []))
+role_read head o line relations two early (grammar.identity {E} {e} is h) few =
+    ap (with_line head.version (reader_of (partial head (Presented o) []))) is
+    ∙ role_kept head o (add_relations o relations) (codes "identity") role.Identity (E ∷ []) refl (ap (λ v. role_of v (codes "identity")) two) early refl
+    (letter_read head.version o identity_relations E e (not_many o _ _ (count_is head.version o.alphabet E e (λ x. x ∷ []) h) few) h)
+role_read head o line relations two early (grammar.zero {Z} {z} is h) few =
+    ap (with_line head.version (reader_of (partial head (Presented o) []))) is
+    ∙ role_kept head o (add_relations o relations) (codes "zero") role.Zero (Z ∷ []) refl (ap (λ v. role_of v (codes "zero")) two) early refl
+    (letter_read head.version o zero_relations Z z (not_many o _ _ (count_is head.version o.alphabet Z z (λ x. z ∷ []) h) few) h)
+role_read head o line relations two early (grammar.inverse {X} {Y} {x} {y} is monoid h k) few =
+    ap (with_line head.version (reader_of (partial head (Presented o) []))) is
+    ∙ role_kept head o (add_relations o relations) (codes "inverse") role.Inverse (X ∷ Y ∷ []) refl (ap (λ v. role_of v (codes "inverse")) two) early refl
+    (ap (λ m. and_then (with_inverse head.version o) (inverse_tokens m (X ∷ Y ∷ []))) monoid
+    ∙ inverse_read head.version o X Y None x y None (not_many o _ _ (both_counted head.version o.alphabet X Y x y [] h k) few) h k refl)
+role_read head o line relations two early (grammar.inverse_by {X} {Y} {E} {x} {y} {e} is semigroup h k l) few =
+    ap (with_line head.version (reader_of (partial head (Presented o) []))) is
+    ∙ role_kept head o (add_relations o relations) (codes "inverse") role.Inverse (X ∷ Y ∷ E ∷ []) refl (ap (λ v. role_of v (codes "inverse")) two) early refl
+    (ap (λ m. and_then (with_inverse head.version o) (inverse_tokens m (X ∷ Y ∷ E ∷ []))) semigroup
+    ∙ inverse_read head.version o X Y (Some E) x y (Some e) (not_many o _ _ (both_counted head.version o.alphabet X Y x y (e ∷ []) h k) few) h k (ap (and_then (λ x. Ok (Some x))) l))
+
+role_line_read : (head : Head) (o : Posed) (queries : List Query) (line : Line) (relations : List (Word × Word)) → head.version ≡ Two → section_reached (partial head (Presented o) queries) ≤ 2
+    → HasRoleRelations (partial head (Presented o) queries) line relations → length o.congruence.presentation.relations + length relations ≤ most_relations
+    → with_line head.version (reader_of (partial head (Presented o) queries)) line ≡ Ok (reader_of (partial head (Presented (add_relations o relations)) queries))
+role_line_read head o [] line relations two early gives few = role_read head o line relations two early gives few
+role_line_read head o (q ∷ queries) line relations two early gives few = absurd (omega arith)
+
 -- pairs
 
 same_kind : (kind : Kind) → is_same_kind kind kind ≡ true
@@ -192,19 +263,30 @@ kind_named TwoSided = refl
 kind_named Right = refl
 kind_named Left = refl
 
+no_role : (version : Version) (t : Token) → role_named t ≡ None → role_of version t ≡ None
+no_role One t h = refl
+no_role Two t h = h
+
+no_role_named : (kind : Kind) → role_named (name_of (Pair kind)) ≡ None
+no_role_named TwoSided = refl
+no_role_named Right = refl
+no_role_named Left = refl
+
 no_relation : (kind : Kind) → is_word (codes "rel") (name_of (Pair kind)) ≡ false
 no_relation TwoSided = refl
 no_relation Right = refl
 no_relation Left = refl
 
--- a line that is no generator line and no relation
-common_line_read : (version : Version) (r : ReaderOf) (presented : Bool) (first : Token) (tokens : List Token) → is_presentation r ≡ presented → (not presented && has_sign (first ∷ tokens)) ≡ false → is_word (codes "rel") first ≡ false
+-- a line that is no generator line, no relation and gives no role
+common_line_read : (version : Version) (r : ReaderOf) (presented : Bool) (first : Token) (tokens : List Token) → is_presentation r ≡ presented → (not presented && has_sign (first ∷ tokens)) ≡ false
+    → is_word (codes "rel") first ≡ false → role_named first ≡ None
     → with_line version r (first ∷ tokens) ≡ common_line version r first tokens
-common_line_read version r true first tokens is sign other =
+common_line_read version r true first tokens is sign other none =
     ap (λ b. if b then presentation_line version r (first ∷ tokens) else element_line version r (first ∷ tokens)) is
-    ∙ ap (λ b. if b then relation_line version r tokens else common_line version r first tokens) other
-common_line_read version r false first [] is sign other = ap (λ b. if b then presentation_line version r (first ∷ []) else element_line version r (first ∷ [])) is
-common_line_read version r false first (second ∷ tokens) is sign other =
+    ∙ ap (λ b. if b then relation_line version r tokens else role_or_common version r (role_of version first) first tokens) other
+    ∙ ap (λ role. role_or_common version r role first tokens) (no_role version first none)
+common_line_read version r false first [] is sign other none = ap (λ b. if b then presentation_line version r (first ∷ []) else element_line version r (first ∷ [])) is
+common_line_read version r false first (second ∷ tokens) is sign other none =
     ap (λ b. if b then presentation_line version r (first ∷ second ∷ tokens) else element_line version r (first ∷ second ∷ tokens)) is
     ∙ ap (λ b. if b then generator_line version r first tokens else common_line version r first (second ∷ tokens)) sign
 
@@ -216,7 +298,7 @@ pair_read head p (q ∷ queries) kind U V s some sign early h = absurd (omega ar
 pair_read head p [] kind U V s some sign early h =
     let r : ReaderOf = reader_of (partial head p []) in
     let next : Problem = with_pair p kind s in
-    common_line_read head.version r (is_presented p) (name_of (Pair kind)) (U ∷ V ∷ []) (presentation_kept head p []) sign (no_relation kind)
+    common_line_read head.version r (is_presented p) (name_of (Pair kind)) (U ∷ V ∷ []) (presentation_kept head p []) sign (no_relation kind) (no_role_named kind)
     ∙ ap (λ k. pair_or_query head.version r k (name_of (Pair kind)) (U ∷ V ∷ [])) (kind_named kind)
     ∙ ap (and_then (λ problem. and_then (λ p. Ok (Pairing p)) (paired head.version problem kind U V))) (paired_by r (partial head p []) (come_of head p []) some (pair_in_order (length (pairs_of p) == 0)))
     ∙ ap (and_then (λ p. Ok (Pairing p))) h
@@ -238,9 +320,10 @@ asking_kept : (head : Head) (problem : Problem) (queries : List Query) (q : Quer
 asking_kept head problem [] q = refl
 asking_kept head problem (r ∷ queries) q = refl
 
--- no name of a relation or a pair
+-- no name of a relation, a role or a pair
 record IsOtherName (first : Token) : Type 0 where
   no_rel : is_word (codes "rel") first ≡ false
+  none_named : role_named first ≡ None
   no_pair : pair_kind_of first ≡ None
 
 asked_read : (version : Version) (s : ScriptOf) (name : NameOf) (tokens : List Token) (q : Query) → name_takes name tokens ≡ true → is_name_barred s.problem name ≡ false
@@ -261,15 +344,15 @@ asked_line : (head : Head) (problem : Problem) (queries : List Query) (name : Na
 asked_line head problem queries name line first tokens q some sign is other named taken allowed read =
     let p : Partial = partial head problem queries in
     ap (with_line head.version (reader_of p)) is
-    ∙ common_line_read head.version (reader_of p) (is_presented problem) first tokens (presentation_kept head problem queries) (sym (ap (is_generator_line p) is) ∙ sign) other.no_rel
+    ∙ common_line_read head.version (reader_of p) (is_presented problem) first tokens (presentation_kept head problem queries) (sym (ap (is_generator_line p) is) ∙ sign) other.no_rel other.none_named
     ∙ ap (λ k. pair_or_query head.version (reader_of p) k first tokens) other.no_pair
     ∙ ap (λ o. and_then (λ name. and_then (λ script. and_then (λ s. Ok (Asking s)) (asked head.version script name tokens)) (finished (reader_of p))) (ok_or o cause.UnknownLine)) (ap (λ b. query_name_of b first) (presentation_kept head problem queries) ∙ named)
     ∙ ap (and_then (λ script. and_then (λ s. Ok (Asking s)) (asked head.version script name tokens))) (finished_read head problem queries some)
     ∙ ap (and_then (λ s. Ok (Asking s))) (asked_read head.version (script_in p) name tokens q taken allowed read)
     ∙ ap (λ r. Ok r) (asking_kept head problem queries q)
 
-other : (first : Token) → is_word (codes "rel") first ≡ false → pair_kind_of first ≡ None → IsOtherName first
-other first a b = record { no_rel = a; no_pair = b }
+other : (first : Token) → is_word (codes "rel") first ≡ false → role_named first ≡ None → pair_kind_of first ≡ None → IsOtherName first
+other first a b c = record { no_rel = a; none_named = b; no_pair = c }
 
 -- the limits of a search
 
@@ -294,53 +377,53 @@ query_read : (head : Head) (problem : Problem) (queries : List Query) (line : Li
     → is_generator_line (partial head problem queries) line ≡ false → IsQuery (partial head problem queries) line q
     → with_line head.version (reader_of (partial head problem queries)) line ≡ Ok (reader_of (more_asked (partial head problem queries) q))
 query_read head problem queries line q some sign (grammar.index is) =
-    asked_line head problem queries name.Index line (codes "index") [] q some sign is (other (codes "index") refl refl) refl refl refl refl
+    asked_line head problem queries name.Index line (codes "index") [] q some sign is (other (codes "index") refl refl refl) refl refl refl refl
 query_read head problem queries line q some sign (grammar.equal {U} {V} {u} {v} is h k) =
-    asked_line head problem queries name.Equal line (codes "equal") (U ∷ V ∷ []) q some sign is (other (codes "equal") refl refl) refl refl refl
+    asked_line head problem queries name.Equal line (codes "equal") (U ∷ V ∷ []) q some sign is (other (codes "equal") refl refl refl) refl refl refl
     (ap (and_then (λ (p : Word × Word). Ok (query.Equal p.0 p.1))) (both_read head.version (letters_of problem) (has_empty_word problem) U V u v h k))
 query_read head problem queries line q some sign (grammar.normal {U} {u} is h) =
-    asked_line head problem queries name.Normal line (codes "normal") (U ∷ []) q some sign is (other (codes "normal") refl refl) refl refl refl
+    asked_line head problem queries name.Normal line (codes "normal") (U ∷ []) q some sign is (other (codes "normal") refl refl refl) refl refl refl
     (ap (and_then (λ u. Ok (query.Normal u))) h)
 query_read head problem queries line q some sign (grammar.classes {N} {n} is h) =
-    asked_line head problem queries name.Classes line (codes "classes") (N ∷ []) q some sign is (other (codes "classes") refl refl) refl refl refl
+    asked_line head problem queries name.Classes line (codes "classes") (N ∷ []) q some sign is (other (codes "classes") refl refl refl) refl refl refl
     (ap (λ o. and_then (λ n. Ok (query.Classes n None)) (ok_or o cause.BadNumber)) h)
 query_read head problem queries line q some sign (grammar.classes_after {N} {U} {n} {u} is h k) =
-    asked_line head problem queries name.Classes line (codes "classes") (N ∷ codes "after" ∷ U ∷ []) q some sign is (other (codes "classes") refl refl) refl refl refl
+    asked_line head problem queries name.Classes line (codes "classes") (N ∷ codes "after" ∷ U ∷ []) q some sign is (other (codes "classes") refl refl refl) refl refl refl
     (ap (λ o. and_then (λ n. and_then (λ u. Ok (query.Classes n (Some u))) (cursor_of head.version (letters_of problem) (has_empty_word problem) (codes "after") U)) (ok_or o cause.BadNumber)) h
     ∙ ap (and_then (λ u. Ok (query.Classes n (Some u)))) k)
 query_read head problem queries line q some sign (grammar.rules is h) =
-    asked_line head problem queries name.Rules line (codes "rules") [] q some sign is (other (codes "rules") refl refl) refl refl (ap not h) refl
+    asked_line head problem queries name.Rules line (codes "rules") [] q some sign is (other (codes "rules") refl refl refl) refl refl (ap not h) refl
 query_read head problem queries line q some sign (grammar.element {U} {u} is h k) =
-    asked_line head problem queries name.Element line (codes "element") (U ∷ []) q some sign is (other (codes "element") refl refl) (ap (λ b. query_name_of b (codes "element")) h) refl refl
+    asked_line head problem queries name.Element line (codes "element") (U ∷ []) q some sign is (other (codes "element") refl refl refl) (ap (λ b. query_name_of b (codes "element")) h) refl refl
     (ap (and_then (λ u. Ok (query.ElementOf u))) k)
 query_read head problem queries line q some sign (grammar.cayley is h none) =
-    asked_line head problem queries name.Cayley line (codes "cayley") [] q some sign is (other (codes "cayley") refl refl) (ap (λ b. query_name_of b (codes "cayley")) h) refl
+    asked_line head problem queries name.Cayley line (codes "cayley") [] q some sign is (other (codes "cayley") refl refl refl) (ap (λ b. query_name_of b (codes "cayley")) h) refl
     (ap (λ (ps : List (Word × Word)). not (length ps == 0)) none) refl
 query_read head problem queries line q some sign (grammar.lowindex {N} {M} {n} {m} is h none few most) =
-    asked_line head problem queries name.LowIndex line (codes "lowindex") (N ∷ M ∷ []) q some sign is (other (codes "lowindex") refl refl) (ap (λ b. query_name_of b (codes "lowindex")) h) refl
+    asked_line head problem queries name.LowIndex line (codes "lowindex") (N ∷ M ∷ []) q some sign is (other (codes "lowindex") refl refl refl) (ap (λ b. query_name_of b (codes "lowindex")) h) refl
     (ap (λ (ps : List (Word × Word)). not (length ps == 0)) none)
     (ap (and_then (λ (l : ℕ × ℕ). Ok (query.LowIndex l.0 l.1 None))) (limits_read N M n m few most))
 query_read head problem queries line q some sign (grammar.lowindex_after {N} {M} {T} {n} {m} {g} is h none few most table) =
     let letters : List ℕ = letters_of problem in
     let is_monoid : Bool = has_empty_word problem in
-    asked_line head problem queries name.LowIndex line (codes "lowindex") (N ∷ M ∷ codes "after" ∷ T ∷ []) q some sign is (other (codes "lowindex") refl refl) (ap (λ b. query_name_of b (codes "lowindex")) h) refl
+    asked_line head problem queries name.LowIndex line (codes "lowindex") (N ∷ M ∷ codes "after" ∷ T ∷ []) q some sign is (other (codes "lowindex") refl refl refl) (ap (λ b. query_name_of b (codes "lowindex")) h) refl
     (ap (λ (ps : List (Word × Word)). not (length ps == 0)) none)
     (ap (and_then (λ (l : ℕ × ℕ). and_then (λ g. Ok (query.LowIndex l.0 l.1 (Some g))) (table_cursor_of letters is_monoid l.0 (codes "after") T))) (limits_read N M n m few most)
     ∙ ap (and_then (λ g. Ok (query.LowIndex n m (Some g)))) (low_is_taken is_monoid (length letters) n T g table.0 table.1))
 query_read head problem queries line q some sign (grammar.meet {S} {T} {s} {t} is h none left right) =
-    asked_line head problem queries name.Meet line (codes "meet") (S ∷ T ∷ []) q some sign is (other (codes "meet") refl refl) (ap (λ b. query_name_of b (codes "meet")) h) refl
+    asked_line head problem queries name.Meet line (codes "meet") (S ∷ T ∷ []) q some sign is (other (codes "meet") refl refl refl) (ap (λ b. query_name_of b (codes "meet")) h) refl
     (ap (λ (ps : List (Word × Word)). not (length ps == 0)) none)
     (ap (and_then (λ (p : Graph × Graph). Ok (query.Meet p.0 p.1))) (tables_read (partial head problem queries) S T s t left right))
 query_read head problem queries line q some sign (grammar.join {S} {T} {s} {t} is h none left right) =
-    asked_line head problem queries name.Join line (codes "join") (S ∷ T ∷ []) q some sign is (other (codes "join") refl refl) (ap (λ b. query_name_of b (codes "join")) h) refl
+    asked_line head problem queries name.Join line (codes "join") (S ∷ T ∷ []) q some sign is (other (codes "join") refl refl refl) (ap (λ b. query_name_of b (codes "join")) h) refl
     (ap (λ (ps : List (Word × Word)). not (length ps == 0)) none)
     (ap (and_then (λ (p : Graph × Graph). Ok (query.Join p.0 p.1))) (tables_read (partial head problem queries) S T s t left right))
 query_read head problem queries line q some sign (grammar.green {X} is h none named) =
-    asked_line head problem queries name.Green line (codes "green") (X ∷ []) q some sign is (other (codes "green") refl refl) (ap (λ b. query_name_of b (codes "green")) h) refl
+    asked_line head problem queries name.Green line (codes "green") (X ∷ []) q some sign is (other (codes "green") refl refl refl) (ap (λ b. query_name_of b (codes "green")) h) refl
     (ap (λ (ps : List (Word × Word)). not (length ps == 0)) none)
     (ap (λ o. and_then (λ relation. Ok (query.Green relation)) (ok_or o cause.UnknownRelation)) named)
 query_read head problem queries line q some sign (grammar.idempotents is h none) =
-    asked_line head problem queries name.Idempotents line (codes "idempotents") [] q some sign is (other (codes "idempotents") refl refl) (ap (λ b. query_name_of b (codes "idempotents")) h) refl
+    asked_line head problem queries name.Idempotents line (codes "idempotents") [] q some sign is (other (codes "idempotents") refl refl refl) (ap (λ b. query_name_of b (codes "idempotents")) h) refl
     (ap (λ (ps : List (Word × Word)). not (length ps == 0)) none) refl
 
 -- a line behind the header
@@ -354,6 +437,11 @@ line_read head problem queries line q (grammar.relation {U} {V} {u} {v} {o} is p
     → element_of head.version (letters_of problem) (has_empty_word problem) U ≡ Ok u → element_of head.version (letters_of problem) (has_empty_word problem) V ≡ Ok v
     → with_line head.version (reader_of (partial head problem queries)) (codes "rel" ∷ U ∷ V ∷ []) ≡ Ok (reader_of (partial head (Presented (add_relation o (u, v))) queries)))
     (sym poses) (relation_read head o queries U V u v) early few h k
+line_read head problem queries line q (grammar.role {relations} {o} two poses early gives few) =
+    subst (λ (problem : Problem). section_reached (partial head problem queries) ≤ 2 → HasRoleRelations (partial head problem queries) line relations
+    → length (relations_of problem) + length relations ≤ most_relations
+    → with_line head.version (reader_of (partial head problem queries)) line ≡ Ok (reader_of (partial head (Presented (add_relations o relations)) queries)))
+    (sym poses) (role_line_read head o queries line relations two) early gives few
 line_read head problem queries line q (grammar.pair {U} {V} {u} {v} kind some sign is early few kinds h k) =
     let p : Partial = partial head problem queries in
     ap (with_line head.version (reader_of p)) is
@@ -393,6 +481,7 @@ version_read N n v h k =
 version_stays : (p q : Partial) (line : Line) → LineReads p line q → q.head.version ≡ p.head.version
 version_stays p q line (grammar.generator is early named new made) = refl
 version_stays p q line (grammar.relation is poses early few h k) = refl
+version_stays p q line (grammar.role two poses early gives few) = refl
 version_stays p q line (grammar.pair kind some sign is early few kinds h k) = refl
 version_stays p q line (grammar.query some sign is) = refl
 

@@ -88,6 +88,7 @@ one_partial p q heads same =
 head_stays : (p q : Partial) (line : Line) → LineReads p line q → q.head ≡ p.head
 head_stays p q line (grammar.generator is early named new made) = refl
 head_stays p q line (grammar.relation is poses early few h k) = refl
+head_stays p q line (grammar.role two poses early gives few) = refl
 head_stays p q line (grammar.pair kind some sign is early few kinds h k) = refl
 head_stays p q line (grammar.query some sign is) = refl
 

@@ -1,5 +1,5 @@
 -- A line behind the header that begins with a name is read, where it has no cause.
-use Rattle.std.proofs.Common.{◌≡◌, ℕ, ◌==◌, nat_lt, Bool, true, false, not, ◌&&◌, ◌⊎◌, inl, inr, if◌then◌else◌, List, [], ◌∷◌, length, codes, Option, Some, None, Result, Ok, Err, is_none, refl, sym, ap, ◌∙◌, subst, arith, true≢false}
+use Rattle.std.proofs.Common.{◌≡◌, ℕ, ◌==◌, ◌+◌, ◌≤◌, nat_lt, Bool, true, false, not, ◌&&◌, ◌⊎◌, inl, inr, if◌then◌else◌, List, [], ◌∷◌, length, codes, Option, Some, None, Result, Ok, Err, is_none, refl, sym, ap, ◌∙◌, subst, arith, true≢false}
 use Rattle.std.proofs.lemmas.Bool.{ltb-false, eqb-true, eqb-false}
 use Rattle.std.specs.Cmp.Lexicographic.{same_text}
 use Rattle.std.specs.Option.{unwrap_or}
@@ -17,8 +17,13 @@ use Rattle.query_lang.specs.Token.{Token, Line, is_word, relation_of}
 use Rattle.query_lang.specs.Pairing.{is_same_kind}
 use Rattle.query_lang.specs.Grammar as grammar
 use Rattle.query_lang.specs.Grammar.{Head, IsCongruenceTableOf, IsLowTableOf, Partial, section_reached, LineReads, is_generator_line, lacks_generator}
-use Rattle.query_lang.specs.Forms.{Form, Relation, Pair, Index, Equal, Normal, Classes, Rules, Element, Cayley, LowIndex, Meet, Join, Green, Idempotents, ACongruenceTable, name_of, shapes_of, section_of, forms_of}
-use Rattle.query_lang.specs.Relations.{relations_of}
+use Rattle.query_lang.specs.Forms.{Form, Relation, OfRole, Pair, Index, Equal, Normal, Classes, Rules, Element, Cayley, LowIndex, Meet, Join, Green, Idempotents, ACongruenceTable, name_of, shapes_of, section_of, asked_of_relations, forms_of, inverse_shape}
+use Rattle.query_lang.specs.declared.role.Role.{Role}
+use Rattle.query_lang.specs.declared.role.Role.TheVariants as role
+use Rattle.query_lang.specs.declared.version.Version.{Version}
+use Rattle.query_lang.specs.declared.version.Version.TheVariants.{One, Two}
+use Rattle.query_lang.specs.Relations.{most_relations, relations_of}
+use Rattle.query_lang.proofs.RoleLemmas.{both_counted, count_is}
 use Rattle.query_lang.specs.LineCauses.{when, first_of, cause_in, cause_of_token, shape_for, shape_causes, is_relation_too_many, is_pair_too_many, mixes_kinds, is_barred, form_causes, form_among, named_causes}
 use Rattle.query_lang.proofs.TableLemmas.{causes_in_order, congruence_taken_is, low_taken_is}
 
@@ -63,12 +68,12 @@ branch P G text name x y same otherwise = split (is_word text name) refl
 record Passes (p : Partial) (form : Form) (tokens : List Token) : Type 0 where
   in_order : nat_lt (section_of form) (section_reached p) ≡ false
   has_generator : lacks_generator p ≡ false
-  shaped : is_none (shape_for tokens (shapes_of form)) ≡ false
-  few_relations : is_relation_too_many p form ≡ false
+  shaped : is_none (shape_for tokens (shapes_of (has_empty_word p.problem) form)) ≡ false
+  few_relations : is_relation_too_many p form tokens ≡ false
   few_pairs : is_pair_too_many p form ≡ false
   one_kind : mixes_kinds p form ≡ false
   allowed : is_barred p form ≡ false
-  tokens_read : first_of (shape_causes p (shape_for tokens (shapes_of form)) tokens) ≡ None
+  tokens_read : first_of (shape_causes p (shape_for tokens (shapes_of (has_empty_word p.problem) form)) tokens) ≡ None
 
 passes : (p : Partial) (form : Form) (tokens : List Token) → first_of (form_causes p form tokens) ≡ None → Passes p form tokens
 passes p form tokens h =
@@ -284,32 +289,102 @@ idempotents-read : (p : Partial) (first : Token) (tokens : List Token) → is_pr
 idempotents-read p first [] k g e c = (_, grammar.query c.has_generator g (grammar.idempotents (ap (λ n. n ∷ []) e) k (no-elements _ (not-applies _ c.allowed))))
 idempotents-read p first (s ∷ tokens) k g e c = absurd (true≢false c.shaped)
 
+-- a letter is read where its cause does not apply
+letter-read : (r : Result ℕ Cause) (cs : List (Option Cause)) → first_of (cause_in r ∷ cs) ≡ None → (x : ℕ) × (r ≡ Ok x) × (first_of cs ≡ None)
+letter-read (Ok x) cs h = (x, refl, h)
+letter-read (Err c) cs h = absurd (some-is-none h)
+
+-- relations that are not too many by their texts are not too many
+few-held : (o : Posed) (count said : ℕ) → count ≡ said → nat_lt most_relations (length o.congruence.presentation.relations + said) ≡ false → length o.congruence.presentation.relations + count ≤ most_relations
+few-held o count said e h = subst (λ n. length o.congruence.presentation.relations + n ≤ most_relations) (sym e) (ltb-false most_relations (length o.congruence.presentation.relations + said) h)
+
+inverse-read : (sizes : ℕ × ℕ) (o : Posed) (queries : List Query) (first : Token) (tokens : List Token) (is_monoid : Bool) → o.congruence.presentation.is_monoid ≡ is_monoid →
+    let p : Partial = record { head = record { version = Two; sizes = sizes }; problem = problem.Presented o; queries = queries } in
+    nat_lt 2 (section_reached p) ≡ false → is_relation_too_many p (OfRole role.Inverse) tokens ≡ false
+    → is_none (shape_for tokens (inverse_shape is_monoid ∷ [])) ≡ false → first_of (shape_causes p (shape_for tokens (inverse_shape is_monoid ∷ [])) tokens) ≡ None
+    → first ≡ codes "inverse" → IsRead p (first ∷ tokens)
+inverse-read sizes o queries first [] true kind late few shaped read e = absurd (true≢false shaped)
+inverse-read sizes o queries first (s ∷ []) true kind late few shaped read e = absurd (true≢false shaped)
+inverse-read sizes o queries first (s ∷ t ∷ []) true kind late few shaped read e =
+    let x = letter-read _ _ read in
+    let y = letter-read _ _ x.2 in (
+      _,
+      grammar.role refl refl (ltb-false _ _ late) (grammar.inverse (ap (λ n. n ∷ s ∷ t ∷ []) e) kind x.1 y.1)
+          (few-held o _ _ (both_counted Two o.alphabet s t x.0 y.0 [] x.1 y.1) few),
+    )
+inverse-read sizes o queries first (s ∷ t ∷ u ∷ tokens) true kind late few shaped read e = absurd (true≢false shaped)
+inverse-read sizes o queries first [] false kind late few shaped read e = absurd (true≢false shaped)
+inverse-read sizes o queries first (s ∷ []) false kind late few shaped read e = absurd (true≢false shaped)
+inverse-read sizes o queries first (s ∷ t ∷ []) false kind late few shaped read e = absurd (true≢false shaped)
+inverse-read sizes o queries first (s ∷ t ∷ u ∷ []) false kind late few shaped read e =
+    let x = letter-read _ _ read in
+    let y = letter-read _ _ x.2 in
+    let z = letter-read _ _ y.2 in (
+      _,
+      grammar.role refl refl (ltb-false _ _ late) (grammar.inverse_by (ap (λ n. n ∷ s ∷ t ∷ u ∷ []) e) kind x.1 y.1 z.1)
+          (few-held o _ _ (both_counted Two o.alphabet s t x.0 y.0 (z.0 ∷ []) x.1 y.1) few),
+    )
+inverse-read sizes o queries first (s ∷ t ∷ u ∷ v ∷ tokens) false kind late few shaped read e = absurd (true≢false shaped)
+
+-- a line of a role
+role-read : (sizes : ℕ × ℕ) (o : Posed) (queries : List Query) (first : Token) (tokens : List Token) (role : Role) →
+    let p : Partial = record { head = record { version = Two; sizes = sizes }; problem = problem.Presented o; queries = queries } in FormReads p first tokens (OfRole role)
+role-read sizes o queries first [] role.Identity e c = absurd (true≢false c.shaped)
+role-read sizes o queries first (s ∷ []) role.Identity e c =
+    let x = letter-read _ _ c.tokens_read in
+    (_, grammar.role refl refl (ltb-false _ _ c.in_order) (grammar.identity (ap (λ n. n ∷ s ∷ []) e) x.1) (few-held o _ _ (count_is Two o.alphabet s x.0 (λ y. y ∷ []) x.1) c.few_relations))
+role-read sizes o queries first (s ∷ t ∷ tokens) role.Identity e c = absurd (true≢false c.shaped)
+role-read sizes o queries first [] role.Zero e c = absurd (true≢false c.shaped)
+role-read sizes o queries first (s ∷ []) role.Zero e c =
+    let x = letter-read _ _ c.tokens_read in
+    (_, grammar.role refl refl (ltb-false _ _ c.in_order) (grammar.zero (ap (λ n. n ∷ s ∷ []) e) x.1) (few-held o _ _ (count_is Two o.alphabet s x.0 (λ y. x.0 ∷ []) x.1) c.few_relations))
+role-read sizes o queries first (s ∷ t ∷ tokens) role.Zero e c = absurd (true≢false c.shaped)
+role-read sizes o queries first tokens role.Inverse e c = inverse-read sizes o queries first tokens o.congruence.presentation.is_monoid refl c.in_order c.few_relations c.shaped c.tokens_read e
+
 -- a line of a presentation
+
+-- the forms that all versions have, but relations
+common-read : (p : Partial) (first : Token) (tokens : List Token) → is_presented p.problem ≡ true → is_generator_line p (first ∷ tokens) ≡ false → EachReads p first tokens asked_of_relations
+common-read p first tokens k g =
+    also (Pair TwoSided) (pair-read p first tokens TwoSided g)
+    (also (Pair Right) (pair-read p first tokens Right g)
+    (also (Pair Left) (pair-read p first tokens Left g)
+    (also Index (index-read p first tokens g)
+    (also Equal (equal-read p first tokens g)
+    (also Normal (normal-read p first tokens g)
+    (also Classes (classes-read p first tokens g)
+    (also Rules (rules-read p first tokens g)
+    (also LowIndex (lowindex-read p first tokens k g)
+    (also Meet (meet-read p first tokens k g)
+    (also Join (join-read p first tokens k g) every))))))))))
+
+-- the forms of a presentation
+each-read : (version : Version) (sizes : ℕ × ℕ) (o : Posed) (queries : List Query) (first : Token) (tokens : List Token) →
+    let p : Partial = record { head = record { version = version; sizes = sizes }; problem = problem.Presented o; queries = queries } in EachReads p first tokens (forms_of version true)
+each-read One sizes o queries first tokens =
+    let head : Head = record { version = One; sizes = sizes } in
+    also Relation (relation-read head o queries first tokens)
+    (common-read (record { head = head; problem = problem.Presented o; queries = queries }) first tokens refl refl)
+each-read Two sizes o queries first tokens =
+    let head : Head = record { version = Two; sizes = sizes } in
+    also Relation (relation-read head o queries first tokens)
+    (also (OfRole role.Identity) (role-read sizes o queries first tokens role.Identity)
+    (also (OfRole role.Zero) (role-read sizes o queries first tokens role.Zero)
+    (also (OfRole role.Inverse) (role-read sizes o queries first tokens role.Inverse)
+    (common-read (record { head = head; problem = problem.Presented o; queries = queries }) first tokens refl refl))))
 
 pub presented-read : (head : Head) (o : Posed) (queries : List Query) (first : Token) (tokens : List Token) →
     let p : Partial = record { head = head; problem = problem.Presented o; queries = queries } in
-    first_of (named_causes p (form_among (forms_of true) first) tokens) ≡ None → IsRead p (first ∷ tokens)
+    first_of (named_causes p (form_among (forms_of head.version true) first) tokens) ≡ None → IsRead p (first ∷ tokens)
 presented-read head o queries first tokens =
-    let p : Partial = record { head = head; problem = problem.Presented o; queries = queries } in
-    by-form p first tokens (forms_of true)
-    (also Relation (relation-read head o queries first tokens)
-    (also (Pair TwoSided) (pair-read p first tokens TwoSided refl)
-    (also (Pair Right) (pair-read p first tokens Right refl)
-    (also (Pair Left) (pair-read p first tokens Left refl)
-    (also Index (index-read p first tokens refl)
-    (also Equal (equal-read p first tokens refl)
-    (also Normal (normal-read p first tokens refl)
-    (also Classes (classes-read p first tokens refl)
-    (also Rules (rules-read p first tokens refl)
-    (also LowIndex (lowindex-read p first tokens refl refl)
-    (also Meet (meet-read p first tokens refl refl)
-    (also Join (join-read p first tokens refl refl) every))))))))))))
+    by-form (record { head = head; problem = problem.Presented o; queries = queries }) first tokens (forms_of head.version true)
+    (each-read head.version head.sizes o queries first tokens)
 
 -- a pair or a query of an element script
 pub asked-read : (p : Partial) (first : Token) (tokens : List Token) → is_presented p.problem ≡ false → is_generator_line p (first ∷ tokens) ≡ false
-    → first_of (named_causes p (form_among (forms_of (is_presented p.problem)) first) tokens) ≡ None → IsRead p (first ∷ tokens)
+    → first_of (named_causes p (form_among (forms_of p.head.version (is_presented p.problem)) first) tokens) ≡ None → IsRead p (first ∷ tokens)
 asked-read p first tokens k g h =
-    by-form p first tokens (forms_of false)
+    by-form p first tokens (forms_of p.head.version false)
     (also (Pair TwoSided) (pair-read p first tokens TwoSided g)
     (also (Pair Right) (pair-read p first tokens Right g)
     (also (Pair Left) (pair-read p first tokens Left g)
@@ -322,4 +397,4 @@ asked-read p first tokens k g h =
     (also Cayley (cayley-read p first tokens k g)
     (also Green (green-read p first tokens k g)
     (also Idempotents (idempotents-read p first tokens k g) every))))))))))))
-    (subst (λ b. first_of (named_causes p (form_among (forms_of b) first) tokens) ≡ None) k h)
+    (subst (λ b. first_of (named_causes p (form_among (forms_of p.head.version b) first) tokens) ≡ None) k h)

@@ -94,7 +94,7 @@ elements-read p first [] k h = asked-read p first [] k (ap (λ b. not b && false
 elements-read p first (second ∷ tokens) k h = split (is_generator_line p (first ∷ second ∷ tokens)) refl h
   where
     split : (b : Bool) → is_generator_line p (first ∷ second ∷ tokens) ≡ b
-        → first_of (if b then generator_causes p first (map field_of tokens) else named_causes p (form_among (forms_of (is_presented p.problem)) first) (second ∷ tokens)) ≡ None
+        → first_of (if b then generator_causes p first (map field_of tokens) else named_causes p (form_among (forms_of p.head.version (is_presented p.problem)) first) (second ∷ tokens)) ≡ None
         → IsRead p (first ∷ second ∷ tokens)
     split true e h =
         let sign : second ≡ codes "=" = same_text second (codes "=") (sym (both-so (not (is_presented p.problem)) (is_word (codes "=") second) e)) in

@@ -12,6 +12,7 @@ use Rattle.theory.specs.Graph.{Graph}
 use Rattle.theory.specs.Word.{Word}
 use Rattle.words.specs.Alphabet.{alphabet_fault}
 use Rattle.presentation.specs.Presented.{Posed}
+use Rattle.presentation.specs.Added.{identity_relations, zero_relations, inverse_relations}
 use Rattle.problem.specs.Posed.{PosedOf}
 use Rattle.problem.specs.declared.kinds.Problem.{Problem}
 use Rattle.problem.specs.declared.kinds.Problem.TheVariants.{Presented, Transf, PPerm, BMat, MaxPlus}
@@ -19,14 +20,15 @@ use Rattle.problem.specs.Problem.{allows_rules, has_empty_word, is_presented, ki
 use Rattle.query_lang.specs.declared.script.Query.{Query}
 use Rattle.query_lang.specs.declared.script.Query.TheVariants as ask
 use Rattle.query_lang.specs.declared.version.Version.{Version}
-use Rattle.query_lang.specs.declared.version.Version.TheVariants.{One}
+use Rattle.query_lang.specs.declared.version.Version.TheVariants.{One, Two}
 use Rattle.query_lang.specs.Asked.{ScriptOf}
 use Rattle.query_lang.specs.Fields.{field_of}
 use Rattle.query_lang.specs.Entries.{all_of, below, below_or_dash, bit, is_injective}
 use Rattle.query_lang.specs.Forms.{Pair, name_of}
 use Rattle.query_lang.specs.LineWords.{element_of}
 use Rattle.query_lang.specs.Pairing.{most_pairs}
-use Rattle.query_lang.specs.Relations.{add_relation, free_over, most_relations, relations_of}
+use Rattle.query_lang.specs.Relations.{add_relation, add_relations, free_over, most_relations, relations_of}
+use Rattle.query_lang.specs.Roles.{letter_in}
 use Rattle.query_lang.specs.Tables.{IsCongruenceTable, IsLowTable, IsTextOf}
 use Rattle.query_lang.specs.Token.{Token, Line, cut_lines, is_kept, is_word, letter_of, number_of, number_within, relation_of, tokens_of}
 use Rattle.query_lang.specs.Versions.{is_wide, version_numbered}
@@ -73,6 +75,10 @@ abbrev pub IsWordOf : Partial → Token → Word → Type 0
 IsWordOf p t u =
     element_of p.head.version (letters_of p.problem) (has_empty_word p.problem) t ≡ Ok u
 
+-- the token is the letter of this number
+abbrev pub IsLetterOf : Partial → Token → ℕ → Type 0
+IsLetterOf p t x = letter_in p.head.version (letters_of p.problem) t ≡ Ok x
+
 -- the token is this number, which is in the range
 abbrev pub IsNumber : ℕ → ℕ → Token → ℕ → Type 0
 IsNumber low high t n = number_within low high t ≡ Some n
@@ -115,6 +121,20 @@ pub data HasGenerator (sizes : ℕ × ℕ) (x : ℕ) (fields : List Field)
       → HasGenerator sizes x fields (MaxPlus p)
       (MaxPlus (one_more p x
       (record { dimension = sizes.0; bound = sizes.1; entries = entries })))
+
+-- the relations by which a letter is an identity or a zero, or letters are inverse, as the line
+-- says; in a semigroup it names the identity by which they are inverse
+pub data HasRoleRelations (p : Partial) (line : Line) : List (Word × Word) → Type 0 where
+  identity : {E : Token} {e : ℕ} → line ≡ codes "identity" ∷ E ∷ [] → IsLetterOf p E e
+      → HasRoleRelations p line (identity_relations (length (letters_of p.problem)) e)
+  zero : {Z : Token} {z : ℕ} → line ≡ codes "zero" ∷ Z ∷ [] → IsLetterOf p Z z
+      → HasRoleRelations p line (zero_relations (length (letters_of p.problem)) z)
+  inverse : {X Y : Token} {x y : ℕ} → line ≡ codes "inverse" ∷ X ∷ Y ∷ []
+      → has_empty_word p.problem ≡ true → IsLetterOf p X x → IsLetterOf p Y y
+      → HasRoleRelations p line (inverse_relations x y None)
+  inverse_by : {X Y E : Token} {x y e : ℕ} → line ≡ codes "inverse" ∷ X ∷ Y ∷ E ∷ []
+      → has_empty_word p.problem ≡ false → IsLetterOf p X x → IsLetterOf p Y y → IsLetterOf p E e
+      → HasRoleRelations p line (inverse_relations x y (Some e))
 
 -- the query that the line is
 pub data IsQuery (p : Partial) (line : Line) : Query → Type 0 where
@@ -166,6 +186,10 @@ pub data LineReads (p : Partial) (line : Line) : Partial → Type 0 where
       → p.problem ≡ Presented o → section_reached p ≤ 2
       → length (relations_of p.problem) ≢ most_relations → IsWordOf p U u → IsWordOf p V v
       → LineReads p line (record p { problem = Presented (add_relation o (u, v)) })
+  role : {relations : List (Word × Word)} {o : Posed} → p.head.version ≡ Two
+      → p.problem ≡ Presented o → section_reached p ≤ 2 → HasRoleRelations p line relations
+      → length (relations_of p.problem) + length relations ≤ most_relations
+      → LineReads p line (record p { problem = Presented (add_relations o relations) })
   pair : {U V : Token} {u v : Word} (kind : Kind) → lacks_generator p ≡ false
       → is_generator_line p line ≡ false → line ≡ name_of (Pair kind) ∷ U ∷ V ∷ []
       → section_reached p ≤ 3 → length (pairs_of p.problem) ≢ most_pairs

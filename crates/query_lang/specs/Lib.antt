@@ -23,3 +23,4 @@ pub mod Grammar
 pub mod LineCauses
 pub mod Versions
 pub mod PowerWords
+pub mod Roles

@@ -15,10 +15,13 @@ use Rattle.query_lang.specs.Asked.{ScriptOf}
 use Rattle.query_lang.specs.Entries.{all_of, below, below_or_dash, bit, is_injective}
 use Rattle.query_lang.specs.Fields.{field_of}
 use Rattle.query_lang.specs.LineWords.{element_of}
-use Rattle.query_lang.specs.Forms.{Form, Relation, Pair, Rules, Cayley, LowIndex, Meet, Join, Green, Idempotents, Place, AWord, ANumber, After, ALowTable, ACongruenceTable, ARelation, name_of, shapes_of, section_of, forms_of}
+use Rattle.query_lang.specs.Forms.{Form, Relation, OfRole, Pair, Rules, Cayley, LowIndex, Meet, Join, Green, Idempotents, Place, AWord, ALetter, ANumber, After, ALowTable, ACongruenceTable, ARelation, name_of, shapes_of, section_of, forms_of}
 use Rattle.query_lang.specs.Outline.{alphabet_of}
 use Rattle.query_lang.specs.Pairing.{is_same_kind, most_pairs}
 use Rattle.query_lang.specs.Relations.{most_relations, relations_of}
+use Rattle.query_lang.specs.declared.role.Role.{Role}
+use Rattle.query_lang.specs.declared.role.Role.TheVariants as role
+use Rattle.query_lang.specs.Roles.{count_for, count_for_both, letter_in}
 use Rattle.query_lang.specs.Tables.{is_table, low_table_of, meets_relations}
 use Rattle.query_lang.specs.Token.{Token, Line, is_kept, is_word, letter_of, number_of, number_within, relation_of}
 use Rattle.query_lang.specs.Versions.{is_wide, version_numbered}
@@ -48,6 +51,7 @@ classes_in (t ∷ tokens) = unwrap_or (number_within 1 16 t) 0
 abbrev pub cause_of_token : Partial → List Token → Place → Token → Option Cause
 cause_of_token p all AWord t =
     cause_in (element_of p.head.version (letters_of p.problem) (has_empty_word p.problem) t)
+cause_of_token p all ALetter t = cause_in (letter_in p.head.version (letters_of p.problem) t)
 cause_of_token p all (ANumber low high) t =
     when cause.BadNumber (is_none (number_within low high t))
 cause_of_token p all After t = when cause.AfterExpected (not (is_word (codes "after") t))
@@ -85,10 +89,19 @@ abbrev pub shape_causes : Partial → Option (List Place) → List Token → Lis
 shape_causes p None tokens = []
 shape_causes p (Some places) tokens = token_causes p tokens places tokens
 
--- a 4,097th relation
-abbrev pub is_relation_too_many : Partial → Form → Bool
-is_relation_too_many p Relation = length (relations_of p.problem) == most_relations
-is_relation_too_many p form = false
+-- how many relations the role gives, by the texts of its letters
+abbrev pub count_by : List ℕ → Role → List Token → ℕ
+count_by letters role.Identity (t ∷ tokens) = count_for letters t
+count_by letters role.Zero (t ∷ tokens) = count_for letters t
+count_by letters role.Inverse (x ∷ y ∷ tokens) = count_for_both x y
+count_by letters role tokens = 0
+
+-- more than 4,096 relations with those of the line
+abbrev pub is_relation_too_many : Partial → Form → List Token → Bool
+is_relation_too_many p Relation tokens = length (relations_of p.problem) == most_relations
+is_relation_too_many p (OfRole role) tokens = nat_lt most_relations
+    (length (relations_of p.problem) + count_by (letters_of p.problem) role tokens)
+is_relation_too_many p form tokens = false
 
 -- a 4,097th pair
 abbrev pub is_pair_too_many : Partial → Form → Bool
@@ -117,12 +130,13 @@ abbrev pub form_causes : Partial → Form → List Token → List (Option Cause)
 form_causes p form tokens =
     when cause.LineOutOfOrder (nat_lt (section_of form) (section_reached p))
     ∷ when cause.NoGenerator (lacks_generator p)
-    ∷ when cause.WrongNumberOfWords (is_none (shape_for tokens (shapes_of form)))
-    ∷ when cause.TooManyRelations (is_relation_too_many p form)
+    ∷ when cause.WrongNumberOfWords
+    (is_none (shape_for tokens (shapes_of (has_empty_word p.problem) form)))
+    ∷ when cause.TooManyRelations (is_relation_too_many p form tokens)
     ∷ when cause.TooManyPairs (is_pair_too_many p form)
     ∷ when cause.MixedKinds (mixes_kinds p form)
     ∷ when cause.QueryNotAllowed (is_barred p form)
-    ∷ shape_causes p (shape_for tokens (shapes_of form)) tokens
+    ∷ shape_causes p (shape_for tokens (shapes_of (has_empty_word p.problem) form)) tokens
 
 -- the form of this name, among those
 abbrev pub form_among : List Form → Token → Option Form
@@ -183,11 +197,11 @@ generator_causes p name fields =
 abbrev pub line_causes : Partial → Line → List (Option Cause)
 line_causes p [] = Some cause.UnknownLine ∷ []
 line_causes p (first ∷ []) =
-    named_causes p (form_among (forms_of (is_presented p.problem)) first) []
+    named_causes p (form_among (forms_of p.head.version (is_presented p.problem)) first) []
 line_causes p (first ∷ second ∷ tokens) =
     if is_generator_line p (first ∷ second ∷ tokens)
     then generator_causes p first (map field_of tokens)
-    else named_causes p (form_among (forms_of (is_presented p.problem)) first)
+    else named_causes p (form_among (forms_of p.head.version (is_presented p.problem)) first)
     (second ∷ tokens)
 
 -- what stands behind the name of a header: numbers in their ranges, or one token of letters

@@ -39,10 +39,14 @@ free_over is_monoid alphabet = outlined
 abbrev pub IsSide : Posed → Word → Type 0
 IsSide o = IsElement o.congruence.presentation.is_monoid (length o.alphabet)
 
--- one relation more
-abbrev pub add_relation : Posed → Word × Word → Posed
-add_relation o p =
+-- more relations, behind the others
+abbrev pub add_relations : Posed → List (Word × Word) → Posed
+add_relations o relations =
     record o {
       congruence = record o.congruence
-          { presentation = with_relations o.congruence.presentation (p ∷ []) };
+          { presentation = with_relations o.congruence.presentation relations };
     }
+
+-- one relation more
+abbrev pub add_relation : Posed → Word × Word → Posed
+add_relation o p = add_relations o (p ∷ [])

@@ -19,6 +19,8 @@ use Rattle.query_lang.specs.Fields.{field_of}
 use Rattle.query_lang.specs.Generators.{draft_with, problem_of}
 use Rattle.query_lang.specs.Header.{header_of, outline_of}
 use Rattle.query_lang.specs.Outline.{with_relation}
+use Rattle.query_lang.specs.declared.role.Role.{Role}
+use Rattle.query_lang.specs.Roles.{role_of, with_role}
 use Rattle.query_lang.specs.Pairing.{add_pair, pair_kind_of}
 use Rattle.query_lang.specs.Relations.{relations_of}
 use Rattle.query_lang.specs.Versions.{is_wide, version_of}
@@ -81,6 +83,12 @@ relation_line version r tokens = and_then
     (λ outline. and_then (λ o. Ok (Relating o)) (with_relation version outline tokens))
     (outline_so_far r)
 
+-- a line that gives letters this role
+abbrev pub role_line : Version → ReaderOf → Role → List Token → Result ReaderOf Cause
+role_line version r role tokens = and_then
+    (λ outline. and_then (λ o. Ok (Relating o)) (with_role version outline role tokens))
+    (outline_so_far r)
+
 -- the problem and its pairs so far, which stand before the queries
 abbrev pub paired_so_far : ReaderOf → Result Problem Cause
 paired_so_far (Posing draft) = problem_of draft
@@ -111,12 +119,18 @@ pair_or_query version r None first tokens = query_line version r first tokens
 abbrev pub common_line : Version → ReaderOf → Token → List Token → Result ReaderOf Cause
 common_line version r first tokens = pair_or_query version r (pair_kind_of first) first tokens
 
+-- a role of letters, if the line gives one, or else a pair or a query
+abbrev pub role_or_common : Version → ReaderOf → Option Role → Token → List Token
+    → Result ReaderOf Cause
+role_or_common version r (Some role) first tokens = role_line version r role tokens
+role_or_common version r None first tokens = common_line version r first tokens
+
 -- a line after the header of a presentation
 abbrev pub presentation_line : Version → ReaderOf → Line → Result ReaderOf Cause
 presentation_line version r [] = Err UnknownLine
 presentation_line version r (first ∷ tokens) =
     if is_word (codes "rel") first then relation_line version r tokens
-    else common_line version r first tokens
+    else role_or_common version r (role_of version first) first tokens
 
 -- a line after the header of generators; the second token of a generator line is `=`
 abbrev pub element_line : Version → ReaderOf → Line → Result ReaderOf Cause

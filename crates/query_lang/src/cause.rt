@@ -13,15 +13,16 @@ pub enum Cause {
     WrongNumberOfWords = 3,
     /// A token in a number's place is no number, or out of range.
     BadNumber = 4,
-    /// A generator's name, or a byte in the place of the header's letters, is no letter.
+    /// A generator's name, a byte in the place of the header's letters, or a token in the place of
+    /// a letter is no letter of the version.
     NotALetter = 5,
     /// A generator's name, or a letter of the header, came before.
     RepeatedLetter = 6,
     /// The line is of no form that the script's kind has: its first token is no name of such a
     /// line, and it is no generator line.
     UnknownLine = 7,
-    /// A generator, a relation or a pair stands after a query, or a generator or a relation after
-    /// a pair.
+    /// A generator, a relation, a role of letters or a pair stands after a query, or one of the
+    /// first three after a pair.
     LineOutOfOrder = 8,
     /// In a script of generators a pair or a query stands before any, or the script ends without
     /// one.
@@ -32,13 +33,13 @@ pub enum Cause {
     BadEntry = 11,
     /// A partial permutation has an image twice.
     NotInjective = 12,
-    /// A word has a byte that is no letter of the script.
+    /// A word has a byte that is no letter of the script, or a letter that gets a role is none.
     NotInAlphabet = 13,
     /// A word has too many letters.
     WordTooLong = 14,
     /// A word is empty, and the script poses no monoid.
     EmptyWord = 15,
-    /// There are 4,096 relations before this one.
+    /// There would be more than 4,096 relations after the line.
     TooManyRelations = 16,
     /// There are 4,096 pairs before this one.
     TooManyPairs = 17,

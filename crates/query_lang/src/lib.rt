@@ -14,6 +14,7 @@ mod outline;
 mod pairing;
 mod query_line;
 mod reader;
+mod role;
 mod script;
 mod tables;
 mod tokens;
@@ -23,6 +24,8 @@ pub use cause::{Cause, cause_text};
 pub use fault::ScriptFault;
 pub use script::{Query, Script, read_script};
 
+#[cfg(test)]
+mod role_tests;
 #[cfg(test)]
 mod tests;
 #[cfg(test)]

@@ -1,21 +1,26 @@
 // Relations that lines give, one after another.
-ghost use Rattle.std.specs.Prelude.{◌≡◌, ◌≢◌, IfOk, IfErr, Ok, length};
+ghost use Rattle.std.specs.Prelude.{◌≡◌, ◌≢◌, ◌<◌, ◌≤◌, ◌+◌, IfOk, IfErr, IfSome, true, None, Ok, length};
+ghost use Rattle.std.specs.Option.{option_copied};
+ghost use Rattle.presentation.specs.Added.{identity_relations, zero_relations, inverse_relations};
 ghost use Rattle.query_lang.specs.Faults.{IsLineFault};
-ghost use Rattle.query_lang.specs.Relations.{IsSide, add_relation, free_over, most_relations};
+ghost use Rattle.query_lang.specs.Relations.{IsSide, add_relation, add_relations, free_over, most_relations};
+ghost use Rattle.query_lang.specs.Roles.{is_too_many, letter_if, letter_in, with_inverse, with_letter, with_role};
 ghost use Rattle.query_lang.specs.Outline.{related, sides_of, with_relation};
 ghost use Rattle.query_lang.specs.Pairing.{IsPairable};
 ghost use Rattle.query_lang.specs.Texts.{texts};
 
 use crate::cause::Cause;
 use crate::fault::LineFault;
-use crate::line_words::{both_elements, two_tokens};
+use crate::line_words::{both_elements, one_token, two_tokens};
+use crate::role::{Role, count_for, count_for_both, inverse_tokens};
+use crate::tokens::letter_of;
 use crate::version::Version;
 use ports::NoMemory;
 use presentation::{AddFault, Congruence, Kind, Pairs, Presentation};
 use problem::Problem;
 use std::alloc::Global;
 use std::marker::Model;
-use words::{Alphabet, Word};
+use words::{Alphabet, Letter, Word};
 
 // The most relations of a script.
 const MOST_RELATIONS: usize = 4096;
@@ -99,6 +104,161 @@ impl Outline {
         }
         let (left, right) = self.sides(alloc, version, left, right)?;
         Ok(self.add_relation(left, right)?)
+    }
+
+    // The letter of the alphabet that the token is.
+    fn letter(&self, version: Version, token: &[u8]) -> Result<Letter, Cause>
+        ensures letter { result ≡ letter_in version self.now.alphabet token.now }
+        ensures within { IfOk result (λ letter. letter < length self.now.alphabet) }
+    {
+        let byte = letter_of(version.is_wide(), token).ok_or(Cause::NotALetter)?;
+        let letter = self.presentation.alphabet().letter(byte);
+        letter.ok_or(Cause::NotInAlphabet)
+    }
+
+    // Whether so many relations more are too many.
+    fn is_too_many(&self, count: usize) -> bool
+        requires { count ≤ 106 }
+        ensures { result ≡ is_too_many self.now count }
+    {
+        MOST_RELATIONS < self.presentation.relations().len() + count
+    }
+
+    // The relations by which the letter is an identity behind the others.
+    fn add_identity(self, e: Letter) -> Result<Outline, NoMemory>
+        requires within { e < length self.alphabet }
+        requires few { length self.congruence.presentation.relations
+            + length (identity_relations (length self.alphabet) e) ≤ most_relations }
+        ensures { IfOk result (λ next. next
+            ≡ add_relations self (identity_relations (length self.alphabet) e)) }
+    {
+        let Outline { mut presentation } = self;
+        match presentation.add_identity(e) {
+            Ok(()) => Ok(Outline { presentation }),
+            Err(AddFault::NoMemory) => Err(NoMemory),
+            Err(_) => unreachable!(),
+        }
+    }
+
+    // The relations by which the letter is a zero behind the others.
+    fn add_zero(self, z: Letter) -> Result<Outline, NoMemory>
+        requires within { z < length self.alphabet }
+        requires few { length self.congruence.presentation.relations
+            + length (zero_relations (length self.alphabet) z) ≤ most_relations }
+        ensures { IfOk result (λ next. next
+            ≡ add_relations self (zero_relations (length self.alphabet) z)) }
+    {
+        let Outline { mut presentation } = self;
+        match presentation.add_zero(z) {
+            Ok(()) => Ok(Outline { presentation }),
+            Err(AddFault::NoMemory) => Err(NoMemory),
+            Err(_) => unreachable!(),
+        }
+    }
+
+    // The relations by which the letters are inverse behind the others.
+    fn add_inverse(self, x: Letter, y: Letter, e: Option<Letter>) -> Result<Outline, NoMemory>
+        requires left { x < length self.alphabet }
+        requires right { y < length self.alphabet }
+        requires unit { IfSome e (λ e. e < length self.alphabet) }
+        requires some { e ≡ None → self.congruence.presentation.is_monoid ≡ true }
+        requires few { length self.congruence.presentation.relations
+            + length (inverse_relations x y e) ≤ most_relations }
+        ensures { IfOk result (λ next. next ≡ add_relations self (inverse_relations x y e)) }
+    {
+        let Outline { mut presentation } = self;
+        match presentation.add_inverse(x, y, e) {
+            Ok(()) => Ok(Outline { presentation }),
+            Err(AddFault::NoMemory) => Err(NoMemory),
+            Err(_) => unreachable!(),
+        }
+    }
+
+    // The letter that the token is, with the relations of an identity.
+    fn with_identity(self, version: Version, token: &[u8]) -> Result<Outline, LineFault>
+        ensures ok { IfOk result (λ next. with_letter version self identity_relations token.now
+            ≡ Ok next) }
+        ensures err { IfErr result (IsLineFault
+            (with_letter version self identity_relations token.now)) }
+    {
+        if self.is_too_many(count_for(self.presentation.alphabet(), token)) {
+            return Err(LineFault::refused(Cause::TooManyRelations));
+        }
+        let letter = self.letter(version, token)?;
+        Ok(self.add_identity(letter)?)
+    }
+
+    // The letter that the token is, with the relations of a zero.
+    fn with_zero(self, version: Version, token: &[u8]) -> Result<Outline, LineFault>
+        ensures ok { IfOk result (λ next. with_letter version self zero_relations token.now
+            ≡ Ok next) }
+        ensures err { IfErr result (IsLineFault
+            (with_letter version self zero_relations token.now)) }
+    {
+        if self.is_too_many(count_for(self.presentation.alphabet(), token)) {
+            return Err(LineFault::refused(Cause::TooManyRelations));
+        }
+        let letter = self.letter(version, token)?;
+        Ok(self.add_zero(letter)?)
+    }
+
+    // The letter that the token is, if there is one.
+    fn letter_if(&self, version: Version, token: Option<&[u8]>) -> Result<Option<Letter>, Cause>
+        ensures letter { result ≡ letter_if version self.now.alphabet
+            (option_copied token.entry) }
+        ensures within { IfOk result (λ letter. IfSome letter
+            (λ e. e < length self.now.alphabet)) }
+    {
+        match token {
+            Some(token) => Ok(Some(self.letter(version, token)?)),
+            None => Ok(None),
+        }
+    }
+
+    // The letters that the tokens are, with the relations of inverses.
+    fn with_inverse(
+        self,
+        version: Version,
+        x: &[u8],
+        y: &[u8],
+        e: Option<&[u8]>,
+    ) -> Result<Outline, LineFault>
+        requires { e ≡ None → self.congruence.presentation.is_monoid ≡ true }
+        ensures ok { IfOk result (λ next.
+            with_inverse version self (x.now, y.now, option_copied e.entry) ≡ Ok next) }
+        ensures err { IfErr result (IsLineFault
+            (with_inverse version self (x.now, y.now, option_copied e.entry))) }
+    {
+        if self.is_too_many(count_for_both(x, y)) {
+            return Err(LineFault::refused(Cause::TooManyRelations));
+        }
+        let x = self.letter(version, x)?;
+        let y = self.letter(version, y)?;
+        let e = self.letter_if(version, e)?;
+        Ok(self.add_inverse(x, y, e)?)
+    }
+
+    /// The relations behind the others by which letters have this role; the tokens name them.
+    /// Refused with the cause of its line, or for want of memory.
+    pub fn with_role(
+        self,
+        version: Version,
+        role: Role,
+        tokens: &[&[u8]],
+    ) -> Result<Outline, LineFault>
+        ensures ok { IfOk result (λ next. with_role version self role (texts tokens.now)
+            ≡ Ok next) }
+        ensures err { IfErr result (IsLineFault
+            (with_role version self role (texts tokens.now))) }
+    {
+        match role {
+            Role::Identity => self.with_identity(version, one_token(tokens)?),
+            Role::Zero => self.with_zero(version, one_token(tokens)?),
+            Role::Inverse => {
+                let (x, y, e) = inverse_tokens(self.presentation.is_monoid(), tokens)?;
+                self.with_inverse(version, x, y, e)
+            }
+        }
     }
 
     /// What the presentation poses.

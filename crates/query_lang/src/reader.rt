@@ -1,8 +1,9 @@
 // What the lines of a script give, one after another.
 ghost use Rattle.std.specs.Prelude.{◌≡◌, IfOk, IfErr, Ok};
 ghost use Rattle.query_lang.specs.Faults.{IsLineFault};
-ghost use Rattle.query_lang.specs.Script.{common_line, element_line, finished, first_line, generator_line, header_line, is_presentation, outline_so_far, pair_line, paired_so_far, presentation_line, query_line, read_line, relation_line, take_line, whole_of, with_line};
+ghost use Rattle.query_lang.specs.Script.{common_line, element_line, finished, first_line, generator_line, header_line, is_presentation, outline_so_far, pair_line, paired_so_far, presentation_line, query_line, read_line, relation_line, role_line, role_or_common, take_line, whole_of, with_line};
 ghost use Rattle.query_lang.specs.Script as said;
+ghost use Rattle.query_lang.specs.Roles.{role_of};
 ghost use Rattle.query_lang.specs.Texts.{texts};
 
 use crate::cause::Cause;
@@ -12,6 +13,7 @@ use crate::header::{header_of, outline_of};
 use crate::outline::Outline;
 use crate::pairing::{Paired, pair_kind_of};
 use crate::query_line::query_name_of;
+use crate::role::{Role, role_of};
 use crate::script::Script;
 use crate::tokens::{is_kept, is_word, tokens_of};
 use crate::version::{Version, version_of};
@@ -171,6 +173,15 @@ impl Reader {
         Ok(relating(outline.with_relation(alloc, version, tokens)?))
     }
 
+    fn add_role(self, version: Version, role: Role, tokens: &[&[u8]]) -> Result<Reader, LineFault>
+        ensures ok { IfOk result (λ next. role_line version self role (texts tokens.now)
+            ≡ Ok next) }
+        ensures err { IfErr result (IsLineFault (role_line version self role (texts tokens.now))) }
+    {
+        let outline = self.into_outline()?;
+        Ok(relating(outline.with_role(version, role, tokens)?))
+    }
+
     // The problem and its pairs so far, which stand before the queries.
     fn into_paired(self, alloc: Global) -> Result<Paired, LineFault>
         ensures ok { IfOk result (λ paired. paired_so_far self ≡ Ok paired) }
@@ -236,6 +247,25 @@ impl Reader {
         }
     }
 
+    // A role of letters, if the line gives one, or else a pair or a query.
+    fn add_role_or_common_line(
+        self,
+        alloc: Global,
+        version: Version,
+        first: &[u8],
+        tokens: &[&[u8]],
+    ) -> Result<Reader, LineFault>
+        ensures ok { IfOk result (λ next. role_or_common version self (role_of version first.now)
+            first.now (texts tokens.now) ≡ Ok next) }
+        ensures err { IfErr result (IsLineFault (role_or_common version self
+            (role_of version first.now) first.now (texts tokens.now))) }
+    {
+        match role_of(version, first) {
+            Some(role) => self.add_role(version, role, tokens),
+            None => self.add_common_line(alloc, version, first, tokens),
+        }
+    }
+
     // A line after the header of a presentation.
     fn add_presentation_line(
         self,
@@ -251,7 +281,7 @@ impl Reader {
             [first, tokens @ ..] if is_word(b"rel", first) => self.add_relation(
                 alloc, version, tokens,
             ),
-            [first, tokens @ ..] => self.add_common_line(alloc, version, first, tokens),
+            [first, tokens @ ..] => self.add_role_or_common_line(alloc, version, first, tokens),
             [] => Err(LineFault::refused(Cause::UnknownLine)),
         }
     }

@@ -8,7 +8,7 @@ use std::test::Fail;
 use theory::Relation;
 
 // The fault of a script: its line and its cause; 0 and 0 where there is none.
-fn fault_of(alloc: Global, script: &str) -> Result<(usize, u8), Fail> {
+pub fn fault_of(alloc: Global, script: &str) -> Result<(usize, u8), Fail> {
     match read_script(alloc, script.as_bytes()) {
         Ok(_) => Ok((0, 0)),
         Err(ScriptFault::Bad { line, cause }) => Ok((line, cause)),

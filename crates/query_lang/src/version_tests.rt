@@ -1,15 +1,6 @@
+use super::tests::fault_of;
 use super::*;
-use std::alloc::Global;
 use std::test::Fail;
-
-// The fault of a script: its line and its cause; 0 and 0 where there is none.
-fn fault_of(alloc: Global, script: &str) -> Result<(usize, u8), Fail> {
-    match read_script(alloc, script.as_bytes()) {
-        Ok(_) => Ok((0, 0)),
-        Err(ScriptFault::Bad { line, cause }) => Ok((line, cause)),
-        Err(fault) => Err(fault)?,
-    }
-}
 
 #[test]
 fn version_lines_are_read_or_refused(rt: HostRuntime) -> Result<(), Fail> {
