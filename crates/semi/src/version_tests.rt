@@ -13,8 +13,12 @@ fn scripts_of_version_2_are_answered(rt: HostRuntime) -> Result<(), Fail> {
         ),
         ("version 2\ntrans 2\nA = 1 0\nequal A^3 A\n", "equal yes\n"),
         (
-            "version 2\nmonoid aA\nrel aA 1\nrel Aa 1\nindex\nnormal a^3A^2\n",
+            "version 2\nmonoid aA\ninverse a A\nindex\nnormal a^3A^2\n",
             "index infinite\nnormal a\n",
+        ),
+        (
+            "version 2\nsemigroup ez\nidentity e\nzero z\nclasses 5\n",
+            "e\nz\nend\n",
         ),
         ("version 1\nmonoid a\nrel aaa 1\nindex\n", "index 3\n"),
     ] {
@@ -45,6 +49,10 @@ fn faults_of_versions_are_told(rt: HostRuntime) -> Result<(), Fail> {
         (
             "version 2\nsemigroup a\nrel a^2 1\n",
             "semi: line 3: empty word not allowed\n",
+        ),
+        (
+            "version 2\nsemigroup ab\ninverse a b\n",
+            "semi: line 3: wrong number of words\n",
         ),
     ] {
         let ended = run_at(&rt, &["semi"], script.as_bytes(), SOUND, &Open)?;
