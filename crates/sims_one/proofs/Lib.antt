@@ -8,3 +8,4 @@ pub mod CursorLaws
 pub mod LowIndexLaws
 pub mod GraphLaws
 pub mod GoingOn
+pub mod PartLaws

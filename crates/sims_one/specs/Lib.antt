@@ -2,3 +2,4 @@ pub mod Targets
 pub mod Known
 pub mod Search
 pub mod Graphs
+pub mod Parts

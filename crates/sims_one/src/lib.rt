@@ -7,12 +7,19 @@
 mod branch;
 mod deductions;
 pub mod facts;
+mod groups;
 mod known;
+mod parts;
 mod paths;
+mod runs;
 mod search;
 mod sims;
 
+pub use parts::Part;
+pub use runs::run_parts;
 pub use sims::{MOST_CLASSES, Sims};
 
+#[cfg(test)]
+mod part_tests;
 #[cfg(test)]
 mod tests;

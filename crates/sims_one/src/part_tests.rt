@@ -1,0 +1,192 @@
+ghost use Rattle.std.specs.Prelude.{◌≡◌, ◌≤◌};
+
+use crate::{Part, run_parts};
+use ports::{Gate, NoMemory, Open};
+use std::alloc::Global;
+use std::sync::atomic::{AtomicBool, Ordering};
+use std::test::Fail;
+use std::thread::Threads;
+
+// A part that counts its runs.
+#[derive(Drop)]
+struct Counter {
+    name: u8,
+    runs: u8,
+}
+
+impl Part for Counter {
+    ghost use Rattle.std.specs.Prelude.{ℕ, ◌<◌};
+
+    ghost Task = { ℕ };
+
+    ghost task = { λ c. c.name };
+
+    ghost is_done = { λ c. 0 < c.runs };
+
+    fn run(&mut self) -> Result<(), NoMemory> {
+        self.runs = self.runs.saturating_add(1);
+        Ok(())
+    }
+}
+
+// How often each of five parts is run, by name.
+fn counts<T: Threads + Sync>(rt: &T, alloc: Global, workers: usize) -> Result<Vec<u8>, NoMemory>
+    requires { 1 ≤ workers }
+{
+    let mut parts = Vec::new(alloc);
+    for name in 0..5 {
+        parts.push(Counter { name, runs: 0 })?;
+    }
+    run_parts(rt, alloc, &mut parts, workers, &Open)?;
+    let mut text = Vec::new(alloc);
+    for part in &parts {
+        text.push(b'a'.saturating_add(part.name))?;
+        text.push(b'0'.saturating_add(part.runs))?;
+    }
+    Ok(text)
+}
+
+// Whether each of five parts is run once, and stays in its place.
+fn run_once<T: Threads + Sync>(rt: &T, alloc: Global, workers: usize) -> Result<bool, NoMemory>
+    requires { 1 ≤ workers }
+{
+    let counts = counts(rt, alloc, workers)?;
+    Ok(counts.as_slice() == b"a1b1c1d1e1".as_slice())
+}
+
+#[test]
+fn each_part_runs_once(rt: HostRuntime) -> Result<(), Fail> {
+    let alloc = rt.alloc();
+    assert!(rt; run_once(&rt, alloc, 1)?);
+    assert!(rt; run_once(&rt, alloc, 2)?);
+    assert!(rt; run_once(&rt, alloc, 5)?);
+    Ok(())
+}
+
+// How often a part looks for another that is to come.
+const MANY: u32 = 200_000_000;
+
+// Sets a mark, and looks so often for another. Whether it was seen.
+fn meets(mine: &AtomicBool, other: &AtomicBool, looks: u32) -> bool {
+    mine.store(true, Ordering::SeqCst);
+    for _ in 0..looks {
+        if other.load(Ordering::SeqCst) {
+            return true;
+        }
+    }
+    false
+}
+
+// A part that looks for the mark of another.
+#[derive(Drop)]
+struct Seeker<'a> {
+    mine: &'a AtomicBool,
+    other: &'a AtomicBool,
+    looks: u32,
+    saw: bool,
+}
+
+impl<'a> Part for Seeker<'a> {
+    ghost Task = { Unit {0} };
+
+    ghost task = { λ _. tt };
+
+    ghost is_done = { λ _. Unit {0} };
+
+    fn run(&mut self) -> Result<(), NoMemory> {
+        self.saw = meets(self.mine, self.other, self.looks);
+        Ok(())
+    }
+}
+
+fn seeks<'a>(mine: &'a AtomicBool, other: &'a AtomicBool, looks: u32) -> Seeker<'a> {
+    Seeker {
+        mine,
+        other,
+        looks,
+        saw: false,
+    }
+}
+
+// Whether each of two parts saw the other's mark.
+fn met<T: Threads + Sync>(
+    rt: &T,
+    alloc: Global,
+    workers: usize,
+    looks: u32,
+) -> Result<(bool, bool), NoMemory>
+    requires { 1 ≤ workers }
+{
+    let (front, back) = (AtomicBool::new(false), AtomicBool::new(false));
+    let mut parts = Vec::new(alloc);
+    parts.push(seeks(&front, &back, looks))?;
+    parts.push(seeks(&back, &front, looks))?;
+    run_parts(rt, alloc, &mut parts, workers, &Open)?;
+    let mut saw = parts.iter().map(|part| part.saw);
+    Ok((saw.next() == Some(true), saw.next() == Some(true)))
+}
+
+#[test]
+fn two_workers_run_parts_side_by_side(rt: HostRuntime) -> Result<(), Fail> {
+    assert!(rt; met(&rt, rt.alloc(), 2, MANY) == Ok((true, true)));
+    Ok(())
+}
+
+#[test]
+fn one_worker_runs_parts_in_turn(rt: HostRuntime) -> Result<(), Fail> {
+    assert!(rt; met(&rt, rt.alloc(), 1, 1_000) == Ok((false, true)));
+    Ok(())
+}
+
+// A gate at which parts 0 and 1 look for each other.
+#[derive(Drop)]
+struct Doors<'a> {
+    front: &'a AtomicBool,
+    back: &'a AtomicBool,
+    front_saw: &'a AtomicBool,
+    back_saw: &'a AtomicBool,
+}
+
+fn first_pass(mine: &AtomicBool, other: &AtomicBool, saw: &AtomicBool) {
+    if meets(mine, other, MANY) {
+        saw.store(true, Ordering::SeqCst);
+    }
+}
+
+impl<'a> Gate for Doors<'a> {
+    fn pass(&self, number: usize) {
+        match number {
+            0 => first_pass(self.front, self.back, self.front_saw),
+            1 => first_pass(self.back, self.front, self.back_saw),
+            _ => (),
+        }
+    }
+}
+
+// Runs five parts by two workers at the gate.
+fn run_at<T: Threads + Sync, G: Gate + Sync>(
+    rt: &T,
+    alloc: Global,
+    gate: &G,
+) -> Result<(), NoMemory> {
+    let mut parts = Vec::new(alloc);
+    for name in 0..5 {
+        parts.push(Counter { name, runs: 0 })?;
+    }
+    run_parts(rt, alloc, &mut parts, 2, gate)
+}
+
+#[test]
+fn parts_meet_in_the_gate(rt: HostRuntime) -> Result<(), Fail> {
+    let (front, back) = (AtomicBool::new(false), AtomicBool::new(false));
+    let (front_saw, back_saw) = (AtomicBool::new(false), AtomicBool::new(false));
+    let gate = Doors {
+        front: &front,
+        back: &back,
+        front_saw: &front_saw,
+        back_saw: &back_saw,
+    };
+    run_at(&rt, rt.alloc(), &gate)?;
+    assert!(rt; front_saw.load(Ordering::SeqCst) && back_saw.load(Ordering::SeqCst));
+    Ok(())
+}
