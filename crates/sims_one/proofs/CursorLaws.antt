@@ -1,7 +1,8 @@
 -- Searching after a cursor.
-use Rattle.std.proofs.Common.{◌≡◌, ℕ, suc, ◌*◌, ◌<◌, ◌≤◌, List, [], ◌∷◌, ◌++◌, length, get_or, refl, sym, ◌∙◌, ap, subst, subst₂, arith, inl, inr, append-nil, append_assoc, length-append}
+use Rattle.std.proofs.Common.{◌≡◌, ℕ, suc, ◌*◌, ◌<◌, ◌≤◌, List, [], ◌∷◌, ◌++◌, length, take, drop, get_or, refl, sym, ◌∙◌, ap, subst, subst₂, arith, inl, inr, append-nil, append_assoc, length-append}
 use Rattle.std.proofs.Math.Seq.{get_or-append_seam}
 use Rattle.std.proofs.lemmas.Bool.{cases_lt}
+use Rattle.std.proofs.lemmas.List.{take_at, take-append-le, take-append-drop}
 use Rattle.theory.specs.Congruence.{Presentation}
 use Rattle.sims_one.specs.Targets.{seen, IsFront, AreAllowed, IsTable, IsWithin, IsBeyond}
 use Rattle.sims_one.specs.Search.{Before, IsLeastWithin, NoneWithin, IsLeastBeyond, NoneBeyond, IsLeastAfter, NoneAfter, NoneFrom}
@@ -104,3 +105,13 @@ within_long t cursor m w = omega (arith, ap length w.is, length-append (t ++ m �
 pub nothing_left : (s : List ℕ) → length s ≡ 0 → s ≡ []
 nothing_left [] h = refl
 nothing_left (x ∷ s) h = absurd (omega arith)
+
+-- the targets that are kept
+pub kept_all : (s cursor : List ℕ) (kept : ℕ) → IsWithin s cursor → kept ≤ length s → length s ≤ kept → s ≡ take kept cursor
+kept_all s cursor kept w low high = sym (ap (take kept) w.is ∙ take_at s w.rest kept (omega (arith, low, high)))
+
+pub kept_within : (t cursor found : List ℕ) (m kept : ℕ) → IsWithin (t ++ m ∷ []) cursor → kept ≤ length t → IsWithin t found → IsWithin (take kept cursor) found
+kept_within t cursor found m kept w low f =
+    let same : take kept cursor ≡ take kept t = ap (take kept) (along cursor t m w) ∙ take-append-le kept t (m ∷ w.rest) low in
+    subst (λ (xs : List ℕ). IsWithin xs found) (sym same)
+    (record { rest = drop kept t ++ f.rest; is = f.is ∙ ap (λ (xs : List ℕ). xs ++ f.rest) (sym (take-append-drop kept t)) ∙ append_assoc (take kept t) (drop kept t) f.rest })

@@ -9,3 +9,9 @@ pub mod LowIndexLaws
 pub mod GraphLaws
 pub mod GoingOn
 pub mod PartLaws
+pub mod FirstLaws
+pub mod CutLaws
+pub mod PlaceLaws
+pub mod RankLaws
+pub mod WantedLaws
+pub mod PageLaws

@@ -249,7 +249,7 @@ module _ (p : Presentation) (n : ℕ) (some : 0 < p.letters) (elements : AreElem
   }
 
   -- what comes after the cursor
-  after_flat : (cursor : List ℕ) (rows : Rows) → IsCursor p.letters cursor → IsTable p n (entries rows) → IsAfter TableLess (cursor_of p.letters cursor) rows → Before cursor (entries rows)
+  pub after_flat : (cursor : List ℕ) (rows : Rows) → IsCursor p.letters cursor → IsTable p n (entries rows) → IsAfter TableLess (cursor_of p.letters cursor) rows → Before cursor (entries rows)
   after_flat [] rows is table h = go (entries rows) table.full
     where
       go : (xs : List ℕ) → length xs ≡ p.letters * seen xs → Before [] xs
@@ -261,7 +261,7 @@ module _ (p : Presentation) (n : ℕ) (some : 0 < p.letters) (elements : AreElem
       cursor_flat (inl none) = cc
       cursor_flat (inr full) = cut_entries p.letters (seen (m ∷ ms)) (m ∷ ms) (omega (arith, full))
 
-  flat_after : (cursor : List ℕ) (t : List ℕ) → IsCursor p.letters cursor → IsTable p n t → Before cursor t → IsAfter TableLess (cursor_of p.letters cursor) (table_of p.letters t)
+  pub flat_after : (cursor : List ℕ) (t : List ℕ) → IsCursor p.letters cursor → IsTable p n t → Before cursor t → IsAfter TableLess (cursor_of p.letters cursor) (table_of p.letters t)
   flat_after [] t is table h = tt
   flat_after (m ∷ ms) t is table h = subst₂ Before (sym (cursor_flat is.full)) (sym (table_flat t table)) h
     where

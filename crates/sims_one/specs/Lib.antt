@@ -3,3 +3,4 @@ pub mod Known
 pub mod Search
 pub mod Graphs
 pub mod Parts
+pub mod Pages

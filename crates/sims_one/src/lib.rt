@@ -4,21 +4,30 @@
 //! *Computation with finitely presented groups*, 1994, 5.6; libsemigroups, `Sims1`).
 #![tactic(auto)]
 
+mod batches;
 mod branch;
+mod cut;
 mod deductions;
 pub mod facts;
 mod groups;
 mod known;
+mod pages;
 mod parts;
 mod paths;
+mod request;
 mod runs;
 mod search;
 mod sims;
+mod table_parts;
+mod within;
 
+pub use pages::{TablePage, page, page_two_sided};
 pub use parts::Part;
 pub use runs::run_parts;
 pub use sims::{MOST_CLASSES, Sims};
 
+#[cfg(test)]
+mod page_tests;
 #[cfg(test)]
 mod part_tests;
 #[cfg(test)]

@@ -140,11 +140,16 @@ fn one_worker_runs_parts_in_turn(rt: HostRuntime) -> Result<(), Fail> {
 
 // A gate at which parts 0 and 1 look for each other.
 #[derive(Drop)]
-struct Doors<'a> {
-    front: &'a AtomicBool,
-    back: &'a AtomicBool,
-    front_saw: &'a AtomicBool,
-    back_saw: &'a AtomicBool,
+pub struct Doors<'a> {
+    pub front: &'a AtomicBool,
+    pub back: &'a AtomicBool,
+    pub front_saw: &'a AtomicBool,
+    pub back_saw: &'a AtomicBool,
+}
+
+// Whether each of the two saw the other.
+pub fn doors_met(gate: &Doors) -> bool {
+    gate.front_saw.load(Ordering::SeqCst) && gate.back_saw.load(Ordering::SeqCst)
 }
 
 fn first_pass(mine: &AtomicBool, other: &AtomicBool, saw: &AtomicBool) {
@@ -187,6 +192,6 @@ fn parts_meet_in_the_gate(rt: HostRuntime) -> Result<(), Fail> {
         back_saw: &back_saw,
     };
     run_at(&rt, rt.alloc(), &gate)?;
-    assert!(rt; front_saw.load(Ordering::SeqCst) && back_saw.load(Ordering::SeqCst));
+    assert!(rt; doors_met(&gate));
     Ok(())
 }

@@ -1,5 +1,5 @@
 // Searching for tables, a target at a time.
-ghost use Rattle.std.specs.Prelude.{◌≡◌, ℕ, suc, ◌+◌, ◌*◌, ◌<◌, ◌≤◌, ◌↔◌, List, [], ◌∷◌, ◌++◌, length, slice_get, Some, IsTrue, IfOk, IfSome, true, false, MatchOption};
+ghost use Rattle.std.specs.Prelude.{◌≡◌, ℕ, suc, ◌+◌, ◌*◌, ◌<◌, ◌≤◌, ◌↔◌, List, [], ◌∷◌, ◌++◌, length, take, slice_get, Some, IsTrue, IfOk, IfSome, true, false, MatchOption};
 ghost use Rattle.sims_one.specs.Targets.{seen, least_target, most_nodes, IsFront, AreAllowed, IsWithin};
 ghost use Rattle.sims_one.specs.Known.{HasEdges, IsBranch};
 ghost use Rattle.sims_one.specs.Search.{IsLeastWithin, NoneWithin, IsLeastBeyond, NoneBeyond, IsLeastAfter, NoneAfter, NoneFrom, IsCursor, IsFoundBranch};
@@ -14,7 +14,7 @@ use presentation::Presentation;
 use std::alloc::Global;
 
 // The most nodes of a table of at most so many classes: in a semigroup the root is no class.
-fn most_nodes(presentation: &Presentation, classes: usize) -> usize
+pub fn most_nodes(presentation: &Presentation, classes: usize) -> usize
     requires { classes ≤ MOST_CLASSES }
     ensures { result ≡ most_nodes presentation.now.presentation.is_monoid classes }
 {
@@ -26,7 +26,7 @@ fn most_nodes(presentation: &Presentation, classes: usize) -> usize
 }
 
 // The least target of a table: in a semigroup no edge leads to the root.
-fn least_target(presentation: &Presentation) -> usize
+pub fn least_target(presentation: &Presentation) -> usize
     ensures { result ≡ least_target presentation.now.presentation.is_monoid }
 {
     if presentation.is_monoid() { 0 } else { 1 }
@@ -81,7 +81,7 @@ fn candidate_limit(
 // Puts the target behind those of the branch, and tells that tables may have it; else no table has
 // it, and the targets are left as they are. Refused only where memory is wanting, and then the branch
 // is any.
-fn enter(
+pub fn enter(
     presentation: &Presentation,
     classes: usize,
     branch: &mut Branch,
@@ -231,6 +231,8 @@ pub fn search_after(
         branch.old.targets.items branch.old.levels.items }
     ensures found { IfOk result (λ b. b ≡ true → IsLeastAfter presentation.now.presentation classes
         cursor.now branch.new.targets.items) }
+    ensures within { IfOk result (λ b. b ≡ true
+        → IsWithin branch.old.targets.items branch.new.targets.items) }
     ensures none { IfOk result (λ b. b ≡ false → NoneFrom presentation.now.presentation classes
         cursor.now branch.old.targets.items) }
     ensures branch { IfOk result (λ _. IsBranch presentation.now.presentation classes
@@ -266,6 +268,8 @@ pub fn search_along(
         branch.old.targets.items branch.old.levels.items }
     ensures found { IfOk result (λ b. b ≡ true → IsLeastAfter presentation.now.presentation classes
         cursor.now branch.new.targets.items) }
+    ensures within { IfOk result (λ b. b ≡ true
+        → IsWithin (branch.old.targets.items ++ target ∷ []) branch.new.targets.items) }
     ensures none { IfOk result (λ b. b ≡ false → NoneFrom presentation.now.presentation classes
         cursor.now (branch.old.targets.items ++ target ∷ [])) }
     ensures branch { IfOk result (λ _. IsBranch presentation.now.presentation classes
@@ -286,26 +290,34 @@ pub fn search_along(
     Ok(false)
 }
 
-// Makes of the branch of a table that of the least table of at most so many classes after it, and
-// tells that there is one. Refused only where memory is wanting.
-fn search_next(
+/// Makes of the branch of a table that of the least table of at most so many classes after it that
+/// goes on behind as many of its targets as are kept, and tells that there is one. Refused only where
+/// memory is wanting.
+pub fn search_next(
     presentation: &Presentation,
     classes: usize,
     branch: &mut Branch,
+    kept: usize,
 ) -> Result<bool, NoMemory>
     requires classes { classes ≤ MOST_CLASSES }
     requires branch { IsBranch presentation.now.presentation classes
         branch.old.targets.items branch.old.levels.items }
     requires full { presentation.now.presentation.letters * seen branch.old.targets.items
         ≤ length branch.old.targets.items }
+    requires kept { kept ≤ length branch.old.targets.items }
     ensures found { IfOk result (λ b. b ≡ true → IsLeastAfter presentation.now.presentation classes
         branch.old.targets.items branch.new.targets.items) }
-    ensures none { IfOk result (λ b. b ≡ false
-        → NoneAfter presentation.now.presentation classes branch.old.targets.items) }
+    ensures within { IfOk result (λ b. b ≡ true
+        → IsWithin (take kept branch.old.targets.items) branch.new.targets.items) }
+    ensures none { IfOk result (λ b. b ≡ false → NoneFrom presentation.now.presentation classes
+        branch.old.targets.items (take kept branch.old.targets.items)) }
     ensures branch { IfOk result (λ b. b ≡ true → IsBranch presentation.now.presentation classes
         branch.new.targets.items branch.new.levels.items) }
 {
-    while let Some(target) = branch.pop() {
+    while kept < branch.targets.len() {
+        let Some(target) = branch.pop() else {
+            return Ok(false);
+        };
         if search_from(presentation, classes, branch, target + 1)? {
             return Ok(true);
         }
@@ -366,7 +378,7 @@ pub fn find_next(
     let Some(mut branch) = branch else {
         return find_after(alloc, presentation, classes, cursor);
     };
-    if search_next(presentation, classes, &mut branch)? {
+    if search_next(presentation, classes, &mut branch, 0)? {
         Ok(Some(branch))
     } else {
         Ok(None)

@@ -21,7 +21,7 @@ fn word(presentation: &Presentation, alloc: Global, text: &[u8]) -> Result<Word,
 }
 
 // A monoid or semigroup without relations.
-fn free(alloc: Global, letters: &[u8], monoid: bool) -> Result<Presentation, NoMemory> {
+pub fn free(alloc: Global, letters: &[u8], monoid: bool) -> Result<Presentation, NoMemory> {
     match Alphabet::new(alloc, letters) {
         Ok(alphabet) => Ok(Presentation::new(alloc, alphabet, monoid)),
         Err(_) => Err(NoMemory),
@@ -44,7 +44,7 @@ fn add(
 }
 
 // The symmetric group of three points.
-fn symmetric(alloc: Global) -> Result<Presentation, NoMemory> {
+pub fn symmetric(alloc: Global) -> Result<Presentation, NoMemory> {
     let mut presentation = free(alloc, b"ab", true)?;
     add(&mut presentation, alloc, b"aa", b"1")?;
     add(&mut presentation, alloc, b"bbb", b"1")?;

@@ -1,0 +1,5 @@
+use Rattle.sims_one.specs.Pages.{asked, lists_in, AreJoined}
+use Rattle.sims_one.proofs.batches.tables_by_parts.Given as goal
+
+abbrev pub invariant-loop : goal.invariant-loop
+invariant-loop g l = AreJoined (asked l.request) (lists_in l.sweep.fronts.items) (lists_in l.sweep.tables.items)

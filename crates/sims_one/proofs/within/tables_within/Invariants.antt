@@ -1,0 +1,15 @@
+use Rattle.std.proofs.Common.{◌≤◌, ℕ, List, length}
+use Rattle.sims_one.specs.Pages.{asked, lists_in}
+use Rattle.sims_one.proofs.RankLaws.{rank}
+use Rattle.sims_one.proofs.WantedLaws.{AreListed}
+use Rattle.sims_one.proofs.within.tables_within.Given as goal
+
+abbrev pub invariant-loop-branch : goal.invariant-loop-branch
+invariant-loop-branch l = record {
+  last : List ℕ;
+  listed : AreListed (asked l.request) l.front (lists_in l.tables.items) last l.branch.targets.items l.branch.levels.items;
+  few : length l.tables.items ≤ l.request.count;
+}
+
+abbrev pub decreases-loop-branch : goal.decreases-loop-branch
+decreases-loop-branch l = rank 901 l.branch.targets.items

@@ -1,0 +1,184 @@
+// A page by parts, in batches.
+ghost use Rattle.std.specs.Prelude.{◌≡◌, ◌≤◌, ◌<◌, ◌++◌, [], map, flat_map, length, true, false, IfOk, OnOk};
+ghost use Rattle.sims_one.specs.Pages.{asked, IsAsked, AreOpen, AreTables, AreJoined, part_tasks, lists_in};
+
+use crate::cut::{first_fronts, split_all};
+use crate::request::Request;
+use crate::runs::run_parts;
+use crate::table_parts::TablePart;
+use ports::{Gate, NoMemory};
+use std::alloc::Global;
+use std::cmp::min;
+use std::thread::Threads;
+
+// How often all front parts are made longer.
+const ROUNDS: usize = 24;
+
+// How many parts of a batch each worker has.
+const SHARE: usize = 16;
+
+// A search: the front parts behind which it has still to go, and the tables before these.
+#[derive(Drop)]
+struct Sweep {
+    fronts: Vec<Vec<usize>>,
+    tables: Vec<Vec<usize>>,
+}
+
+// The parts of these front parts.
+fn parts_of<'a>(
+    alloc: Global,
+    request: &Request<'a>,
+    fronts: &[Vec<usize>],
+) -> Result<Vec<TablePart<'a>>, NoMemory>
+    requires asked { IsAsked (asked request.now) }
+    requires opened { AreOpen (asked request.now) (lists_in fronts.now) }
+    ensures { IfOk result (λ parts. part_tasks parts.items
+        ≡ map (λ t. (asked request.now, t)) (lists_in fronts.now)) }
+{
+    let mut parts = Vec::new(alloc);
+    for front in fronts {
+        let front = Vec::from_slice(alloc, front.as_slice())?;
+        parts.push(TablePart::new(alloc, request, front))?;
+    }
+    Ok(parts)
+}
+
+// Puts what the parts have found behind the tables.
+fn add_tables(tables: &mut Vec<Vec<usize>>, parts: Vec<TablePart>) -> Result<(), NoMemory>
+    ensures { OnOk result (lists_in tables.new.items
+        ≡ lists_in tables.old.items ++ flat_map (λ s. s.tables) parts.entry.items) }
+{
+    for part in parts {
+        let mut found = part.into_tables();
+        tables.append(&mut found)?;
+    }
+    Ok(())
+}
+
+impl Sweep {
+    // The whole search, cut at the first target.
+    fn new(alloc: Global, request: &Request) -> Result<Sweep, NoMemory>
+        requires { IsAsked (asked request.now) }
+        ensures { IfOk result (λ s. AreJoined (asked request.now)
+            (lists_in s.fronts.items) (lists_in s.tables.items)) }
+    {
+        let fronts = first_fronts(alloc, request)?;
+        Ok(Sweep {
+            fronts,
+            tables: Vec::new(alloc),
+        })
+    }
+
+    // Whether all is searched, or there are tables enough.
+    fn is_over(&self, request: &Request) -> bool
+        ensures over { result ≡ true → AreJoined (asked request.now)
+            (lists_in self.now.fronts.items) (lists_in self.now.tables.items)
+            → AreTables (asked request.now) (lists_in self.now.tables.items) }
+        ensures some { result ≡ false → 0 < length self.now.fronts.items }
+    {
+        self.fronts.is_empty() || self.tables.len() > request.count
+    }
+
+    // Makes the front parts longer by a target, unless fewer than two would be left of more.
+    fn split(&mut self, alloc: Global, request: &Request) -> Result<(), NoMemory>
+        requires asked { IsAsked (asked request.now) }
+        requires joined { AreJoined (asked request.now)
+            (lists_in self.old.fronts.items) (lists_in self.old.tables.items) }
+        ensures { OnOk result (AreJoined (asked request.now)
+            (lists_in self.new.fronts.items) (lists_in self.new.tables.items)) }
+    {
+        let longer = split_all(alloc, request, self.fronts.as_slice())?;
+        if longer.len() > 1 || self.fronts.len() < 2 {
+            self.fronts = longer;
+        }
+        Ok(())
+    }
+
+    // Searches behind the next front parts, a batch of them.
+    fn run_batch<T: Threads + Sync, G: Gate + Sync>(
+        &mut self,
+        rt: &T,
+        alloc: Global,
+        request: &Request,
+        workers: usize,
+        gate: &G,
+    ) -> Result<(), NoMemory>
+        requires workers { 1 ≤ workers }
+        requires asked { IsAsked (asked request.now) }
+        requires some { 0 < length self.old.fronts.items }
+        requires joined { AreJoined (asked request.now)
+            (lists_in self.old.fronts.items) (lists_in self.old.tables.items) }
+        ensures joined { OnOk result (AreJoined (asked request.now)
+            (lists_in self.new.fronts.items) (lists_in self.new.tables.items)) }
+        ensures fewer { OnOk result (length self.new.fronts.items
+            < length self.old.fronts.items) }
+    {
+        let most = min(workers.saturating_mul(SHARE), self.fronts.len());
+        let rest = self.fronts.split_off(most)?;
+        let mut parts = parts_of(alloc, request, self.fronts.as_slice())?;
+        self.fronts = rest;
+        run_parts(rt, alloc, &mut parts, workers, gate)?;
+        add_tables(&mut self.tables, parts)
+    }
+
+    // Batches, while there are at least so many front parts and the search is not over.
+    fn run<T: Threads + Sync, G: Gate + Sync>(
+        &mut self,
+        rt: &T,
+        alloc: Global,
+        request: &Request,
+        workers: usize,
+        gate: &G,
+        least: usize,
+    ) -> Result<(), NoMemory>
+        requires workers { 1 ≤ workers }
+        requires asked { IsAsked (asked request.now) }
+        requires joined { AreJoined (asked request.now)
+            (lists_in self.old.fronts.items) (lists_in self.old.tables.items) }
+        ensures joined { OnOk result (AreJoined (asked request.now)
+            (lists_in self.new.fronts.items) (lists_in self.new.tables.items)) }
+        ensures over { least ≡ 1 → OnOk result (AreTables (asked request.now)
+            (lists_in self.new.tables.items)) }
+    {
+        while self.fronts.len() >= least {
+            if self.is_over(request) {
+                return Ok(());
+            }
+            self.run_batch(rt, alloc, request, workers, gate)?;
+        }
+        Ok(())
+    }
+}
+
+/// The tables that are asked for, by parts that run over so many workers. The front parts are made
+/// longer until there are enough of them for a batch, and again once fewer are left. Refused only
+/// where memory is wanting.
+pub fn tables_by_parts<T: Threads + Sync, G: Gate + Sync>(
+    rt: &T,
+    alloc: Global,
+    request: &Request,
+    workers: usize,
+    gate: &G,
+) -> Result<Vec<Vec<usize>>, NoMemory>
+    requires workers { 1 ≤ workers }
+    requires asked { IsAsked (asked request.now) }
+    ensures { IfOk result (λ ts. AreTables (asked request.now) (lists_in ts.items)) }
+{
+    let mut sweep = Sweep::new(alloc, request)?;
+    for _ in 0..ROUNDS {
+        sweep.split(alloc, request)?;
+        sweep.run(
+            rt,
+            alloc,
+            request,
+            workers,
+            gate,
+            workers.saturating_mul(SHARE),
+        )?;
+        if sweep.is_over(request) {
+            return Ok(sweep.tables);
+        }
+    }
+    sweep.run(rt, alloc, request, workers, gate, 1)?;
+    Ok(sweep.tables)
+}
