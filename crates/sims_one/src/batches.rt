@@ -17,6 +17,9 @@ const ROUNDS: usize = 24;
 // How many parts of a batch each worker has.
 const SHARE: usize = 16;
 
+// How many front parts there are for each worker before a batch is taken from them.
+const ENOUGH: usize = 32;
+
 // A search: the front parts behind which it has still to go, and the tables before these.
 #[derive(Drop)]
 struct Sweep {
@@ -151,8 +154,8 @@ impl Sweep {
 }
 
 /// The tables that are asked for, by parts that run over so many workers. The front parts are made
-/// longer until there are enough of them for a batch, and again once fewer are left. Refused only
-/// where memory is wanting.
+/// longer until there are enough of them, and again once fewer are left. Refused only where memory is
+/// wanting.
 pub fn tables_by_parts<T: Threads + Sync, G: Gate + Sync>(
     rt: &T,
     alloc: Global,
@@ -173,7 +176,7 @@ pub fn tables_by_parts<T: Threads + Sync, G: Gate + Sync>(
             request,
             workers,
             gate,
-            workers.saturating_mul(SHARE),
+            workers.saturating_mul(ENOUGH),
         )?;
         if sweep.is_over(request) {
             return Ok(sweep.tables);
