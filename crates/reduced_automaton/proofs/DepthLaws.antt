@@ -9,21 +9,20 @@ use Rattle.theory.proofs.Words.{over_left}
 use Rattle.theory.proofs.GraphLaws.{path_front}
 use Rattle.word_graph.specs.Gaps.{count_none}
 use Rattle.word_graph.proofs.EdgeLaws.{target_in}
-use Rattle.reduced_automaton.specs.Automaton.{Allows, AreDepths, AreSettled, AreSettledTo, GoesOn, HasPath, IsChange, IsLeastLetter, IsSettled, LeadsOn}
+use Rattle.reduced_automaton.specs.Paths.{GoesOn, HasPath, all_paths}
+use Rattle.reduced_automaton.specs.Automaton.{Allows, AreDepths, AreSettled, AreSettledTo, IsChange, IsSettled, LeadsOn}
+use Rattle.reduced_automaton.proofs.PathLaws.{goes_as, goes_behind, goes_first}
 
 pub option_cases : {X : Type 0} (o : Option X) → (o ≡ None) ⊎ ((x : X) × (o ≡ Some x))
 option_cases None = inl refl
 option_cases (Some x) = inr (x, refl)
 
 module _ (k : ℕ) (g : Graph) where
-  pub goes_nowhere : (node : ℕ) → GoesOn k g node 0
-  goes_nowhere node = record { word = []; long = refl; has = record { over = tt; end = node; is = refl } }
-
-  pub goes_as : (node n m : ℕ) → n ≡ m → GoesOn k g node n → GoesOn k g node m
-  goes_as node n m e h = record { word = h.word; long = h.long ∙ e; has = h.has }
+  pub goes_nowhere : (node : ℕ) → GoesOn (all_paths k g) node 0
+  goes_nowhere node = record { word = []; long = refl; has = record { over = tt; end = node; is = refl; ends = refl } }
 
   -- a word with a path has one for each prefix
-  pub goes_shorter : (node n m : ℕ) → m ≤ n → GoesOn k g node n → GoesOn k g node m
+  pub goes_shorter : (node n m : ℕ) → m ≤ n → GoesOn (all_paths k g) node n → GoesOn (all_paths k g) node m
   goes_shorter node n m less h =
       let whole : take m h.word ++ drop m h.word ≡ h.word = take-append-drop m h.word in
       let front = path_front g node h.has.end (take m h.word) (drop m h.word) (ap (λ (u : Word). path g node u) whole ∙ h.has.is) in
@@ -35,47 +34,17 @@ module _ (k : ℕ) (g : Graph) where
               over = over_left k (take m h.word) (drop m h.word) (subst (λ (u : Word). IsOver k u) (sym whole) h.has.over);
               end = front.0;
               is = front.1;
+              ends = refl;
             };
       }
 
-  -- a word behind an edge
-  pub path_behind : IsGraph k g → (node a m : ℕ) (u : Word) → target g node a ≡ Some m → HasPath k g m u → HasPath k g node (a ∷ u)
-  path_behind graph node a m u e h =
-      record {
-        over = ((target_in k g graph node a m e).1, h.over);
-        end = h.end;
-        is = ap (λ (o : Option ℕ). option_and_then (λ x. path g x u) o) e ∙ h.is;
-      }
-
-  -- the edge of the first letter
-  pub path_first : (node a : ℕ) (u : Word) → HasPath k g node (a ∷ u) → (m : ℕ) × (target g node a ≡ Some m) × HasPath k g m u
-  path_first node a u h = go (target g node a) refl h.is
-    where
-      go : (o : Option ℕ) → target g node a ≡ o → option_and_then (λ x. path g x u) o ≡ Some h.end
-          → (m : ℕ) × (target g node a ≡ Some m) × HasPath k g m u
-      go None e is = cc
-      go (Some m) e is = (m, e, record { over = h.over.1; end = h.end; is = is })
-
-  pub goes_behind : IsGraph k g → (node a m n : ℕ) → target g node a ≡ Some m → GoesOn k g m n → GoesOn k g node (n + 1)
-  goes_behind graph node a m n e h =
-      record { word = a ∷ h.word; long = omega (arith, h.long); has = path_behind graph node a m h.word e h.has }
-
-  pub goes_first : (node n : ℕ) → GoesOn k g node (n + 1) → (a m : ℕ) × (target g node a ≡ Some m) × GoesOn k g m n
-  goes_first node n h = go h.word h.long h.has
-    where
-      go : (u : Word) → length u ≡ n + 1 → HasPath k g node u → (a m : ℕ) × (target g node a ≡ Some m) × GoesOn k g m n
-      go [] e has = absurd (omega arith)
-      go (a ∷ u) e has =
-          let first = path_first node a u has in
-          (a, first.0, first.1, record { word = u; long = omega arith; has = first.2 })
-
   -- what is settled, and allows so many letters, has such paths
-  settled_allows : (node round n : ℕ) (o : Option ℕ) → n ≤ round → IsSettled k g round node o → Allows o n → GoesOn k g node n
+  settled_allows : (node round n : ℕ) (o : Option ℕ) → n ≤ round → IsSettled k g round node o → Allows o n → GoesOn (all_paths k g) node n
   settled_allows node round n None less h allows = goes_shorter node round n less h
   settled_allows node round n (Some most) less h allows = goes_shorter node most n allows h.1
 
   -- and what does not allow them has none
-  settled_ends : (node round n : ℕ) (o : Option ℕ) → IsSettled k g round node o → (Allows o n → ⊥) → GoesOn k g node n → ⊥
+  settled_ends : (node round n : ℕ) (o : Option ℕ) → IsSettled k g round node o → (Allows o n → ⊥) → GoesOn (all_paths k g) node n → ⊥
   settled_ends node round n None h none goes = none tt
   settled_ends node round n (Some most) h none goes = elim (cases_lt most n) [
     | inl more ↦ h.2 (goes_shorter node n (most + 1) (omega arith) goes)
@@ -119,36 +88,36 @@ module _ (k : ℕ) (g : Graph) where
           (subst (λ (o : Option ℕ). IsSettled k g (round + 1) node o) (sym e)
           (settled_later node round most (subst (λ (o : Option ℕ). IsSettled k g round node o) e (is.behind node (omega arith) inside))))
 
-      leads_on : (a : ℕ) → LeadsOn g depths node round a → GoesOn k g node (round + 1)
-      leads_on a h =
-          let inside : h.next < length g = graph.nodes node a h.next h.is in
-          goes_behind graph node a h.next round h.is (elim (cases_lt h.next node) [
-            | inl l ↦ settled_allows h.next (round + 1) round (get_or depths h.next None) (omega arith) (is.before h.next l inside) h.allows
-            | inr l ↦ settled_allows h.next round round (get_or depths h.next None) (omega arith) (is.behind h.next l inside) h.allows
+      leads_on : LeadsOn g depths node round → GoesOn (all_paths k g) node (round + 1)
+      leads_on h =
+          let inside : h.1.next < length g = graph.nodes node h.0 h.1.next h.1.is in
+          goes_behind (all_paths k g) graph node h.0 h.1.next round h.1.is (elim (cases_lt h.1.next node) [
+            | inl l ↦ settled_allows h.1.next (round + 1) round (get_or depths h.1.next None) (omega arith) (is.before h.1.next l inside) h.1.allows
+            | inr l ↦ settled_allows h.1.next round round (get_or depths h.1.next None) (omega arith) (is.behind h.1.next l inside) h.1.allows
           ])
 
       -- a node with an edge on
-      pub round_leads : (a : ℕ) → node < length g → get_or depths node None ≡ None → LeadsOn g depths node round a
+      pub round_leads : node < length g → get_or depths node None ≡ None → LeadsOn g depths node round
           → AreSettledTo k g round (node + 1) depths
-      round_leads a inside e h =
-          with_done inside depths refl (λ n ne. refl) (subst (λ (o : Option ℕ). IsSettled k g (round + 1) node o) (sym e) (leads_on a h))
+      round_leads inside e h =
+          with_done inside depths refl (λ n ne. refl) (subst (λ (o : Option ℕ). IsSettled k g (round + 1) node o) (sym e) (leads_on h))
 
-      ends : ((a : ℕ) → LeadsOn g depths node round a → ⊥) → GoesOn k g node (round + 1) → ⊥
+      ends : (LeadsOn g depths node round → ⊥) → GoesOn (all_paths k g) node (round + 1) → ⊥
       ends none h =
-          let first = goes_first node round h in
+          let first = goes_first (all_paths k g) node round h in
           let inside : first.1 < length g = graph.nodes node first.0 first.1 first.2 in
-          let closed : Allows (get_or depths first.1 None) round → ⊥ = λ allows. none first.0 (record { next = first.1; is = first.2; allows = allows }) in
+          let closed : Allows (get_or depths first.1 None) round → ⊥ = λ allows. none (first.0, record { next = first.1; is = first.2; allows = allows }) in
           elim (cases_lt first.1 node) [
             | inl l ↦ settled_ends first.1 (round + 1) round (get_or depths first.1 None) (is.before first.1 l inside) closed first.3
             | inr l ↦ settled_ends first.1 round round (get_or depths first.1 None) (is.behind first.1 l inside) closed first.3
           ]
 
       -- a node without one
-      pub round_ends : node < length g → get_or depths node None ≡ None → ((a : ℕ) → LeadsOn g depths node round a → ⊥)
+      pub round_ends : node < length g → get_or depths node None ≡ None → (LeadsOn g depths node round → ⊥)
           → AreSettledTo k g round (node + 1) (set depths node (Some round))
       round_ends inside e none =
           let within : node < length depths = omega (arith, is.count) in
-          let goes : GoesOn k g node round = subst (λ (o : Option ℕ). IsSettled k g round node o) e (is.behind node (omega arith) inside) in
+          let goes : GoesOn (all_paths k g) node round = subst (λ (o : Option ℕ). IsSettled k g round node o) e (is.behind node (omega arith) inside) in
           with_done inside (set depths node (Some round)) (length-set depths node (Some round))
           (λ n ne. get_or-set_other depths node n (Some round) None ne)
           (subst (λ (o : Option ℕ). IsSettled k g (round + 1) node o) (sym (get_or-set_same depths node (Some round) None within))
@@ -167,7 +136,7 @@ module _ (k : ℕ) (g : Graph) where
       none_on : (node : ℕ) → node < length g → get_or depths node None ≡ None
           → (a m : ℕ) × (target g node a ≡ Some m) × (get_or depths m None ≡ None)
       none_on node inside e =
-          let first = goes_first node round (subst (λ (o : Option ℕ). IsSettled k g (round + 1) node o) e (new.at node inside)) in
+          let first = goes_first (all_paths k g) node round (subst (λ (o : Option ℕ). IsSettled k g (round + 1) node o) e (new.at node inside)) in
           let within : first.1 < length g = graph.nodes node first.0 first.1 first.2 in (
             first.0,
             first.1,
@@ -180,17 +149,17 @@ module _ (k : ℕ) (g : Graph) where
             ],
           )
 
-      none_endless : (n node : ℕ) → node < length g → get_or depths node None ≡ None → GoesOn k g node n
+      none_endless : (n node : ℕ) → node < length g → get_or depths node None ≡ None → GoesOn (all_paths k g) node n
       none_endless zero node inside e = goes_nowhere node
       none_endless (suc n) node inside e =
           let on = none_on node inside e in
-          goes_as node (n + 1) (suc n) (omega arith)
-          (goes_behind graph node on.0 on.1 n on.2 (none_endless n on.1 (graph.nodes node on.0 on.1 on.2) on.3))
+          goes_as (all_paths k g) node (n + 1) (suc n) (omega arith)
+          (goes_behind (all_paths k g) graph node on.0 on.1 n on.2 (none_endless n on.1 (graph.nodes node on.0 on.1 on.2) on.3))
 
       pub rounds_end : AreDepths k g depths
       rounds_end = record { count = old.count; depth = λ node n inside. at node n inside (get_or depths node None) refl }
         where
-          at : (node n : ℕ) → node < length g → (o : Option ℕ) → get_or depths node None ≡ o → (GoesOn k g node n → Allows o n) × (Allows o n → GoesOn k g node n)
+          at : (node n : ℕ) → node < length g → (o : Option ℕ) → get_or depths node None ≡ o → (GoesOn (all_paths k g) node n → Allows o n) × (Allows o n → GoesOn (all_paths k g) node n)
           at node n inside None e = (λ h. tt, λ h. none_endless n node inside e)
           at node n inside (Some most) e =
               let here : IsSettled k g round node (Some most) = subst (λ (o : Option ℕ). IsSettled k g round node o) e (old.at node inside) in (
@@ -220,19 +189,6 @@ change_more false x y z h l = subst (λ (w : List (Option ℕ)). IsChange true w
 pub change_same : (changed : Bool) (x y z : List (Option ℕ)) → IsChange changed x y → IsChange false y z → IsChange changed x z
 change_same changed x y z h e = subst (λ (w : List (Option ℕ)). IsChange changed x w) (sym e) h
 
--- what an answer says where it is known to be there, or not
-pub some_of : {X : Type 0} (o : Option X) (P : Type 0) (Q : X → Type 0) → MatchOption o P Q → is_some o ≡ true → (x : X) × Q x
-some_of None P Q h e = cc
-some_of (Some x) P Q h e = (x, h)
-
-pub none_of : {X : Type 0} (o : Option X) (P : Type 0) (Q : X → Type 0) → MatchOption o P Q → is_some o ≡ false → P
-none_of None P Q h e = h
-none_of (Some x) P Q h e = cc
-
 pub none_is : {X : Type 0} (o : Option X) → is_some o ≡ false → o ≡ None
 none_is None e = refl
 none_is (Some x) e = cc
-
-pub leads_from : (g : Graph) (depths : List (Option ℕ)) (node n first a next : ℕ) → IsLeastLetter g depths node n first a next
-    → LeadsOn g depths node n a
-leads_from g depths node n first a next h = record { next = next; is = h.is; allows = h.allows }

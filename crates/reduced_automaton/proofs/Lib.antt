@@ -4,9 +4,13 @@ pub mod LetterLaws
 pub mod StateLaws
 pub mod StateLists
 pub mod Searches
+pub mod PathLaws
 pub mod DepthLaws
 pub mod NextPaths
 pub mod ReadingLaws
+pub mod MarkLaws
+pub mod Decisions
+pub mod FrameLaws
 pub mod TrieLaws
 pub mod LevelLaws
 pub mod LinkLaws

@@ -8,7 +8,7 @@ use Rattle.theory.proofs.Words.{cut_between, over_left, over_right}
 use Rattle.theory.proofs.FactsLaws.{last_letter}
 use Rattle.theory.proofs.GraphLaws.{path_append, path_front, path_letter}
 use Rattle.reduced_automaton.specs.Rules.{AreFalling}
-use Rattle.reduced_automaton.specs.Automaton.{HasPath}
+use Rattle.reduced_automaton.specs.Paths.{HasPath, all_paths}
 use Rattle.reduced_automaton.specs.States.{HasEnd, IsLongest, Leads, AreStates}
 use Rattle.reduced_automaton.proofs.Standing.{filled, listed_falls, listed_at}
 
@@ -188,9 +188,9 @@ module _ (rules : List (Word × Word)) (falling : AreFalling rules) where
             subst Read (sym l.2) (read_more l.0 l.1 (over_right k l.0 (l.1 ∷ []) whole).0 front)
       ]
 
-      pub reads : (u : Word) → IsOver k u → HasPath k g 0 u ↔ IsReduced (Listed rules) u
+      pub reads : (u : Word) → IsOver k u → HasPath (all_paths k g) 0 u ↔ IsReduced (Listed rules) u
       reads u over = go (read (length u) u refl over)
         where
-          go : Read u → HasPath k g 0 u ↔ IsReduced (Listed rules) u
-          go (inl r) = (λ h. r.3, λ reduced. record { over = over; end = r.0; is = r.1 })
+          go : Read u → HasPath (all_paths k g) 0 u ↔ IsReduced (Listed rules) u
+          go (inl r) = (λ h. r.3, λ reduced. record { over = over; end = r.0; is = r.1; ends = refl })
           go (inr r) = (λ h. absurd (r.0 h.end h.is), λ reduced. absurd (r.1 reduced))

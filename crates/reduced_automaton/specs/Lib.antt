@@ -1,4 +1,6 @@
 pub mod Rules
+pub mod Frames
+pub mod Paths
 pub mod Automaton
 pub mod States
 pub mod Tries

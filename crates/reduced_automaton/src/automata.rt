@@ -7,11 +7,14 @@ ghost use Rattle.theory.specs.Completion.{IsReduced, Listed};
 ghost use Rattle.theory.specs.Listing.{IsLast, IsNext, AreFinite, AreInfinite, GoesOnOrEnds};
 ghost use Rattle.reduced_automaton.specs.Rules.{AreOver};
 ghost use Rattle.reduced_automaton.specs.Automaton.{IsReducedWord};
+ghost use Rattle.reduced_automaton.specs.Frames.{IsFramed, IsFraming};
 ghost use Rattle.reduced_automaton.specs.States.{Leads};
 ghost use Rattle.reduced_automaton.specs.Tables.{IsStateList};
 ghost use Rattle.reduced_automaton.specs.Tries.{Reads, longer};
 
 use crate::depths::depths_of;
+use crate::frames::Frame;
+use crate::framings::Framing;
 use crate::readers::next_path;
 use crate::rule_lists::Rules;
 use crate::table::{Table, move_by};
@@ -33,7 +36,7 @@ pub struct Automaton {
 
 impl Model for Automaton {
     ghost use Rattle.reduced_automaton.specs.Automaton.{Reading};
-    ghost use Rattle.reduced_automaton.specs.Tables.{IsAutomaton};
+    ghost use Rattle.reduced_automaton.specs.Tables.{IsAutomaton, edges};
     ghost use Rattle.reduced_automaton.specs.Tries.{words_of};
 
     ghost Value = { Reading };
@@ -42,6 +45,7 @@ impl Model for Automaton {
       letters = a.letters;
       rules = a.rules;
       states = words_of a.rules a.table.prefixes;
+      graph = edges a.table;
     } };
 
     ghost invariant = { λ a. IsAutomaton a.letters a.rules a.table a.depths.items };
@@ -136,5 +140,70 @@ impl Automaton {
             (IsNext (IsReducedWord self.now) ◌≺◌ (option_copied after.entry))) }
     {
         next_path(self.alloc, &self.table, self.depths.as_slice(), after)
+    }
+
+    // What is found once for the frame.
+    pub(crate) fn framing(&self, frame: &Frame) -> Result<Framing, NoMemory>
+        requires { frame.now.letters ≤ self.now.letters }
+        ensures { IfOk result (IsFraming self.now.letters self.now.graph frame.now) }
+    {
+        Framing::of(self.alloc, &self.table, frame)
+    }
+
+    // Whether infinitely many words stand in the frame.
+    pub(crate) fn is_infinite_by(&self, frame: &Frame, framing: &Framing) -> bool
+        requires { IsFraming self.now.letters self.now.graph frame.now framing.now }
+        ensures infinite { IsTrue result ↔ AreInfinite (IsFramed self.now frame.now) ◌≺◌ }
+        ensures finite { result ≡ false → AreFinite (IsFramed self.now frame.now) ◌≺◌ }
+    {
+        let _rules = &self.rules;
+        framing.limit.is_none()
+    }
+
+    // The least word in the frame after the cursor.
+    pub(crate) fn next_by(
+        &self,
+        frame: &Frame,
+        framing: &mut Framing,
+        after: Option<&Word>,
+    ) -> Result<Option<Word>, NoMemory>
+        requires { IsFraming self.now.letters self.now.graph frame.now framing.old }
+        ensures framing { IsFraming self.now.letters self.now.graph frame.now framing.new }
+        ensures goes_on { GoesOnOrEnds (IsFramed self.now frame.now) ◌≺◌ }
+        ensures next { IfOk result (λ next. MatchOption next
+            (IsLast (IsFramed self.now frame.now) ◌≺◌ (option_copied after.entry))
+            (IsNext (IsFramed self.now frame.now) ◌≺◌ (option_copied after.entry))) }
+    {
+        framing.next_after(self.alloc, &self.table, frame, after)
+    }
+
+    /// Whether infinitely many words stand in the frame, whose letters are at most as many as those
+    /// of the automaton; else they have a list. Refused only where memory is wanting.
+    pub fn is_infinite_in(&self, frame: &Frame) -> Result<bool, NoMemory>
+        requires { frame.now.letters ≤ self.now.letters }
+        ensures infinite { IfOk result (λ is.
+            IsTrue is ↔ AreInfinite (IsFramed self.now frame.now) ◌≺◌) }
+        ensures finite { IfOk result (λ is.
+            is ≡ false → AreFinite (IsFramed self.now frame.now) ◌≺◌) }
+    {
+        let framing = self.framing(frame)?;
+        Ok(self.is_infinite_by(frame, &framing))
+    }
+
+    /// The least word in the frame after the cursor in short-lex order, or the least at all; `None`
+    /// exactly where there is none. The letters of the frame are at most as many as those of the
+    /// automaton, and the cursor may be any word. What holds of every frame is told here: after
+    /// each cursor comes a next word, or none. Refused only where memory is wanting. What is found
+    /// about the frame is not kept: a [`Framed`](crate::Framed) keeps it.
+    pub fn next_in(&self, frame: &Frame, after: Option<&Word>) -> Result<Option<Word>, NoMemory>
+        requires { frame.now.letters ≤ self.now.letters }
+        ensures goes_on { GoesOnOrEnds (IsFramed self.now frame.now) ◌≺◌ }
+        ensures next { IfOk result (λ next. MatchOption next
+            (IsLast (IsFramed self.now frame.now) ◌≺◌ (option_copied after.entry))
+            (IsNext (IsFramed self.now frame.now) ◌≺◌ (option_copied after.entry))) }
+    {
+        let _rules = &self.rules;
+        let mut framing = self.framing(frame)?;
+        self.next_by(frame, &mut framing, after)
     }
 }

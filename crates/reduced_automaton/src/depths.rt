@@ -1,16 +1,16 @@
 // How far words lead from the nodes of a graph.
-ghost use Rattle.std.specs.Prelude.{◌≡◌, ◌+◌, ◌<◌, ◌≤◌, ◌↔◌, ℕ, length, replicate, slice_index_or, IfOk, IsTrue, MatchOption};
-ghost use Rattle.theory.specs.Graph.{target as target_of, IsGraph};
+ghost use Rattle.std.specs.Prelude.{◌≡◌, ◌+◌, ◌<◌, ◌↔◌, ℕ, length, replicate, IfOk, IsTrue};
+ghost use Rattle.theory.specs.Graph.{IsGraph};
 ghost use Rattle.reduced_automaton.specs.Tables.{edges};
-ghost use Rattle.reduced_automaton.specs.Automaton.{Allows, AreDepths, AreSettled, AreSettledTo, IsChange, IsLeastLetter, LeadsOn};
+ghost use Rattle.reduced_automaton.specs.Automaton.{Allows, AreDepths, AreSettled, AreSettledTo, IsChange, LeadsBy, LeadsOn};
 
 use crate::table::Table;
 use ports::NoMemory;
 use std::alloc::Global;
 use words::Letter;
 
-// Whether there are paths of so many letters, where this is the greatest length, or there is none.
-fn allows(depth: Option<usize>, count: usize) -> bool
+/// Whether there are paths of so many letters, where this is the greatest length, or there is none.
+pub fn allows(depth: Option<usize>, count: usize) -> bool
     ensures { IsTrue result ↔ Allows depth count }
 {
     match depth {
@@ -19,49 +19,35 @@ fn allows(depth: Option<usize>, count: usize) -> bool
     }
 }
 
-// The node to which the edge of the letter leads, where so many letters can follow.
-fn led_to(
+// Whether the edge of the letter leads to a node from which so many letters can follow.
+fn leads_by(
     graph: &Table,
     depths: &[Option<usize>],
     node: usize,
     letter: Letter,
     count: usize,
-) -> Option<usize>
+) -> bool
     requires { length depths.now ≡ length (edges graph.now) }
-    ensures { MatchOption result (LeadsOn (edges graph.now) depths.now node count letter → ⊥)
-        (λ next. (target_of (edges graph.now) node letter ≡ Some next)
-        × Allows (slice_index_or depths.now next None) count) }
+    ensures { IsTrue result ↔ LeadsBy (edges graph.now) depths.now node count letter }
 {
     let _letters = graph.letters();
-    let next = graph.target(node, letter)?;
-    if allows(depths[next], count) {
-        Some(next)
-    } else {
-        None
+    match graph.target(node, letter) {
+        None => false,
+        Some(next) => allows(depths[next], count),
     }
 }
 
-/// The least letter, from a number on, that leads to a node from which `count` letters can follow,
-/// and that node; `None` exactly where there is none.
-pub fn least_letter(
-    graph: &Table,
-    depths: &[Option<usize>],
-    node: usize,
-    from: usize,
-    count: usize,
-) -> Option<(Letter, usize)>
+// Whether an edge leads from the node to one from which so many letters can follow.
+fn leads_on(graph: &Table, depths: &[Option<usize>], node: usize, count: usize) -> bool
     requires { length depths.now ≡ length (edges graph.now) }
-    ensures { MatchOption result ((a : ℕ) → from ≤ a
-        → LeadsOn (edges graph.now) depths.now node count a → ⊥)
-        (λ found. IsLeastLetter (edges graph.now) depths.now node count from found.0 found.1) }
+    ensures { IsTrue result ↔ LeadsOn (edges graph.now) depths.now node count }
 {
-    for number in from..graph.letters() {
-        let letter = Letter::new(number as u8);
-        if let Some(next) = led_to(graph, depths, node, letter, count) {
-            return Some((letter, next));
+    for number in 0..graph.letters() {
+        if leads_by(graph, depths, node, Letter::new(number as u8), count) {
+            return true;
         }
     }
-    None
+    false
 }
 
 /// So many places without a number. Refused only where memory is wanting.
@@ -85,7 +71,7 @@ fn settle(graph: &Table, depths: &mut Vec<Option<usize>>, node: usize, round: us
     if depths[node].is_some() {
         return false;
     }
-    if least_letter(graph, depths.as_slice(), node, 0, round).is_some() {
+    if leads_on(graph, depths.as_slice(), node, round) {
         return false;
     }
     depths[node] = Some(round);

@@ -136,11 +136,11 @@ impl Table {
         move_by(entry.1, entry.0)
     }
 
-    /// Where the word leads from the root. `None` exactly where an edge is missing on the way.
-    pub fn path(&self, word: &Word) -> Option<usize>
-        ensures { result ≡ path_of (edges self.now) 0 word.now }
+    /// Where the word leads from the node. `None` exactly where an edge is missing on the way.
+    pub fn path_from(&self, node: usize, word: &Word) -> Option<usize>
+        ensures { result ≡ path_of (edges self.now) node word.now }
     {
-        let mut at = 0;
+        let mut at = node;
         for i in 0..word.len() {
             match self.target(at, word.letter(i)) {
                 None => return None,
@@ -148,5 +148,12 @@ impl Table {
             }
         }
         Some(at)
+    }
+
+    /// Where the word leads from the root. `None` exactly where an edge is missing on the way.
+    pub fn path(&self, word: &Word) -> Option<usize>
+        ensures { result ≡ path_of (edges self.now) 0 word.now }
+    {
+        self.path_from(0, word)
     }
 }

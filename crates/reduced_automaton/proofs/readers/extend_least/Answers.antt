@@ -1,35 +1,33 @@
 use Rattle.std.proofs.Common.{◌≡◌, ◌+◌, ◌-◌, arith}
-use Rattle.reduced_automaton.specs.Tables.{edges}
-use Rattle.reduced_automaton.proofs.DepthLaws.{goes_as}
-use Rattle.reduced_automaton.proofs.NextPaths.{edge_of, least_more, least_all, without_ends, without_edge}
+use Rattle.reduced_automaton.proofs.PathLaws.{allows_less, goes_as}
+use Rattle.reduced_automaton.proofs.NextPaths.{least_more, least_all, without_ends}
 use Rattle.reduced_automaton.proofs.readers.extend_least.Goals as goal
 
-pub least_letter-requires : goal.least_letter-requires
-least_letter-requires c = (c.requires.depths c.letters-letters.result c.letters-letters.ensures.graph).count
+pub least_edge-requires : goal.least_edge-requires
+least_edge-requires g c = allows_less (g.P.KnownPaths.known c.args.paths.now) c.args.count (c.loop-rest.rest - 1) (let low = c.loop-rest.auto.rest in omega (arith, low)) c.requires.known
 
 pub unreachable-requires : goal.unreachable-requires
-unreachable-requires c =
-    let graph = c.letters-letters.ensures.graph in
+unreachable-requires g c =
+    let p = g.P.KnownPaths.paths c.args.paths.now in
     let back : c.loop-rest.rest ≡ (c.loop-rest.rest - 1) + 1 = omega arith in
-    without_ends c.letters-letters.result (edges c.args.graph.now) graph c.loop-rest.at (c.loop-rest.rest - 1)
-    (without_edge c.letters-letters.result (edges c.args.graph.now) graph c.args.depths.now (c.requires.depths c.letters-letters.result graph) c.loop-rest.at (c.loop-rest.rest - 1) 0
-    c.in_default.ensures)
-    (goes_as c.letters-letters.result (edges c.args.graph.now) c.loop-rest.at c.loop-rest.rest ((c.loop-rest.rest - 1) + 1) back (c.loop-rest.invariant.goes c.letters-letters.result graph))
+    without_ends p c.letters-letters.ensures.graph c.loop-rest.at (c.loop-rest.rest - 1) c.in_default.ensures
+    (goes_as p c.loop-rest.at c.loop-rest.rest ((c.loop-rest.rest - 1) + 1) back c.loop-rest.invariant.goes)
 
 pub loop-rest-preserved : goal.loop-rest-preserved
-loop-rest-preserved c =
+loop-rest-preserved g c =
     record {
-      goes = λ k graph. (edge_of k (edges c.args.graph.now) graph c.args.depths.now (c.requires.depths k graph) c.loop-rest.at (c.loop-rest.rest - 1) 0 c.in-Some.edge.0 c.in-Some.edge.1 c.in-Some.ensures).goes;
-      path = λ k graph.
+      goes = c.in-Some.ensures.goes;
+      path =
+          let p = g.P.KnownPaths.paths c.args.paths.now in
           let back : c.loop-rest.rest ≡ (c.loop-rest.rest - 1) + 1 = omega arith in
-          let so = c.loop-rest.invariant.path k graph in
-          least_more k (edges c.args.graph.now) graph c.args.word.now c.loop-rest.word c.push.new.self so.0 c.args.node c.args.count c.loop-rest.at c.loop-rest.rest (c.loop-rest.rest - 1)
-          c.in-Some.edge.0 c.in-Some.edge.1 so.1 c.in_ok-push.ensures.ok so.2 back
-          (edge_of k (edges c.args.graph.now) graph c.args.depths.now (c.requires.depths k graph) c.loop-rest.at (c.loop-rest.rest - 1) 0 c.in-Some.edge.0 c.in-Some.edge.1 c.in-Some.ensures);
+          let so = c.loop-rest.invariant.path in
+          least_more p c.letters-letters.ensures.graph c.args.word.now c.loop-rest.word c.push.new.self so.0 c.args.node c.args.count c.loop-rest.at c.loop-rest.rest (c.loop-rest.rest - 1)
+          c.in-Some.edge.0 c.in-Some.edge.1 so.1 c.in_ok-push.ensures.ok so.2 back c.in-Some.ensures;
     }
 
 pub returns : goal.returns
-returns c = λ k graph.
+returns g c =
+    let p = g.P.KnownPaths.paths c.args.paths.now in
     let none : c.loop-rest.rest ≡ 0 = omega arith in
-    let so = c.loop-rest.invariant.path k graph in
-    least_all k (edges c.args.graph.now) graph c.args.word.now c.loop-rest.word so.0 c.args.node c.args.count c.loop-rest.at c.loop-rest.rest so.1 so.2 none
+    let so = c.loop-rest.invariant.path in
+    least_all p c.letters-letters.ensures.graph c.args.word.now c.loop-rest.word so.0 c.args.node c.args.count c.loop-rest.at c.loop-rest.rest so.1 so.2 none c.loop-rest.invariant.goes

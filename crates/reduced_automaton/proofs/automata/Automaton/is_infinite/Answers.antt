@@ -13,7 +13,7 @@ use Rattle.reduced_automaton.proofs.automata.Automaton.is_infinite.Goals as goal
 
 pub returns-clause-infinite : goal.returns-clause-infinite
 returns-clause-infinite c =
-    let a : Reading = record { letters = c.self.inside.letters; rules = c.self.inside.rules; states = words_of c.self.inside.rules c.self.inside.table.prefixes } in
+    let a : Reading = record { letters = c.self.inside.letters; rules = c.self.inside.rules; states = words_of c.self.inside.rules c.self.inside.table.prefixes; graph = edges c.self.inside.table } in
     let reader = c.self.invariant.reader in
     let depths = c.self.invariant.depths in
     let inside : 0 < length c.self.inside.depths.items = omega (arith, depths.count, reader.graph.rooted) in
@@ -26,7 +26,7 @@ returns-clause-infinite c =
 
 pub returns-clause-finite : goal.returns-clause-finite
 returns-clause-finite c =
-    let a : Reading = record { letters = c.self.inside.letters; rules = c.self.inside.rules; states = words_of c.self.inside.rules c.self.inside.table.prefixes } in
+    let a : Reading = record { letters = c.self.inside.letters; rules = c.self.inside.rules; states = words_of c.self.inside.rules c.self.inside.table.prefixes; graph = edges c.self.inside.table } in
     let reader = c.self.invariant.reader in
     let depths = c.self.invariant.depths in
     let inside : 0 < length c.self.inside.depths.items = omega (arith, depths.count, reader.graph.rooted) in

@@ -11,7 +11,7 @@ use Rattle.reduced_automaton.proofs.automata.Automaton.is_reduced.Goals as goal
 
 pub returns : goal.returns
 returns c =
-    let a : Reading = record { letters = c.self.inside.letters; rules = c.self.inside.rules; states = words_of c.self.inside.rules c.self.inside.table.prefixes } in
+    let a : Reading = record { letters = c.self.inside.letters; rules = c.self.inside.rules; states = words_of c.self.inside.rules c.self.inside.table.prefixes; graph = edges c.self.inside.table } in
     let there : c.is_some.result ≡ is_some (path (edges c.self.inside.table) 0 c.args.word.now) = c.is_some.ensures ∙ ap is_some c.path.ensures in
     let P : Reading → Type 0 = λ r. IsOver r.letters c.args.word.now → (c.is_some.result ≡ true) ↔ IsReduced (Listed r.rules) c.args.word.now in
     subst P c.self.view_is (λ over. reduced_is a (edges c.self.inside.table) c.self.invariant.reader c.args.word.now over c.is_some.result there) c.requires

@@ -1,0 +1,7 @@
+use Rattle.reduced_automaton.specs.Tables.{edges}
+use Rattle.reduced_automaton.specs.Paths.{narrowed}
+use Rattle.reduced_automaton.specs.Frames.{AreMarks, IsGrown, LeadsTo}
+use Rattle.reduced_automaton.proofs.marks.layer_behind.Given as goal
+
+abbrev pub invariant-loop-node : goal.invariant-loop-node
+invariant-loop-node l = AreMarks (LeadsTo (narrowed l.letters (edges l.graph)) l.marks) l.node l.layer.items
