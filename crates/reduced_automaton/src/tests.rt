@@ -1,4 +1,4 @@
-ghost use Rattle.std.specs.Prelude.{◌≡◌, length, IfOk, OnOk};
+ghost use Rattle.std.specs.Prelude.{◌≡◌, ◌≤◌, length, IfOk, OnOk};
 ghost use Rattle.theory.specs.Word.{IsOver};
 ghost use Rattle.reduced_automaton.specs.Rules.{AreOver};
 
@@ -400,5 +400,169 @@ fn follows_a_changed_right_side(rt: HostRuntime) -> Result<(), Fail> {
     set_kept(&mut rules, rt.alloc())?;
     let text = kept_reduced(rt.alloc(), &rules, b"bb")?;
     assert_eq!(rt; text.as_slice(), b"a.".as_slice());
+    Ok(())
+}
+
+// Rules by which c goes before a marker m, besides that of the bicyclic monoid.
+const MARKED_LEFT: [(&[u8], &[u8]); 1] = [(b"cm", b"m")];
+
+// Rules by which the letters a and b alternate, and a goes before a marker m.
+const ALTERNATING: [(&[u8], &[u8]); 3] = [(b"aa", b"a"), (b"bb", b"b"), (b"am", b"m")];
+
+// The frame of the texts and so many letters, if there are as many.
+fn frame(
+    alloc: Global,
+    alphabet: &Alphabet,
+    prefix: &[u8],
+    letters: usize,
+    suffix: &[u8],
+) -> Result<Frame, NoMemory>
+    ensures { IfOk result (λ f. f.letters ≤ length alphabet.now) }
+{
+    if alphabet.len() < letters {
+        return Err(NoMemory);
+    }
+    Ok(Frame {
+        prefix: word(alphabet, alloc, prefix)?,
+        letters,
+        suffix: word(alphabet, alloc, suffix)?,
+    })
+}
+
+// The words that follow the cursor in the frame, at most so many.
+fn listed_in(
+    framed: &mut Framed,
+    alloc: Global,
+    alphabet: &Alphabet,
+    most: usize,
+) -> Result<Vec<u8>, NoMemory> {
+    let mut text = Vec::new(alloc);
+    let mut cursor = None;
+    for _ in 0..most {
+        cursor = framed.next_after(cursor.as_ref())?;
+        match &cursor {
+            Some(next) => write(&mut text, alphabet, next)?,
+            None => return Ok(text),
+        }
+    }
+    Ok(text)
+}
+
+// Whether infinitely many words stand in the frame of the texts and two letters, and the first.
+fn framed(
+    alloc: Global,
+    letters: &[u8],
+    rules: &[(&[u8], &[u8])],
+    prefix: &[u8],
+    suffix: &[u8],
+) -> Result<(bool, Vec<u8>), NoMemory> {
+    let alphabet = alphabet(alloc, letters)?;
+    let rules = rules_of(alloc, &alphabet, rules)?;
+    let automaton = Automaton::build(alloc, alphabet.len(), &rules)?;
+    let frame = frame(alloc, &alphabet, prefix, 2, suffix)?;
+    let mut framed = Framed::new(automaton, frame)?;
+    let text = listed_in(&mut framed, alloc, &alphabet, 7)?;
+    Ok((framed.is_infinite(), text))
+}
+
+#[test]
+fn lists_behind_a_prefix(rt: HostRuntime) -> Result<(), Fail> {
+    let read = framed(
+        rt.alloc(),
+        b"bcm",
+        &[(b"bc", b""), (b"mc", b"m")],
+        b"m",
+        b"",
+    )?;
+    assert!(rt; read.0);
+    assert_eq!(rt;
+        read.1.as_slice(),
+        b".b.bb.bbb.bbbb.bbbbb.bbbbbb.".as_slice()
+    );
+    Ok(())
+}
+
+// A front of a word in the frame need not be in it.
+#[test]
+fn lists_before_a_suffix(rt: HostRuntime) -> Result<(), Fail> {
+    let read = framed(rt.alloc(), b"bcm", &MARKED_LEFT, b"", b"m")?;
+    assert!(rt; read.0);
+    assert_eq!(rt; read.1.as_slice(), b".b.bb.cb.bbb.bcb.cbb.".as_slice());
+    Ok(())
+}
+
+#[test]
+fn lists_words_of_some_lengths(rt: HostRuntime) -> Result<(), Fail> {
+    let read = framed(rt.alloc(), b"abm", &ALTERNATING, b"b", b"m")?;
+    assert!(rt; read.0);
+    assert_eq!(rt;
+        read.1.as_slice(),
+        b".ab.abab.ababab.abababab.ababababab.abababababab.".as_slice()
+    );
+    Ok(())
+}
+
+// There are infinitely many reduced words, but few in the frame.
+#[test]
+fn a_frame_may_have_few_words(rt: HostRuntime) -> Result<(), Fail> {
+    let read = framed(
+        rt.alloc(),
+        b"bcm",
+        &[(b"bm", b"m"), (b"cm", b"m")],
+        b"",
+        b"m",
+    )?;
+    assert!(rt; !read.0);
+    assert_eq!(rt; read.1.as_slice(), b".".as_slice());
+    let read = framed(rt.alloc(), b"abm", &SYMMETRIC, b"", b"m")?;
+    assert!(rt; !read.0);
+    assert_eq!(rt; read.1.as_slice(), b".a.b.ab.ba.bb.".as_slice());
+    Ok(())
+}
+
+#[test]
+fn a_prefix_may_frame_no_word(rt: HostRuntime) -> Result<(), Fail> {
+    let read = framed(rt.alloc(), b"bc", &BICYCLIC, b"bc", b"")?;
+    assert!(rt; !read.0);
+    assert!(rt; read.1.is_empty());
+    Ok(())
+}
+
+// Whether infinitely many words stand in the frame, and the next after the cursor.
+fn asked_in(
+    alloc: Global,
+    rules: &[(&[u8], &[u8])],
+    letters: usize,
+    after: &[u8],
+) -> Result<(bool, Vec<u8>), NoMemory> {
+    let alphabet = alphabet(alloc, b"bcm")?;
+    let rules = rules_of(alloc, &alphabet, rules)?;
+    let automaton = Automaton::build(alloc, alphabet.len(), &rules)?;
+    let frame = frame(alloc, &alphabet, b"", letters, b"m")?;
+    let after = word(&alphabet, alloc, after)?;
+    let mut text = Vec::new(alloc);
+    if let Some(next) = automaton.next_in(&frame, Some(&after))? {
+        write(&mut text, &alphabet, &next)?;
+    }
+    Ok((automaton.is_infinite_in(&frame)?, text))
+}
+
+// The cursor need not stand in the frame.
+#[test]
+fn asks_once_for_a_frame(rt: HostRuntime) -> Result<(), Fail> {
+    let read = asked_in(rt.alloc(), &MARKED_LEFT, 2, b"bc")?;
+    assert!(rt; read.0);
+    assert_eq!(rt; read.1.as_slice(), b"cb.".as_slice());
+    let read = asked_in(rt.alloc(), &MARKED_LEFT, 2, b"cm")?;
+    assert_eq!(rt; read.1.as_slice(), b"bbb.".as_slice());
+    Ok(())
+}
+
+// With no letter there is the empty word alone.
+#[test]
+fn a_frame_may_have_no_letter(rt: HostRuntime) -> Result<(), Fail> {
+    let read = asked_in(rt.alloc(), &MARKED_LEFT, 0, b"")?;
+    assert!(rt; !read.0);
+    assert!(rt; read.1.is_empty());
     Ok(())
 }
