@@ -5,7 +5,7 @@ use Rattle.std.proofs.lemmas.Option.{same_Some}
 use Rattle.theory.specs.Graph.{target}
 use Rattle.word_graph.proofs.EdgeLaws.{target_in}
 use Rattle.reduced_automaton.specs.Paths.{AreIn, GoesFar, GoesOn, Paths}
-use Rattle.reduced_automaton.specs.Frames.{AreMarks, IsGrown, IsMarked, LeadsTo, count_marked}
+use Rattle.reduced_automaton.specs.Framings.{AreMarks, IsGrown, IsMarked, LeadsTo, count_marked}
 use Rattle.reduced_automaton.proofs.MarkLaws.{AreGrowing, count_most, far_more, goes_zero, growing_end, growing_more, growing_start, marked_not, marks_end, marks_push, marks_start}
 
 marked_or : (marks : List Bool) (node : ℕ) → IsMarked marks node ⊎ (IsMarked marks node → ⊥)

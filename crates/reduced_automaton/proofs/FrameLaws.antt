@@ -12,7 +12,8 @@ use Rattle.theory.proofs.GraphLaws.{path_append, path_front}
 use Rattle.theory.proofs.LatticeLaws.{path_inside, path_over}
 use Rattle.reduced_automaton.specs.Paths.{AreIn, GoesFar, GoesOn, HasPath, IsLastOfLength, IsLeastPath, IsNextOfLength, Paths, all_paths, narrowed}
 use Rattle.reduced_automaton.specs.Automaton.{IsReader, IsReducedWord, Reading}
-use Rattle.reduced_automaton.specs.Frames.{AreLayers, AreMarks, IsFramed, IsFraming, IsLeastFrom, IsLimit, IsNextLength, IsPathIn, IsSpread, IsUnder, LeadsTo, frame_paths}
+use Rattle.reduced_automaton.specs.Frames.{IsFramed}
+use Rattle.reduced_automaton.specs.Framings.{AreLayers, AreMarks, IsFraming, IsLeastFrom, IsLimit, IsNextLength, IsPathIn, IsSpread, IsUnder, LeadsTo, frame_paths}
 use Rattle.reduced_automaton.specs.declared.frames.Frame.{Frame}
 use Rattle.reduced_automaton.specs.declared.framings.Framing.{Framing}
 use Rattle.reduced_automaton.proofs.PathLaws.{far_first, goes_as, goes_behind, goes_path}

@@ -7,7 +7,7 @@ use Rattle.theory.specs.Word.{Word}
 use Rattle.theory.specs.Graph.{Graph, target, path, IsGraph}
 use Rattle.word_graph.proofs.EdgeLaws.{target_in, target_is}
 use Rattle.reduced_automaton.specs.Paths.{AreIn, GoesFar, GoesOn, HasPath, Paths, narrowed}
-use Rattle.reduced_automaton.specs.Frames.{AreLayers, AreMarks, IsGrown, IsLimit, IsMarked, IsSpread, IsUnder, LeadsTo, count_marked, frame_paths}
+use Rattle.reduced_automaton.specs.Framings.{AreLayers, AreMarks, IsGrown, IsLimit, IsMarked, IsSpread, IsUnder, LeadsTo, count_marked, frame_paths}
 use Rattle.reduced_automaton.specs.declared.frames.Frame.{Frame}
 use Rattle.reduced_automaton.proofs.PathLaws.{far_behind, far_first, far_less, goes_as, goes_behind, goes_first, path_first}
 use Rattle.reduced_automaton.proofs.NextPaths.{end_here}

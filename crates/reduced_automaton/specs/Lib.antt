@@ -1,5 +1,6 @@
 pub mod Rules
 pub mod Frames
+pub mod Framings
 pub mod Paths
 pub mod Automaton
 pub mod States

@@ -30,7 +30,8 @@ pub struct Framed {
 }
 
 impl Model for Framed {
-    ghost use Rattle.reduced_automaton.specs.Frames.{FramedReading, IsFraming};
+    ghost use Rattle.reduced_automaton.specs.Frames.{FramedReading};
+    ghost use Rattle.reduced_automaton.specs.Framings.{IsFraming};
 
     ghost Value = { FramedReading };
 

@@ -4,7 +4,7 @@ ghost use Rattle.std.specs.Option.{option_copied};
 ghost use Rattle.theory.specs.Graph.{path as path_of};
 ghost use Rattle.theory.specs.ShortLex.{◌≺◌};
 ghost use Rattle.theory.specs.Listing.{IsLast, IsNext};
-ghost use Rattle.reduced_automaton.specs.Frames.{IsFraming, IsLeastFrom, IsNextLength, IsPathIn, IsUnder, frame_paths};
+ghost use Rattle.reduced_automaton.specs.Framings.{IsFraming, IsLeastFrom, IsNextLength, IsPathIn, IsUnder, frame_paths};
 ghost use Rattle.reduced_automaton.specs.Paths.{GoesFar, IsLastOfLength, IsNextOfLength};
 ghost use Rattle.reduced_automaton.specs.Tables.{edges};
 
@@ -127,7 +127,7 @@ impl Framing {
             (GoesFar (frame_paths (edges graph.now) frame.now) start from → ⊥)
             (IsNextLength (frame_paths (edges graph.now) frame.now) start from)) }
     {
-        let _nodes = graph.letters();
+        let _letters = graph.letters();
         if !is_under(self.limit, from) {
             return Ok(None);
         }

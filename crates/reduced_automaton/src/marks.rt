@@ -1,7 +1,7 @@
 // Nodes of a graph that are marked, where they lead to the end of a frame.
 ghost use Rattle.std.specs.Prelude.{◌≡◌, ◌<◌, ◌≤◌, ◌↔◌, ℕ, length, IfOk, IsTrue};
 ghost use Rattle.theory.specs.Graph.{target as target_of};
-ghost use Rattle.reduced_automaton.specs.Frames.{AreMarks, IsGrown, IsLimit, IsMarked, IsSpread, LeadsTo, count_marked, frame_paths};
+ghost use Rattle.reduced_automaton.specs.Framings.{AreMarks, IsGrown, IsLimit, IsMarked, IsSpread, LeadsTo, count_marked, frame_paths};
 ghost use Rattle.reduced_automaton.specs.Paths.{GoesFar, GoesOn, narrowed};
 ghost use Rattle.reduced_automaton.specs.Tables.{edges};
 

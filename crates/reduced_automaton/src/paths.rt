@@ -2,7 +2,7 @@
 ghost use Rattle.std.specs.Prelude.{◌≡◌, ◌≤◌, ◌<◌, ◌↔◌, length, map, IsTrue};
 ghost use Rattle.theory.specs.Graph.{target as target_of};
 ghost use Rattle.reduced_automaton.specs.Automaton.{Allows, AreDepths};
-ghost use Rattle.reduced_automaton.specs.Frames.{AreLayers, frame_paths};
+ghost use Rattle.reduced_automaton.specs.Framings.{AreLayers, frame_paths};
 ghost use Rattle.reduced_automaton.specs.Paths.{narrowed};
 ghost use Rattle.reduced_automaton.specs.Tables.{edges};
 
@@ -117,7 +117,7 @@ pub struct FramePaths<'a> {
 
 impl<'a> Model for FramePaths<'a> {
     ghost use Rattle.std.specs.Prelude.{◌≤◌, Bool, List, map};
-    ghost use Rattle.reduced_automaton.specs.Frames.{AreLayers, frame_paths};
+    ghost use Rattle.reduced_automaton.specs.Framings.{AreLayers, frame_paths};
     ghost use Rattle.reduced_automaton.specs.Tables.{Moves, edges};
     ghost use Rattle.reduced_automaton.specs.declared.frames.Frame.{Frame};
 
@@ -148,7 +148,7 @@ impl<'a> FramePaths<'a> {
 
 impl<'a> KnownPaths for FramePaths<'a> {
     ghost use Rattle.std.specs.Prelude.{◌-◌, length, Some};
-    ghost use Rattle.reduced_automaton.specs.Frames.{frame_paths};
+    ghost use Rattle.reduced_automaton.specs.Framings.{frame_paths};
     ghost use Rattle.reduced_automaton.specs.Tables.{edges};
 
     ghost paths = { λ s. frame_paths (edges s.0) s.1 };

@@ -1,5 +1,5 @@
 use Rattle.std.proofs.Common.{◌≡◌, take}
-use Rattle.reduced_automaton.specs.Frames.{count_marked}
+use Rattle.reduced_automaton.specs.Framings.{count_marked}
 use Rattle.reduced_automaton.proofs.marks.count.Given as goal
 
 abbrev pub invariant-loop-mark : goal.invariant-loop-mark

@@ -2,7 +2,7 @@ use Rattle.std.proofs.Common.{◌≡◌, ◌↔◌, Bool, List, length, true, sy
 use Rattle.std.specs.Option.{is_some}
 use Rattle.reduced_automaton.specs.Tables.{edges}
 use Rattle.reduced_automaton.specs.Paths.{GoesOn}
-use Rattle.reduced_automaton.specs.Frames.{AreMarks, frame_paths}
+use Rattle.reduced_automaton.specs.Framings.{AreMarks, frame_paths}
 use Rattle.reduced_automaton.proofs.MarkLaws.{ends_are, marks_end, marks_push, marks_start}
 use Rattle.reduced_automaton.proofs.marks.ends_of.Goals as goal
 

@@ -1,7 +1,7 @@
 use Rattle.std.proofs.Common.{length}
 use Rattle.reduced_automaton.specs.Tables.{edges}
 use Rattle.reduced_automaton.specs.Paths.{GoesOn}
-use Rattle.reduced_automaton.specs.Frames.{AreMarks, frame_paths}
+use Rattle.reduced_automaton.specs.Framings.{AreMarks, frame_paths}
 use Rattle.reduced_automaton.proofs.marks.ends_of.Given as goal
 
 abbrev pub invariant-loop-node : goal.invariant-loop-node

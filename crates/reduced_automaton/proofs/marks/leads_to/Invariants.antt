@@ -2,7 +2,7 @@ use Rattle.std.proofs.Common.{◌≡◌, ℕ, ◌<◌, Some}
 use Rattle.theory.specs.Graph.{target}
 use Rattle.reduced_automaton.specs.Tables.{edges}
 use Rattle.reduced_automaton.specs.Paths.{narrowed}
-use Rattle.reduced_automaton.specs.Frames.{IsMarked}
+use Rattle.reduced_automaton.specs.Framings.{IsMarked}
 use Rattle.reduced_automaton.proofs.marks.leads_to.Given as goal
 
 abbrev pub invariant-loop-number : goal.invariant-loop-number

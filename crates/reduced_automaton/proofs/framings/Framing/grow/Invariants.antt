@@ -1,5 +1,5 @@
 use Rattle.std.proofs.Common.{◌+◌, ◌-◌, length}
-use Rattle.reduced_automaton.specs.Frames.{IsFraming}
+use Rattle.reduced_automaton.specs.Framings.{IsFraming}
 use Rattle.reduced_automaton.specs.Tables.{edges}
 use Rattle.reduced_automaton.proofs.framings.Framing.grow.Given as goal
 

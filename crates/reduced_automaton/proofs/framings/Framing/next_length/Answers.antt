@@ -2,7 +2,7 @@ use Rattle.std.proofs.Common.{◌≡◌, ◌<◌, length, get_or, false, refl, s
 use Rattle.std.proofs.lemmas.List.{get_or_read}
 use Rattle.theory.specs.Graph.{IsGraph}
 use Rattle.reduced_automaton.specs.Paths.{GoesOn}
-use Rattle.reduced_automaton.specs.Frames.{AreMarks, IsUnder, frame_paths}
+use Rattle.reduced_automaton.specs.Framings.{AreMarks, IsUnder, frame_paths}
 use Rattle.reduced_automaton.specs.Tables.{edges}
 use Rattle.reduced_automaton.proofs.PathLaws.{not_then}
 use Rattle.reduced_automaton.proofs.FrameLaws.{no_longer, none_more, paths_of, spread_ends, start_inside}
@@ -19,7 +19,7 @@ returns-then-not-is_under-clause-next c =
 -- where the frame starts
 inside : (c : After-index) → c.args.start < length (frame_paths (edges c.args.graph.now) c.args.frame.now).graph
 inside c =
-    start_inside c.letters-nodes.result (edges c.args.graph.now) c.args.frame.now c.letters-nodes.ensures.graph c.args.start
+    start_inside c.letters-letters.result (edges c.args.graph.now) c.args.frame.now c.letters-letters.ensures.graph c.args.start
     (sym c.requires.framing.start ∙ c.requires.start)
 
 -- the layer of this length
@@ -59,7 +59,7 @@ pub returns-clause-next : goal.returns-clause-next
 returns-clause-next c =
     let g = edges c.args.graph.now in
     let p = frame_paths g c.args.frame.now in
-    let graph = subst (λ k. IsGraph k g) c.letters-nodes.ensures.letters c.letters-nodes.ensures.graph in
+    let graph = subst (λ k. IsGraph k g) c.letters-letters.ensures.letters c.letters-letters.ensures.graph in
     let starts = start_inside c.args.graph.now.letters g c.args.frame.now graph c.args.start (sym c.requires.framing.start ∙ c.requires.start) in
     spread_ends p (paths_of c.args.graph.now.letters g c.args.frame.now graph c.requires.framing.few) c.args.self.now.spread c.requires.framing.spread
     c.args.from c.args.start c.loop-more.count starts (omega (arith, c.loop-more-test.false, c.loop-more.invariant.count)) c.loop-more.invariant.none

@@ -1,6 +1,6 @@
 use Rattle.std.proofs.Common.{◌≡◌, ◌+◌, ◌<◌, ◌≤◌, ℕ}
 use Rattle.reduced_automaton.specs.Paths.{GoesOn}
-use Rattle.reduced_automaton.specs.Frames.{IsFraming, frame_paths}
+use Rattle.reduced_automaton.specs.Framings.{IsFraming, frame_paths}
 use Rattle.reduced_automaton.specs.Tables.{edges}
 use Rattle.reduced_automaton.proofs.framings.Framing.next_length.Given as goal
 

@@ -1,5 +1,5 @@
 use Rattle.std.proofs.Common.{◌≡◌, length, subst}
-use Rattle.reduced_automaton.specs.Frames.{IsUnder, frame_paths}
+use Rattle.reduced_automaton.specs.Framings.{IsUnder, frame_paths}
 use Rattle.reduced_automaton.specs.Tables.{edges}
 use Rattle.reduced_automaton.proofs.PathLaws.{not_then}
 use Rattle.reduced_automaton.proofs.FrameLaws.{none_as_long}

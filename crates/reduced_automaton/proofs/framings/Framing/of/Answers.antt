@@ -1,7 +1,7 @@
 use Rattle.std.proofs.Common.{◌≡◌, ◌<◌, ◌++◌, ◌∷◌, [], ℕ, Bool, Global, List, Option, Vec, length, sym, ◌∙◌, ap, subst, subst₂, arith}
 use Rattle.std.proofs.lemmas.Option.{same_Some}
 use Rattle.theory.specs.Graph.{IsGraph}
-use Rattle.reduced_automaton.specs.Frames.{IsLimit, frame_paths}
+use Rattle.reduced_automaton.specs.Framings.{IsLimit, frame_paths}
 use Rattle.reduced_automaton.specs.declared.framings.Framing.{Framing}
 use Rattle.reduced_automaton.specs.Tables.{edges}
 use Rattle.reduced_automaton.proofs.FrameLaws.{framing_made, none_then, start_inside}
