@@ -1,2 +1,5 @@
 pub mod StandingLaws
 pub mod ChainLaws
+pub mod WalkLaws
+pub mod DerivationLaws
+pub mod SpellLaws

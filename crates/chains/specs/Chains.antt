@@ -2,7 +2,7 @@
 use Rattle.std.specs.Prelude.{◌≡◌, ℕ, List, ◌∷◌, ◌++◌, length, map}
 use Rattle.theory.specs.Word.{Word}
 use Rattle.theory.specs.Congruence.{Presentation}
-use Rattle.theory.specs.PlacedStep.{PlacedStep, Gives, AllGive}
+use Rattle.theory.specs.PlacedStep.{PlacedStep, Gives, AllGive, AreDifferent, last_word}
 use Rattle.chains.specs.declared.steps.ChainStep.{ChainStep}
 
 -- a step, and a list of steps, as the definitions have them
@@ -23,6 +23,11 @@ AllFit p u steps = (vs : List Word) × AllGive p u (steps_of steps) vs
 -- the words begin with u, and each behind it is what a step gives
 abbrev pub IsChain : Presentation → Word → List ChainStep → List Word → Type 0
 IsChain p u steps words = (vs : List Word) × (words ≡ u ∷ vs) × AllGive p u (steps_of steps) vs
+
+-- the steps lead from u to v, over words that are all different
+abbrev pub IsStraight : Presentation → Word → List ChainStep → Word → Type 0
+IsStraight p u steps v = (vs : List Word) × AllGive p u (steps_of steps) vs
+    × (last_word u vs ≡ v) × AreDifferent (u ∷ vs)
 
 -- the factor stands behind so many letters of the word
 pub record StandsAt (factor word : Word) (place : ℕ) : Type 0 where

@@ -4,10 +4,14 @@
 #![tactic(auto)]
 
 mod chains;
+mod derivations;
 pub mod facts;
+mod pending;
 mod steps;
+mod walks;
 
 pub use chains::{check, words_of};
+pub use derivations::{Derivations, Fact};
 pub use steps::ChainStep;
 
 #[cfg(test)]

@@ -1,6 +1,7 @@
 // Steps of chains.
 ghost use Rattle.std.specs.Prelude.{◌≡◌, ◌+◌, ◌≤◌, ◌++◌, ◌↔◌, drop, length, take, true, IfOk, IsTrue, OnOk, MatchOption};
 ghost use Rattle.chains.specs.Chains.{Fits, IsReplaced, StandsAt, step_of};
+ghost use Rattle.chains.specs.Derivations.{moved, turned};
 ghost use Rattle.theory.specs.PlacedStep.{Gives, read_sides};
 
 use ports::NoMemory;
@@ -72,6 +73,32 @@ fn read_sides(forward: bool, sides: &(Word, Word)) -> (&Word, &Word)
 }
 
 impl ChainStep {
+    /// The step behind so many more letters. Refused, as memory that is wanting, only where no word
+    /// is so long.
+    pub fn moved(self, letters: usize) -> Result<ChainStep, NoMemory>
+        ensures { IfOk result (λ step. step ≡ moved letters self) }
+    {
+        let Some(place) = letters.checked_add(self.place) else {
+            return Err(NoMemory);
+        };
+        Ok(ChainStep {
+            place,
+            relation: self.relation,
+            forward: self.forward,
+        })
+    }
+
+    /// The step back.
+    pub fn turned(self) -> ChainStep
+        ensures { result ≡ turned self }
+    {
+        ChainStep {
+            place: self.place,
+            relation: self.relation,
+            forward: !self.forward,
+        }
+    }
+
     // The word that the step gives, or `None` where it does not fit.
     pub(crate) fn next(
         self,

@@ -1,4 +1,5 @@
-ghost use Rattle.std.specs.Prelude.{IfOk};
+ghost use Rattle.std.specs.Prelude.{◌≡◌, IfOk};
+ghost use Rattle.chains.specs.Derivations.{all_of};
 ghost use Rattle.theory.specs.Word.{IsOver};
 
 use super::*;
@@ -114,5 +115,81 @@ fn steps_that_do_not_fit_are_refused(rt: HostRuntime) -> Result<(), Fail> {
         assert_eq!(rt; chain(alloc, "aab", &[bad])?.as_slice(), b"".as_slice());
         assert!(rt; !leads(alloc, "aab", &[bad], "aab")?);
     }
+    Ok(())
+}
+
+// The log of one fact, where the steps lead from the one text to the other, and the presentation
+// with this fact as a further relation.
+fn logged(
+    alloc: Global,
+    left: &str,
+    steps: &[ChainStep],
+    right: &str,
+) -> Result<(Derivations, Presentation), NoMemory>
+    ensures { IfOk result (λ r. r.1.presentation ≡ all_of r.0) }
+{
+    let mut known = monoid(alloc)?;
+    let left = word(&known, alloc, left.as_bytes())?;
+    let right = word(&known, alloc, right.as_bytes())?;
+    let steps = steps.to_vec(alloc)?;
+    let mut log = Derivations::new(alloc, &known)?;
+    if !check(alloc, &known, &left, &steps, &right)? {
+        return Err(NoMemory);
+    }
+    known
+        .add(left.copy(alloc)?, right.copy(alloc)?)
+        .map_err(|_| NoMemory)?;
+    log.push(Fact { left, right, steps })?;
+    Ok((log, known))
+}
+
+// The steps spelled out, where they lead from the one text to the other.
+fn spelled(
+    alloc: Global,
+    log: &Derivations,
+    known: &Presentation,
+    from: &str,
+    steps: &[ChainStep],
+    to: &str,
+) -> Result<Vec<ChainStep>, NoMemory>
+    requires { known.now.presentation ≡ all_of log.now }
+{
+    let from = word(known, alloc, from.as_bytes())?;
+    let to = word(known, alloc, to.as_bytes())?;
+    let steps = steps.to_vec(alloc)?;
+    if !check(alloc, known, &from, &steps, &to)? {
+        return Err(NoMemory);
+    }
+    log.spell(&from, steps.as_slice())
+}
+
+#[test]
+fn steps_by_facts_are_spelled_out(rt: HostRuntime) -> Result<(), Fail> {
+    let alloc = rt.alloc();
+    let (log, known) = logged(alloc, "aab", &[step(1, 0, true), step(0, 0, true)], "baa")?;
+    assert_eq!(rt; log.len(), 3);
+    let there = spelled(alloc, &log, &known, "baab", &[step(1, 2, true)], "bbaa")?;
+    assert_eq!(rt;
+        there.as_slice(),
+        [step(2, 0, true), step(1, 0, true)].as_slice()
+    );
+    let back = spelled(alloc, &log, &known, "bbaa", &[step(1, 2, false)], "baab")?;
+    assert_eq!(rt;
+        back.as_slice(),
+        [step(1, 0, false), step(2, 0, false)].as_slice()
+    );
+    Ok(())
+}
+
+#[test]
+fn detours_are_cut(rt: HostRuntime) -> Result<(), Fail> {
+    let alloc = rt.alloc();
+    let (log, known) = logged(alloc, "aab", &[step(1, 0, true), step(0, 0, true)], "baa")?;
+    let steps = [step(0, 2, true), step(0, 0, false)];
+    let short = spelled(alloc, &log, &known, "aab", &steps, "aba")?;
+    assert_eq!(rt; short.as_slice(), [step(1, 0, true)].as_slice());
+    let steps = [step(0, 2, true), step(0, 2, false)];
+    let none = spelled(alloc, &log, &known, "aab", &steps, "aab")?;
+    assert!(rt; none.is_empty());
     Ok(())
 }

@@ -1,0 +1,125 @@
+// Facts that follow from a presentation, each by steps over the relations and earlier facts.
+ghost use Rattle.std.specs.Prelude.{◌≡◌, ℕ, ◌+◌, ◌<◌, [], ◌∷◌, ◌++◌, List, length, reverse, slice_get, IfOk, OnOk, OnErr};
+ghost use Rattle.theory.specs.Word.{Word as Letters};
+ghost use Rattle.theory.specs.PlacedStep.{LeadTo};
+ghost use Rattle.chains.specs.Chains.{AllFit, IsStraight, steps_of};
+ghost use Rattle.chains.specs.Walks.{IsWalk, here};
+ghost use Rattle.chains.specs.Derivations.{Derived, GoesOn, Proves, all_of, weight_of};
+
+use crate::pending::{put, reversed};
+use crate::steps::ChainStep;
+use crate::walks::Walk;
+use ports::NoMemory;
+use presentation::Presentation;
+use std::alloc::Global;
+use std::marker::Model;
+use words::Word;
+
+/// Two words, and steps that lead from the left one to the right one.
+#[derive(Drop)]
+pub struct Fact {
+    /// The word where the steps begin.
+    pub left: Word,
+    /// The word where they end.
+    pub right: Word,
+    /// The steps. A number below that of the relations is that of a relation, and the others are
+    /// those of facts, in their order.
+    pub steps: Vec<ChainStep>,
+}
+
+/// The log of what was derived from a presentation: facts, each by steps over the relations and the
+/// facts before it. What is used many times is logged once, and spelled out when it is asked for.
+#[derive(Drop)]
+pub struct Derivations {
+    alloc: Global,
+    presentation: Presentation,
+    facts: Vec<Fact>,
+}
+
+impl Model for Derivations {
+    ghost use Rattle.chains.specs.Derivations.{AreDerived, Derived};
+
+    ghost Value = { Derived };
+
+    ghost view = { λ d. record {
+      presentation = d.presentation.presentation;
+      facts = d.facts.items;
+    } };
+
+    ghost invariant = { λ d. AreDerived d.presentation.presentation d.facts.items };
+}
+
+impl Derivations {
+    /// The log without facts. Refused only where memory is wanting.
+    pub fn new(alloc: Global, presentation: &Presentation) -> Result<Derivations, NoMemory>
+        ensures { IfOk result (λ d. d ≡ record {
+          presentation = presentation.now.presentation;
+          facts = [];
+        }) }
+    {
+        Ok(Derivations {
+            alloc,
+            presentation: presentation.copy(alloc)?,
+            facts: Vec::new(alloc),
+        })
+    }
+
+    /// How many relations and facts there are: the number of the next fact.
+    pub fn len(&self) -> usize
+        ensures { result ≡ length (all_of self.now).relations }
+    {
+        self.presentation.relations().len() + self.facts.len()
+    }
+
+    /// Logs a fact that follows from the relations and the facts so far: its steps lead from its
+    /// left word to its right one. Its number is that of the relations and facts before it. Refused
+    /// only where memory is wanting, and then the log stays as it was.
+    pub fn push(&mut self, fact: Fact) -> Result<(), NoMemory>
+        requires { Proves (all_of self.old) fact }
+        ensures ok { OnOk result (self.new ≡ record {
+          presentation = self.old.presentation;
+          facts = self.old.facts ++ fact ∷ [];
+        }) }
+        ensures err { OnErr result (self.new ≡ self.old) }
+    {
+        self.facts.push(fact)?;
+        Ok(())
+    }
+
+    // Makes the next step: one by a relation at once; in the place of one by a fact, the steps of
+    // the fact are to be made.
+    fn read_next(&self, pending: &mut Vec<ChainStep>, walk: &mut Walk) -> Result<(), NoMemory>
+        requires some { 0 < length pending.old.items }
+        requires begun { (from : Letters) × IsWalk self.now.presentation from walk.old }
+        requires fits { AllFit (all_of self.now) (here walk.old) (reverse pending.old.items) }
+        ensures { OnOk result
+            (GoesOn self.now pending.old.items walk.old pending.new.items walk.new) }
+    {
+        let Some(step) = pending.pop() else {
+            unreachable!();
+        };
+        let relations = self.presentation.relations().len();
+        if step.relation < relations {
+            return walk.go(self.alloc, &self.presentation, step);
+        }
+        let fact = &self.facts[step.relation - relations];
+        put(pending, step, fact.steps.as_slice())
+    }
+
+    /// Spells steps over relations and facts out as steps over relations alone, from the word on.
+    /// Where a word is met again, what lies between is dropped, so no word stands twice and the
+    /// list is never longer than words there are. Refused only where memory is wanting.
+    pub fn spell(&self, from: &Word, steps: &[ChainStep]) -> Result<Vec<ChainStep>, NoMemory>
+        requires { AllFit (all_of self.now) from.now steps.now }
+        ensures { IfOk result (λ chain. (to : Letters)
+            → LeadTo (all_of self.now) from.now (steps_of steps.now) to
+            → IsStraight self.now.presentation from.now chain.items to) }
+    {
+        let mut walk = Walk::new(self.alloc, from)?;
+        let mut pending = reversed(self.alloc, steps)?;
+        while !pending.is_empty() {
+            self.read_next(&mut pending, &mut walk)?;
+        }
+        Ok(walk.steps)
+    }
+}
