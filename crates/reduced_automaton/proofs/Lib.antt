@@ -18,3 +18,4 @@ pub mod TableLaws
 pub mod ReductionLaws
 pub mod LookupLaws
 pub mod PartLaws
+pub mod TraceLaws

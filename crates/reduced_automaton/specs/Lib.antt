@@ -10,3 +10,4 @@ pub mod Tables
 pub mod Reductions
 pub mod Lookups
 pub mod Parts
+pub mod Traces

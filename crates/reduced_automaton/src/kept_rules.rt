@@ -4,6 +4,7 @@ ghost use Rattle.std.specs.List.{filter, range_with_len};
 ghost use Rattle.theory.specs.ShortLex.{◌≺◌};
 ghost use Rattle.theory.specs.Completion.{IsReduced, Listed, Reduces};
 ghost use Rattle.reduced_automaton.specs.Rules.{AreFalling, stands_in};
+ghost use Rattle.reduced_automaton.specs.Traces.{LeadBy};
 
 use crate::lookups::Lookup;
 use crate::parts::{part, places_after};
@@ -11,6 +12,7 @@ use crate::reductions::unread;
 use crate::rewriting::word_of;
 use crate::rule_lists::Rules;
 use crate::table::Table;
+use crate::traces::Applied;
 use ports::NoMemory;
 use std::alloc::Global;
 use std::marker::Model;
@@ -172,5 +174,26 @@ impl KeptRules {
             more = self.lookup.read_next(&self.rules, word, &mut reduction)?;
         }
         word_of(alloc, reduction.done.as_slice())
+    }
+
+    /// The word to which the rules lead from the word, none of which applies to it, and the rules that
+    /// were applied, one after another. Refused only where memory is wanting.
+    pub fn reduce_traced(&self, word: &Word) -> Result<(Word, Vec<Applied>), NoMemory>
+        ensures reached { IfOk result (λ r. Reduces (Listed self.now) word.now r.0) }
+        ensures reduced { IfOk result (λ r. IsReduced (Listed self.now) r.0) }
+        ensures traced { IfOk result (λ r. LeadBy self.now word.now r.1.items r.0) }
+    {
+        let _count = self.rules.len();
+        let alloc = self.rules.alloc;
+        let mut trace = Vec::new(alloc);
+        let mut reduction = unread(alloc, word)?;
+        let mut more = true;
+        while more {
+            more = self
+                .lookup
+                .trace_next(&self.rules, word, &mut reduction, &mut trace)?;
+        }
+        let reduced = word_of(alloc, reduction.done.as_slice())?;
+        Ok((reduced, trace))
     }
 }

@@ -26,6 +26,7 @@ mod reductions;
 mod rewriting;
 mod rule_lists;
 mod table;
+mod traces;
 mod tries;
 
 pub use automata::Automaton;
@@ -33,6 +34,7 @@ pub use frames::{Frame, Framed};
 pub use kept_rules::KeptRules;
 pub use rewriting::{has_factor, replaced};
 pub use rule_lists::Rules;
+pub use traces::Applied;
 
 #[cfg(test)]
 mod tests;
