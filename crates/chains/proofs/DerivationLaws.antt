@@ -1,15 +1,18 @@
 -- Facts that follow from relations, and the steps that stand for them.
-use Rattle.std.proofs.Common.{◌≡◌, ℕ, zero, suc, ◌+◌, ◌*◌, ◌^◌, ◌<◌, ◌≤◌, Bool, true, false, List, [], ◌∷◌, ◌++◌, map, reverse, take, drop, length, refl, sym, ◌∙◌, ap, ap₂, subst, arith, ◌⊎◌, inl, inr, Some, slice_get, append_assoc, length-append, length-take}
+use Rattle.std.proofs.Common.{◌≡◌, ℕ, zero, suc, ◌+◌, ◌-◌, ◌*◌, ◌^◌, ◌<◌, ◌≤◌, Bool, true, false, List, [], ◌∷◌, ◌++◌, map, reverse, take, drop, length, refl, sym, ◌∙◌, ap, ap₂, subst, arith, ◌⊎◌, inl, inr, Some, slice_get, append_assoc, length-append, length-take, Option, option_map, eqb, IsTrue}
 use Rattle.std.specs.List.{sum_by}
 use Rattle.std.proofs.Math.Nat.{mul-le-mul_left, mul-le-mul_right, pow-le-pow_right, pow-succ', one-le-pow, mul-add, suc-mul}
-use Rattle.std.proofs.lemmas.Option.{slice_get_within}
-use Rattle.std.proofs.lemmas.List.{length-map, map-append, reverse-append, reverse-reverse, take-append-drop, take-append-le, take_at}
+use Rattle.std.proofs.lemmas.Option.{slice_get_within, slice_get-map}
+use Rattle.std.specs.Cmp.Lexicographic.{pointwise}
+use Rattle.std.proofs.lemmas.Bool.Decides.{Decides-eqb}
+use Rattle.std.proofs.lemmas.Slice.Eq.{slice_eq-Decides}
+use Rattle.std.proofs.lemmas.List.{append-nil, length-map, map-append, reverse-append, reverse-reverse, take-append-drop, take-append-le, take_at}
 use Rattle.std.proofs.lemmas.List.Sums.{sum_by-cons}
 use Rattle.std.proofs.lemmas.List.Sorted.{sum_by-IsPermutation, IsPermutation-reverse}
 use Rattle.theory.specs.Word.{Word}
 use Rattle.theory.specs.Congruence.{Presentation}
 use Rattle.theory.specs.PlacedStep.{PlacedStep, Gives, AllGive, LeadTo, read_sides, shifted_step, turned_step}
-use Rattle.theory.proofs.PlacedChains.{leads_back, leads_inside}
+use Rattle.theory.proofs.PlacedChains.{leads_after, leads_back, leads_inside}
 use Rattle.chains.specs.Chains.{step_of, steps_of}
 use Rattle.chains.specs.Derivations.{AreDerived, Derived, Proves, all_of, count_of, in_place_of, moved, pair_of, read_steps, turned, weight_of, with_facts}
 use Rattle.chains.specs.declared.derivations.Fact.{Fact}
@@ -251,3 +254,75 @@ back_in_place step steps is =
     twice : (steps : List ChainStep) → map (λ s. moved step.place (turned s)) steps ≡ map (moved step.place) (map turned steps)
     twice [] = refl
     twice (s ∷ steps) = ap (λ (ts : List ChainStep). moved step.place (turned s) ∷ ts) (twice steps)
+
+-- back from where steps lead, over others, and on
+pub leads_around : (P : Presentation) (a b left right : Word) (back middle on : List ChainStep) → LeadTo P a (steps_of back) left → LeadTo P a (steps_of middle) b
+    → LeadTo P b (steps_of on) right → LeadTo P left (steps_of (reverse (map turned back) ++ (middle ++ on))) right
+leads_around P a b left right back middle on there across further =
+    let first : steps_of (reverse (map turned back)) ≡ reverse (map turned_step (steps_of back)) =
+    reversed_map step_of (map turned back) ∙ ap reverse (turned_steps back) in
+    subst (λ (s : List PlacedStep). LeadTo P left s right)
+    (ap (λ (s : List PlacedStep). s ++ (steps_of middle ++ steps_of on)) (sym first)
+    ∙ ap (λ (s : List PlacedStep). steps_of (reverse (map turned back)) ++ s) (sym (map-append step_of middle on))
+    ∙ sym (map-append step_of (reverse (map turned back)) (middle ++ on)))
+    (leads_after P left a right (reverse (map turned_step (steps_of back))) (steps_of middle ++ steps_of on) (leads_back P a (steps_of back) left there)
+    (leads_after P a b right (steps_of middle) (steps_of on) across further))
+
+-- a relation leads from side to side
+pub leads_once : (P : Presentation) (n : ℕ) (left right : Word) → slice_get P.relations n ≡ Some (left, right)
+    → LeadTo P left (steps_of (record { place = 0; relation = n; forward = true } ∷ [])) right
+leads_once P n left right is =
+    let gives : Gives P left (record { place = 0; relation = n; forward = true }) right = record {
+      sides = (left, right);
+      known = is;
+      before = [];
+      after = [];
+      placed = refl;
+      source = sym (append-nil left);
+      target = sym (append-nil right);
+    } in
+    (right ∷ [], (gives, tt), refl)
+
+pub leads_once_back : (P : Presentation) (n : ℕ) (left right : Word) → slice_get P.relations n ≡ Some (left, right)
+    → LeadTo P right (steps_of (record { place = 0; relation = n; forward = false } ∷ [])) left
+leads_once_back P n left right is =
+    let gives : Gives P right (record { place = 0; relation = n; forward = false }) left = record {
+      sides = (left, right);
+      known = is;
+      before = [];
+      after = [];
+      placed = refl;
+      source = sym (append-nil right);
+      target = sym (append-nil left);
+    } in
+    (left ∷ [], (gives, tt), refl)
+
+-- the words of a number
+pub fact_sides : (d : Derived) (n : ℕ) (fact : Fact) → length d.presentation.relations ≤ n → slice_get d.facts (n - length d.presentation.relations) ≡ Some fact
+    → slice_get (all_of d).relations n ≡ Some (pair_of fact)
+fact_sides d n fact behind is =
+    let number : n ≡ length d.presentation.relations + (n - length d.presentation.relations) = omega (arith, behind) in
+    ap (slice_get (all_of d).relations) number ∙ get_behind d.presentation.relations (map pair_of d.facts) (n - length d.presentation.relations)
+    ∙ slice_get-map pair_of d.facts (n - length d.presentation.relations) ∙ ap (λ (o : Option Fact). option_map pair_of o) is
+
+pub sides_tested : (rs : List (Word × Word)) (n : ℕ) (first second left right f l s r : Word) (p q : Bool) → slice_get rs n ≡ Some (first, second)
+    → f ≡ first → l ≡ left → p ≡ pointwise eqb f l → s ≡ second → r ≡ right → q ≡ pointwise eqb s r
+    → ((IsTrue p × IsTrue q) → slice_get rs n ≡ Some (left, right)) × (slice_get rs n ≡ Some (left, right) → IsTrue p × IsTrue q)
+sides_tested rs n first second left right f l s r p q is ef el ep es er eq =
+    let one = slice_eq-Decides Decides-eqb f l p ep in
+    let two = slice_eq-Decides Decides-eqb s r q eq in (
+      λ t. is ∙ ap₂ (λ (x y : Word). Some (x, y)) (sym ef ∙ one.0 t.0 ∙ el) (sym es ∙ two.0 t.1 ∙ er),
+      λ e. let same = some_same (first, second) (left, right) (sym is ∙ e) in
+          (one.1 (ef ∙ ap (λ (x : Word × Word). x.0) same ∙ sym el), two.1 (es ∙ ap (λ (x : Word × Word). x.1) same ∙ sym er)),
+    )
+  where
+    some_same : (a b : Word × Word) → Some a ≡ Some b → a ≡ b
+    some_same a b e = cc
+
+pub first_tested : (rs : List (Word × Word)) (n : ℕ) (first second left right f l : Word) (p : Bool) → slice_get rs n ≡ Some (first, second)
+    → f ≡ first → l ≡ left → p ≡ pointwise eqb f l → slice_get rs n ≡ Some (left, right) → IsTrue p
+first_tested rs n first second left right f l p is ef el ep e =
+    (slice_eq-Decides Decides-eqb f l p ep).1 (ef ∙ ap (λ (x : Word × Word). x.0) (some_same (first, second) (left, right) (sym is ∙ e)) ∙ sym el)
+  where
+    some_same : (a b : Word × Word) → Some a ≡ Some b → a ≡ b
+    some_same a b e = cc

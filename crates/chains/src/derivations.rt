@@ -1,5 +1,5 @@
 // Facts that follow from a presentation, each by steps over the relations and earlier facts.
-ghost use Rattle.std.specs.Prelude.{◌≡◌, ℕ, ◌+◌, ◌<◌, [], ◌∷◌, ◌++◌, List, length, reverse, slice_get, IfOk, OnOk, OnErr};
+ghost use Rattle.std.specs.Prelude.{◌≡◌, ℕ, ◌+◌, ◌<◌, [], ◌∷◌, ◌++◌, List, length, reverse, slice_get, Contains, IsTrue, ◌↔◌, MatchOption, IfOk, OnOk, OnErr};
 ghost use Rattle.theory.specs.Word.{Word as Letters};
 ghost use Rattle.theory.specs.PlacedStep.{LeadTo};
 ghost use Rattle.chains.specs.Chains.{AllFit, IsStraight, steps_of};
@@ -69,6 +69,50 @@ impl Derivations {
         ensures { result ≡ length (all_of self.now).relations }
     {
         self.presentation.relations().len() + self.facts.len()
+    }
+
+    // The words of the relation or fact of this number.
+    fn sides(&self, number: usize) -> (&Word, &Word)
+        requires { number < length (all_of self.now).relations }
+        ensures { slice_get (all_of self.now).relations number
+            ≡ Some (result.0.now, result.1.now) }
+    {
+        let relations = self.presentation.relations();
+        if number < relations.len() {
+            let pair = relations.pair(number);
+            return (&pair.0, &pair.1);
+        }
+        let fact = &self.facts[number - relations.len()];
+        (&fact.left, &fact.right)
+    }
+
+    // Whether the relation or fact of this number is that of the two words.
+    fn is_of(&self, number: usize, left: &Word, right: &Word) -> bool
+        requires { number < length (all_of self.now).relations }
+        ensures { IsTrue result ↔ (slice_get (all_of self.now).relations number
+            ≡ Some (left.now, right.now)) }
+    {
+        let (first, second) = self.sides(number);
+        first.letters() == left.letters() && second.letters() == right.letters()
+    }
+
+    /// A number of the relation or fact of the two words. `None` exactly where there is none. The
+    /// number that is likely to be it is looked at first, and then all of them.
+    pub fn number_of(&self, likely: usize, left: &Word, right: &Word) -> Option<usize>
+        ensures { MatchOption result
+            (Contains (all_of self.now).relations (left.now, right.now) → ⊥)
+            (λ number. slice_get (all_of self.now).relations number
+            ≡ Some (left.now, right.now)) }
+    {
+        if likely < self.len() && self.is_of(likely, left, right) {
+            return Some(likely);
+        }
+        for number in 0..self.len() {
+            if self.is_of(number, left, right) {
+                return Some(number);
+            }
+        }
+        None
     }
 
     /// Logs a fact that follows from the relations and the facts so far: its steps lead from its

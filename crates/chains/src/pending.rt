@@ -64,3 +64,23 @@ pub fn put(
         put_back(pending, step.place, steps)
     }
 }
+
+/// The steps back from where the first ones lead, then the next ones, and then the last ones.
+/// Refused only where memory is wanting.
+pub fn around(
+    alloc: Global,
+    back: &[ChainStep],
+    middle: &[ChainStep],
+    on: &[ChainStep],
+) -> Result<Vec<ChainStep>, NoMemory>
+    ensures { IfOk result (λ steps. steps.items
+        ≡ reverse (map turned back.now) ++ (middle.now ++ on.now)) }
+{
+    let mut steps = Vec::new(alloc);
+    for place in (0..back.len()).rev() {
+        steps.push(back[place].turned())?;
+    }
+    steps.extend_from_slice(middle)?;
+    steps.extend_from_slice(on)?;
+    Ok(steps)
+}
