@@ -326,3 +326,13 @@ first_tested rs n first second left right f l p is ef el ep e =
   where
     some_same : (a b : Word × Word) → Some a ≡ Some b → a ≡ b
     some_same a b e = cc
+
+-- there, and back from where other steps lead
+pub leads_there_and_back : (P : Presentation) (u v middle : Word) (there back : List ChainStep) → LeadTo P u (steps_of there) middle → LeadTo P v (steps_of back) middle
+    → LeadTo P u (steps_of (there ++ reverse (map turned back))) v
+leads_there_and_back P u v middle there back first second =
+    let turned_is : steps_of (reverse (map turned back)) ≡ reverse (map turned_step (steps_of back)) =
+        reversed_map step_of (map turned back) ∙ ap reverse (turned_steps back) in
+    subst (λ (s : List PlacedStep). LeadTo P u s v)
+    (ap (λ (s : List PlacedStep). steps_of there ++ s) (sym turned_is) ∙ sym (map-append step_of there (reverse (map turned back))))
+    (leads_after P u middle v (steps_of there) (reverse (map turned_step (steps_of back))) first (leads_back P v (steps_of back) middle second))

@@ -12,7 +12,7 @@ mod walks;
 
 pub use chains::{check, words_of};
 pub use derivations::{Derivations, Fact};
-pub use pending::around;
+pub use pending::{around, turn_back};
 pub use steps::ChainStep;
 
 #[cfg(test)]

@@ -65,6 +65,18 @@ pub fn put(
     }
 }
 
+/// Puts the steps back at the end: from where the given ones lead to where they begin. Refused only
+/// where memory is wanting.
+pub fn turn_back(steps: &mut Vec<ChainStep>, back: &[ChainStep]) -> Result<(), NoMemory>
+    ensures { OnOk result (steps.new.items
+        ≡ steps.old.items ++ reverse (map turned back.now)) }
+{
+    for place in (0..back.len()).rev() {
+        steps.push(back[place].turned())?;
+    }
+    Ok(())
+}
+
 /// The steps back from where the first ones lead, then the next ones, and then the last ones.
 /// Refused only where memory is wanting.
 pub fn around(
@@ -77,9 +89,7 @@ pub fn around(
         ≡ reverse (map turned back.now) ++ (middle.now ++ on.now)) }
 {
     let mut steps = Vec::new(alloc);
-    for place in (0..back.len()).rev() {
-        steps.push(back[place].turned())?;
-    }
+    turn_back(&mut steps, back)?;
     steps.extend_from_slice(middle)?;
     steps.extend_from_slice(on)?;
     Ok(steps)
