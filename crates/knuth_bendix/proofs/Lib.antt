@@ -13,3 +13,5 @@ pub mod Turns
 pub mod SortedRules
 pub mod RuleChanges
 pub mod WaitingLaws
+pub mod LogLaws
+pub mod SpelledChains

@@ -5,3 +5,4 @@ pub mod Overlaps
 pub mod Changes
 pub mod Runs
 pub mod Waiting
+pub mod Logs

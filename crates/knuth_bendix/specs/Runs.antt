@@ -1,5 +1,5 @@
 -- Completion, turn by turn.
-use Rattle.std.specs.Prelude.{◌≡◌, ◌≢◌, ℕ, ◌+◌, ◌*◌, ◌<◌, ◌≤◌, ◌⊎◌, List, length}
+use Rattle.std.specs.Prelude.{◌≡◌, ◌≢◌, ℕ, Bool, ◌+◌, ◌*◌, ◌<◌, ◌≤◌, ◌⊎◌, List, length}
 use Rattle.theory.specs.Word.{Word}
 use Rattle.theory.specs.Congruence.{Presentation, AreElements}
 use Rattle.theory.specs.Completion.{AreRules, CompletionEnds, Listed}
@@ -14,14 +14,16 @@ pub record CompletionTask : Type 0 where
   pub presentation : Presentation
   pub length : ℕ
 
--- a completion: what it was made for, the rules it holds, a measure of the turns that are left, and
--- what the last turn gave
+-- a completion: what it was made for, the rules it holds, a measure of the turns that are left, what
+-- the last turn gave, and whether it logs
 pub record CompletionRun : Type 0 where
   pub presentation : Presentation
   pub length : ℕ
   pub rules : List (Word × Word)
   pub left : ℕ
   pub said : Progress
+  -- whether it is logged how rules follow from the relations
+  pub logged : Bool
 
 -- more equations than one rule can add
 abbrev pub growth : ℕ → ℕ → ℕ

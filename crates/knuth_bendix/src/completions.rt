@@ -1,17 +1,22 @@
 // Completion, an equation at a time.
-ghost use Rattle.std.specs.Prelude.{◌≡◌, ◌≢◌, ◌≤◌, ◌<◌, ◌⊎◌, ◌↔◌, All, [], cond, length, IfOk, IsTrue, MatchBool, MatchResult};
+ghost use Rattle.std.specs.Prelude.{◌≡◌, ◌≢◌, ◌≤◌, ◌<◌, ◌⊎◌, ◌↔◌, All, [], cond, length, true, false, None, IfOk, OnOk, IsTrue, MatchBool, MatchOption, MatchResult};
 ghost use Rattle.theory.specs.Word.{Word as Letters};
+ghost use Rattle.theory.specs.Chain.{Related};
+ghost use Rattle.chains.specs.Chains.{IsStraight};
 ghost use Rattle.theory.specs.Congruence.{of_presentation};
 ghost use Rattle.theory.specs.Class.{IsRuleList, SameClass};
 ghost use Rattle.theory.specs.Completion.{AreRules, CompletionEnds, Listed, Rule};
 ghost use Rattle.knuth_bendix.specs.Held.{IsSound};
 ghost use Rattle.knuth_bendix.specs.Overlaps.{AreShort};
+ghost use Rattle.knuth_bendix.specs.Logs.{Grows};
 ghost use Rattle.knuth_bendix.specs.Runs.{AreShortRelations, CompletionRun, IsTurn};
 
 use crate::confluence::are_joined;
 use crate::equations::Equations;
 use crate::lengths::Lengths;
+use crate::logs::Log;
 use crate::rule_changes::join;
+use chains::ChainStep;
 use ports::NoMemory;
 use presentation::{Pairs, Presentation};
 use race::{Progress, Racer};
@@ -31,10 +36,13 @@ pub struct Completion {
     length: usize,
     rules: KeptRules,
     equations: Equations,
+    log: Log,
     said: Progress,
 }
 
 impl Model for Completion {
+    ghost use Rattle.std.specs.Prelude.{is_some};
+    ghost use Rattle.knuth_bendix.specs.Logs.{IsLogOf};
     ghost use Rattle.knuth_bendix.specs.Runs.{CompletionRun, IsCompletion, left_of};
 
     ghost Value = { CompletionRun };
@@ -45,10 +53,11 @@ impl Model for Completion {
       rules = c.rules;
       left = left_of c.presentation.presentation c.length c.rules c.equations;
       said = c.said;
+      logged = is_some c.log;
     } };
 
     ghost invariant = { λ c. IsCompletion c.presentation.presentation c.length c.rules c.equations
-        c.said };
+        c.said × IsLogOf c.presentation.presentation c.log };
 }
 
 // Whether neither side of the relation has more letters than the bound.
@@ -123,15 +132,17 @@ fn go_on(
     length: usize,
     rules: KeptRules,
     equations: &mut Equations,
+    log: &mut Log,
 ) -> Result<(KeptRules, Progress), NoMemory>
     requires { IsSound presentation.now.presentation length
         (record { rules = rules; equations = equations.old }) }
-    ensures { IfOk result (λ turn. IsTurn presentation.now.presentation length rules equations.old
-        turn.0 equations.new turn.1) }
+    ensures turn { IfOk result (λ turn. IsTurn presentation.now.presentation length rules
+        equations.old turn.0 equations.new turn.1) }
+    ensures grows { OnOk result (Grows log.old log.new) }
 {
     match equations.pop() {
         Some(pair) => {
-            let rules = join(alloc, rules, &pair, length, equations)?;
+            let rules = join(alloc, rules, &pair, length, equations, log)?;
             Ok((rules, Progress::More))
         }
         None => {
@@ -151,6 +162,16 @@ fn left_by(alloc: Global, turn: Result<(KeptRules, Progress), NoMemory>) -> (Kep
     match turn {
         Ok(turn) => turn,
         Err(NoMemory) => (KeptRules::new(alloc), Progress::NoMemory),
+    }
+}
+
+// After want of memory nothing is logged.
+fn settle(log: &mut Log, said: Progress)
+    ensures kept { (said ≡ Progress.NoMemory → ⊥) → log.new ≡ log.old }
+    ensures lost { said ≡ Progress.NoMemory → log.new ≡ None }
+{
+    if said == Progress::NoMemory {
+        *log = Log::none();
     }
 }
 
@@ -192,6 +213,7 @@ impl Racer for Completion {
         ensures rules { (result ≡ Answer.Decided) ⊎ (result ≡ Answer.Spent)
             → AreRules self.new.presentation self.new.length self.new.rules }
         ensures short { AreShort self.new.length self.new.rules }
+        ensures logged { (result ≡ Answer.NoMemory → ⊥) → self.new.logged ≡ self.old.logged }
     {
         let Progress::More = self.said else {
             return self.said;
@@ -203,8 +225,10 @@ impl Racer for Completion {
             self.length,
             rules,
             &mut self.equations,
+            &mut self.log,
         );
         let (rules, said) = left_by(self.alloc, turn);
+        settle(&mut self.log, said);
         self.rules = rules;
         self.said = said;
         said
@@ -223,6 +247,7 @@ impl Completion {
         ensures length { IfOk result (λ c. c.length ≡ length) }
         ensures rules { IfOk result (λ c. c.rules ≡ []) }
         ensures said { IfOk result (λ c. c.said ≡ Progress.More) }
+        ensures logged { IfOk result (λ c. c.logged ≡ false) }
     {
         let equations = short_relations(alloc, presentation.relations(), length)?;
         Ok(Completion {
@@ -231,8 +256,29 @@ impl Completion {
             length,
             rules: KeptRules::new(alloc),
             equations,
+            log: Log::none(),
             said: Progress::More,
         })
+    }
+
+    /// The completion of the presentation within so many letters, which logs how each rule follows
+    /// from the relations. It makes the same turns as one that logs nothing, and each takes longer.
+    /// Refused only where memory is wanting.
+    pub fn logged(
+        alloc: Global,
+        presentation: &Presentation,
+        length: usize,
+    ) -> Result<Completion, NoMemory>
+        ensures presentation { IfOk result (λ c. c.presentation ≡ presentation.now.presentation) }
+        ensures length { IfOk result (λ c. c.length ≡ length) }
+        ensures rules { IfOk result (λ c. c.rules ≡ []) }
+        ensures said { IfOk result (λ c. c.said ≡ Progress.More) }
+        ensures logged { IfOk result (λ c. c.logged ≡ true) }
+    {
+        let log = Log::new(alloc, presentation)?;
+        let mut completion = Completion::new(alloc, presentation, length)?;
+        completion.log = log;
+        Ok(completion)
     }
 
     /// Whether a turn has given `Decided`.
@@ -240,6 +286,13 @@ impl Completion {
         ensures { IsTrue result ↔ (self.now.said ≡ Progress.Decided) }
     {
         self.said == Progress::Decided
+    }
+
+    /// Whether it is logged how rules follow from the relations.
+    pub fn is_logged(&self) -> bool
+        ensures { IsTrue result ↔ (self.now.logged ≡ true) }
+    {
+        self.log.is_logged()
     }
 
     /// The rules of a completion that has decided: the reduced rules of the presentation's
@@ -256,5 +309,24 @@ impl Completion {
         let mut rules = self.rules.copy(self.alloc)?.into_vec();
         rules.sort_by(|first, second| shortlex(&first.0, &second.0))?;
         Ok(Rules::from_vec(self.alloc, rules))
+    }
+
+    /// Steps by the relations that lead from the one word to the other, over words that are all
+    /// different; `None` exactly where the two are not related. The completion logs, as one made by
+    /// [`Completion::logged`] does, and has decided. Refused only where memory is wanting.
+    pub fn chain(&self, u: &Word, v: &Word) -> Result<Option<Vec<ChainStep>>, NoMemory>
+        requires logged { self.now.logged ≡ true }
+        requires decided { self.now.said ≡ Progress.Decided }
+        ensures { IfOk result (λ found. MatchOption found
+            (Related (of_presentation self.now.presentation) u.now v.now → ⊥)
+            (λ steps. IsStraight self.now.presentation u.now steps.items v.now)) }
+    {
+        let (left, there) = self.log.reduce(self.alloc, &self.rules, u)?;
+        let (right, back) = self.log.reduce(self.alloc, &self.rules, v)?;
+        if left.letters() != right.letters() {
+            return Ok(None);
+        }
+        let chain = self.log.spell(u, there, back.as_slice())?;
+        Ok(Some(chain))
     }
 }

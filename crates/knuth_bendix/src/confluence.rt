@@ -5,6 +5,7 @@ ghost use Rattle.knuth_bendix.specs.Overlaps.{AreJoined, IsSplit, rule_at};
 
 use crate::equations::Equations;
 use crate::lengths::Lengths;
+use crate::logs::Log;
 use crate::overlaps::join_overlaps;
 use ports::NoMemory;
 use reduced_automaton::KeptRules;
@@ -25,7 +26,16 @@ fn pair_is_joined(
         ((u : Letters) × (v : Letters) × IsSplit lengths rules.now u v)) }
 {
     let mut equations = Equations::new(alloc);
-    join_overlaps(alloc, rules, first, second, lengths, &mut equations)?;
+    let mut log = Log::none();
+    join_overlaps(
+        alloc,
+        rules,
+        first,
+        second,
+        lengths,
+        &mut equations,
+        &mut log,
+    )?;
     Ok(equations.is_empty())
 }
 

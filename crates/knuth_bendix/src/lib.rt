@@ -11,6 +11,7 @@ mod confluence;
 mod equations;
 pub mod facts;
 mod lengths;
+mod logs;
 mod overlaps;
 mod rule_changes;
 

@@ -2,9 +2,12 @@
 ghost use Rattle.std.specs.Prelude.{◌≡◌, ℕ, ◌+◌, ◌-◌, ◌*◌, ◌<◌, ◌≤◌, [], ◌∷◌, ◌++◌, length, IfOk, OnOk, IsTrue, ◌↔◌};
 ghost use Rattle.std.specs.List.Sorted.{IsPermutation};
 ghost use Rattle.knuth_bendix.specs.Overlaps.{AreJoined, AreShort, Gains, HasLength, IsJoinedBy, IsOverlap, ReducesTo, critical_pair, overlaps_by, rule_at};
+ghost use Rattle.knuth_bendix.specs.Logs.{Grows, Shows};
 
 use crate::equations::Equations;
 use crate::lengths::Lengths;
+use crate::logs::Log;
+use chains::ChainStep;
 use ports::NoMemory;
 use reduced_automaton::{KeptRules, replaced};
 use std::alloc::Global;
@@ -58,34 +61,57 @@ fn critical_pair(
     Ok((left, right))
 }
 
-// The reduced words to which an overlap of two rules leads.
+// The reduced words to which an overlap of two rules leads, and steps from the first to the second.
 fn reduced_pair(
     alloc: Global,
     rules: &KeptRules,
     first: usize,
     second: usize,
     shared: usize,
-) -> Result<(Word, Word), NoMemory>
+    log: &Log,
+) -> Result<(Word, Word, Vec<ChainStep>), NoMemory>
     requires first { first < length rules.now }
     requires second { second < length rules.now }
     requires shared_first { shared ≤ length (rule_at rules.now first).0 }
     requires shared_second { shared ≤ length (rule_at rules.now second).0 }
-    ensures { IfOk result (λ pair. ReducesTo rules.now first second shared pair.0 pair.1) }
+    requires overlaps { overlaps_by (rule_at rules.now first).0 (rule_at rules.now second).0
+        shared }
+    ensures reduces { IfOk result (λ r. ReducesTo rules.now first second shared r.0 r.1) }
+    ensures shown { IfOk result (λ r. Shows log.now r.0 r.2.items r.1) }
 {
     let pair = critical_pair(alloc, rules.rule(first), rules.rule(second), shared)?;
-    let left = rules.reduce(&pair.0)?;
-    let right = rules.reduce(&pair.1)?;
-    Ok((left, right))
+    let (left, back) = log.reduce(alloc, rules, &pair.0)?;
+    let (right, on) = log.reduce(alloc, rules, &pair.1)?;
+    let steps = log.over(
+        alloc,
+        rules.rule(first),
+        rules.rule(second),
+        shared,
+        back.as_slice(),
+        on.as_slice(),
+    )?;
+    Ok((left, right, steps))
 }
 
-// Puts the words to which an overlap leads among the equations, where they differ.
-fn push_different(left: Word, right: Word, equations: &mut Equations) -> Result<(), NoMemory>
+// Puts the words to which an overlap leads among the equations, where they differ, and logs the
+// steps that lead from the left one to the right one.
+fn push_different(
+    alloc: Global,
+    left: Word,
+    right: Word,
+    steps: Vec<ChainStep>,
+    equations: &mut Equations,
+    log: &mut Log,
+) -> Result<(), NoMemory>
+    requires { Shows log.old left steps.items right }
     ensures same { OnOk result (left ≡ right → equations.new ≡ equations.old) }
     ensures different { OnOk result
         ((left ≡ right → ⊥)
         → IsPermutation (equations.old ++ (left, right) ∷ []) equations.new) }
+    ensures grows { OnOk result (Grows log.old log.new) }
 {
     if left.letters() != right.letters() {
+        log.push(alloc, &left, &right, steps)?;
         equations.push(left, right)?;
     }
     Ok(())
@@ -100,20 +126,24 @@ fn join_overlap(
     second: usize,
     shared: usize,
     equations: &mut Equations,
+    log: &mut Log,
 ) -> Result<(), NoMemory>
     requires first { first < length rules.now }
     requires second { second < length rules.now }
     requires shared_first { shared ≤ length (rule_at rules.now first).0 }
     requires shared_second { shared ≤ length (rule_at rules.now second).0 }
+    requires overlaps { overlaps_by (rule_at rules.now first).0 (rule_at rules.now second).0
+        shared }
     ensures gains { OnOk result ((lengths : Lengths)
         → IsOverlap lengths (rule_at rules.now first) (rule_at rules.now second) shared
         → Gains lengths rules.now equations.old equations.new 1) }
     ensures joined { OnOk result (IsJoinedBy rules.now equations.new
         (critical_pair (rule_at rules.now first) (rule_at rules.now second) shared).0
         (critical_pair (rule_at rules.now first) (rule_at rules.now second) shared).1) }
+    ensures grows { OnOk result (Grows log.old log.new) }
 {
-    let (left, right) = reduced_pair(alloc, rules, first, second, shared)?;
-    push_different(left, right, equations)?;
+    let (left, right, steps) = reduced_pair(alloc, rules, first, second, shared, log)?;
+    push_different(alloc, left, right, steps, equations, log)?;
     Ok(())
 }
 
@@ -127,6 +157,7 @@ pub fn join_overlaps(
     second: usize,
     lengths: Lengths,
     equations: &mut Equations,
+    log: &mut Log,
 ) -> Result<(), NoMemory>
     requires first { first < length rules.now }
     requires second { second < length rules.now }
@@ -134,11 +165,12 @@ pub fn join_overlaps(
         (length (rule_at rules.now first).0)) }
     ensures joined { OnOk result (AreJoined lengths rules.now equations.new
         (rule_at rules.now first) (rule_at rules.now second)) }
+    ensures grows { OnOk result (Grows log.old log.new) }
 {
     let shortest = rules.rule(first).0.len().min(rules.rule(second).0.len());
     for shared in 1..shortest {
         if is_overlap(lengths, rules.rule(first), rules.rule(second), shared) {
-            join_overlap(alloc, rules, first, second, shared, equations)?;
+            join_overlap(alloc, rules, first, second, shared, equations, log)?;
         }
     }
     Ok(())
@@ -152,6 +184,7 @@ pub fn join_all(
     newest: usize,
     lengths: Lengths,
     equations: &mut Equations,
+    log: &mut Log,
 ) -> Result<(), NoMemory>
     requires { newest < length rules.now }
     ensures gains { OnOk result ((most : ℕ) → AreShort most rules.now
@@ -161,10 +194,11 @@ pub fn join_all(
         (rule_at rules.now other)
         × AreJoined lengths rules.now equations.new (rule_at rules.now other)
         (rule_at rules.now newest)) }
+    ensures grows { OnOk result (Grows log.old log.new) }
 {
     for other in 0..rules.len() {
-        join_overlaps(alloc, rules, newest, other, lengths, equations)?;
-        join_overlaps(alloc, rules, other, newest, lengths, equations)?;
+        join_overlaps(alloc, rules, newest, other, lengths, equations, log)?;
+        join_overlaps(alloc, rules, other, newest, lengths, equations, log)?;
     }
     Ok(())
 }

@@ -3,41 +3,75 @@ ghost use Rattle.std.specs.Prelude.{◌≡◌, ℕ, ◌<◌, length, IfOk, OnOk}
 ghost use Rattle.theory.specs.ShortLex.{◌≺◌};
 ghost use Rattle.knuth_bendix.specs.Changes.{AddsRule, IsDone, Joins, Rewrites};
 ghost use Rattle.knuth_bendix.specs.Overlaps.{rule_at};
+ghost use Rattle.knuth_bendix.specs.Logs.{Grows, Shows};
+ghost use Rattle.theory.specs.Completion.{IsReduced, Listed, Reduces};
 
 use crate::equations::Equations;
 use crate::lengths::Lengths;
+use crate::logs::Log;
 use crate::overlaps::join_all;
+use chains::ChainStep;
 use ports::NoMemory;
 use reduced_automaton::{KeptRules, has_factor};
 use std::alloc::Global;
 use std::cmp::Ordering;
 use words::{Word, shortlex};
 
+// The reduced right side of a rule. The rule that has it is logged.
+fn reduce_right(
+    alloc: Global,
+    rules: &KeptRules,
+    rule: &(Word, Word),
+    log: &mut Log,
+) -> Result<Word, NoMemory>
+    ensures reached { IfOk result (λ w. Reduces (Listed rules.now) rule.now.1 w) }
+    ensures reduced { IfOk result (λ w. IsReduced (Listed rules.now) w) }
+    ensures grows { OnOk result (Grows log.old log.new) }
+{
+    let (right, on) = log.reduce(alloc, rules, &rule.1)?;
+    let steps = log.across(alloc, rule, true, &[], on.as_slice())?;
+    log.push(alloc, &rule.0, &right, steps)?;
+    Ok(right)
+}
+
 // Rewrites the right side of the rule at a place, if the left side of the newest rule stands in it.
-fn rewrite_right(rules: &mut KeptRules, place: usize, newest: usize) -> Result<(), NoMemory>
+fn rewrite_right(
+    alloc: Global,
+    rules: &mut KeptRules,
+    place: usize,
+    newest: usize,
+    log: &mut Log,
+) -> Result<(), NoMemory>
     requires place { place < length rules.old }
     requires newest { newest < length rules.old }
     ensures rewrites { OnOk result (Rewrites rules.old rules.new) }
     ensures others { OnOk result ((i : ℕ) → i < length rules.old → (i ≡ place → ⊥)
         → rule_at rules.new i ≡ rule_at rules.old i) }
     ensures done { OnOk result (IsDone (rule_at rules.old newest).0 rules.old rules.new place) }
+    ensures grows { OnOk result (Grows log.old log.new) }
 {
     if has_factor(&rules.rule(place).1, &rules.rule(newest).0) {
-        let right = rules.reduce(&rules.rule(place).1)?;
+        let right = reduce_right(alloc, rules, rules.rule(place), log)?;
         rules.set_right(place, right);
     }
     Ok(())
 }
 
 // Rewrites the right sides in which the left side of the newest rule stands.
-fn rewrite_rights(rules: &mut KeptRules, newest: usize) -> Result<(), NoMemory>
+fn rewrite_rights(
+    alloc: Global,
+    rules: &mut KeptRules,
+    newest: usize,
+    log: &mut Log,
+) -> Result<(), NoMemory>
     requires { newest < length rules.old }
     ensures rewrites { OnOk result (Rewrites rules.old rules.new) }
     ensures done { OnOk result ((i : ℕ) → i < length rules.new
         → IsDone (rule_at rules.old newest).0 rules.old rules.new i) }
+    ensures grows { OnOk result (Grows log.old log.new) }
 {
     for place in 0..rules.len() {
-        rewrite_right(rules, place, newest)?;
+        rewrite_right(alloc, rules, place, newest, log)?;
     }
     Ok(())
 }
@@ -52,17 +86,73 @@ fn add_rule(
     right: Word,
     length: usize,
     equations: &mut Equations,
+    log: &mut Log,
 ) -> Result<KeptRules, NoMemory>
     requires { right ≺ left }
-    ensures { IfOk result (λ new. AddsRule length left right rules equations.old new
+    ensures adds { IfOk result (λ new. AddsRule length left right rules equations.old new
         equations.new) }
+    ensures grows { OnOk result (Grows log.old log.new) }
 {
     let (mut rules, gone) = rules.add(left, right)?;
     equations.extend(gone)?;
     let newest = rules.len() - 1;
-    rewrite_rights(&mut rules, newest)?;
-    join_all(alloc, &rules, newest, Lengths::UpTo(length), equations)?;
+    rewrite_rights(alloc, &mut rules, newest, log)?;
+    join_all(alloc, &rules, newest, Lengths::UpTo(length), equations, log)?;
     Ok(rules)
+}
+
+// Logs the rule that two words make to which those of a pair were reduced.
+fn log_rule(
+    alloc: Global,
+    pair: &(Word, Word),
+    left: &Word,
+    down: &[ChainStep],
+    right: &Word,
+    on: &[ChainStep],
+    log: &mut Log,
+) -> Result<(), NoMemory>
+    requires down { Shows log.old pair.now.0 down.now left.now }
+    requires on { Shows log.old pair.now.1 on.now right.now }
+    ensures { OnOk result (Grows log.old log.new) }
+{
+    match shortlex(left, right) {
+        Ordering::Equal => Ok(()),
+        Ordering::Less => {
+            let steps = log.across(alloc, pair, false, on, down)?;
+            log.push(alloc, right, left, steps)
+        }
+        Ordering::Greater => {
+            let steps = log.across(alloc, pair, true, down, on)?;
+            log.push(alloc, left, right, steps)
+        }
+    }
+}
+
+// The words to which the rules lead the two of a pair. The rule that they make is logged.
+fn reduce_both(
+    alloc: Global,
+    rules: &KeptRules,
+    pair: &(Word, Word),
+    log: &mut Log,
+) -> Result<(Word, Word), NoMemory>
+    ensures down_left { IfOk result (λ r. Reduces (Listed rules.now) pair.now.0 r.0) }
+    ensures down_right { IfOk result (λ r. Reduces (Listed rules.now) pair.now.1 r.1) }
+    ensures end_left { IfOk result (λ r. IsReduced (Listed rules.now) r.0) }
+    ensures end_right { IfOk result (λ r. IsReduced (Listed rules.now) r.1) }
+    ensures grows { OnOk result (Grows log.old log.new) }
+{
+    let (left, down) = log.reduce(alloc, rules, &pair.0)?;
+    let (right, on) = log.reduce(alloc, rules, &pair.1)?;
+    log_rule(
+        alloc,
+        pair,
+        &left,
+        down.as_slice(),
+        &right,
+        on.as_slice(),
+        log,
+    )?;
+    Ok((left, right))
 }
 
 /// The rules made to join the two words: where they lead to different words, a rule is added. Its
@@ -74,15 +164,16 @@ pub fn join(
     pair: &(Word, Word),
     length: usize,
     equations: &mut Equations,
+    log: &mut Log,
 ) -> Result<KeptRules, NoMemory>
-    ensures { IfOk result (λ new. Joins length pair.now.0 pair.now.1 rules equations.old new
+    ensures joins { IfOk result (λ new. Joins length pair.now.0 pair.now.1 rules equations.old new
         equations.new) }
+    ensures grows { OnOk result (Grows log.old log.new) }
 {
-    let left = rules.reduce(&pair.0)?;
-    let right = rules.reduce(&pair.1)?;
+    let (left, right) = reduce_both(alloc, &rules, pair, log)?;
     match shortlex(&left, &right) {
         Ordering::Equal => Ok(rules),
-        Ordering::Less => add_rule(alloc, rules, right, left, length, equations),
-        Ordering::Greater => add_rule(alloc, rules, left, right, length, equations),
+        Ordering::Less => add_rule(alloc, rules, right, left, length, equations, log),
+        Ordering::Greater => add_rule(alloc, rules, left, right, length, equations, log),
     }
 }

@@ -2,6 +2,7 @@ ghost use Rattle.std.specs.Prelude.{◌≡◌, IfOk};
 ghost use Rattle.theory.specs.Word.{IsOver};
 
 use super::*;
+use chains::{ChainStep, check};
 use ports::NoMemory;
 use presentation::Presentation;
 use race::{Progress, Racer};
@@ -214,5 +215,61 @@ fn completes_infinite_monoids(rt: HostRuntime) -> Result<(), Fail> {
     assert!(rt; completes(alloc, &free, 5, &[])?);
     let bicyclic = presented(alloc, "bc", true, &[("bc", "")])?;
     assert!(rt; completes(alloc, &bicyclic, 2, &[("bc", "")])?);
+    Ok(())
+}
+
+// The chain of the logged completion between two texts; an error where it has not decided.
+fn chain(
+    alloc: Global,
+    presentation: &Presentation,
+    length: usize,
+    texts: (&str, &str),
+) -> Result<Option<Vec<ChainStep>>, NoMemory> {
+    let mut completion = Completion::logged(alloc, presentation, length)?;
+    let _ended = end(&mut completion);
+    let left = word(presentation, alloc, texts.0.as_bytes())?;
+    let right = word(presentation, alloc, texts.1.as_bytes())?;
+    if completion.is_logged() && completion.is_decided() {
+        completion.chain(&left, &right)
+    } else {
+        Err(NoMemory)
+    }
+}
+
+// Whether there is a chain between the two texts, and it leads from the one to the other.
+fn is_joined(
+    alloc: Global,
+    presentation: &Presentation,
+    length: usize,
+    texts: (&str, &str),
+) -> Result<bool, NoMemory> {
+    let Some(steps) = chain(alloc, presentation, length, texts)? else {
+        return Ok(false);
+    };
+    let left = word(presentation, alloc, texts.0.as_bytes())?;
+    let right = word(presentation, alloc, texts.1.as_bytes())?;
+    check(alloc, presentation, &left, &steps, &right)
+}
+
+#[test]
+fn chains_of_letters_that_commute(rt: HostRuntime) -> Result<(), Fail> {
+    let alloc = rt.alloc();
+    let commuting = presented(alloc, "ab", true, &[("ab", "ba")])?;
+    let steps = chain(alloc, &commuting, 2, ("aab", "baa"))?.unwrap_or(Vec::new(alloc));
+    assert_eq!(rt; steps.len(), 2);
+    assert!(rt; is_joined(alloc, &commuting, 2, ("aab", "baa"))?);
+    assert!(rt; is_joined(alloc, &commuting, 2, ("a", "a"))?);
+    assert!(rt; !is_joined(alloc, &commuting, 2, ("a", "b"))?);
+    Ok(())
+}
+
+#[test]
+fn chains_of_the_symmetric_group(rt: HostRuntime) -> Result<(), Fail> {
+    let alloc = rt.alloc();
+    let symmetric = presented(alloc, "ab", true, &[("aa", ""), ("bbb", ""), ("abab", "")])?;
+    assert!(rt; is_joined(alloc, &symmetric, 12, ("abb", "ba"))?);
+    assert!(rt; is_joined(alloc, &symmetric, 12, ("babab", "b"))?);
+    assert!(rt; is_joined(alloc, &symmetric, 12, ("bbabbabba", "ab"))?);
+    assert!(rt; !is_joined(alloc, &symmetric, 12, ("ab", "ba"))?);
     Ok(())
 }

@@ -1,19 +1,26 @@
 use Rattle.std.proofs.Common.{◌≡◌, length, arith}
+use Rattle.knuth_bendix.proofs.LogLaws.{grows_after}
 use Rattle.knuth_bendix.proofs.OverlapSteps.{with_end, with_step}
 use Rattle.knuth_bendix.proofs.overlaps.join_all.Goals as goal
 
 pub loop-other-preserved : goal.loop-other-preserved
-loop-other-preserved c =
-    with_step c.args.lengths c.args.rules.now c.args.equations.now c.loop-other.equations c.join_overlaps.new.equations c.join_overlaps-in-loop-other.new.equations
-    c.args.newest c.loop-other.other c.requires (omega arith) c.loop-other.invariant
-    c.in_ok-join_overlaps.ensures.gains c.in_ok-join_overlaps.ensures.joined c.in_ok-join_overlaps-2.ensures.gains c.in_ok-join_overlaps-2.ensures.joined
+loop-other-preserved c = record {
+  grows =
+      grows_after c.args.log.now c.join_overlaps.new.log c.join_overlaps-in-loop-other.new.log
+      (grows_after c.args.log.now c.loop-other.log c.join_overlaps.new.log c.loop-other.invariant.grows c.in_ok-join_overlaps.ensures.grows)
+      c.in_ok-join_overlaps-2.ensures.grows;
+  joined =
+      with_step c.args.lengths c.args.rules.now c.args.equations.now c.loop-other.equations c.join_overlaps.new.equations c.join_overlaps-in-loop-other.new.equations
+      c.args.newest c.loop-other.other c.requires (omega arith) c.loop-other.invariant.joined
+      c.in_ok-join_overlaps.ensures.gains c.in_ok-join_overlaps.ensures.joined c.in_ok-join_overlaps-2.ensures.gains c.in_ok-join_overlaps-2.ensures.joined;
+}
 
 pub returns-clause-gains : goal.returns-clause-gains
 returns-clause-gains c =
     let all : c.loop-other.other ≡ length c.args.rules.now = omega arith in
-    (with_end c.args.lengths c.args.rules.now c.args.equations.now c.loop-other.equations c.args.newest c.loop-other.other all c.loop-other.invariant).gains
+    (with_end c.args.lengths c.args.rules.now c.args.equations.now c.loop-other.equations c.args.newest c.loop-other.other all c.loop-other.invariant.joined).gains
 
 pub returns-clause-joined : goal.returns-clause-joined
 returns-clause-joined c =
     let all : c.loop-other.other ≡ length c.args.rules.now = omega arith in
-    (with_end c.args.lengths c.args.rules.now c.args.equations.now c.loop-other.equations c.args.newest c.loop-other.other all c.loop-other.invariant).joined
+    (with_end c.args.lengths c.args.rules.now c.args.equations.now c.loop-other.equations c.args.newest c.loop-other.other all c.loop-other.invariant.joined).joined

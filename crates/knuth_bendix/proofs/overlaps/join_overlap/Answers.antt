@@ -4,11 +4,11 @@ use Rattle.knuth_bendix.proofs.overlaps.join_overlap.Goals as goal
 pub returns-clause-gains : goal.returns-clause-gains
 returns-clause-gains c =
     overlap_gains c.args.rules.now c.args.equations.now c.push_different.new.equations c.args.first c.args.second c.args.shared c.in_ok-left.left c.in_ok-left.right
-    c.requires.first c.requires.second c.in_ok-left.ensures
+    c.requires.first c.requires.second c.in_ok-left.ensures.reduces
     (record { same = c.in_ok-push_different.ensures.same; different = c.in_ok-push_different.ensures.different })
 
 pub returns-clause-joined : goal.returns-clause-joined
 returns-clause-joined c =
     overlap_joined c.args.rules.now c.args.equations.now c.push_different.new.equations c.args.first c.args.second c.args.shared c.in_ok-left.left c.in_ok-left.right
-    c.in_ok-left.ensures
+    c.in_ok-left.ensures.reduces
     (record { same = c.in_ok-push_different.ensures.same; different = c.in_ok-push_different.ensures.different })

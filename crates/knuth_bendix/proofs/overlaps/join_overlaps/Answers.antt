@@ -1,7 +1,10 @@
-use Rattle.std.proofs.Common.{refl, ◌+◌, List, sym, subst, arith}
+use Rattle.std.proofs.Common.{refl, ◌+◌, List, sym, subst, subst₂, arith}
+use Rattle.knuth_bendix.specs.Logs.{Grows}
+use Rattle.knuth_bendix.proofs.LogLaws.{grows_after}
 use Rattle.knuth_bendix.proofs.OverlapSteps.{IsJoinedTo, joined_elsewhere, joined_there}
 use Rattle.reduced_automaton.proofs.Standing.{rule_read}
 use Rattle.theory.specs.Word.{Word}
+use Rattle.knuth_bendix.specs.Overlaps.{overlaps_by}
 use Rattle.knuth_bendix.proofs.overlaps.join_overlaps.Goals as goal
 use Rattle.knuth_bendix.proofs.overlaps.join_overlaps.Goals.{then-is_overlap+in_ok-join_overlap, else-is_overlap}
 
@@ -10,15 +13,28 @@ loop-shared-preserved c =
     let Joined : List (Word × Word) → Type 0 = λ es. IsJoinedTo c.args.lengths c.args.rules.now c.args.equations.now es c.args.first c.args.second (c.loop-shared.shared + 1) in
     let first = rule_read c.args.rules.now c.args.rules.now c.args.first c.rule-in-loop-shared.result.now refl c.requires.first c.rule-in-loop-shared.ensures.rule in
     let second = rule_read c.args.rules.now c.args.rules.now c.args.second c.rule-in-loop-shared-2.result.now refl c.requires.second c.rule-in-loop-shared-2.ensures.rule in
-    elim c.if-is_overlap.branch [
-      | then-is_overlap+in_ok-join_overlap w ↦
-          subst Joined (sym w.equations-is)
-          (joined_there c.args.lengths c.args.rules.now c.args.equations.now c.loop-shared.equations w.join_overlap.new.equations c.args.first c.args.second c.loop-shared.shared
-          c.rule-in-loop-shared.result.now c.rule-in-loop-shared-2.result.now c.is_overlap.result first second c.is_overlap.ensures w.if-is_overlap.true
-          w.in_ok-join_overlap.ensures.gains w.in_ok-join_overlap.ensures.joined (omega arith) c.loop-shared.invariant)
-      | else-is_overlap w ↦
-          subst Joined (sym w.equations-is)
-          (joined_elsewhere c.args.lengths c.args.rules.now c.args.equations.now c.loop-shared.equations c.args.first c.args.second c.loop-shared.shared
-          c.rule-in-loop-shared.result.now c.rule-in-loop-shared-2.result.now c.is_overlap.result first second c.is_overlap.ensures w.if-is_overlap.false
-          (omega arith) c.loop-shared.invariant)
-    ]
+    record {
+      grows = elim c.if-is_overlap.branch [
+        | then-is_overlap+in_ok-join_overlap w ↦
+            subst (λ log. Grows c.args.log.now log) (sym w.log-is) (grows_after c.args.log.now c.loop-shared.log w.join_overlap.new.log c.loop-shared.invariant.grows w.in_ok-join_overlap.ensures.grows)
+        | else-is_overlap w ↦ subst (λ log. Grows c.args.log.now log) (sym w.log-is) c.loop-shared.invariant.grows
+      ];
+      joined = elim c.if-is_overlap.branch [
+        | then-is_overlap+in_ok-join_overlap w ↦
+            subst Joined (sym w.equations-is)
+            (joined_there c.args.lengths c.args.rules.now c.args.equations.now c.loop-shared.equations w.join_overlap.new.equations c.args.first c.args.second c.loop-shared.shared
+            c.rule-in-loop-shared.result.now c.rule-in-loop-shared-2.result.now c.is_overlap.result first second c.is_overlap.ensures w.if-is_overlap.true
+            w.in_ok-join_overlap.ensures.gains w.in_ok-join_overlap.ensures.joined (omega arith) c.loop-shared.invariant.joined)
+        | else-is_overlap w ↦
+            subst Joined (sym w.equations-is)
+            (joined_elsewhere c.args.lengths c.args.rules.now c.args.equations.now c.loop-shared.equations c.args.first c.args.second c.loop-shared.shared
+            c.rule-in-loop-shared.result.now c.rule-in-loop-shared-2.result.now c.is_overlap.result first second c.is_overlap.ensures w.if-is_overlap.false
+            (omega arith) c.loop-shared.invariant.joined)
+      ];
+    }
+
+pub join_overlap-requires-clause-overlaps : goal.join_overlap-requires-clause-overlaps
+join_overlap-requires-clause-overlaps c =
+    let first = rule_read c.args.rules.now c.args.rules.now c.args.first c.rule-in-loop-shared.result.now refl c.requires.first c.rule-in-loop-shared.ensures.rule in
+    let second = rule_read c.args.rules.now c.args.rules.now c.args.second c.rule-in-loop-shared-2.result.now refl c.requires.second c.rule-in-loop-shared-2.ensures.rule in
+    subst₂ (λ (p q : Word × Word). overlaps_by p.0 q.0 c.loop-shared.shared) first second (c.is_overlap.ensures.0 c.if-is_overlap.true).overlaps

@@ -6,8 +6,8 @@ use Rattle.reduced_automaton.specs.Rules.{stands_in}
 use Rattle.knuth_bendix.proofs.RuleChanges.{adds_rule}
 use Rattle.knuth_bendix.proofs.rule_changes.add_rule.Goals as goal
 
-pub returns : goal.returns
-returns c =
+pub returns-clause-adds : goal.returns-clause-adds
+returns-clause-adds c =
     let kept : List (Word × Word) = filter (λ r. not (stands_in c.args.left r.0)) c.args.rules in
     let newest : c.len-newest.result - 1 ≡ length kept =
     omega (arith, c.len-newest.ensures.len, ap length c.in_ok-rules.ensures.kept, length-append kept ((c.args.left, c.args.right) ∷ [])) in

@@ -1,4 +1,7 @@
-use Rattle.std.proofs.Common.{ap}
+use Rattle.std.proofs.Common.{◌≡◌, ◌∙◌, ap, is_some}
+use Rattle.race.specs.declared.engines.Progress.TheVariants.{NoMemory}
+use Rattle.knuth_bendix.specs.Logs.{IsLogOf}
+use Rattle.knuth_bendix.proofs.SpelledChains.{settled_log}
 use Rattle.knuth_bendix.specs.Runs.{CompletionRun}
 use Rattle.knuth_bendix.proofs.Turns.{Leaves, turn_leaves}
 use Rattle.knuth_bendix.proofs.completions.CompletionRacer.advance.Goals as goal
@@ -8,10 +11,20 @@ after_turn : (c : goal.After-said-1)
 after_turn c =
     turn_leaves c.args.self.now.left c.self.inside.presentation.presentation c.self.inside.length c.replace-rules.result c.self.inside.rules c.self.inside.equations
     c.go_on-turn.new.equations c.go_on-turn.result c.left_by-rules.result c.replace-rules.ensures.value (ap (λ (r : CompletionRun). r.left) c.self.view_is)
-    c.go_on-turn.ensures c.left_by-rules.ensures
+    c.go_on-turn.ensures.turn c.left_by-rules.ensures
+
+settled : (c : goal.After-said-1)
+    → IsLogOf c.self.inside.presentation.presentation c.settle.new.log
+    × ((c.left_by-rules.result.1 ≡ NoMemory → ⊥) → is_some c.settle.new.log ≡ is_some c.self.inside.log)
+settled c =
+    settled_log c.self.inside.presentation.presentation c.self.inside.log c.go_on-turn.new.log c.settle.new.log c.go_on-turn.result c.left_by-rules.result c.self.invariant.1
+    c.go_on-turn.ensures.grows c.left_by-rules.ensures c.settle.ensures.kept c.settle.ensures.lost
+
+pub returns-clause-logged : goal.returns-clause-logged
+returns-clause-logged c = λ n. (settled c).1 n ∙ ap (λ (r : CompletionRun). r.logged) c.self.view_is
 
 pub invariant_of-self : goal.invariant_of-self
-invariant_of-self c = record { elements = c.self.invariant.elements; run = (after_turn c).run }
+invariant_of-self c = (record { elements = c.self.invariant.0.elements; run = (after_turn c).run }, (settled c).0)
 
 pub returns-clause-more : goal.returns-clause-more
 returns-clause-more c = (after_turn c).nearer

@@ -1,0 +1,188 @@
+-- What a completion logs, step by step.
+use Rattle.std.proofs.Common.{◌≡◌, ℕ, zero, suc, min, ◌+◌, ◌-◌, ◌<◌, ◌≤◌, Bool, true, false, List, [], ◌∷◌, ◌++◌, map, reverse, take, drop, length, get_or, refl, sym, ◌∙◌, ap, ap₂, subst, arith, append_assoc, Option, None, Some, slice_get, is_some, length-append, length-take, length-drop, take-append-drop}
+use Rattle.std.proofs.lemmas.List.{nil_from_length, append-nil, take_at, drop_at}
+use Rattle.std.proofs.lemmas.Option.{slice_get_within}
+use Rattle.theory.specs.Word.{Word}
+use Rattle.theory.specs.Congruence.{Presentation}
+use Rattle.theory.specs.PlacedStep.{PlacedStep, Gives, AllGive, LeadTo, last_word, read_sides}
+use Rattle.chains.specs.Chains.{steps_of}
+use Rattle.chains.specs.Derivations.{Derived, all_of, turned}
+use Rattle.chains.proofs.DerivationLaws.{leads_around, leads_once, leads_once_back, leads_there_and_back}
+use Rattle.chains.specs.declared.derivations.Fact.{Fact}
+use Rattle.chains.specs.declared.steps.ChainStep.{ChainStep}
+use Rattle.reduced_automaton.specs.Traces.{LeadBy, as_relations, step_of}
+use Rattle.reduced_automaton.specs.declared.traces.Applied.{Applied}
+use Rattle.knuth_bendix.specs.Logs.{AreFor, Grows, IsFor, IsLogOf, Shows}
+use Rattle.knuth_bendix.specs.Overlaps.{critical_pair, overlaps_by}
+
+-- facts may be added one after another
+pub grows_none : (log : Option Derived) → Grows log log
+grows_none None = refl
+grows_none (Some d) = ([], ap (λ (fs : List Fact). Some (record { presentation = d.presentation; facts = fs })) (sym (append-nil d.facts)))
+
+pub grows_after : (a b c : Option Derived) → Grows a b → Grows b c → Grows a c
+grows_after None b c g h = subst (λ (o : Option Derived). Grows o c) g h
+grows_after (Some d) b c g h =
+    let on = subst (λ (o : Option Derived). Grows o c) g.1 h in
+    (g.0 ++ on.0, on.1 ∙ ap (λ (fs : List Fact). Some (record { presentation = d.presentation; facts = fs })) (append_assoc d.facts g.0 on.0))
+
+-- the rules that are applied, and their steps
+pub for_more : (rules relations : List (Word × Word)) (trace : List Applied) (steps : List ChainStep) (at : Applied) (step : ChainStep)
+    → AreFor rules relations trace steps → IsFor rules relations at step → AreFor rules relations (trace ++ at ∷ []) (steps ++ step ∷ [])
+for_more rules relations [] [] at step all one = (one, tt)
+for_more rules relations [] (s ∷ steps) at step all one = absurd all
+for_more rules relations (a ∷ trace) [] at step all one = absurd all
+for_more rules relations (a ∷ trace) (s ∷ steps) at step all one = (all.0, for_more rules relations trace steps at step all.1 one)
+
+pub for_leads : (rules : List (Word × Word)) (P : Presentation) (trace : List Applied) (steps : List ChainStep) (u v : Word) → AreFor rules P.relations trace steps
+    → LeadBy rules u trace v → LeadTo P u (steps_of steps) v
+for_leads rules P trace steps u v all leads = go trace steps u leads.0 all leads.1 leads.2
+  where
+    go : (trace : List Applied) (steps : List ChainStep) (u : Word) (ws : List Word) → AreFor rules P.relations trace steps
+        → AllGive (as_relations rules) u (map step_of trace) ws → last_word u ws ≡ v → LeadTo P u (steps_of steps) v
+    go [] [] u [] all gives last = ([], tt, last)
+    go [] [] u (w ∷ ws) all gives last = absurd gives
+    go [] (s ∷ steps) u ws all gives last = absurd all
+    go (a ∷ trace) [] u ws all gives last = absurd all
+    go (a ∷ trace) (s ∷ steps) u [] all gives last = absurd gives
+    go (a ∷ trace) (s ∷ steps) u (w ∷ ws) all gives last =
+        let g = gives.0 in
+        let rest = go trace steps w ws all.1 gives.1 last in
+        let one : Gives P u (record { place = s.place; relation = s.relation; forward = s.forward }) w = record {
+          sides = g.sides;
+          known = all.0.same g.sides g.known;
+          before = g.before;
+          after = g.after;
+          placed = g.placed ∙ sym all.0.place;
+          source = g.source ∙ ap (λ b. g.before ++ ((read_sides b g.sides).0 ++ g.after)) (sym all.0.forward);
+          target = g.target ∙ ap (λ b. g.before ++ ((read_sides b g.sides).1 ++ g.after)) (sym all.0.forward);
+        } in
+        (w ∷ rest.0, (one, rest.1), rest.2)
+
+-- a rule that is applied is there
+pub applied_within : (rules : List (Word × Word)) (trace : List Applied) (u v : Word) → LeadBy rules u trace v → (i : ℕ) (at : Applied) → slice_get trace i ≡ Some at
+    → at.rule < length rules
+applied_within rules trace u v leads i at is = go trace u leads.0 i leads.1 is
+  where
+    go : (trace : List Applied) (u : Word) (ws : List Word) (i : ℕ) → AllGive (as_relations rules) u (map step_of trace) ws → slice_get trace i ≡ Some at
+        → at.rule < length rules
+    go [] u ws i gives is = let bad : ⊥ = cc in absurd bad
+    go (a ∷ trace) u [] i gives is = absurd gives
+    go (a ∷ trace) u (w ∷ ws) zero gives is =
+        let same : a ≡ at = cc in
+        subst (λ (x : Applied). x.rule < length rules) same (slice_get_within rules a.rule gives.0.sides gives.0.known)
+    go (a ∷ trace) u (w ∷ ws) (suc i) gives is = go trace w ws i gives.1 is
+
+-- the word of an overlap leads to both words of its critical pair
+pub overlap_leads : (P : Presentation) (first second : Word × Word) (shared m n : ℕ) → shared ≤ length first.0 → shared ≤ length second.0
+    → overlaps_by first.0 second.0 shared → slice_get P.relations m ≡ Some first → slice_get P.relations n ≡ Some second
+    → LeadTo P (critical_pair first second shared).0
+    (steps_of (record { place = 0; relation = m; forward = false } ∷ record { place = length first.0 - shared; relation = n; forward = true } ∷ []))
+    (critical_pair first second shared).1
+overlap_leads P first second shared m n one two overlaps is_first is_second =
+    let start = length first.0 - shared in
+    let pair = critical_pair first second shared in
+    let middle : Word = first.0 ++ drop shared second.0 in
+    let there : Gives P pair.0 (record { place = 0; relation = m; forward = false }) middle = record {
+      sides = first;
+      known = is_first;
+      before = [];
+      after = drop shared second.0;
+      placed = refl;
+      source = ap (λ k. first.1 ++ drop k second.0) (let none : 0 + shared ≡ shared = omega arith in none);
+      target = refl;
+    } in
+    let cut : first.0 ≡ take start first.0 ++ take shared second.0 =
+    sym (take-append-drop start first.0) ∙ ap (λ w. take start first.0 ++ w) overlaps in
+    let on : Gives P middle (record { place = start; relation = n; forward = true }) pair.1 = record {
+      sides = second;
+      known = is_second;
+      before = take start first.0;
+      after = [];
+      placed = length-take start first.0 ∙ (let within : min start (length first.0) ≡ start = omega arith in within);
+      source =
+          ap (λ w. w ++ drop shared second.0) cut ∙ append_assoc (take start first.0) (take shared second.0) (drop shared second.0)
+          ∙ ap (λ w. take start first.0 ++ w) (take-append-drop shared second.0 ∙ sym (append-nil second.0));
+      target =
+          ap (λ w. take start first.0 ++ (second.1 ++ w)) (past (start + shared) first.0 (omega (arith, one)));
+    } in
+    (middle ∷ pair.1 ∷ [], (there, (on, tt)), refl)
+  where
+    past : (k : ℕ) (w : Word) → length w ≤ k → drop k w ≡ []
+    past zero w long = nil_from_length w (omega arith)
+    past (suc k) [] long = refl
+    past (suc k) (a ∷ w) long = past k w (omega arith)
+
+-- what is shown, where something is logged or nothing
+pub shows_nothing : (log : Option Derived) (u : Word) (steps : List ChainStep) (v : Word) → log ≡ None → Shows log u steps v
+shows_nothing log u steps v is = subst (λ (o : Option Derived). Shows o u steps v) (sym is) tt
+
+pub shows_facts : (log : Option Derived) (d : Derived) (u : Word) (steps : List ChainStep) (v : Word) → log ≡ Some d → LeadTo (all_of d) u (steps_of steps) v
+    → Shows log u steps v
+shows_facts log d u steps v is leads = subst (λ (o : Option Derived). Shows o u steps v) (sym is) leads
+
+pub facts_shown : (log : Option Derived) (d : Derived) (u : Word) (steps : List ChainStep) (v : Word) → log ≡ Some d → Shows log u steps v
+    → LeadTo (all_of d) u (steps_of steps) v
+facts_shown log d u steps v is shows = subst (λ (o : Option Derived). Shows o u steps v) is shows
+
+pub log_of_none : (p : Presentation) (log : Option Derived) → log ≡ None → IsLogOf p log
+log_of_none p log is = subst (IsLogOf p) (sym is) tt
+
+pub log_of_facts : (p : Presentation) (log : Option Derived) (d : Derived) → log ≡ Some d → d.presentation ≡ p → IsLogOf p log
+log_of_facts p log d is same = subst (IsLogOf p) (sym is) same
+
+pub log_grows : (p : Presentation) (old new : Option Derived) → IsLogOf p old → Grows old new → IsLogOf p new
+log_grows p None new is grows = subst (IsLogOf p) (sym grows) tt
+log_grows p (Some d) new is grows = subst (IsLogOf p) (sym grows.1) is
+
+pub logged_grows : (old new : Option Derived) → Grows old new → is_some new ≡ is_some old
+logged_grows None new grows = ap (λ (o : Option Derived). is_some o) grows
+logged_grows (Some d) new grows = ap (λ (o : Option Derived). is_some o) grows.1
+
+-- across a pair
+pub across_shows : (log : Option Derived) (d : Derived) → log ≡ Some d → (pair : Word × Word) (forward : Bool) (n : ℕ) (back on steps : List ChainStep)
+    → slice_get (all_of d).relations n ≡ Some pair
+    → steps ≡ reverse (map turned back) ++ ((record { place = 0; relation = n; forward = forward } ∷ []) ++ on)
+    → (left right : Word) → Shows log (read_sides forward pair).0 back left → Shows log (read_sides forward pair).1 on right → Shows log left steps right
+across_shows log d is pair forward n back on steps known e left right first second =
+    shows_facts log d left steps right is
+    (subst (λ (s : List ChainStep). LeadTo (all_of d) left (steps_of s) right) (sym e)
+    (leads_around (all_of d) (read_sides forward pair).0 (read_sides forward pair).1 left right back (record { place = 0; relation = n; forward = forward } ∷ []) on
+    (facts_shown log d (read_sides forward pair).0 back left is first) (one forward) (facts_shown log d (read_sides forward pair).1 on right is second)))
+  where
+    one : (b : Bool) → LeadTo (all_of d) (read_sides b pair).0 (steps_of (record { place = 0; relation = n; forward = b } ∷ [])) (read_sides b pair).1
+    one true = leads_once (all_of d) n pair.0 pair.1 known
+    one false = leads_once_back (all_of d) n pair.0 pair.1 known
+
+-- over the word of an overlap
+pub over_shows : (log : Option Derived) (d : Derived) → log ≡ Some d → (first second : Word × Word) (shared m n start : ℕ) (back on steps : List ChainStep)
+    → shared ≤ length first.0 → shared ≤ length second.0 → overlaps_by first.0 second.0 shared
+    → slice_get (all_of d).relations m ≡ Some first → slice_get (all_of d).relations n ≡ Some second → start ≡ length first.0 - shared
+    → steps ≡ reverse (map turned back) ++ ((record { place = 0; relation = m; forward = false } ∷ record { place = start; relation = n; forward = true } ∷ []) ++ on)
+    → (left right : Word) → Shows log (critical_pair first second shared).0 back left → Shows log (critical_pair first second shared).1 on right → Shows log left steps right
+over_shows log d is first second shared m n start back on steps one two overlaps is_first is_second at e left right down up =
+    let middle : List ChainStep = record { place = 0; relation = m; forward = false } ∷ record { place = start; relation = n; forward = true } ∷ [] in
+    shows_facts log d left steps right is
+    (subst (λ (s : List ChainStep). LeadTo (all_of d) left (steps_of s) right) (sym e)
+    (leads_around (all_of d) (critical_pair first second shared).0 (critical_pair first second shared).1 left right back middle on
+    (facts_shown log d (critical_pair first second shared).0 back left is down)
+    (subst (λ k. LeadTo (all_of d) (critical_pair first second shared).0
+    (steps_of (record { place = 0; relation = m; forward = false } ∷ record { place = k; relation = n; forward = true } ∷ [])) (critical_pair first second shared).1) (sym at)
+    (overlap_leads (all_of d) first second shared m n one two overlaps is_first is_second))
+    (facts_shown log d (critical_pair first second shared).1 on right is up)))
+
+-- there and back
+pub spell_shows : (log : Option Derived) (d : Derived) → log ≡ Some d → (from to middle : Word) (there back steps : List ChainStep)
+    → steps ≡ there ++ reverse (map turned back) → Shows log from there middle → Shows log to back middle → LeadTo (all_of d) from (steps_of steps) to
+spell_shows log d is from to middle there back steps e first second =
+    subst (λ (s : List ChainStep). LeadTo (all_of d) from (steps_of s) to) (sym e)
+    (leads_there_and_back (all_of d) from to middle there back (facts_shown log d from there middle is first) (facts_shown log d to back middle is second))
+
+-- the next of a list
+pub take_next : {X : Type 0} (xs : List X) (i : ℕ) (x : X) → slice_get xs i ≡ Some x → take (i + 1) xs ≡ take i xs ++ x ∷ []
+take_next xs i x e = ap (λ n. take n xs) (let more : i + 1 ≡ suc i = omega arith in more) ∙ go xs i e
+  where
+    go : {X : Type 0} {x : X} (xs : List X) (i : ℕ) → slice_get xs i ≡ Some x → take (suc i) xs ≡ take i xs ++ x ∷ []
+    go {X} {x} [] i e = let bad : ⊥ = cc in absurd bad
+    go {X} {x} (y ∷ xs) zero e = let same : y ≡ x = cc in ap (λ z. z ∷ []) same
+    go {X} {x} (y ∷ xs) (suc i) e = ap (λ (zs : List X). y ∷ zs) (go xs i e)

@@ -1,0 +1,53 @@
+-- What the chains of a logged completion say.
+use Rattle.std.proofs.Common.{◌≡◌, ℕ, Bool, true, false, List, [], refl, sym, ◌∙◌, ap, arith, subst, ◌⊎◌, inl, inr, Option, None, Some, Result, Ok, Err, is_some, ◌↔◌, OnOk, MatchResult}
+use Rattle.theory.specs.Word.{Word}
+use Rattle.theory.specs.Congruence.{Presentation, IsWellFormed, of_presentation}
+use Rattle.theory.specs.Chain.{Related}
+use Rattle.theory.specs.Completion.{IsReduced, Listed, Reduces}
+use Rattle.theory.proofs.Completed.{completed_reduced}
+use Rattle.theory.proofs.RuleLists.{listed_reduced, listed_reduces}
+use Rattle.race.specs.declared.engines.Progress.{Progress}
+use Rattle.race.specs.declared.engines.Progress.TheVariants.{More, Decided, Spent, NoMemory}
+use Rattle.chains.specs.Derivations.{Derived}
+use Rattle.knuth_bendix.specs.Logs.{Grows, IsLogOf}
+use Rattle.knuth_bendix.proofs.LogLaws.{log_grows, log_of_none, logged_grows}
+use Rattle.knuth_bendix.proofs.SortedRules.{IsDecidedRun}
+
+-- related words are reduced to one
+module _ (p : Presentation) (L : ℕ) (rules : List (Word × Word)) (run : IsDecidedRun p L rules) where
+  well_formed : IsWellFormed (of_presentation p)
+  well_formed = record { relations = run.elements; pairs = λ k d less. absurd (omega arith) }
+
+  pub reduced_alike : (u v x y : Word) → Reduces (Listed rules) u x → IsReduced (Listed rules) x → Reduces (Listed rules) v y → IsReduced (Listed rules) y
+      → Related (of_presentation p) u v → x ≡ y
+  reduced_alike u v x y down_u here down_v there related =
+      (completed_reduced p L well_formed run.ends u v x y ((listed_reduces p L rules run.are u x).0 down_u) ((listed_reduced p L rules run.are x).0 here)
+      ((listed_reduces p L rules run.are v y).0 down_v) ((listed_reduced p L rules run.are y).0 there)).0 related
+
+-- something is logged
+pub some_logged : (log : Option Derived) → is_some log ≡ true → (d : Derived) × (log ≡ Some d)
+some_logged None is = let bad : ⊥ = cc in absurd bad
+some_logged (Some d) is = (d, refl)
+
+pub logged_of : (p : Presentation) (log : Option Derived) (d : Derived) → IsLogOf p log → log ≡ Some d → d.presentation ≡ p
+logged_of p log d is same = subst (IsLogOf p) same is
+
+-- what a turn leaves of the log
+is_starved : (said : Progress) → (said ≡ NoMemory) ⊎ (said ≡ NoMemory → ⊥)
+is_starved More = inr (λ e. cc)
+is_starved Decided = inr (λ e. cc)
+is_starved Spent = inr (λ e. cc)
+is_starved NoMemory = inl refl
+
+pub settled_log : {E : Type 0} (p : Presentation) (old new settled : Option Derived) (turn : Result (List (Word × Word) × Progress) E) (rest : List (Word × Word) × Progress)
+    → IsLogOf p old → OnOk turn (Grows old new) → MatchResult turn (λ t. rest ≡ t) (λ _. (rest.0 ≡ []) × (rest.1 ≡ NoMemory))
+    → ((rest.1 ≡ NoMemory → ⊥) → settled ≡ new) → (rest.1 ≡ NoMemory → settled ≡ None)
+    → IsLogOf p settled × ((rest.1 ≡ NoMemory → ⊥) → is_some settled ≡ is_some old)
+settled_log p old new settled (Ok t) rest is grows left kept lost = (
+  elim (is_starved rest.1) [
+    | inl e ↦ log_of_none p settled (lost e)
+    | inr n ↦ subst (IsLogOf p) (sym (kept n)) (log_grows p old new is grows)
+  ],
+  λ n. ap (λ (o : Option Derived). is_some o) (kept n) ∙ logged_grows old new grows,
+)
+settled_log p old new settled (Err none) rest is grows left kept lost = (log_of_none p settled (lost left.1), λ n. absurd (n left.1))

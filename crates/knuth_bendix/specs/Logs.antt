@@ -1,0 +1,43 @@
+-- What a completion logs: facts that follow from the relations, or nothing.
+use Rattle.std.specs.Prelude.{◌≡◌, ℕ, Bool, true, List, [], ◌∷◌, ◌++◌, Option, None, Some, slice_get, option_map}
+use Rattle.theory.specs.Word.{Word}
+use Rattle.theory.specs.Congruence.{Presentation}
+use Rattle.theory.specs.PlacedStep.{LeadTo, read_sides}
+use Rattle.chains.specs.Chains.{steps_of}
+use Rattle.chains.specs.Derivations.{Derived, all_of}
+use Rattle.chains.specs.declared.derivations.Fact.{Fact}
+use Rattle.chains.specs.declared.steps.ChainStep.{ChainStep}
+use Rattle.reduced_automaton.specs.declared.traces.Applied.{Applied}
+
+-- steps over what is logged lead from u to v, if something is
+abbrev pub Shows : Option Derived → Word → List ChainStep → Word → Type 0
+Shows None u steps v = Unit {0}
+Shows (Some d) u steps v = LeadTo (all_of d) u (steps_of steps) v
+
+-- facts may have been added
+abbrev pub Grows : Option Derived → Option Derived → Type 0
+Grows None new = new ≡ None
+Grows (Some d) new = (more : List Fact)
+    × (new ≡ Some (record { presentation = d.presentation; facts = d.facts ++ more }))
+
+-- the step is by the relation or fact of the rule that is applied, at its place
+pub record IsFor (rules relations : List (Word × Word)) (at : Applied)
+    (step : ChainStep) : Type 0 where
+  pub place : step.place ≡ at.place
+  pub forward : step.forward ≡ true
+  pub same : (sides : Word × Word) → slice_get rules at.rule ≡ Some sides
+      → slice_get relations step.relation ≡ Some sides
+
+-- each step is that of a rule that is applied
+abbrev pub AreFor : List (Word × Word) → List (Word × Word) → List Applied → List ChainStep
+    → Type 0
+AreFor rules relations [] [] = Unit {0}
+AreFor rules relations (at ∷ trace) (step ∷ steps) = IsFor rules relations at step
+    × AreFor rules relations trace steps
+AreFor rules relations [] (step ∷ steps) = ⊥
+AreFor rules relations (at ∷ trace) [] = ⊥
+
+-- the log is of facts that follow from the presentation, if something is logged
+abbrev pub IsLogOf : Presentation → Option Derived → Type 0
+IsLogOf p None = Unit {0}
+IsLogOf p (Some d) = d.presentation ≡ p

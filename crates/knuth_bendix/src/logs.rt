@@ -1,0 +1,294 @@
+// How the rules and equations of a completion follow from the relations.
+ghost use Rattle.std.specs.Prelude.{◌≡◌, ℕ, ◌<◌, ◌≤◌, [], None, Some, is_some, length, slice_get, IfOk, OnOk};
+ghost use Rattle.theory.specs.Word.{Word as Letters};
+ghost use Rattle.theory.specs.PlacedStep.{LeadTo, read_sides};
+ghost use Rattle.theory.specs.Completion.{IsReduced, Listed, Reduces};
+ghost use Rattle.reduced_automaton.specs.Traces.{LeadBy};
+ghost use Rattle.chains.specs.Chains.{IsStraight, steps_of};
+ghost use Rattle.chains.specs.Derivations.{Derived, all_of};
+ghost use Rattle.knuth_bendix.specs.Logs.{AreFor, Grows, IsFor, Shows};
+ghost use Rattle.knuth_bendix.specs.Overlaps.{critical_pair, overlaps_by};
+
+use chains::{ChainStep, Derivations, Fact, around, turn_back};
+use ports::NoMemory;
+use presentation::Presentation;
+use reduced_automaton::{Applied, KeptRules};
+use std::alloc::Global;
+use std::collections::HashMap;
+use std::marker::Model;
+use words::Word;
+
+// Facts, and the number under which the fact of two words is likely to be found.
+#[derive(Drop)]
+struct Facts {
+    derivations: Derivations,
+    likely: HashMap<Vec<u8>, usize>,
+}
+
+// The letters of the two words with a byte between them that is none.
+fn key_of(alloc: Global, left: &Word, right: &Word) -> Result<Vec<u8>, NoMemory> {
+    let mut key = Vec::new(alloc);
+    for letter in left.letters() {
+        key.push(u8::try_from(letter.number()).unwrap_or(0))?;
+    }
+    key.push(u8::MAX)?;
+    for letter in right.letters() {
+        key.push(u8::try_from(letter.number()).unwrap_or(0))?;
+    }
+    Ok(key)
+}
+
+impl Facts {
+    // The number of the relation or fact of the two words.
+    fn number_of(&self, alloc: Global, pair: &(Word, Word)) -> Result<usize, NoMemory>
+        ensures { IfOk result (λ number. slice_get (all_of self.now.derivations).relations number
+            ≡ Some pair.now) }
+    {
+        let key = key_of(alloc, &pair.0, &pair.1)?;
+        let likely = match self.likely.get(&key) {
+            Some(number) => *number,
+            None => 0,
+        };
+        match self.derivations.number_of(likely, &pair.0, &pair.1) {
+            Some(number) => Ok(number),
+            None => Err(NoMemory),
+        }
+    }
+
+    // The step of a rule that is applied.
+    fn step_of(&self, alloc: Global, rules: &KeptRules, at: Applied) -> Result<ChainStep, NoMemory>
+        requires { at.rule < length rules.now }
+        ensures { IfOk result (IsFor rules.now (all_of self.now.derivations).relations at) }
+    {
+        let relation = self.number_of(alloc, rules.rule(at.rule))?;
+        Ok(ChainStep {
+            place: at.place,
+            relation,
+            forward: true,
+        })
+    }
+
+    // The steps of rules that are applied.
+    fn steps_of(
+        &self,
+        alloc: Global,
+        rules: &KeptRules,
+        trace: &[Applied],
+    ) -> Result<Vec<ChainStep>, NoMemory>
+        requires { (u : Letters) × (v : Letters) × LeadBy rules.now u trace.now v }
+        ensures { IfOk result (λ steps. (u v : Letters) → LeadBy rules.now u trace.now v
+            → LeadTo (all_of self.now.derivations) u (steps_of steps.items) v) }
+    {
+        let mut steps = Vec::new(alloc);
+        for at in trace {
+            steps.push(self.step_of(alloc, rules, *at)?)?;
+        }
+        Ok(steps)
+    }
+
+    // Logs the fact that the steps lead from the left word to the right one.
+    fn push(
+        &mut self,
+        alloc: Global,
+        left: &Word,
+        right: &Word,
+        steps: Vec<ChainStep>,
+    ) -> Result<(), NoMemory>
+        requires { LeadTo (all_of self.old.derivations) left.now (steps_of steps.items) right.now }
+        ensures { OnOk result (Grows (Some self.old.derivations) (Some self.new.derivations)) }
+    {
+        let key = key_of(alloc, left, right)?;
+        if self.likely.contains_key(&key) {
+            return Ok(());
+        }
+        let number = self.derivations.len();
+        let fact = Fact {
+            left: left.copy(alloc)?,
+            right: right.copy(alloc)?,
+            steps,
+        };
+        self.derivations.push(fact)?;
+        let _none = self.likely.insert(key, number)?;
+        Ok(())
+    }
+}
+
+/// How rules and equations follow from the relations, or nothing, where nothing is logged.
+#[derive(Drop)]
+pub struct Log {
+    facts: Option<Facts>,
+}
+
+impl Model for Log {
+    ghost use Rattle.std.specs.Prelude.{Option, option_map};
+    ghost use Rattle.chains.specs.Derivations.{Derived};
+
+    ghost Value = { Option Derived };
+
+    ghost view = { λ l. option_map (λ f. f.derivations) l.facts };
+}
+
+impl Log {
+    /// The log of nothing.
+    pub fn none() -> Log
+        ensures { result ≡ None }
+    {
+        Log { facts: None }
+    }
+
+    /// The log without facts. Refused only where memory is wanting.
+    pub fn new(alloc: Global, presentation: &Presentation) -> Result<Log, NoMemory>
+        ensures { IfOk result (λ log. log ≡ Some (record {
+          presentation = presentation.now.presentation;
+          facts = [];
+        })) }
+    {
+        let derivations = Derivations::new(alloc, presentation)?;
+        let relations = presentation.relations();
+        let mut likely = HashMap::new(alloc);
+        for number in 0..relations.len() {
+            let pair = relations.pair(number);
+            let _old = likely.insert(key_of(alloc, &pair.0, &pair.1)?, number)?;
+        }
+        Ok(Log {
+            facts: Some(Facts {
+                derivations,
+                likely,
+            }),
+        })
+    }
+
+    /// Whether something is logged.
+    pub fn is_logged(&self) -> bool
+        ensures { result ≡ is_some self.now }
+    {
+        self.facts.is_some()
+    }
+
+    /// A word to which the rules lead from the word, and to which none applies; and steps over what
+    /// is logged that lead there, if something is. Refused only where memory is wanting.
+    pub fn reduce(
+        &self,
+        alloc: Global,
+        rules: &KeptRules,
+        word: &Word,
+    ) -> Result<(Word, Vec<ChainStep>), NoMemory>
+        ensures reached { IfOk result (λ r. Reduces (Listed rules.now) word.now r.0) }
+        ensures reduced { IfOk result (λ r. IsReduced (Listed rules.now) r.0) }
+        ensures shown { IfOk result (λ r. Shows self.now word.now r.1.items r.0) }
+    {
+        match &self.facts {
+            None => Ok((rules.reduce(word)?, Vec::new(alloc))),
+            Some(facts) => {
+                let (reduced, trace) = rules.reduce_traced(word)?;
+                let steps = facts.steps_of(alloc, rules, trace.as_slice())?;
+                Ok((reduced, steps))
+            }
+        }
+    }
+
+    /// Logs that the steps lead from the left word to the right one, if something is logged.
+    /// Refused only where memory is wanting.
+    pub fn push(
+        &mut self,
+        alloc: Global,
+        left: &Word,
+        right: &Word,
+        steps: Vec<ChainStep>,
+    ) -> Result<(), NoMemory>
+        requires { Shows self.old left.now steps.items right.now }
+        ensures { OnOk result (Grows self.old self.new) }
+    {
+        if let Some(facts) = &mut self.facts {
+            facts.push(alloc, left, right, steps)?;
+        }
+        Ok(())
+    }
+
+    /// Steps from where those lead that go back from one word of a pair, over the pair, to where
+    /// those lead that go on from the other. Refused only where memory is wanting.
+    pub fn across(
+        &self,
+        alloc: Global,
+        pair: &(Word, Word),
+        forward: bool,
+        back: &[ChainStep],
+        on: &[ChainStep],
+    ) -> Result<Vec<ChainStep>, NoMemory>
+        ensures { IfOk result (λ steps. (left right : Letters)
+            → Shows self.now (read_sides forward pair.now).0 back.now left
+            → Shows self.now (read_sides forward pair.now).1 on.now right
+            → Shows self.now left steps.items right) }
+    {
+        let Some(facts) = &self.facts else {
+            return Ok(Vec::new(alloc));
+        };
+        let relation = facts.number_of(alloc, pair)?;
+        let step = ChainStep {
+            place: 0,
+            relation,
+            forward,
+        };
+        around(alloc, back, &[step], on)
+    }
+
+    /// Steps from where those lead that go back from the first word of a critical pair, over the
+    /// word of the overlap, to where those lead that go on from the second. Refused only where
+    /// memory is wanting.
+    pub fn over(
+        &self,
+        alloc: Global,
+        first: &(Word, Word),
+        second: &(Word, Word),
+        shared: usize,
+        back: &[ChainStep],
+        on: &[ChainStep],
+    ) -> Result<Vec<ChainStep>, NoMemory>
+        requires first { shared ≤ length first.now.0 }
+        requires second { shared ≤ length second.now.0 }
+        requires overlaps { overlaps_by first.now.0 second.now.0 shared }
+        ensures { IfOk result (λ steps. (left right : Letters)
+            → Shows self.now (critical_pair first.now second.now shared).0 back.now left
+            → Shows self.now (critical_pair first.now second.now shared).1 on.now right
+            → Shows self.now left steps.items right) }
+    {
+        let Some(facts) = &self.facts else {
+            return Ok(Vec::new(alloc));
+        };
+        let up = ChainStep {
+            place: 0,
+            relation: facts.number_of(alloc, first)?,
+            forward: false,
+        };
+        let down = ChainStep {
+            place: first.0.len() - shared,
+            relation: facts.number_of(alloc, second)?,
+            forward: true,
+        };
+        around(alloc, back, &[up, down], on)
+    }
+
+    /// Steps by the relations of the presentation from the one word to the other, over words that
+    /// are all different: there by the first steps, and back by the others, which lead to the same
+    /// word. Refused only where memory is wanting.
+    pub fn spell(
+        &self,
+        from: &Word,
+        there: Vec<ChainStep>,
+        back: &[ChainStep],
+    ) -> Result<Vec<ChainStep>, NoMemory>
+        requires logged { (d : Derived) × (self.now ≡ Some d) }
+        requires shown { (middle : Letters) × (to : Letters)
+            × Shows self.now from.now there.items middle × Shows self.now to back.now middle }
+        ensures { IfOk result (λ chain. (d : Derived) (middle to : Letters) → self.now ≡ Some d
+            → Shows self.now from.now there.items middle → Shows self.now to back.now middle
+            → IsStraight d.presentation from.now chain.items to) }
+    {
+        let Some(facts) = &self.facts else {
+            unreachable!();
+        };
+        let mut steps = there;
+        turn_back(&mut steps, back)?;
+        facts.derivations.spell(from, steps.as_slice())
+    }
+}
