@@ -39,7 +39,8 @@ fn key_of(alloc: Global, left: &Word, right: &Word) -> Result<Vec<u8>, NoMemory>
 }
 
 impl Facts {
-    // The number of the relation or fact of the two words.
+    // The number of the relation or fact of the two words. Where there is none, it is refused as if
+    // memory were wanting.
     fn number_of(&self, alloc: Global, pair: &(Word, Word)) -> Result<usize, NoMemory>
         ensures { IfOk result (λ number. slice_get (all_of self.now.derivations).relations number
             ≡ Some pair.now) }

@@ -345,6 +345,18 @@ fn takes_rules_out(rt: HostRuntime) -> Result<(), Fail> {
     Ok(())
 }
 
+#[test]
+fn applied_rules_are_told(rt: HostRuntime) -> Result<(), Fail> {
+    let alphabet = alphabet(rt.alloc(), b"ab")?;
+    let rules = kept_of(rt.alloc(), &[(b"bb", b"b"), (b"ba", b"ab")])?;
+    let word = word(&alphabet, rt.alloc(), b"abba")?;
+    let (_reduced, trace) = rules.reduce_traced(&word)?;
+    let first = Applied { place: 1, rule: 0 };
+    let second = Applied { place: 1, rule: 1 };
+    assert_eq!(rt; trace.as_slice(), [first, second].as_slice());
+    Ok(())
+}
+
 // Rules that lead b, so many letters a, and b to these letters, for each number below the count.
 fn bracketed(alloc: Global, count: usize) -> Result<KeptRules, NoMemory> {
     let mut rules = KeptRules::new(alloc);
