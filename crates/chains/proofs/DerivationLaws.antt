@@ -332,7 +332,7 @@ pub leads_there_and_back : (P : Presentation) (u v middle : Word) (there back : 
     → LeadTo P u (steps_of (there ++ reverse (map turned back))) v
 leads_there_and_back P u v middle there back first second =
     let turned_is : steps_of (reverse (map turned back)) ≡ reverse (map turned_step (steps_of back)) =
-        reversed_map step_of (map turned back) ∙ ap reverse (turned_steps back) in
+    reversed_map step_of (map turned back) ∙ ap reverse (turned_steps back) in
     subst (λ (s : List PlacedStep). LeadTo P u s v)
     (ap (λ (s : List PlacedStep). steps_of there ++ s) (sym turned_is) ∙ sym (map-append step_of there (reverse (map turned back))))
     (leads_after P u middle v (steps_of there) (reverse (map turned_step (steps_of back))) first (leads_back P v (steps_of back) middle second))

@@ -1,10 +1,10 @@
 -- What a completion logs, step by step.
-use Rattle.std.proofs.Common.{◌≡◌, ℕ, zero, suc, min, ◌+◌, ◌-◌, ◌<◌, ◌≤◌, Bool, true, false, List, [], ◌∷◌, ◌++◌, map, reverse, take, drop, length, get_or, refl, sym, ◌∙◌, ap, ap₂, subst, arith, append_assoc, Option, None, Some, slice_get, is_some, length-append, length-take, length-drop, take-append-drop}
-use Rattle.std.proofs.lemmas.List.{nil_from_length, append-nil, take_at, drop_at}
+use Rattle.std.proofs.Common.{◌≡◌, ℕ, zero, suc, min, ◌+◌, ◌-◌, ◌<◌, ◌≤◌, Bool, true, false, List, [], ◌∷◌, ◌++◌, map, reverse, take, drop, length, refl, sym, ◌∙◌, ap, subst, arith, append_assoc, Option, None, Some, slice_get, is_some, length-take, take-append-drop}
+use Rattle.std.proofs.lemmas.List.{nil_from_length, append-nil}
 use Rattle.std.proofs.lemmas.Option.{slice_get_within}
 use Rattle.theory.specs.Word.{Word}
 use Rattle.theory.specs.Congruence.{Presentation}
-use Rattle.theory.specs.PlacedStep.{PlacedStep, Gives, AllGive, LeadTo, last_word, read_sides}
+use Rattle.theory.specs.PlacedStep.{Gives, AllGive, LeadTo, last_word, read_sides}
 use Rattle.chains.specs.Chains.{steps_of}
 use Rattle.chains.specs.Derivations.{Derived, all_of, turned}
 use Rattle.chains.proofs.DerivationLaws.{leads_around, leads_once, leads_once_back, leads_there_and_back}

@@ -1,5 +1,5 @@
 -- What the chains of a logged completion say.
-use Rattle.std.proofs.Common.{◌≡◌, ℕ, Bool, true, false, List, [], refl, sym, ◌∙◌, ap, arith, subst, ◌⊎◌, inl, inr, Option, None, Some, Result, Ok, Err, is_some, ◌↔◌, OnOk, MatchResult}
+use Rattle.std.proofs.Common.{◌≡◌, ℕ, true, List, [], refl, sym, ◌∙◌, ap, arith, subst, ◌⊎◌, inl, inr, Option, None, Some, Result, Ok, Err, is_some, OnOk, MatchResult}
 use Rattle.theory.specs.Word.{Word}
 use Rattle.theory.specs.Congruence.{Presentation, IsWellFormed, of_presentation}
 use Rattle.theory.specs.Chain.{Related}

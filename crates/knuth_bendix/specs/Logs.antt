@@ -1,8 +1,8 @@
 -- What a completion logs: facts that follow from the relations, or nothing.
-use Rattle.std.specs.Prelude.{◌≡◌, ℕ, Bool, true, List, [], ◌∷◌, ◌++◌, Option, None, Some, slice_get, option_map}
+use Rattle.std.specs.Prelude.{◌≡◌, true, List, [], ◌∷◌, ◌++◌, Option, None, Some, slice_get}
 use Rattle.theory.specs.Word.{Word}
 use Rattle.theory.specs.Congruence.{Presentation}
-use Rattle.theory.specs.PlacedStep.{LeadTo, read_sides}
+use Rattle.theory.specs.PlacedStep.{LeadTo}
 use Rattle.chains.specs.Chains.{steps_of}
 use Rattle.chains.specs.Derivations.{Derived, all_of}
 use Rattle.chains.specs.declared.derivations.Fact.{Fact}

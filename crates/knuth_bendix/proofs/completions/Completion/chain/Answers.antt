@@ -1,4 +1,4 @@
-use Rattle.std.proofs.Common.{◌≡◌, ◌∙◌, sym, ap, subst, subst₂, List}
+use Rattle.std.proofs.Common.{◌∙◌, sym, ap, subst, subst₂, List}
 use Rattle.theory.specs.Word.{Word}
 use Rattle.theory.specs.Congruence.{Presentation}
 use Rattle.chains.specs.Chains.{IsStraight}

@@ -1,4 +1,4 @@
-use Rattle.std.proofs.Common.{◌≡◌, List, Some, slice_get, slice_index_or, sym, subst, subst₂, take, arith}
+use Rattle.std.proofs.Common.{List, slice_index_or, sym, subst, subst₂, take, arith}
 use Rattle.std.proofs.lemmas.List.{take_all}
 use Rattle.std.proofs.lemmas.Option.{slice_get-get_or}
 use Rattle.chains.specs.Derivations.{all_of}
