@@ -70,7 +70,7 @@ module _ (c : Congruence) (rules : List (Word × Word)) (formed : IsWellFormed c
   from_rule : (u v : Word) → Rule (related_presentation c) are.length u v → Listed rules u v
   from_rule u v = (are.reduced u v).1
 
-  pub decides_by : DecidesBy c (record { letters = c.presentation.letters; rules = rules; states = [] })
+  pub decides_by : DecidesBy c (record { letters = c.presentation.letters; rules = rules; states = []; graph = [] })
   decides_by =
       let two = two_sided c are.two_sided in
       let whole = relations_well_formed c formed in
