@@ -32,7 +32,7 @@ query_in_elements p name.Classes tokens l there = classes_cause p tokens ∙ lif
 query_in_elements p name.Rules tokens l there = rules_cause p tokens ∙ lift _ _ _ _ (never-late (is_empty p.queries) (length (pairs_of p.problem) == 0)) l
 query_in_elements p name.Element tokens l there = element_cause p tokens ∙ lift _ _ _ _ (never-late (is_empty p.queries) (length (pairs_of p.problem) == 0)) l
 query_in_elements p name.Cayley tokens l there = cayley_cause p tokens ∙ lift _ _ _ _ (never-late (is_empty p.queries) (length (pairs_of p.problem) == 0)) l
-query_in_elements p name.LowIndex tokens l there = absurd (true≢false (sym there))
+query_in_elements p (name.LowIndex two_sided) tokens l there = absurd (true≢false (sym there))
 query_in_elements p name.Meet tokens l there = absurd (true≢false (sym there))
 query_in_elements p name.Join tokens l there = absurd (true≢false (sym there))
 query_in_elements p name.Green tokens l there = green_cause p tokens ∙ lift _ _ _ _ (never-late (is_empty p.queries) (length (pairs_of p.problem) == 0)) l
@@ -47,7 +47,7 @@ lacking-of p name.Classes tokens l = lacking_cause _ _ _ (never-late (is_empty p
 lacking-of p name.Rules tokens l = lacking_cause _ _ _ (never-late (is_empty p.queries) (length (pairs_of p.problem) == 0)) l
 lacking-of p name.Element tokens l = lacking_cause _ _ _ (never-late (is_empty p.queries) (length (pairs_of p.problem) == 0)) l
 lacking-of p name.Cayley tokens l = lacking_cause _ _ _ (never-late (is_empty p.queries) (length (pairs_of p.problem) == 0)) l
-lacking-of p name.LowIndex tokens l = lacking_cause _ _ _ (never-late (is_empty p.queries) (length (pairs_of p.problem) == 0)) l
+lacking-of p (name.LowIndex two_sided) tokens l = lacking_cause _ _ _ (never-late (is_empty p.queries) (length (pairs_of p.problem) == 0)) l
 lacking-of p name.Meet tokens l = lacking_cause _ _ _ (never-late (is_empty p.queries) (length (pairs_of p.problem) == 0)) l
 lacking-of p name.Join tokens l = lacking_cause _ _ _ (never-late (is_empty p.queries) (length (pairs_of p.problem) == 0)) l
 lacking-of p name.Green tokens l = lacking_cause _ _ _ (never-late (is_empty p.queries) (length (pairs_of p.problem) == 0)) l

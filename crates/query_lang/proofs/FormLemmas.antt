@@ -264,40 +264,40 @@ pub cayley_cause : (p : Partial) (tokens : List Token) → query_cause p name.Ca
 cayley_cause p [] = not-barred _ (length (pairs_of p.problem) == 0)
 cayley_cause p (t ∷ tokens) = refl
 
-search-first : (p : Partial) (barred : Bool) (n m : Option ℕ)
+search-first : (two_sided : Bool) (p : Partial) (barred : Bool) (n m : Option ℕ)
     → cause_in (if barred then Err cause.QueryNotAllowed else and_then (λ q. Ok (with_asked (script_in p) q))
-    (and_then (λ (l : ℕ × ℕ). Ok (query.LowIndex l.0 l.1 None)) (and_then (λ n. and_then (λ m. Ok (n, m)) (ok_or m cause.BadNumber)) (ok_or n cause.BadNumber))))
+    (and_then (λ (l : ℕ × ℕ). Ok (query.LowIndex two_sided l.0 l.1 None)) (and_then (λ n. and_then (λ m. Ok (n, m)) (ok_or m cause.BadNumber)) (ok_or n cause.BadNumber))))
     ≡ first_of (when cause.QueryNotAllowed barred ∷ when cause.BadNumber (is_none n) ∷ when cause.BadNumber (is_none m) ∷ [])
-search-first p true n m = refl
-search-first p false None m = refl
-search-first p false (Some n) None = refl
-search-first p false (Some n) (Some m) = refl
+search-first two_sided p true n m = refl
+search-first two_sided p false None m = refl
+search-first two_sided p false (Some n) None = refl
+search-first two_sided p false (Some n) (Some m) = refl
 
-search-behind : (p : Partial) (barred : Bool) (n m : Option ℕ) (after : Bool) (table : ℕ → Result Graph Cause)
+search-behind : (two_sided : Bool) (p : Partial) (barred : Bool) (n m : Option ℕ) (after : Bool) (table : ℕ → Result Graph Cause)
     → cause_in (if barred then Err cause.QueryNotAllowed else and_then (λ q. Ok (with_asked (script_in p) q))
-    (and_then (λ (l : ℕ × ℕ). and_then (λ g. Ok (query.LowIndex l.0 l.1 (Some g))) (if after then table l.0 else Err cause.AfterExpected))
+    (and_then (λ (l : ℕ × ℕ). and_then (λ g. Ok (query.LowIndex two_sided l.0 l.1 (Some g))) (if after then table l.0 else Err cause.AfterExpected))
     (and_then (λ n. and_then (λ m. Ok (n, m)) (ok_or m cause.BadNumber)) (ok_or n cause.BadNumber))))
     ≡ first_of (when cause.QueryNotAllowed barred ∷ when cause.BadNumber (is_none n) ∷ when cause.BadNumber (is_none m)
     ∷ when cause.AfterExpected (not after) ∷ cause_in (table (unwrap_or n 0)) ∷ [])
-search-behind p true n m after table = refl
-search-behind p false None m after table = refl
-search-behind p false (Some n) None after table = refl
-search-behind p false (Some n) (Some m) false table = refl
-search-behind p false (Some n) (Some m) true table = found (table n)
+search-behind two_sided p true n m after table = refl
+search-behind two_sided p false None m after table = refl
+search-behind two_sided p false (Some n) None after table = refl
+search-behind two_sided p false (Some n) (Some m) false table = refl
+search-behind two_sided p false (Some n) (Some m) true table = found (table n)
   where
-    found : (r : Result Graph Cause) → cause_in (and_then (λ q. Ok (with_asked (script_in p) q)) (and_then (λ g. Ok (query.LowIndex n m (Some g))) r)) ≡ first_of (cause_in r ∷ [])
+    found : (r : Result Graph Cause) → cause_in (and_then (λ q. Ok (with_asked (script_in p) q)) (and_then (λ g. Ok (query.LowIndex two_sided n m (Some g))) r)) ≡ first_of (cause_in r ∷ [])
     found (Ok g) = refl
     found (Err c) = refl
 
-pub lowindex_cause : (p : Partial) (tokens : List Token) → query_cause p name.LowIndex tokens ≡ first_of (query_causes p LowIndex tokens)
-lowindex_cause p [] = refl
-lowindex_cause p (s ∷ []) = refl
-lowindex_cause p (s ∷ t ∷ []) = search-first p (not (length (pairs_of p.problem) == 0)) (number_within 1 16 s) (number_within 0 1000000 t)
-lowindex_cause p (s ∷ t ∷ u ∷ []) = refl
-lowindex_cause p (s ∷ t ∷ u ∷ v ∷ []) =
-    search-behind p (not (length (pairs_of p.problem) == 0)) (number_within 1 16 s) (number_within 0 1000000 t) (is_word (codes "after") u)
+pub lowindex_cause : (two_sided : Bool) (p : Partial) (tokens : List Token) → query_cause p (name.LowIndex two_sided) tokens ≡ first_of (query_causes p (LowIndex two_sided) tokens)
+lowindex_cause two_sided p [] = refl
+lowindex_cause two_sided p (s ∷ []) = refl
+lowindex_cause two_sided p (s ∷ t ∷ []) = search-first two_sided p (not (length (pairs_of p.problem) == 0)) (number_within 1 16 s) (number_within 0 1000000 t)
+lowindex_cause two_sided p (s ∷ t ∷ u ∷ []) = refl
+lowindex_cause two_sided p (s ∷ t ∷ u ∷ v ∷ []) =
+    search-behind two_sided p (not (length (pairs_of p.problem) == 0)) (number_within 1 16 s) (number_within 0 1000000 t) (is_word (codes "after") u)
     (λ n. low_table_of (has_empty_word p.problem) (length (letters_of p.problem)) n v)
-lowindex_cause p (s ∷ t ∷ u ∷ v ∷ w ∷ tokens) = refl
+lowindex_cause two_sided p (s ∷ t ∷ u ∷ v ∷ w ∷ tokens) = refl
 
 two-tables : (p : Partial) (made : Graph → Graph → Query) (barred : Bool) (u v : Result Graph Cause)
     → cause_in (if barred then Err cause.QueryNotAllowed else and_then (λ q. Ok (with_asked (script_in p) q))
@@ -370,7 +370,7 @@ form_of name.Classes = Classes
 form_of name.Rules = Rules
 form_of name.Element = Element
 form_of name.Cayley = Cayley
-form_of name.LowIndex = LowIndex
+form_of (name.LowIndex two_sided) = LowIndex two_sided
 form_of name.Meet = Meet
 form_of name.Join = Join
 form_of name.Green = Green
@@ -384,7 +384,7 @@ query_in_presentation head o queries name.Equal tokens there = equal_cause (part
 query_in_presentation head o queries name.Normal tokens there = normal_cause (partial head (Presented o) queries) tokens ∙ lift _ _ _ _ (never-late (is_empty queries) (length o.congruence.pairs == 0)) refl
 query_in_presentation head o queries name.Classes tokens there = classes_cause (partial head (Presented o) queries) tokens ∙ lift _ _ _ _ (never-late (is_empty queries) (length o.congruence.pairs == 0)) refl
 query_in_presentation head o queries name.Rules tokens there = rules_cause (partial head (Presented o) queries) tokens ∙ lift _ _ _ _ (never-late (is_empty queries) (length o.congruence.pairs == 0)) refl
-query_in_presentation head o queries name.LowIndex tokens there = lowindex_cause (partial head (Presented o) queries) tokens ∙ lift _ _ _ _ (never-late (is_empty queries) (length o.congruence.pairs == 0)) refl
+query_in_presentation head o queries (name.LowIndex two_sided) tokens there = lowindex_cause two_sided (partial head (Presented o) queries) tokens ∙ lift _ _ _ _ (never-late (is_empty queries) (length o.congruence.pairs == 0)) refl
 query_in_presentation head o queries name.Meet tokens there = meet_cause (partial head (Presented o) queries) tokens ∙ lift _ _ _ _ (never-late (is_empty queries) (length o.congruence.pairs == 0)) refl
 query_in_presentation head o queries name.Join tokens there = join_cause (partial head (Presented o) queries) tokens ∙ lift _ _ _ _ (never-late (is_empty queries) (length o.congruence.pairs == 0)) refl
 query_in_presentation head o queries name.Element tokens there = absurd (true≢false (sym there))
@@ -398,18 +398,19 @@ same-cause f (Err c) = refl
 
 -- the query by its name
 pick-query : (given : Result NameOf Cause → Option Cause) (said : Option Form → Option Cause) → given (Err cause.UnknownLine) ≡ said None
-    → ((name : NameOf) → is_name_there true name ≡ true → given (Ok name) ≡ said (Some (form_of name))) → (i e n c r l m j : Bool)
-    → given (ok_or (if i then Some name.Index else if e then Some name.Equal else if n then Some name.Normal else if c then Some name.Classes else if r then Some name.Rules else if l then Some name.LowIndex else if m then Some name.Meet else if j then Some name.Join else None) cause.UnknownLine)
-    ≡ said (if i then Some Index else if e then Some Equal else if n then Some Normal else if c then Some Classes else if r then Some Rules else if l then Some LowIndex else if m then Some Meet else if j then Some Join else None)
-pick-query given said none each true e n c r l m j = each name.Index refl
-pick-query given said none each false true n c r l m j = each name.Equal refl
-pick-query given said none each false false true c r l m j = each name.Normal refl
-pick-query given said none each false false false true r l m j = each name.Classes refl
-pick-query given said none each false false false false true l m j = each name.Rules refl
-pick-query given said none each false false false false false true m j = each name.LowIndex refl
-pick-query given said none each false false false false false false true j = each name.Meet refl
-pick-query given said none each false false false false false false false true = each name.Join refl
-pick-query given said none each false false false false false false false false = none
+    → ((name : NameOf) → is_name_there true name ≡ true → given (Ok name) ≡ said (Some (form_of name))) → (i e n c r l k m j : Bool)
+    → given (ok_or (if i then Some name.Index else if e then Some name.Equal else if n then Some name.Normal else if c then Some name.Classes else if r then Some name.Rules else if l then Some (name.LowIndex false) else if k then Some (name.LowIndex true) else if m then Some name.Meet else if j then Some name.Join else None) cause.UnknownLine)
+    ≡ said (if i then Some Index else if e then Some Equal else if n then Some Normal else if c then Some Classes else if r then Some Rules else if l then Some (LowIndex false) else if k then Some (LowIndex true) else if m then Some Meet else if j then Some Join else None)
+pick-query given said none each true e n c r l k m j = each name.Index refl
+pick-query given said none each false true n c r l k m j = each name.Equal refl
+pick-query given said none each false false true c r l k m j = each name.Normal refl
+pick-query given said none each false false false true r l k m j = each name.Classes refl
+pick-query given said none each false false false false true l k m j = each name.Rules refl
+pick-query given said none each false false false false false true k m j = each (name.LowIndex false) refl
+pick-query given said none each false false false false false false true m j = each (name.LowIndex true) refl
+pick-query given said none each false false false false false false false true j = each name.Meet refl
+pick-query given said none each false false false false false false false false true = each name.Join refl
+pick-query given said none each false false false false false false false false false = none
 
 -- the pair by its kind, or the query
 pub pick_pair : (version : Version) (t g l : Bool) (r : ReaderOf) (first : Token) (tokens : List Token) (said : Option Form → Option Cause) (f : Option Form)
@@ -436,12 +437,12 @@ pick-role version false false true r first tokens said f each h = each role.Inve
 pick-role version false false false r first tokens said f each h = h
 
 query-by-name : (r : ReaderOf) (head : Head) (o : Posed) (queries : List Query) (first : Token) (tokens : List Token) → is_presentation r ≡ true → finished r ≡ Ok (script_in (partial head (Presented o) queries))
-    → cause_in (query_line head.version r first tokens) ≡ first_of (named_causes (partial head (Presented o) queries) (form_among (Index ∷ Equal ∷ Normal ∷ Classes ∷ Rules ∷ LowIndex ∷ Meet ∷ Join ∷ []) first) tokens)
+    → cause_in (query_line head.version r first tokens) ≡ first_of (named_causes (partial head (Presented o) queries) (form_among (Index ∷ Equal ∷ Normal ∷ Classes ∷ Rules ∷ LowIndex false ∷ LowIndex true ∷ Meet ∷ Join ∷ []) first) tokens)
 query-by-name r head o queries first tokens kind h =
     ap (λ b. cause_in (and_then (λ name. and_then (λ script. and_then (λ s. Ok (Asking s)) (asked head.version script name tokens)) (finished r)) (ok_or (query_name_of b first) cause.UnknownLine))) kind
     ∙ pick-query (λ x. cause_in (and_then (λ name. and_then (λ script. and_then (λ s. Ok (Asking s)) (asked head.version script name tokens)) (finished r)) x)) (λ form. first_of (named_causes (partial head (Presented o) queries) form tokens)) refl
     (λ name there. ap (λ x. cause_in (and_then (λ script. and_then (λ s. Ok (Asking s)) (asked head.version script name tokens)) x)) h ∙ same-cause (λ s. Asking s) (asked head.version (script_in (partial head (Presented o) queries)) name tokens) ∙ query_in_presentation head o queries name tokens there)
-    (is_word (codes "index") first) (is_word (codes "equal") first) (is_word (codes "normal") first) (is_word (codes "classes") first) (is_word (codes "rules") first) (is_word (codes "lowindex") first)
+    (is_word (codes "index") first) (is_word (codes "equal") first) (is_word (codes "normal") first) (is_word (codes "classes") first) (is_word (codes "rules") first) (is_word (codes "lowindex") first) (is_word (codes "lowindex2") first)
     (is_word (codes "meet") first) (is_word (codes "join") first)
 
 -- a pair or a query has the cause that is said

@@ -62,7 +62,7 @@ rules_allowed p (query.Normal u) h e = absurd (true≢false (sym e))
 rules_allowed p (query.Classes count after) h e = absurd (true≢false (sym e))
 rules_allowed p (query.ElementOf u) h e = absurd (true≢false (sym e))
 rules_allowed p query.Cayley h e = absurd (true≢false (sym e))
-rules_allowed p (query.LowIndex classes count after) h e = absurd (true≢false (sym e))
+rules_allowed p (query.LowIndex two_sided classes count after) h e = absurd (true≢false (sym e))
 rules_allowed p (query.Meet s t) h e = absurd (true≢false (sym e))
 rules_allowed p (query.Join s t) h e = absurd (true≢false (sym e))
 rules_allowed p (query.Green relation) h e = absurd (true≢false (sym e))
@@ -74,7 +74,7 @@ no_pairs (x ∷ xs) h = let none : length (x ∷ xs) ≡ 0 = eqb-true (length (x
 
 pub without_pairs : (p : Problem) (q : Query) → is_name_barred p (query_name q) ≡ false → needs_no_pairs q ≡ true → pairs_of p ≡ []
 without_pairs p query.Cayley h e = no_pairs (pairs_of p) h
-without_pairs p (query.LowIndex classes count after) h e = no_pairs (pairs_of p) h
+without_pairs p (query.LowIndex two_sided classes count after) h e = no_pairs (pairs_of p) h
 without_pairs p (query.Meet s t) h e = no_pairs (pairs_of p) h
 without_pairs p (query.Join s t) h e = no_pairs (pairs_of p) h
 without_pairs p (query.Green relation) h e = no_pairs (pairs_of p) h
@@ -100,14 +100,14 @@ needs_none_generated b (query.Classes count after) h e = refl
 needs_none_generated b query.RuleList h e = refl
 needs_none_generated b (query.ElementOf u) h e = absent b h e
 needs_none_generated b query.Cayley h e = absent b h e
-needs_none_generated b (query.LowIndex classes count after) h e = refl
+needs_none_generated b (query.LowIndex two_sided classes count after) h e = refl
 needs_none_generated b (query.Meet s t) h e = refl
 needs_none_generated b (query.Join s t) h e = refl
 needs_none_generated b (query.Green relation) h e = absent b h e
 needs_none_generated b query.Idempotents h e = absent b h e
 
 pub relations_given : (b : Bool) (q : Query) → is_name_there b (query_name q) ≡ true → needs_relations q ≡ true → b ≡ true
-relations_given b (query.LowIndex classes count after) h e = h
+relations_given b (query.LowIndex two_sided classes count after) h e = h
 relations_given b (query.Meet s t) h e = h
 relations_given b (query.Join s t) h e = h
 relations_given b query.Index h e = absurd (true≢false (sym e))
@@ -124,31 +124,32 @@ relations_given b query.Idempotents h e = absurd (true≢false (sym e))
 pub name_is_there : (b : Bool) (t : Token) (name : NameOf) → ok_or (query_name_of b t) UnknownLine ≡ Ok name → is_name_there b name ≡ true
 name_is_there b t name =
     go b (is_word (codes "index") t) (is_word (codes "equal") t) (is_word (codes "normal") t) (is_word (codes "classes") t) (is_word (codes "rules") t)
-    (is_word (codes "lowindex") t) (is_word (codes "meet") t) (is_word (codes "join") t) (is_word (codes "element") t) (is_word (codes "cayley") t)
+    (is_word (codes "lowindex") t) (is_word (codes "lowindex2") t) (is_word (codes "meet") t) (is_word (codes "join") t) (is_word (codes "element") t) (is_word (codes "cayley") t)
     (is_word (codes "green") t) (is_word (codes "idempotents") t)
   where
     there : (b : Bool) (one : NameOf) → is_name_there b one ≡ true → ◌≡◌ {A = Result NameOf Cause} (Ok one) (Ok name) → is_name_there b name ≡ true
     there b one h e = let same : one ≡ name = cc in ap (is_name_there b) (sym same) ∙ h
 
-    go : (b i e n c r l m j y z g d : Bool)
+    go : (b i e n c r l k m j y z g d : Bool)
         → ok_or (if i then Some Index else if e then Some Equal else if n then Some Normal else if c then Some Classes else if r then Some Rules
-        else if b && l then Some LowIndex else if b && m then Some Meet else if b && j then Some Join else if not b && y then Some Element else if not b && z then Some Cayley
+        else if b && l then Some (LowIndex false) else if b && k then Some (LowIndex true) else if b && m then Some Meet else if b && j then Some Join else if not b && y then Some Element else if not b && z then Some Cayley
         else if not b && g then Some Green else if not b && d then Some Idempotents else None) UnknownLine ≡ Ok name
         → is_name_there b name ≡ true
-    go b true e n c r l m j y z g d h = there b Index refl h
-    go b false true n c r l m j y z g d h = there b Equal refl h
-    go b false false true c r l m j y z g d h = there b Normal refl h
-    go b false false false true r l m j y z g d h = there b Classes refl h
-    go b false false false false true l m j y z g d h = there b Rules refl h
-    go true false false false false false true m j y z g d h = there true LowIndex refl h
-    go true false false false false false false true j y z g d h = there true Meet refl h
-    go true false false false false false false false true y z g d h = there true Join refl h
-    go true false false false false false false false false y z g d h = absurd (cc)
-    go false false false false false false l m j true z g d h = there false Element refl h
-    go false false false false false false l m j false true g d h = there false Cayley refl h
-    go false false false false false false l m j false false true d h = there false Green refl h
-    go false false false false false false l m j false false false true h = there false Idempotents refl h
-    go false false false false false false l m j false false false false h = absurd (cc)
+    go b true e n c r l k m j y z g d h = there b Index refl h
+    go b false true n c r l k m j y z g d h = there b Equal refl h
+    go b false false true c r l k m j y z g d h = there b Normal refl h
+    go b false false false true r l k m j y z g d h = there b Classes refl h
+    go b false false false false true l k m j y z g d h = there b Rules refl h
+    go true false false false false false true k m j y z g d h = there true (LowIndex false) refl h
+    go true false false false false false false true m j y z g d h = there true (LowIndex true) refl h
+    go true false false false false false false false true j y z g d h = there true Meet refl h
+    go true false false false false false false false false true y z g d h = there true Join refl h
+    go true false false false false false false false false false y z g d h = absurd (cc)
+    go false false false false false false l k m j true z g d h = there false Element refl h
+    go false false false false false false l k m j false true g d h = there false Cayley refl h
+    go false false false false false false l k m j false false true d h = there false Green refl h
+    go false false false false false false l k m j false false false true h = there false Idempotents refl h
+    go false false false false false false l k m j false false false false h = absurd (cc)
 
 -- what is posed so far is of the script's kind
 
@@ -171,20 +172,20 @@ kind_kept (Asking t) s h = let same : t ≡ s = cc in ap (λ (s : ScriptOf). is_
 
 -- a search whose tokens are refused
 
-pub no_search : (letters : List ℕ) (is_monoid : Bool) (tokens : List (Bor (List ℕ))) → length tokens ≢ 2 → length tokens ≢ 4 → search_of letters is_monoid (texts tokens) ≡ Err WrongNumberOfWords
-no_search letters is_monoid [] h k = refl
-no_search letters is_monoid (s ∷ []) h k = refl
-no_search letters is_monoid (s ∷ t ∷ []) h k = absurd (h refl)
-no_search letters is_monoid (s ∷ t ∷ u ∷ []) h k = refl
-no_search letters is_monoid (s ∷ t ∷ u ∷ v ∷ []) h k = absurd (k refl)
-no_search letters is_monoid (s ∷ t ∷ u ∷ v ∷ w ∷ ts) h k = refl
+pub no_search : (two_sided : Bool) (letters : List ℕ) (is_monoid : Bool) (tokens : List (Bor (List ℕ))) → length tokens ≢ 2 → length tokens ≢ 4 → search_of two_sided letters is_monoid (texts tokens) ≡ Err WrongNumberOfWords
+no_search two_sided letters is_monoid [] h k = refl
+no_search two_sided letters is_monoid (s ∷ []) h k = refl
+no_search two_sided letters is_monoid (s ∷ t ∷ []) h k = absurd (h refl)
+no_search two_sided letters is_monoid (s ∷ t ∷ u ∷ []) h k = refl
+no_search two_sided letters is_monoid (s ∷ t ∷ u ∷ v ∷ []) h k = absurd (k refl)
+no_search two_sided letters is_monoid (s ∷ t ∷ u ∷ v ∷ w ∷ ts) h k = refl
 
-pub limits_refused : (letters : List ℕ) (is_monoid : Bool) (tokens : List (Bor (List ℕ))) (none other : Bor (List ℕ)) (cause : Cause) → length tokens ≡ 4
-    → limits_of (get_or tokens 0 none).now (get_or tokens 1 other).now ≡ Err cause → search_of letters is_monoid (texts tokens) ≡ Err cause
-limits_refused letters is_monoid [] none other cause n h = absurd (omega arith)
-limits_refused letters is_monoid (s ∷ []) none other cause n h = absurd (omega arith)
-limits_refused letters is_monoid (s ∷ t ∷ []) none other cause n h = absurd (omega arith)
-limits_refused letters is_monoid (s ∷ t ∷ u ∷ []) none other cause n h = absurd (omega arith)
-limits_refused letters is_monoid (s ∷ t ∷ u ∷ v ∷ []) none other cause n h =
-    ap (and_then (λ (l : ℕ × ℕ). and_then (λ g. Ok (query.LowIndex l.0 l.1 (Some g))) (table_cursor_of letters is_monoid l.0 u.now v.now))) h
-limits_refused letters is_monoid (s ∷ t ∷ u ∷ v ∷ w ∷ ts) none other cause n h = absurd (omega arith)
+pub limits_refused : (two_sided : Bool) (letters : List ℕ) (is_monoid : Bool) (tokens : List (Bor (List ℕ))) (none other : Bor (List ℕ)) (cause : Cause) → length tokens ≡ 4
+    → limits_of (get_or tokens 0 none).now (get_or tokens 1 other).now ≡ Err cause → search_of two_sided letters is_monoid (texts tokens) ≡ Err cause
+limits_refused two_sided letters is_monoid [] none other cause n h = absurd (omega arith)
+limits_refused two_sided letters is_monoid (s ∷ []) none other cause n h = absurd (omega arith)
+limits_refused two_sided letters is_monoid (s ∷ t ∷ []) none other cause n h = absurd (omega arith)
+limits_refused two_sided letters is_monoid (s ∷ t ∷ u ∷ []) none other cause n h = absurd (omega arith)
+limits_refused two_sided letters is_monoid (s ∷ t ∷ u ∷ v ∷ []) none other cause n h =
+    ap (and_then (λ (l : ℕ × ℕ). and_then (λ g. Ok (query.LowIndex two_sided l.0 l.1 (Some g))) (table_cursor_of letters is_monoid l.0 u.now v.now))) h
+limits_refused two_sided letters is_monoid (s ∷ t ∷ u ∷ v ∷ w ∷ ts) none other cause n h = absurd (omega arith)

@@ -45,7 +45,7 @@ use Rattle.query_lang.specs.Pairing.{is_same_kind, most_pairs, pair_kind_of, pai
 use Rattle.query_lang.specs.QueryLines.{NameOf, cursor_of, is_name_barred, limits_of, name_takes, query_name_of, query_of, table_cursor_of}
 use Rattle.query_lang.specs.Script.{asked, common_line, element_line, finished, first_line, generator_line, header_line, is_presentation, pair_or_query, presentation_line, read_line, relation_line, role_line, role_or_common, with_asked, with_line}
 use Rattle.query_lang.specs.Token.{Token, Line, is_kept, is_word, letter_of, number_of, number_within}
-use Rattle.query_lang.specs.Forms.{name_of, Pair}
+use Rattle.query_lang.specs.Forms.{LowIndex, Pair, name_of}
 use Rattle.query_lang.specs.Grammar.{AreEntries, HasGenerator, HasRoleRelations, Head, HeaderReads, IsCongruenceTableOf, IsQuery, LineReads, Partial, Step, begin_with, has_sign, is_generator_line, lacks_generator, script_in, section_reached}
 use Rattle.query_lang.specs.Grammar as grammar
 use Rattle.query_lang.proofs.FoldLemmas.{Sound, opened, partial, reader_of, readers, take_tokens}
@@ -356,6 +356,14 @@ other first a b c = record { no_rel = a; none_named = b; no_pair = c }
 
 -- the limits of a search
 
+low_other : (two_sided : Bool) → IsOtherName (name_of (LowIndex two_sided))
+low_other false = other (codes "lowindex") refl refl refl
+low_other true = other (codes "lowindex2") refl refl refl
+
+low_named : (two_sided : Bool) → query_name_of true (name_of (LowIndex two_sided)) ≡ Some (name.LowIndex two_sided)
+low_named false = refl
+low_named true = refl
+
 limits_read : (N M : Token) (n m : ℕ) → number_within 1 16 N ≡ Some n → number_within 0 1000000 M ≡ Some m → limits_of N M ≡ Ok (n, m)
 limits_read N M n m h k =
     ap (λ o. and_then (λ n. and_then (λ m. Ok (n, m)) (ok_or (number_within 0 1000000 M) cause.BadNumber)) (ok_or o cause.BadNumber)) h
@@ -399,17 +407,18 @@ query_read head problem queries line q some sign (grammar.element {U} {u} is h k
 query_read head problem queries line q some sign (grammar.cayley is h none) =
     asked_line head problem queries name.Cayley line (codes "cayley") [] q some sign is (other (codes "cayley") refl refl refl) (ap (λ b. query_name_of b (codes "cayley")) h) refl
     (ap (λ (ps : List (Word × Word)). not (length ps == 0)) none) refl
-query_read head problem queries line q some sign (grammar.lowindex {N} {M} {n} {m} is h none few most) =
-    asked_line head problem queries name.LowIndex line (codes "lowindex") (N ∷ M ∷ []) q some sign is (other (codes "lowindex") refl refl refl) (ap (λ b. query_name_of b (codes "lowindex")) h) refl
+query_read head problem queries line q some sign (grammar.lowindex {two_sided} {N} {M} {n} {m} is h none few most) =
+    asked_line head problem queries (name.LowIndex two_sided) line (name_of (LowIndex two_sided)) (N ∷ M ∷ []) q some sign is (low_other two_sided) (ap (λ b. query_name_of b (name_of (LowIndex two_sided))) h ∙ low_named two_sided) refl
     (ap (λ (ps : List (Word × Word)). not (length ps == 0)) none)
-    (ap (and_then (λ (l : ℕ × ℕ). Ok (query.LowIndex l.0 l.1 None))) (limits_read N M n m few most))
-query_read head problem queries line q some sign (grammar.lowindex_after {N} {M} {T} {n} {m} {g} is h none few most table) =
+    (ap (and_then (λ (l : ℕ × ℕ). Ok (query.LowIndex two_sided l.0 l.1 None))) (limits_read N M n m few most))
+query_read head problem queries line q some sign (grammar.lowindex_after {two_sided} {N} {M} {T} {n} {m} {g} is h none few most table) =
     let letters : List ℕ = letters_of problem in
     let is_monoid : Bool = has_empty_word problem in
-    asked_line head problem queries name.LowIndex line (codes "lowindex") (N ∷ M ∷ codes "after" ∷ T ∷ []) q some sign is (other (codes "lowindex") refl refl refl) (ap (λ b. query_name_of b (codes "lowindex")) h) refl
+    asked_line head problem queries (name.LowIndex two_sided) line (name_of (LowIndex two_sided)) (N ∷ M ∷ codes "after" ∷ T ∷ []) q some sign is (low_other two_sided)
+    (ap (λ b. query_name_of b (name_of (LowIndex two_sided))) h ∙ low_named two_sided) refl
     (ap (λ (ps : List (Word × Word)). not (length ps == 0)) none)
-    (ap (and_then (λ (l : ℕ × ℕ). and_then (λ g. Ok (query.LowIndex l.0 l.1 (Some g))) (table_cursor_of letters is_monoid l.0 (codes "after") T))) (limits_read N M n m few most)
-    ∙ ap (and_then (λ g. Ok (query.LowIndex n m (Some g)))) (low_is_taken is_monoid (length letters) n T g table.0 table.1))
+    (ap (and_then (λ (l : ℕ × ℕ). and_then (λ g. Ok (query.LowIndex two_sided l.0 l.1 (Some g))) (table_cursor_of letters is_monoid l.0 (codes "after") T))) (limits_read N M n m few most)
+    ∙ ap (and_then (λ g. Ok (query.LowIndex two_sided n m (Some g)))) (low_is_taken is_monoid (length letters) n T g table.0 table.1))
 query_read head problem queries line q some sign (grammar.meet {S} {T} {s} {t} is h none left right) =
     asked_line head problem queries name.Meet line (codes "meet") (S ∷ T ∷ []) q some sign is (other (codes "meet") refl refl refl) (ap (λ b. query_name_of b (codes "meet")) h) refl
     (ap (λ (ps : List (Word × Word)). not (length ps == 0)) none)

@@ -217,16 +217,16 @@ table-read : (r : Result Graph Cause) → first_of (cause_in r ∷ []) ≡ None 
 table-read (Ok g) h = (g, refl)
 table-read (Err c) h = absurd (some-is-none h)
 
-lowindex-read : (p : Partial) (first : Token) (tokens : List Token) → is_presented p.problem ≡ true → is_generator_line p (first ∷ tokens) ≡ false → FormReads p first tokens LowIndex
-lowindex-read p first [] k g e c = absurd (true≢false c.shaped)
-lowindex-read p first (s ∷ []) k g e c = absurd (true≢false c.shaped)
-lowindex-read p first (s ∷ t ∷ []) k g e c =
+lowindex-read : (two_sided : Bool) (p : Partial) (first : Token) (tokens : List Token) → is_presented p.problem ≡ true → is_generator_line p (first ∷ tokens) ≡ false → FormReads p first tokens (LowIndex two_sided)
+lowindex-read two_sided p first [] k g e c = absurd (true≢false c.shaped)
+lowindex-read two_sided p first (s ∷ []) k g e c = absurd (true≢false c.shaped)
+lowindex-read two_sided p first (s ∷ t ∷ []) k g e c =
     let a = passed _ _ _ c.tokens_read in
     let n = is-some _ a.0 in
     let m = is-some _ (passed _ _ _ a.1).0 in
     (_, grammar.query c.has_generator g (grammar.lowindex (ap (λ n. n ∷ s ∷ t ∷ []) e) k (no-elements _ (not-applies _ c.allowed)) n.1 m.1))
-lowindex-read p first (s ∷ t ∷ w ∷ []) k g e c = absurd (true≢false c.shaped)
-lowindex-read p first (s ∷ t ∷ w ∷ x ∷ []) k g e c =
+lowindex-read two_sided p first (s ∷ t ∷ w ∷ []) k g e c = absurd (true≢false c.shaped)
+lowindex-read two_sided p first (s ∷ t ∷ w ∷ x ∷ []) k g e c =
     let a = passed _ _ _ c.tokens_read in
     let n = is-some _ a.0 in
     let b = passed _ _ _ a.1 in
@@ -237,10 +237,10 @@ lowindex-read p first (s ∷ t ∷ w ∷ x ∷ []) k g e c =
     let table = low_taken_is _ _ _ x read.0 read.1 in (
       _,
       grammar.query c.has_generator g
-          (grammar.lowindex_after (ap (λ n. n ∷ s ∷ t ∷ w ∷ x ∷ []) e ∙ ap (λ w. codes "lowindex" ∷ s ∷ t ∷ w ∷ x ∷ []) after) k (no-elements _ (not-applies _ c.allowed)) n.1 m.1
+          (grammar.lowindex_after (ap (λ n. n ∷ s ∷ t ∷ w ∷ x ∷ []) e ∙ ap (λ w. name_of (LowIndex two_sided) ∷ s ∷ t ∷ w ∷ x ∷ []) after) k (no-elements _ (not-applies _ c.allowed)) n.1 m.1
           (subst (λ (o : Option ℕ). IsLowTableOf p (unwrap_or o 0) x read.0) n.1 table)),
     )
-lowindex-read p first (s ∷ t ∷ w ∷ x ∷ y ∷ tokens) k g e c = absurd (true≢false c.shaped)
+lowindex-read two_sided p first (s ∷ t ∷ w ∷ x ∷ y ∷ tokens) k g e c = absurd (true≢false c.shaped)
 
 first-none : (o : Option Cause) (cs : List (Option Cause)) → first_of (o ∷ cs) ≡ None → (o ≡ None) × (first_of cs ≡ None)
 first-none None cs h = (refl, h)
@@ -354,9 +354,10 @@ common-read p first tokens k g =
     (also Normal (normal-read p first tokens g)
     (also Classes (classes-read p first tokens g)
     (also Rules (rules-read p first tokens g)
-    (also LowIndex (lowindex-read p first tokens k g)
+    (also (LowIndex false) (lowindex-read false p first tokens k g)
+    (also (LowIndex true) (lowindex-read true p first tokens k g)
     (also Meet (meet-read p first tokens k g)
-    (also Join (join-read p first tokens k g) every))))))))))
+    (also Join (join-read p first tokens k g) every)))))))))))
 
 -- the forms of a presentation
 each-read : (version : Version) (sizes : ℕ × ℕ) (o : Posed) (queries : List Query) (first : Token) (tokens : List Token) →

@@ -30,7 +30,7 @@ pub data Form : Type 0 where
   Rules : Form
   Element : Form
   Cayley : Form
-  LowIndex : Form
+  LowIndex : (two_sided : Bool) → Form
   Meet : Form
   Join : Form
   Green : Form
@@ -52,7 +52,8 @@ name_of Classes = codes "classes"
 name_of Rules = codes "rules"
 name_of Element = codes "element"
 name_of Cayley = codes "cayley"
-name_of LowIndex = codes "lowindex"
+name_of (LowIndex false) = codes "lowindex"
+name_of (LowIndex true) = codes "lowindex2"
 name_of Meet = codes "meet"
 name_of Join = codes "join"
 name_of Green = codes "green"
@@ -78,7 +79,7 @@ shapes_of is_monoid Classes = (ANumber 0 1000000 ∷ [])
 shapes_of is_monoid Rules = [] ∷ []
 shapes_of is_monoid Element = (AWord ∷ []) ∷ []
 shapes_of is_monoid Cayley = [] ∷ []
-shapes_of is_monoid LowIndex = (ANumber 1 16 ∷ ANumber 0 1000000 ∷ [])
+shapes_of is_monoid (LowIndex two_sided) = (ANumber 1 16 ∷ ANumber 0 1000000 ∷ [])
     ∷ (ANumber 1 16 ∷ ANumber 0 1000000 ∷ After ∷ ALowTable ∷ []) ∷ []
 shapes_of is_monoid Meet = (ACongruenceTable ∷ ACongruenceTable ∷ []) ∷ []
 shapes_of is_monoid Join = (ACongruenceTable ∷ ACongruenceTable ∷ []) ∷ []
@@ -97,7 +98,7 @@ section_of Classes = 4
 section_of Rules = 4
 section_of Element = 4
 section_of Cayley = 4
-section_of LowIndex = 4
+section_of (LowIndex two_sided) = 4
 section_of Meet = 4
 section_of Join = 4
 section_of Green = 4
@@ -111,7 +112,8 @@ roles_of Two = OfRole Identity ∷ OfRole Zero ∷ OfRole Inverse ∷ []
 -- the forms of pairs and queries that presentations have
 abbrev pub asked_of_relations : List Form
 asked_of_relations = Pair TwoSided ∷ Pair Right ∷ Pair Left
-    ∷ Index ∷ Equal ∷ Normal ∷ Classes ∷ Rules ∷ LowIndex ∷ Meet ∷ Join ∷ []
+    ∷ Index ∷ Equal ∷ Normal ∷ Classes ∷ Rules ∷ LowIndex false ∷ LowIndex true
+    ∷ Meet ∷ Join ∷ []
 
 -- the forms that a script of this version and kind has: a presentation, or generators
 abbrev pub forms_of : Version → (is_presentation : Bool) → List Form

@@ -24,7 +24,7 @@ use Rattle.query_lang.specs.declared.version.Version.TheVariants.{One, Two}
 use Rattle.query_lang.specs.Asked.{ScriptOf}
 use Rattle.query_lang.specs.Fields.{field_of}
 use Rattle.query_lang.specs.Entries.{all_of, below, below_or_dash, bit, is_injective}
-use Rattle.query_lang.specs.Forms.{Pair, name_of}
+use Rattle.query_lang.specs.Forms.{LowIndex, Pair, name_of}
 use Rattle.query_lang.specs.LineWords.{element_of}
 use Rattle.query_lang.specs.Pairing.{most_pairs}
 use Rattle.query_lang.specs.Relations.{add_relation, add_relations, free_over, most_relations, relations_of}
@@ -154,14 +154,15 @@ pub data IsQuery (p : Partial) (line : Line) : Query → Type 0 where
       → is_presented p.problem ≡ false → IsWordOf p U u → IsQuery p line (ask.ElementOf u)
   cayley : line ≡ codes "cayley" ∷ [] → is_presented p.problem ≡ false
       → pairs_of p.problem ≡ [] → IsQuery p line ask.Cayley
-  lowindex : {N M : Token} {n m : ℕ} → line ≡ codes "lowindex" ∷ N ∷ M ∷ []
+  lowindex : {two_sided : Bool} {N M : Token} {n m : ℕ}
+      → line ≡ name_of (LowIndex two_sided) ∷ N ∷ M ∷ []
       → is_presented p.problem ≡ true → pairs_of p.problem ≡ []
-      → IsNumber 1 16 N n → IsNumber 0 1000000 M m → IsQuery p line (ask.LowIndex n m None)
-  lowindex_after : {N M T : Token} {n m : ℕ} {g : Graph}
-      → line ≡ codes "lowindex" ∷ N ∷ M ∷ codes "after" ∷ T ∷ []
+      → IsNumber 1 16 N n → IsNumber 0 1000000 M m → IsQuery p line (ask.LowIndex two_sided n m None)
+  lowindex_after : {two_sided : Bool} {N M T : Token} {n m : ℕ} {g : Graph}
+      → line ≡ name_of (LowIndex two_sided) ∷ N ∷ M ∷ codes "after" ∷ T ∷ []
       → is_presented p.problem ≡ true → pairs_of p.problem ≡ []
       → IsNumber 1 16 N n → IsNumber 0 1000000 M m → IsLowTableOf p n T g
-      → IsQuery p line (ask.LowIndex n m (Some g))
+      → IsQuery p line (ask.LowIndex two_sided n m (Some g))
   meet : {S T : Token} {s t : Graph} → line ≡ codes "meet" ∷ S ∷ T ∷ []
       → is_presented p.problem ≡ true → pairs_of p.problem ≡ []
       → IsCongruenceTableOf p S s → IsCongruenceTableOf p T t → IsQuery p line (ask.Meet s t)

@@ -118,7 +118,7 @@ mixes_kinds p form = false
 abbrev pub is_barred : Partial → Form → Bool
 is_barred p Rules = not (allows_rules p.problem)
 is_barred p Cayley = not (length (pairs_of p.problem) == 0)
-is_barred p LowIndex = not (length (pairs_of p.problem) == 0)
+is_barred p (LowIndex two_sided) = not (length (pairs_of p.problem) == 0)
 is_barred p Meet = not (length (pairs_of p.problem) == 0)
 is_barred p Join = not (length (pairs_of p.problem) == 0)
 is_barred p Green = not (length (pairs_of p.problem) == 0)

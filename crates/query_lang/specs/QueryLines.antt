@@ -25,7 +25,7 @@ pub data NameOf : Type 0 where
   Rules : NameOf
   Element : NameOf
   Cayley : NameOf
-  LowIndex : NameOf
+  LowIndex : (two_sided : Bool) → NameOf
   Meet : NameOf
   Join : NameOf
   Green : NameOf
@@ -39,7 +39,8 @@ query_name_of is_presentation t =
     else if is_word (codes "normal") t then Some Normal
     else if is_word (codes "classes") t then Some Classes
     else if is_word (codes "rules") t then Some Rules
-    else if is_presentation && is_word (codes "lowindex") t then Some LowIndex
+    else if is_presentation && is_word (codes "lowindex") t then Some (LowIndex false)
+    else if is_presentation && is_word (codes "lowindex2") t then Some (LowIndex true)
     else if is_presentation && is_word (codes "meet") t then Some Meet
     else if is_presentation && is_word (codes "join") t then Some Join
     else if not is_presentation && is_word (codes "element") t then Some Element
@@ -57,7 +58,7 @@ is_name_there is_presentation Classes = true
 is_name_there is_presentation Rules = true
 is_name_there is_presentation Element = not is_presentation
 is_name_there is_presentation Cayley = not is_presentation
-is_name_there is_presentation LowIndex = is_presentation
+is_name_there is_presentation (LowIndex two_sided) = is_presentation
 is_name_there is_presentation Meet = is_presentation
 is_name_there is_presentation Join = is_presentation
 is_name_there is_presentation Green = not is_presentation
@@ -72,7 +73,7 @@ is_name_barred p Classes = false
 is_name_barred p Rules = not (allows_rules p)
 is_name_barred p Element = false
 is_name_barred p Cayley = not (length (pairs_of p) == 0)
-is_name_barred p LowIndex = not (length (pairs_of p) == 0)
+is_name_barred p (LowIndex two_sided) = not (length (pairs_of p) == 0)
 is_name_barred p Meet = not (length (pairs_of p) == 0)
 is_name_barred p Join = not (length (pairs_of p) == 0)
 is_name_barred p Green = not (length (pairs_of p) == 0)
@@ -87,7 +88,7 @@ query_name (ask.Classes count after) = Classes
 query_name ask.RuleList = Rules
 query_name (ask.ElementOf u) = Element
 query_name ask.Cayley = Cayley
-query_name (ask.LowIndex classes count after) = LowIndex
+query_name (ask.LowIndex two_sided classes count after) = LowIndex two_sided
 query_name (ask.Meet s t) = Meet
 query_name (ask.Join s t) = Join
 query_name (ask.Green relation) = Green
@@ -125,7 +126,7 @@ name_takes Classes tokens = are_one_or_three tokens
 name_takes Rules tokens = are_none tokens
 name_takes Element tokens = are_one tokens
 name_takes Cayley tokens = are_none tokens
-name_takes LowIndex tokens = are_two_or_four tokens
+name_takes (LowIndex two_sided) tokens = are_two_or_four tokens
 name_takes Meet tokens = are_two tokens
 name_takes Join tokens = are_two tokens
 name_takes Green tokens = are_one tokens
@@ -167,13 +168,13 @@ table_cursor_of letters is_monoid classes after t =
     else Err AfterExpected
 
 -- `N M`, or `N M after TABLE`
-abbrev pub search_of : List ℕ → Bool → List Token → Result Query Cause
-search_of letters is_monoid (classes ∷ count ∷ []) =
-    and_then (λ l. Ok (ask.LowIndex l.0 l.1 None)) (limits_of classes count)
-search_of letters is_monoid (classes ∷ count ∷ after ∷ t ∷ []) =
-    and_then (λ l. and_then (λ g. Ok (ask.LowIndex l.0 l.1 (Some g)))
+abbrev pub search_of : (two_sided : Bool) → List ℕ → Bool → List Token → Result Query Cause
+search_of two_sided letters is_monoid (classes ∷ count ∷ []) =
+    and_then (λ l. Ok (ask.LowIndex two_sided l.0 l.1 None)) (limits_of classes count)
+search_of two_sided letters is_monoid (classes ∷ count ∷ after ∷ t ∷ []) =
+    and_then (λ l. and_then (λ g. Ok (ask.LowIndex two_sided l.0 l.1 (Some g)))
     (table_cursor_of letters is_monoid l.0 after t)) (limits_of classes count)
-search_of letters is_monoid tokens = Err WrongNumberOfWords
+search_of two_sided letters is_monoid tokens = Err WrongNumberOfWords
 
 -- one of Green's relations
 abbrev pub one_relation : List Token → Result Relation Cause
@@ -193,8 +194,8 @@ query_of version letters allow_empty relations Rules tokens = bare ask.RuleList 
 query_of version letters allow_empty relations Element tokens = and_then (λ u. Ok (ask.ElementOf u))
     (one_word version letters allow_empty tokens)
 query_of version letters allow_empty relations Cayley tokens = bare ask.Cayley tokens
-query_of version letters allow_empty relations LowIndex tokens =
-    search_of letters allow_empty tokens
+query_of version letters allow_empty relations (LowIndex two_sided) tokens =
+    search_of two_sided letters allow_empty tokens
 query_of version letters allow_empty relations Meet tokens = and_then (λ p. Ok (ask.Meet p.0 p.1))
     (two_tables allow_empty (length letters) relations tokens)
 query_of version letters allow_empty relations Join tokens = and_then (λ p. Ok (ask.Join p.0 p.1))

@@ -39,8 +39,8 @@ enum Name {
     Element,
     /// `cayley`
     Cayley,
-    /// `lowindex`
-    LowIndex,
+    /// `lowindex`, or for two-sided congruences `lowindex2`
+    LowIndex { two_sided: bool },
     /// `meet`
     Meet,
     /// `join`
@@ -72,7 +72,7 @@ impl Model for QueryName {
       | kept.Rules ↦ said.Rules
       | kept.Element ↦ said.Element
       | kept.Cayley ↦ said.Cayley
-      | kept.LowIndex ↦ said.LowIndex
+      | kept.LowIndex two_sided ↦ said.LowIndex two_sided
       | kept.Meet ↦ said.Meet
       | kept.Join ↦ said.Join
       | kept.Green ↦ said.Green
@@ -91,7 +91,7 @@ impl QueryName {
             Name::Index | Name::Equal | Name::Normal | Name::Classes | Name::Element => false,
             Name::Rules => !problem.allows_rules(),
             Name::Cayley
-            | Name::LowIndex
+            | Name::LowIndex { .. }
             | Name::Meet
             | Name::Join
             | Name::Green
@@ -108,7 +108,7 @@ impl QueryName {
             Name::Normal | Name::Element | Name::Green => matches!(tokens, [_]),
             Name::Equal | Name::Meet | Name::Join => matches!(tokens, [_, _]),
             Name::Classes => matches!(tokens, [_] | [_, _, _]),
-            Name::LowIndex => matches!(tokens, [_, _] | [_, _, _, _]),
+            Name::LowIndex { .. } => matches!(tokens, [_, _] | [_, _, _, _]),
         }
     }
 }
@@ -123,7 +123,12 @@ pub fn query_name_of(is_presentation: bool, first: &[u8]) -> Option<QueryName>
         text if is_word(b"normal", text) => Name::Normal,
         text if is_word(b"classes", text) => Name::Classes,
         text if is_word(b"rules", text) => Name::Rules,
-        text if is_presentation && is_word(b"lowindex", text) => Name::LowIndex,
+        text if is_presentation && is_word(b"lowindex", text) => Name::LowIndex {
+            two_sided: false,
+        },
+        text if is_presentation && is_word(b"lowindex2", text) => Name::LowIndex {
+            two_sided: true,
+        },
         text if is_presentation && is_word(b"meet", text) => Name::Meet,
         text if is_presentation && is_word(b"join", text) => Name::Join,
         text if !is_presentation && is_word(b"element", text) => Name::Element,
@@ -241,24 +246,27 @@ fn table_cursor_of(
     }
 }
 
-// The search for tables that the tokens behind `lowindex` ask for.
+// The search for tables that the tokens behind `lowindex` or `lowindex2` ask for.
 fn search_of(
     alloc: Global,
+    two_sided: bool,
     alphabet: &Alphabet,
     is_monoid: bool,
     tokens: &[&[u8]],
 ) -> Result<Query, LineFault>
-    ensures ok { IfOk result (λ query. search_of alphabet.now is_monoid (texts tokens.now)
-        ≡ Ok query) }
+    ensures ok { IfOk result (λ query. search_of two_sided alphabet.now is_monoid
+        (texts tokens.now) ≡ Ok query) }
     ensures over { (relations : List (Letters × Letters)) → IfOk result
         (IsQueryOver is_monoid (length alphabet.now) relations) }
-    ensures name { IfOk result (λ query. query_name query ≡ said.LowIndex) }
-    ensures err { IfErr result (IsLineFault (search_of alphabet.now is_monoid (texts tokens.now))) }
+    ensures name { IfOk result (λ query. query_name query ≡ said.LowIndex two_sided) }
+    ensures err { IfErr result (IsLineFault
+        (search_of two_sided alphabet.now is_monoid (texts tokens.now))) }
 {
     match tokens {
         [classes, count] => {
             let (classes, count) = limits_of(classes, count)?;
             Ok(Query::LowIndex {
+                two_sided,
                 classes,
                 count,
                 after: None,
@@ -268,6 +276,7 @@ fn search_of(
             let (classes, count) = limits_of(classes, count)?;
             let table = table_cursor_of(alloc, alphabet, is_monoid, classes, after, table)?;
             Ok(Query::LowIndex {
+                two_sided,
                 classes,
                 count,
                 after: Some(table),
@@ -320,7 +329,9 @@ pub fn query_of(
             tokens,
         )?)),
         Name::Cayley => Ok(bare(Query::Cayley, tokens)?),
-        Name::LowIndex => search_of(alloc, alphabet, allow_empty, tokens),
+        Name::LowIndex { two_sided } => {
+            search_of(alloc, two_sided, alphabet, allow_empty, tokens)
+        }
         Name::Meet => {
             let (left, right) = two_tables(alloc, allow_empty, letters, relations, tokens)?;
             Ok(Query::Meet(left, right))

@@ -44,10 +44,12 @@ pub enum Query {
     ElementOf(Word),
     /// The Cayley graphs, where generators are given, and no pairs.
     Cayley,
-    /// The least `count` standard tables of right congruences of at most so many `classes`; where
-    /// there is a table to come `after`, of those that are greater than it (Sims 1994, 5.6;
-    /// libsemigroups, `Sims1`). Relations are given, and no pairs.
+    /// The least `count` standard tables of right congruences, or of two-sided ones alone, of at
+    /// most so many `classes`; where there is a table to come `after`, which need not be one of
+    /// them, of those that are greater than it (Sims 1994, 5.6; libsemigroups, `Sims1`, `Sims2`).
+    /// Relations are given, and no pairs.
     LowIndex {
+        two_sided: bool,
         classes: usize,
         count: usize,
         after: Option<WordGraph>,

@@ -136,6 +136,7 @@ fn queries_are_read_or_refused(rt: HostRuntime) -> Result<(), Fail> {
         ("trans 2", 7),
         ("rel a b", 7),
         ("lowindex 1 1", 7),
+        ("lowindex2 1 1", 7),
         ("equal c 1", 13),
         ("equal ab ac", 13),
         ("normal a1", 13),
@@ -295,6 +296,7 @@ fn pairs_bar_queries(rt: HostRuntime) -> Result<(), Fail> {
         ("monoid ab\nleft a 1\nrules\n", 3, 19),
         ("monoid ab\nleft a 1\ncayley\n", 3, 7),
         ("monoid ab\nleft a 1\nlowindex 0 x\n", 3, 19),
+        ("monoid ab\nleft a 1\nlowindex2 0 x\n", 3, 19),
         ("semigroup ab\ntwosided a b\nindex\nlowindex 1 1\n", 4, 19),
         ("monoid ab\nright a 1\nlowindex 0\n", 3, 3),
         ("trans 2\na = 0 1\nleft a a\nlowindex 1 1\n", 4, 7),
@@ -330,6 +332,11 @@ fn searches_for_tables_are_read_or_refused(rt: HostRuntime) -> Result<(), Fail> 
         ("lowindex 3 1 after 0,2/1,1/2,2", 20),
         ("lowindex 1 1 after 0,1/1,1", 20),
         ("lowindex 1 1 afer 0,1/1,1", 21),
+        ("lowindex2 3 9", 0),
+        ("lowindex2 2 5 after 0,1/1,1", 0),
+        ("lowindex2 17 9", 4),
+        ("lowindex2 2 1 after 0,2/0,1", 20),
+        ("lowindex3 2 1", 7),
         ("Lowindex 1 1", 7),
     ] {
         let script = format!(in alloc; "monoid ab\n{query}\nindex\n")?;
@@ -479,12 +486,12 @@ fn a_script_holds_its_tables(rt: HostRuntime) -> Result<(), Fail> {
     let alloc = rt.alloc();
     let script = read_script(
         alloc,
-        b"monoid a\nlowindex 3 7\nlowindex 4 8 after 1/2/0\nmeet 1/0 1/2/1\njoin 0 1/1\n",
+        b"monoid a\nlowindex 3 7\nlowindex2 4 8 after 1/2/0\nmeet 1/0 1/2/1\njoin 0 1/1\n",
     )?;
     assert_eq!(rt; script.queries().len(), 4);
     for (query, want) in script.queries().iter().zip([
         "lowindex 3 7",
-        "lowindex 4 8 after 3",
+        "lowindex2 4 8 after 3",
         "meet 2 3",
         "join 1 2",
     ]) {
@@ -578,15 +585,19 @@ fn text_of(alloc: Global, problem: &Problem, query: &Query) -> Result<String, Fa
         Query::ElementOf(word) => Ok(format!(in alloc; "element {}", word.len())?),
         Query::Cayley => Ok(format!(in alloc; "cayley {}", alphabet.len())?),
         Query::LowIndex {
+            two_sided,
             classes,
             count,
             after,
-        } => match after {
-            None => Ok(format!(in alloc; "lowindex {classes} {count}")?),
-            Some(table) => {
-                Ok(format!(in alloc; "lowindex {classes} {count} after {}", table.nodes())?)
+        } => {
+            let name = if *two_sided { "lowindex2" } else { "lowindex" };
+            match after {
+                None => Ok(format!(in alloc; "{name} {classes} {count}")?),
+                Some(table) => {
+                    Ok(format!(in alloc; "{name} {classes} {count} after {}", table.nodes())?)
+                }
             }
-        },
+        }
         Query::Meet(left, right) => {
             Ok(format!(in alloc; "meet {} {}", left.nodes(), right.nodes())?)
         }

@@ -7,4 +7,4 @@ pub returns-in_err-classes-in-len4-clause-err : goal.returns-in_err-classes-in-l
 returns-in_err-classes-in-len4-clause-err c =
     let four : length c.args.tokens.now ≡ 4 = omega arith in
     handed_on _ _ _ c.from_residual-in_err-classes-in-len4.ensures.1
-    (limits_refused c.args.alphabet.now c.args.is_monoid c.args.tokens.now _ _ c.in_err-classes-in-len4.field-0.0 four (sym c.in_err-classes-in-len4.ensures.limits))
+    (limits_refused c.args.two_sided c.args.alphabet.now c.args.is_monoid c.args.tokens.now _ _ c.in_err-classes-in-len4.field-0.0 four (sym c.in_err-classes-in-len4.ensures.limits))
