@@ -8,7 +8,7 @@ use Rattle.theory.specs.ShortLex.{◌≺◌}
 use Rattle.theory.specs.Class.{IsLeast, HasIndex, IsInfinite, IsReducedRule, RuleBefore}
 use Rattle.theory.specs.Graph.{Graph, SameEnd}
 use Rattle.theory.specs.Lattice as lattice
-use Rattle.theory.specs.LowIndex.{graph_of, IsLowIndex, TableLess}
+use Rattle.theory.specs.LowIndex.{graph_of, TableLess}
 use Rattle.theory.specs.Value.{IsProduct, SameValue, SameElement, HasAtMostValues, HasMoreValues}
 use Rattle.theory.specs.declared.Kind.{Kind}
 use Rattle.theory.proofs.Chains.{joined_congruence}
@@ -32,10 +32,10 @@ use Rattle.query_lang.specs.declared.script.Query.{Query}
 use Rattle.query_lang.specs.declared.script.Query.TheVariants.{Index, Equal, Normal, Classes, RuleList, ElementOf, Cayley, LowIndex, Meet, Join, Green, Idempotents}
 use Rattle.report.specs.Lines.{index_line, end_line, normal_line, page_lines, word_line, rule_line, table_line, numbers_text, cayley_line, meet_line, join_line}
 use Rattle.report.specs.Pages.{ArePageLines}
-use Rattle.report.specs.Answer.{cayley_lines, AreLines, AreTableLines, IsTableAnswer, IsAnswer}
+use Rattle.report.specs.Answer.{cayley_lines, AreLines, AreTableLines, IsListed, IsTableAnswer, IsAnswer}
 use Rattle.report.proofs.OneGreen.{one_green, one_idempotents}
 use Rattle.report.proofs.OneNumber.{one_list, one_number}
-use Rattle.report.proofs.TablePages.{table_order}
+use Rattle.report.proofs.TablePages.{listed_order}
 
 joined_same : {A : Type 0} (f g : ℕ → List A) (from n : ℕ) → ((i : ℕ) → from ≤ i → i < from + n → f i ≡ g i) → flat_map f (range_with_len from n) ≡ flat_map g (range_with_len from n)
 joined_same f g from zero h = refl
@@ -108,14 +108,14 @@ one_page P Less order line after count lines others h g =
     let same = page_unique P Less order after count h.items g.items h.more g.more h.is_page g.is_page in
     h.are_lines ∙ ap₂ (page_lines line) same.0 same.1 ∙ sym g.are_lines
 
-one_table_page : (p : Problem) (classes count : ℕ) (after : Option Graph) (lines others : List (List ℕ)) → AreTableLines p classes count after lines → AreTableLines p classes count after others → lines ≡ others
-one_table_page (problem.Presented p) classes count after lines others h g =
+one_table_page : (p : Problem) (two_sided : Bool) (classes count : ℕ) (after : Option Graph) (lines others : List (List ℕ)) → AreTableLines p two_sided classes count after lines → AreTableLines p two_sided classes count after others → lines ≡ others
+one_table_page (problem.Presented p) two_sided classes count after lines others h g =
     let relations = p.congruence.presentation in
-    one_page (IsLowIndex relations classes) TableLess (table_order relations classes) table_line (option_map rows_in after) count lines others h g
-one_table_page (problem.Transf p) classes count after lines others h g = absurd h
-one_table_page (problem.PPerm p) classes count after lines others h g = absurd h
-one_table_page (problem.BMat p) classes count after lines others h g = absurd h
-one_table_page (problem.MaxPlus p) classes count after lines others h g = absurd h
+    one_page (IsListed two_sided relations classes) TableLess (listed_order two_sided relations classes) table_line (option_map rows_in after) count lines others h g
+one_table_page (problem.Transf p) two_sided classes count after lines others h g = absurd h
+one_table_page (problem.PPerm p) two_sided classes count after lines others h g = absurd h
+one_table_page (problem.BMat p) two_sided classes count after lines others h g = absurd h
+one_table_page (problem.MaxPlus p) two_sided classes count after lines others h g = absurd h
 
 -- a relation has one standard table
 one_table_line : (line : Graph → List ℕ) (k : ℕ) (V : Word → Word → Type 0) (lines others : List (List ℕ)) → IsTableAnswer line k V lines → IsTableAnswer line k V others → lines ≡ others
@@ -157,7 +157,7 @@ module _ (p : Problem) (bound : ℕ) where
       h.4
       ∙ ap (λ rows. rows ++ end_line false ∷ []) (graphs_same R known (letters_of p) (count_of p) h.0 h.1 h.2 g.1 g.2 h.3 moved ∙ ap (λ ws. cayley_lines (letters_of p) (count_of p) ws g.1 g.2) (sym words))
       ∙ sym g.4
-  one_lines (LowIndex classes count after) lines others h g = one_table_page p classes count after lines others h g
+  one_lines (LowIndex two_sided classes count after) lines others h g = one_table_page p two_sided classes count after lines others h g
   one_lines (Meet s t) lines others h g = one_table_line meet_line (length (letters_of p)) (lattice.Meet s t) lines others h g
   one_lines (Join s t) lines others h g = one_table_line join_line (length (letters_of p)) (lattice.Join (length (letters_of p)) s t) lines others h g
   one_lines (Green relation) lines others h g = one_green p relation lines others h g

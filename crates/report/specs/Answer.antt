@@ -6,7 +6,9 @@ use Rattle.theory.specs.Word.{Word}
 use Rattle.theory.specs.ShortLex.{◌≺◌}
 use Rattle.theory.specs.Graph.{Graph}
 use Rattle.theory.specs.Lattice as lattice
-use Rattle.theory.specs.LowIndex.{IsLowIndex, TableLess}
+use Rattle.theory.specs.Congruence.{Presentation}
+use Rattle.theory.specs.LowIndex.{IsLowIndex, Rows, TableLess}
+use Rattle.theory.specs.TwoSidedTable.{IsTwoSidedLowIndex}
 use Rattle.theory.specs.Class.{IsLeast, IsNormal, HasIndex, IsInfinite, IsRuleList}
 use Rattle.lattice.specs.Tables.{IsTableOf}
 use Rattle.problem.specs.declared.budgets.Budgets.{Budgets}
@@ -27,15 +29,21 @@ cayley_lines letters k words right left =
     map (λ i. cayley_line letters k i (slice_index_or words i []) (right i) (left i))
     (range_with_len 0 (length words))
 
+-- a table of low index, or one that is two-sided too
+abbrev pub IsListed : (two_sided : Bool) → Presentation → ℕ → Rows → Type 0
+IsListed false p classes = IsLowIndex p classes
+IsListed true p classes = IsTwoSidedLowIndex p classes
+
 -- the lines of a page of tables of at most so many classes, where relations are given
-abbrev pub AreTableLines : Problem → ℕ → ℕ → Option Graph → List (List ℕ) → Type 0
-AreTableLines (Presented p) classes count after =
-    ArePageLines (IsLowIndex p.congruence.presentation classes) TableLess table_line
+abbrev pub AreTableLines : Problem → (two_sided : Bool) → ℕ → ℕ → Option Graph → List (List ℕ)
+    → Type 0
+AreTableLines (Presented p) two_sided classes count after =
+    ArePageLines (IsListed two_sided p.congruence.presentation classes) TableLess table_line
     (option_map rows_in after) count
-AreTableLines (Transf p) classes count after = λ lines. ⊥
-AreTableLines (PPerm p) classes count after = λ lines. ⊥
-AreTableLines (BMat p) classes count after = λ lines. ⊥
-AreTableLines (MaxPlus p) classes count after = λ lines. ⊥
+AreTableLines (Transf p) two_sided classes count after = λ lines. ⊥
+AreTableLines (PPerm p) two_sided classes count after = λ lines. ⊥
+AreTableLines (BMat p) two_sided classes count after = λ lines. ⊥
+AreTableLines (MaxPlus p) two_sided classes count after = λ lines. ⊥
 
 -- the line of the standard table over k letters whose equal paths are a relation
 pub record IsTableAnswer (line : Graph → List ℕ) (k : ℕ) (V : Word → Word → Type 0)
@@ -65,7 +73,8 @@ AreLines p bound Cayley lines =
     (words : List Word) × (right : (ℕ → ℕ → ℕ)) × (left : (ℕ → ℕ → ℕ))
     × AreCayleyGraphs (SameClassOf p) (count_of p) words right left
     × (lines ≡ cayley_lines (letters_of p) (count_of p) words right left ++ end_line false ∷ [])
-AreLines p bound (LowIndex classes count after) lines = AreTableLines p classes count after lines
+AreLines p bound (LowIndex two_sided classes count after) lines =
+    AreTableLines p two_sided classes count after lines
 AreLines p bound (Meet s t) lines =
     IsTableAnswer meet_line (length (letters_of p)) (lattice.Meet s t) lines
 AreLines p bound (Join s t) lines =
@@ -82,7 +91,7 @@ waits (Classes count after) = true
 waits RuleList = true
 waits (ElementOf u) = false
 waits Cayley = true
-waits (LowIndex classes count after) = false
+waits (LowIndex two_sided classes count after) = false
 waits (Meet s t) = false
 waits (Join s t) = false
 waits (Green relation) = true

@@ -40,9 +40,13 @@ end_line more = if more then codes "more\n" else codes "end\n"
 abbrev pub page_lines : {A : Type 0} → (A → List ℕ) → List A → Bool → List (List ℕ)
 page_lines line items more = map line items ++ end_line more ∷ []
 
+-- a table, as its graph
+abbrev pub graph_line : Graph → List ℕ
+graph_line g = table_text g ++ codes "\n"
+
 -- a table, whose rows these are
 abbrev pub table_line : Rows → List ℕ
-table_line rows = table_text (graph_of rows) ++ codes "\n"
+table_line rows = graph_line (graph_of rows)
 
 -- the table of a meet, or of a join
 abbrev pub meet_line : Graph → List ℕ

@@ -66,8 +66,9 @@ fn write_decided<O: Sink>(
 /// Writes the answer of a query of the script, each line as one piece, and tells whether it is
 /// defined. The value of a word, tables of low index, meets and joins are told whatever the budgets
 /// are; the other queries are answered where the problem is decided within them, and else with the
-/// line `undecided`. It is decided with the number of workers of the state, at least one, which
-/// changes no answer; with more than one each turn of their race is behind the gate.
+/// line `undecided`. It is decided, and tables are searched for, with the number of workers of the
+/// state, at least one, which changes no answer; with more than one each turn of their race, or
+/// each part of the search, is behind the gate.
 ///
 /// `Failed` comes only where the sink failed, and `NoMemory` for want of memory; the sink has then
 /// gained a prefix of the answer. What the state keeps is of this script's problem, and what it
@@ -91,7 +92,7 @@ pub fn write_answer<R: Threads + Sync, O: Sink, G: Gate + Sync>(
 {
     let problem = script.problem();
     if !waits(query) {
-        write_told(alloc, problem, query, sink)?;
+        write_told(rt, alloc, problem, query, state.workers(), sink, gate)?;
         return Ok(Answered::Defined);
     }
     state.decide(rt, alloc, problem, gate)?;

@@ -66,6 +66,13 @@ impl State {
         self.verdict.as_ref()
     }
 
+    // How many workers may be at it.
+    pub(crate) fn workers(&self) -> usize
+        ensures { result ≡ self.now.workers }
+    {
+        self.workers
+    }
+
     // The bound up to which an index is written out.
     pub(crate) fn classes(&self) -> usize
         ensures { result ≡ self.now.classes }

@@ -1,81 +1,91 @@
 // Pages of tables of low index.
-ghost use Rattle.std.specs.Prelude.{◌≡◌, ◌++◌, ◌≤◌, codes, false, IfOk, IfSome, option_map};
+ghost use Rattle.std.specs.Prelude.{◌≡◌, ◌<◌, ◌≤◌, length, true, IfOk, IfSome};
 ghost use Rattle.std.specs.Option.{option_copied};
-ghost use Rattle.ports.specs.Writes.{Writes, WritesBytes};
-ghost use Rattle.theory.specs.LowIndex.{IsLowIndex, TableLess};
+ghost use Rattle.ports.specs.Writes.{WritesBytes};
 ghost use Rattle.word_graph.specs.Standard.{IsStandardGraph};
-ghost use Rattle.word_graph.specs.TableText.{table_text};
-ghost use Rattle.query_lang.specs.Tables.{rows_in};
-ghost use Rattle.report.specs.Gains.{AreBytesOf};
-ghost use Rattle.report.specs.Lines.{table_line};
-ghost use Rattle.report.specs.Pages.{ArePageLines};
+ghost use Rattle.problem.specs.Problem.{is_presented, letters_of};
+ghost use Rattle.report.specs.Answer.{AreTableLines};
+ghost use Rattle.report.specs.Gains.{bytes_of};
+ghost use Rattle.report.specs.Lines.{graph_line, page_lines};
 
 use crate::line::Line;
 use crate::listings::write_end;
-use ports::{NoMemory, Sink, WriteFault};
-use presentation::Presentation;
-use sims_one::{MOST_CLASSES, Sims};
+use ports::{Gate, NoMemory, Sink, WriteFault};
+use problem::Problem;
+use sims_one::{MOST_CLASSES, TablePage, page, page_two_sided};
 use std::alloc::Global;
+use std::thread::Threads;
 use word_graph::WordGraph;
 
-// The search for tables of at most so many classes, from the first on, or behind a table.
-fn search_after(
+/// Finds a page: the first so many standard tables of right congruences of at most so many classes,
+/// or of two-sided ones alone, after a table if there is one, and whether there are more (Sims
+/// 1994, 5.6; libsemigroups, `Sims1`, `Sims2`). With several workers each part of the search is
+/// behind the gate. Refused only where memory is wanting.
+pub fn find_page<R: Threads + Sync, G: Gate + Sync>(
+    rt: &R,
     alloc: Global,
-    presentation: &Presentation,
+    problem: &Problem,
+    two_sided: bool,
     classes: usize,
     after: Option<&WordGraph>,
-) -> Result<Sims, NoMemory>
+    count: usize,
+    workers: usize,
+    gate: &G,
+) -> Result<TablePage, NoMemory>
+    requires presented { is_presented problem.now ≡ true }
+    requires some { 1 ≤ classes }
     requires classes { classes ≤ MOST_CLASSES }
     requires after { IfSome (option_copied after)
-        (IsStandardGraph presentation.now.presentation.letters) }
-    ensures { IfOk result (λ search. search ≡ record {
-      presentation = presentation.now.presentation;
-      classes = classes;
-      after = option_map rows_in (option_copied after.entry);
-      failed = false;
-    }) }
+        (IsStandardGraph (length (letters_of problem.now))) }
+    requires workers { 0 < workers }
+    ensures { IfOk result (λ page. AreTableLines problem.now two_sided classes count
+        (option_copied after.entry) (page_lines graph_line page.tables.items page.more)) }
 {
-    let mut search = Sims::new(alloc, presentation, classes)?;
-    if let Some(table) = after {
-        search.resume(table)?;
+    let _letters = problem.alphabet();
+    let Problem::Presented(congruence) = problem else {
+        unreachable!()
+    };
+    let presentation = congruence.presentation();
+    if two_sided {
+        page_two_sided(
+            rt,
+            alloc,
+            presentation,
+            classes,
+            after,
+            count,
+            workers,
+            gate,
+        )
+    } else {
+        page(
+            rt,
+            alloc,
+            presentation,
+            classes,
+            after,
+            count,
+            workers,
+            gate,
+        )
     }
-    Ok(search)
 }
 
 // Writes the line of a table.
 fn write_table<O: Sink>(alloc: Global, table: &WordGraph, sink: &mut O) -> Result<(), WriteFault>
-    ensures { WritesBytes O.Sink (table_text table.now ++ codes "\n") sink.old sink.new result }
+    ensures { WritesBytes O.Sink (graph_line table.now) sink.old sink.new result }
 {
     let line = Line::of_table(alloc, table)?;
     line.write(sink)
 }
 
-/// Writes a page: at most so many standard tables of right congruences of at most so many classes,
-/// after a table if there is one, each as it is found, and whether there are more (Sims 1994, 5.6;
-/// libsemigroups, `Sims1`).
-pub fn write_tables<O: Sink>(
-    alloc: Global,
-    presentation: &Presentation,
-    classes: usize,
-    count: usize,
-    after: Option<&WordGraph>,
-    sink: &mut O,
-) -> Result<(), WriteFault>
-    requires classes { classes ≤ MOST_CLASSES }
-    requires after { IfSome (option_copied after)
-        (IsStandardGraph presentation.now.presentation.letters) }
-    ensures { Writes O.Sink (λ _. AreBytesOf (ArePageLines
-        (IsLowIndex presentation.now.presentation classes) TableLess table_line
-        (option_map rows_in (option_copied after.entry)) count)) sink.old sink.new result }
+/// Writes a line for each table of a page, and whether there are more.
+pub fn write_page<O: Sink>(alloc: Global, page: &TablePage, sink: &mut O) -> Result<(), WriteFault>
+    ensures { WritesBytes O.Sink (bytes_of
+        (page_lines graph_line page.now.tables.items page.now.more)) sink.old sink.new result }
 {
-    let _letters = presentation.letters();
-    let mut search = search_after(alloc, presentation, classes, after)?;
-    for _ in 0..count {
-        match search.next()? {
-            Some(table) => write_table(alloc, &table, sink)?,
-            None => return write_end(false, sink),
-        }
+    for table in &page.tables {
+        write_table(alloc, table, sink)?;
     }
-    let next = search.next()?;
-    write_end(next.is_some(), sink)
+    write_end(page.more, sink)
 }

@@ -1,25 +1,24 @@
 // The answers of queries that wait for no decision.
-ghost use Rattle.std.specs.Prelude.{◌≡◌, ℕ, ◌++◌, ◌≤◌, codes, length, false, true, IfSome};
-ghost use Rattle.std.specs.Option.{option_copied};
+ghost use Rattle.std.specs.Prelude.{◌≡◌, ℕ, ◌++◌, ◌<◌, codes, length, false};
 ghost use Rattle.ports.specs.Writes.{Writes, WritesBytes};
 ghost use Rattle.theory.specs.Lattice.{Meet, Join};
 ghost use Rattle.theory.specs.Word.{IsElement};
-ghost use Rattle.word_graph.specs.Standard.{IsStandardGraph};
 ghost use Rattle.word_graph.specs.TableText.{table_text};
 ghost use Rattle.lattice.specs.Tables.{AreTables, HaveOneWidth};
 ghost use Rattle.problem.specs.Problem.{is_presented, letters_of, value_text};
 ghost use Rattle.query_lang.specs.Query.{IsQueryOf};
-ghost use Rattle.report.specs.Answer.{AreLines, AreTableLines, IsTableAnswer, waits};
+ghost use Rattle.report.specs.Answer.{AreLines, IsTableAnswer, waits};
 ghost use Rattle.report.specs.Gains.{AreBytesOf};
 ghost use Rattle.report.specs.Lines.{element_line, join_line, meet_line};
 
 use crate::line::Line;
-use crate::tables::write_tables;
+use crate::tables::{find_page, write_page};
 use lattice::{join, meet};
-use ports::{Sink, WriteFault};
+use ports::{Gate, Sink, WriteFault};
 use problem::Problem;
 use query_lang::Query;
 use std::alloc::Global;
+use std::thread::Threads;
 use word_graph::WordGraph;
 use words::Word;
 
@@ -39,36 +38,6 @@ fn write_element<O: Sink>(
     let mut line = Line::starting(alloc, b"element ")?;
     line.text(entries.as_slice())?;
     line.write(sink)
-}
-
-// Writes a page of tables of low index, where relations are given.
-fn write_low_index<O: Sink>(
-    alloc: Global,
-    problem: &Problem,
-    classes: usize,
-    count: usize,
-    after: Option<&WordGraph>,
-    sink: &mut O,
-) -> Result<(), WriteFault>
-    requires presented { is_presented problem.now ≡ true }
-    requires classes { classes ≤ 16 }
-    requires after { IfSome (option_copied after)
-        (IsStandardGraph (length (letters_of problem.now))) }
-    ensures { Writes O.Sink (λ _. AreBytesOf (AreTableLines problem.now classes count
-        (option_copied after.entry))) sink.old sink.new result }
-{
-    let _letters = problem.alphabet();
-    let Problem::Presented(congruence) = problem else {
-        unreachable!()
-    };
-    write_tables(
-        alloc,
-        congruence.presentation(),
-        classes,
-        count,
-        after,
-        sink,
-    )
 }
 
 // Writes a table behind a name.
@@ -117,25 +86,44 @@ fn write_join<O: Sink>(
 }
 
 /// Writes the answer of a query that waits for no decision: the value of a word, a page of tables
-/// of low index, a meet or a join.
-pub fn write_told<O: Sink>(
+/// of low index, a meet or a join. Tables are searched for with so many workers, which change no
+/// answer; with more than one each part of the search is behind the gate.
+pub fn write_told<R: Threads + Sync, O: Sink, G: Gate + Sync>(
+    rt: &R,
     alloc: Global,
     problem: &Problem,
     query: &Query,
+    workers: usize,
     sink: &mut O,
+    gate: &G,
 ) -> Result<(), WriteFault>
     requires query { IsQueryOf problem.now query.now }
     requires told { waits query.now ≡ false }
+    requires workers { 0 < workers }
     ensures { (bound : ℕ) → Writes O.Sink (λ _. AreBytesOf
         (AreLines problem.now bound query.now)) sink.old sink.new result }
 {
     match query {
         Query::ElementOf(word) => write_element(alloc, problem, word, sink),
         Query::LowIndex {
+            two_sided,
             classes,
             count,
             after,
-        } => write_low_index(alloc, problem, *classes, *count, after.as_ref(), sink),
+        } => {
+            let page = find_page(
+                rt,
+                alloc,
+                problem,
+                *two_sided,
+                *classes,
+                after.as_ref(),
+                *count,
+                workers,
+                gate,
+            )?;
+            write_page(alloc, &page, sink)
+        }
         Query::Meet(s, t) => write_meet(alloc, s, t, sink),
         Query::Join(s, t) => write_join(alloc, s, t, sink),
         Query::Index
