@@ -19,7 +19,7 @@ fn gives<R: Threads + Sync + AllocGlobal>(
     status: u8,
     report: &str,
 ) -> Result<bool, Fail> {
-    for workers in ["1", "2", "3", "64"] {
+    for workers in ["1", "2", "3", "5", "64"] {
         let mut words = Vec::from_slice(rt.alloc(), &["semi", "--workers", workers])?;
         words.extend_from_slice(options)?;
         let ended = run_at(rt, words.as_slice(), script.as_bytes(), SOUND, &Open)?;
@@ -109,8 +109,12 @@ impl<'a> Gate for Meeting<'a> {
     }
 }
 
-#[test]
-fn two_workers_run_lanes_side_by_side(rt: HostRuntime) -> Result<(), Fail> {
+// Whether two workers give this report, and 0 and 1 see each other in the gate.
+fn meet_in_the_gate<R: Threads + Sync + AllocGlobal>(
+    rt: &R,
+    script: &str,
+    report: &str,
+) -> Result<bool, Fail> {
     let (front, back) = (AtomicBool::new(false), AtomicBool::new(false));
     let (front_saw, back_saw) = (AtomicBool::new(false), AtomicBool::new(false));
     let gate = Meeting {
@@ -120,9 +124,62 @@ fn two_workers_run_lanes_side_by_side(rt: HostRuntime) -> Result<(), Fail> {
         back_saw: &back_saw,
     };
     let words = ["semi", "--workers", "2"];
-    let ended = run_at(&rt, &words, GROUP.as_bytes(), SOUND, &gate)?;
-    assert_eq!(rt; ended.status, 0);
-    assert_eq!(rt; ended.out.as_slice(), GROUP_REPORT.as_bytes());
-    assert!(rt; front_saw.load(Ordering::SeqCst) && back_saw.load(Ordering::SeqCst));
+    let ended = run_at(rt, &words, script.as_bytes(), SOUND, &gate)?;
+    if ended.status != 0 || ended.out.as_slice() != report.as_bytes() {
+        return Ok(false);
+    }
+    Ok(front_saw.load(Ordering::SeqCst) && back_saw.load(Ordering::SeqCst))
+}
+
+#[test]
+fn two_workers_run_lanes_side_by_side(rt: HostRuntime) -> Result<(), Fail> {
+    assert!(rt; meet_in_the_gate(&rt, GROUP, GROUP_REPORT)?);
+    Ok(())
+}
+
+// The subgroups of index at most three of the symmetric group of degree three.
+const SUBGROUPS: &str = "monoid ab\nrel aa 1\nrel bbb 1\nrel abab 1\nlowindex 3 10\n";
+
+const SUBGROUP_TABLES: &str = "0,0\n0,1/2,2/1,0\n1,0/0,1\n1,1/0,2/2,0\n1,2/0,0/2,1\nend\n";
+
+#[test]
+fn two_workers_search_parts_side_by_side(rt: HostRuntime) -> Result<(), Fail> {
+    assert!(rt; meet_in_the_gate(&rt, SUBGROUPS, SUBGROUP_TABLES)?);
+    Ok(())
+}
+
+#[test]
+fn workers_give_one_page(rt: HostRuntime) -> Result<(), Fail> {
+    assert!(rt; gives(&rt, &[], SUBGROUPS, 0, SUBGROUP_TABLES)?);
+    // normal subgroups, page by page
+    assert!(rt;
+        gives(
+            &rt,
+            &[],
+            "monoid ab\nrel aa 1\nrel bbb 1\nrel abab 1\nlowindex2 3 10\nlowindex2 3 1\n\
+             lowindex2 6 10 after 1,0/0,1\n",
+            0,
+            "0,0\n1,0/0,1\nend\n0,0\nmore\n1,2/0,3/4,5/5,4/2,1/3,0\nend\n"
+        )?
+    );
+    // a free monoid, and a semigroup
+    assert!(rt;
+        gives(
+            &rt,
+            &[],
+            "monoid a\nlowindex2 2 10\n",
+            0,
+            "0\n1/0\n1/1\nend\n"
+        )?
+    );
+    assert!(rt;
+        gives(
+            &rt,
+            &[],
+            "semigroup a\nrel aaa a\nlowindex 3 9\n",
+            0,
+            "1/1\n1/2/1\nend\n"
+        )?
+    );
     Ok(())
 }
