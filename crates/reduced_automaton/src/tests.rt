@@ -415,7 +415,7 @@ fn follows_a_changed_right_side(rt: HostRuntime) -> Result<(), Fail> {
     Ok(())
 }
 
-// Rules by which c goes before a marker m, besides that of the bicyclic monoid.
+// The rule by which c goes before a marker m.
 const MARKED_LEFT: [(&[u8], &[u8]); 1] = [(b"cm", b"m")];
 
 // Rules by which the letters a and b alternate, and a goes before a marker m.
