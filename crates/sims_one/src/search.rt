@@ -13,7 +13,7 @@ use ports::NoMemory;
 use presentation::Presentation;
 use std::alloc::Global;
 
-// The most nodes of a table of at most so many classes: in a semigroup the root is no class.
+/// The most nodes of a table of at most so many classes: in a semigroup the root is no class.
 pub fn most_nodes(presentation: &Presentation, classes: usize) -> usize
     requires { classes ≤ MOST_CLASSES }
     ensures { result ≡ most_nodes presentation.now.presentation.is_monoid classes }
@@ -25,7 +25,7 @@ pub fn most_nodes(presentation: &Presentation, classes: usize) -> usize
     }
 }
 
-// The least target of a table: in a semigroup no edge leads to the root.
+/// The least target of a table: in a semigroup no edge leads to the root.
 pub fn least_target(presentation: &Presentation) -> usize
     ensures { result ≡ least_target presentation.now.presentation.is_monoid }
 {
@@ -78,9 +78,9 @@ fn candidate_limit(
     }
 }
 
-// Puts the target behind those of the branch, and tells that tables may have it; else no table has
-// it, and the targets are left as they are. Refused only where memory is wanting, and then the branch
-// is any.
+/// Puts the target behind those of the branch, and tells that tables may have it; else no table has
+/// it, and the targets are left as they are. Refused only where memory is wanting, and then the branch
+/// is any.
 pub fn enter(
     presentation: &Presentation,
     classes: usize,
