@@ -7,7 +7,8 @@ use Rattle.std.proofs.lemmas.List.{map-append, take-append-drop}
 use Rattle.std.proofs.lemmas.List.Elements.{All-head, All-tail}
 use Rattle.sims_one.specs.Targets.{seen, least_target, most_nodes, IsFront, AreAllowed, IsTable, IsWithin, IsBeyond}
 use Rattle.sims_one.specs.Search.{Before, NoneFrom}
-use Rattle.sims_one.specs.Pages.{AddsFront, AreFirst, Asked, IsWanted, IsWantedWithin, IsOpen, AreOpen, AreTables, AreTablesWithin, IsWithinOne, ComeBefore, AreOrdered, AreLonger, IsWantedWithinOne, AreJoined, Sought, part_tasks, lists_in}
+use Rattle.sims_one.specs.Asked.{AreFirst, Asked, IsWanted, IsWantedWithin, AreTables, AreTablesWithin}
+use Rattle.sims_one.specs.Fronts.{AddsFront, IsOpen, AreOpen, IsWithinOne, ComeBefore, AreOrdered, AreLonger, IsWantedWithinOne, AreJoined, Sought, part_tasks, lists_in}
 use Rattle.sims_one.proofs.FrontLaws.{front_none, front_push, allowed_push, front_next, allowed_next, before_itself, before_heads, common_front, Compared, compared}
 use Rattle.sims_one.proofs.FrontLaws.Compared.{begins, below, above}
 use Rattle.sims_one.proofs.SearchLaws.{within_beyond}

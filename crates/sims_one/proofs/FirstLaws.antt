@@ -1,7 +1,7 @@
 -- The first elements that have a property, and how those of parts join.
 use Rattle.std.proofs.Common.{◌≡◌, ℕ, zero, suc, ◌+◌, ◌<◌, ◌≤◌, ◌⊎◌, inl, inr, Bool, true, false, List, [], ◌∷◌, ◌++◌, length, take, Option, Some, None, refl, sym, ap, subst, arith, append_assoc}
 use Rattle.theory.specs.Listing.{IsAfter, IsNext, IsLast, IsPage}
-use Rattle.sims_one.specs.Pages.{AreFirst}
+use Rattle.sims_one.specs.Asked.{AreFirst}
 
 -- the first of the first ones
 pub take_joined : {A : Type 0} (n k : ℕ) (xs ys : List A) → n ≤ length xs + k → take n (xs ++ take k ys) ≡ take n (xs ++ ys)

@@ -10,7 +10,8 @@ use Rattle.word_graph.specs.Table.{cut, targets_of}
 use Rattle.word_graph.proofs.TableLaws.{targets_entries}
 use Rattle.sims_one.specs.Targets.{table_of, cursor_of}
 use Rattle.sims_one.specs.Search.{Before, IsCursor}
-use Rattle.sims_one.specs.Pages.{AreFirst, Asked, IsAsked, IsWanted, IsWantedWithin, AreTables, AreTablesWithin, IsTablePage, IsTableAsked, IsPageOf}
+use Rattle.sims_one.specs.Asked.{AreFirst, Asked, IsAsked, IsWanted, IsWantedWithin, AreTables, AreTablesWithin}
+use Rattle.sims_one.specs.Pages.{IsTablePage, IsTableAsked, IsPageOf}
 use Rattle.sims_one.proofs.FrontLaws.{before_itself}
 use Rattle.sims_one.proofs.CutLaws.{before_trans}
 use Rattle.sims_one.proofs.FirstLaws.{first_same, first_take, page_of_first}

@@ -10,7 +10,8 @@ use Rattle.sims_one.specs.Targets.{table_of, IsTable, IsWithin, IsFront, AreAllo
 use Rattle.sims_one.specs.Search.{Before, NoneFrom, IsLeastAfter, NoneWithin}
 use Rattle.sims_one.specs.Known.{IsBranch}
 use Rattle.sims_one.specs.declared.known.Known.{Known}
-use Rattle.sims_one.specs.Pages.{AreFirst, AddsWanted, Asked, IsOpen, IsWanted, IsWantedWithin, IsFirstWithin, AreTablesWithin}
+use Rattle.sims_one.specs.Asked.{AreFirst, AddsWanted, Asked, IsWanted, IsWantedWithin, IsFirstWithin, AreTablesWithin}
+use Rattle.sims_one.specs.Fronts.{IsOpen}
 use Rattle.sims_one.proofs.FrontLaws.{before_itself, front_front, allowed_front}
 use Rattle.sims_one.proofs.PlaceLaws.{at_place}
 use Rattle.sims_one.proofs.LowIndexLaws.{low_index_of}

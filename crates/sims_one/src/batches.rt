@@ -1,6 +1,7 @@
 // A page by parts, in batches.
 ghost use Rattle.std.specs.Prelude.{◌≡◌, ◌≤◌, ◌<◌, ◌++◌, [], map, flat_map, length, true, false, IfOk, OnOk};
-ghost use Rattle.sims_one.specs.Pages.{asked, IsAsked, AreOpen, AreTables, AreJoined, part_tasks, lists_in};
+ghost use Rattle.sims_one.specs.Asked.{asked, IsAsked, AreTables};
+ghost use Rattle.sims_one.specs.Fronts.{AreOpen, AreJoined, part_tasks, lists_in};
 
 use crate::cut::{first_fronts, split_all};
 use crate::request::Request;
@@ -154,8 +155,8 @@ impl Sweep {
 }
 
 /// The tables that are asked for, by parts that run over so many workers. The front parts are made
-/// longer until there are enough of them, and again once fewer are left. Refused only where memory is
-/// wanting.
+/// longer until there are enough of them, and again once fewer are left. Refused only where memory
+/// is wanting.
 pub fn tables_by_parts<T: Threads + Sync, G: Gate + Sync>(
     rt: &T,
     alloc: Global,

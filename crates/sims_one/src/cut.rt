@@ -1,7 +1,8 @@
 // The cut of the search at front parts.
 ghost use Rattle.std.specs.Prelude.{◌≡◌, ◌≤◌, ◌++◌, ◌∷◌, [], List, ℕ, IfOk, OnOk, false};
 ghost use Rattle.sims_one.specs.Search.{NoneFrom};
-ghost use Rattle.sims_one.specs.Pages.{asked, IsAsked, IsOpen, AreOpen, AreLonger, AddsFront, AreJoined, lists_in};
+ghost use Rattle.sims_one.specs.Asked.{asked, IsAsked};
+ghost use Rattle.sims_one.specs.Fronts.{IsOpen, AreOpen, AreLonger, AddsFront, AreJoined, lists_in};
 
 use crate::paths::greatest;
 use crate::request::Request;

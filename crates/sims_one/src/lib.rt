@@ -1,7 +1,10 @@
 //! Standard tables of right congruences of low index.
 //!
 //! The tables are found by a backtrack search, one after another, in the order of their rows (Sims,
-//! *Computation with finitely presented groups*, 1994, 5.6; libsemigroups, `Sims1`).
+//! *Computation with finitely presented groups*, 1994, 5.6; libsemigroups, `Sims1`). [`Sims`] gives
+//! them in this way. [`page`] gives a page of them, by parts of the search that run over any number
+//! of workers, and [`page_two_sided`] a page of those that belong to two-sided congruences.
+//! [`run_parts`] runs the [`Part`]s of any work.
 #![tactic(auto)]
 
 mod batches;

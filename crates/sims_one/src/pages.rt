@@ -7,7 +7,9 @@ ghost use Rattle.theory.specs.TwoSidedTable.{IsTwoSidedLowIndex};
 ghost use Rattle.word_graph.specs.Standard.{IsStandardGraph};
 ghost use Rattle.sims_one.specs.Targets.{table_of, cursor_of};
 ghost use Rattle.sims_one.specs.Search.{IsCursor};
-ghost use Rattle.sims_one.specs.Pages.{asked, lists_in, IsAsked, AreTables, IsTablePage, IsPageOf};
+ghost use Rattle.sims_one.specs.Asked.{asked, IsAsked, AreTables};
+ghost use Rattle.sims_one.specs.Fronts.{lists_in};
+ghost use Rattle.sims_one.specs.Pages.{IsTablePage, IsPageOf};
 
 use crate::batches::tables_by_parts;
 use crate::request::Request;
@@ -110,11 +112,12 @@ fn page_of<T: Threads + Sync, G: Gate + Sync>(
 /// further one (Sims 1994, 5.6; libsemigroups, `Sims1`). The table that they come after is standard
 /// over the letters of the presentation, and need not be a table of the search.
 ///
-/// The page is the same for every number of workers. With one worker it is one search. With more the
-/// search is cut at the first targets of tables into parts, which run in batches by [`run_parts`],
-/// each batch once the one before it has ended; the batch that fills the page is the last one. The
-/// parts of a batch pass the gate with their numbers in it. In a monoid, with `n` above 1 and no
-/// cursor, the first batch has at least two parts. Refused only where memory is wanting.
+/// The page is the same for every number of workers. With one worker it is one search. With more
+/// the search is cut at the first targets of tables into parts, which run in batches by
+/// [`run_parts`], each batch once the one before it has ended; the batch that fills the page is the
+/// last one. The parts of a batch pass the gate with their numbers in it. In a monoid, with `n`
+/// above 1 and no cursor, the first batch has at least two parts. Refused only where memory is
+/// wanting.
 ///
 /// [`run_parts`]: crate::run_parts
 pub fn page<T: Threads + Sync, G: Gate + Sync>(
@@ -147,8 +150,8 @@ pub fn page<T: Threads + Sync, G: Gate + Sync>(
     page_of(rt, alloc, &request, workers, gate)
 }
 
-/// The same of the two-sided tables alone, which are those of two-sided congruences (Sims 1994, 5.6;
-/// libsemigroups, `Sims2`). The table that they come after need not be two-sided.
+/// The same of the two-sided tables alone, which are those of two-sided congruences (Sims 1994,
+/// 5.6; libsemigroups, `Sims2`). The table that they come after need not be two-sided.
 pub fn page_two_sided<T: Threads + Sync, G: Gate + Sync>(
     rt: &T,
     alloc: Global,

@@ -291,8 +291,8 @@ pub fn search_along(
 }
 
 /// Makes of the branch of a table that of the least table of at most so many classes after it that
-/// goes on behind as many of its targets as are kept, and tells that there is one. Refused only where
-/// memory is wanting.
+/// goes on behind as many of its targets as are kept, and tells that there is one. Refused only
+/// where memory is wanting.
 pub fn search_next(
     presentation: &Presentation,
     classes: usize,

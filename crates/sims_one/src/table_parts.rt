@@ -1,6 +1,7 @@
 // Parts of a search for tables.
 ghost use Rattle.std.specs.Prelude.{◌≡◌, []};
-ghost use Rattle.sims_one.specs.Pages.{asked, IsAsked, IsOpen, lists_in};
+ghost use Rattle.sims_one.specs.Asked.{asked, IsAsked};
+ghost use Rattle.sims_one.specs.Fronts.{IsOpen, lists_in};
 
 use crate::parts::Part;
 use crate::request::Request;
@@ -19,7 +20,8 @@ pub struct TablePart<'a> {
 }
 
 impl<'a> Model for TablePart<'a> {
-    ghost use Rattle.sims_one.specs.Pages.{Sought, asked, lists_in, IsAsked, IsOpen};
+    ghost use Rattle.sims_one.specs.Asked.{asked, IsAsked};
+    ghost use Rattle.sims_one.specs.Fronts.{Sought, lists_in, IsOpen};
 
     ghost Value = { Sought };
 
@@ -64,7 +66,7 @@ impl<'a> TablePart<'a> {
 
 impl<'a> Part for TablePart<'a> {
     ghost use Rattle.std.specs.Prelude.{List, ℕ};
-    ghost use Rattle.sims_one.specs.Pages.{Asked, AreTablesWithin};
+    ghost use Rattle.sims_one.specs.Asked.{Asked, AreTablesWithin};
 
     ghost Task = { Asked × List ℕ };
 

@@ -5,7 +5,8 @@ ghost use Rattle.theory.specs.LowIndex.{graph_of};
 ghost use Rattle.sims_one.specs.Targets.{table_of, IsTable, IsWithin};
 ghost use Rattle.sims_one.specs.Known.{IsBranch};
 ghost use Rattle.sims_one.specs.Search.{Before, NoneWithin, NoneFrom};
-ghost use Rattle.sims_one.specs.Pages.{asked, IsAsked, IsOpen, IsWanted, IsFirstWithin, AddsWanted, AreTablesWithin, lists_in};
+ghost use Rattle.sims_one.specs.Asked.{asked, IsAsked, IsWanted, IsFirstWithin, AddsWanted, AreTablesWithin};
+ghost use Rattle.sims_one.specs.Fronts.{IsOpen, lists_in};
 
 use crate::branch::Branch;
 use crate::paths::greatest;
@@ -16,8 +17,8 @@ use std::alloc::Global;
 use std::cmp::Ordering;
 use word_graph::WordGraph;
 
-/// Less where all that goes on behind the front part comes before the cursor, greater where it comes
-/// after, and equal where the cursor goes on behind the front part itself.
+/// Less where all that goes on behind the front part comes before the cursor, greater where it
+/// comes after, and equal where the cursor goes on behind the front part itself.
 pub fn place_of(front: &[usize], cursor: &[usize]) -> Ordering
     ensures less { result ≡ Less → (u : List ℕ) → IsWithin front.now u → Before u cursor.now }
     ensures equal { result ≡ Equal → IsWithin front.now cursor.now × (0 < length cursor.now) }

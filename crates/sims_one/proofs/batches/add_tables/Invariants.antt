@@ -1,5 +1,5 @@
 use Rattle.std.proofs.Common.{◌≡◌, ◌++◌, flat_map}
-use Rattle.sims_one.specs.Pages.{lists_in}
+use Rattle.sims_one.specs.Fronts.{lists_in}
 use Rattle.sims_one.proofs.batches.add_tables.Given as goal
 
 abbrev pub invariant-loop-part : goal.invariant-loop-part

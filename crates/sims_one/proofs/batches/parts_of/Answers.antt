@@ -1,7 +1,8 @@
 use Rattle.std.proofs.Common.{◌≡◌, ◌+◌, ◌++◌, ◌∷◌, [], ℕ, List, take, map, get_or, sym, ◌∙◌, ap, ap₂, subst, arith}
 use Rattle.std.proofs.Math.ListN.{get_or-map}
 use Rattle.std.proofs.lemmas.List.{take_more, map_push, length-map}
-use Rattle.sims_one.specs.Pages.{asked, lists_in, IsOpen, Asked, Sought, part_tasks}
+use Rattle.sims_one.specs.Asked.{asked, Asked}
+use Rattle.sims_one.specs.Fronts.{lists_in, IsOpen, Sought, part_tasks}
 use Rattle.sims_one.proofs.CutLaws.{open_at}
 use Rattle.sims_one.proofs.batches.parts_of.Goals as goal
 

@@ -1,5 +1,6 @@
 use Rattle.std.proofs.Common.{◌≡◌, map, take}
-use Rattle.sims_one.specs.Pages.{asked, lists_in, part_tasks}
+use Rattle.sims_one.specs.Asked.{asked}
+use Rattle.sims_one.specs.Fronts.{lists_in, part_tasks}
 use Rattle.sims_one.proofs.batches.parts_of.Given as goal
 
 abbrev pub invariant-loop-front : goal.invariant-loop-front

@@ -1,4 +1,5 @@
-use Rattle.sims_one.specs.Pages.{asked, lists_in, AreJoined}
+use Rattle.sims_one.specs.Asked.{asked}
+use Rattle.sims_one.specs.Fronts.{lists_in, AreJoined}
 use Rattle.sims_one.proofs.batches.tables_by_parts.Given as goal
 
 abbrev pub invariant-loop : goal.invariant-loop

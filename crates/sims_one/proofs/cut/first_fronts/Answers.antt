@@ -1,7 +1,8 @@
 use Rattle.std.proofs.Common.{◌≡◌, ◌≤◌, ◌+◌, ◌++◌, ◌∷◌, [], ℕ, List, sym, ◌∙◌, ap, subst, arith}
 use Rattle.std.proofs.lemmas.List.{map_push}
 use Rattle.sims_one.specs.Targets.{least_target}
-use Rattle.sims_one.specs.Pages.{asked, lists_in}
+use Rattle.sims_one.specs.Asked.{asked}
+use Rattle.sims_one.specs.Fronts.{lists_in}
 use Rattle.sims_one.proofs.CutLaws.{AreSplit, split_more, split_first, open_more, open_none}
 use Rattle.sims_one.proofs.cut.first_fronts.Goals as goal
 

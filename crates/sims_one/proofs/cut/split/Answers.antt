@@ -1,7 +1,8 @@
 use Rattle.std.proofs.Common.{◌≡◌, ◌<◌, ◌+◌, ◌*◌, ◌++◌, ◌∷◌, [], ℕ, List, length, ◌∙◌, ap, subst, arith}
 use Rattle.std.proofs.lemmas.List.{map_push}
 use Rattle.sims_one.specs.Targets.{seen}
-use Rattle.sims_one.specs.Pages.{asked, lists_in}
+use Rattle.sims_one.specs.Asked.{asked}
+use Rattle.sims_one.specs.Fronts.{lists_in}
 use Rattle.sims_one.proofs.FrontLaws.{few_seen}
 use Rattle.sims_one.proofs.CutLaws.{product_small, split_on, split_end, open_more, longer_whole}
 use Rattle.sims_one.proofs.cut.split.Goals as goal

@@ -1,5 +1,6 @@
 use Rattle.std.proofs.Common.{◌≡◌, ◌++◌, List, ℕ}
-use Rattle.sims_one.specs.Pages.{asked, lists_in}
+use Rattle.sims_one.specs.Asked.{asked}
+use Rattle.sims_one.specs.Fronts.{lists_in}
 use Rattle.sims_one.proofs.CutLaws.{AreSplit}
 use Rattle.sims_one.proofs.cut.split.Given as goal
 

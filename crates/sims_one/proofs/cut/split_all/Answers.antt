@@ -1,7 +1,8 @@
 use Rattle.std.proofs.Common.{◌≡◌, ◌+◌, ◌++◌, ◌∷◌, [], ℕ, List, take, get_or, sym, ◌∙◌, ap, subst, subst₂, arith}
 use Rattle.std.proofs.Math.ListN.{get_or-map}
 use Rattle.std.proofs.lemmas.List.{take_more, length-map}
-use Rattle.sims_one.specs.Pages.{asked, lists_in, IsOpen, AreLonger}
+use Rattle.sims_one.specs.Asked.{asked}
+use Rattle.sims_one.specs.Fronts.{lists_in, IsOpen, AreLonger}
 use Rattle.sims_one.proofs.CutLaws.{open_at, longer_both}
 use Rattle.sims_one.proofs.cut.split_all.Goals as goal
 

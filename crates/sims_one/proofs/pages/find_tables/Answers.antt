@@ -1,4 +1,5 @@
-use Rattle.sims_one.specs.Pages.{asked, lists_in}
+use Rattle.sims_one.specs.Asked.{asked}
+use Rattle.sims_one.specs.Fronts.{lists_in}
 use Rattle.sims_one.proofs.PageLaws.{if_ok, tables_whole}
 use Rattle.sims_one.proofs.pages.find_tables.Goals as goal
 

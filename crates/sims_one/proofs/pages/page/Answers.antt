@@ -1,6 +1,6 @@
 use Rattle.std.proofs.Common.{◌∙◌, false, ap, refl}
 use Rattle.sims_one.specs.Targets.{cursor_of}
-use Rattle.sims_one.specs.Pages.{Asked}
+use Rattle.sims_one.specs.Asked.{Asked}
 use Rattle.sims_one.proofs.PageLaws.{if_ok, page_any}
 use Rattle.sims_one.proofs.pages.page.Goals as goal
 

@@ -1,6 +1,7 @@
 use Rattle.std.proofs.Common.{◌<◌, sym, subst, arith}
 use Rattle.std.proofs.lemmas.List.{length-map}
-use Rattle.sims_one.specs.Pages.{asked, lists_in, AreTables}
+use Rattle.sims_one.specs.Asked.{asked, AreTables}
+use Rattle.sims_one.specs.Fronts.{lists_in}
 use Rattle.sims_one.proofs.PageLaws.{if_ok_thrice, page_found}
 use Rattle.sims_one.proofs.pages.page_of.Goals as goal
 

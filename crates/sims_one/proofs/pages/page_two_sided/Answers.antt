@@ -1,6 +1,6 @@
 use Rattle.std.proofs.Common.{◌∙◌, true, ap, refl}
 use Rattle.sims_one.specs.Targets.{cursor_of}
-use Rattle.sims_one.specs.Pages.{Asked}
+use Rattle.sims_one.specs.Asked.{Asked}
 use Rattle.sims_one.proofs.PageLaws.{if_ok, page_both}
 use Rattle.sims_one.proofs.pages.page_two_sided.Goals as goal
 

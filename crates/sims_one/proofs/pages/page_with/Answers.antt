@@ -5,7 +5,8 @@ use Rattle.theory.specs.Graph.{Graph}
 use Rattle.theory.specs.LowIndex.{graph_of}
 use Rattle.sims_one.specs.Targets.{table_of, IsTable}
 use Rattle.sims_one.specs.Search.{Before}
-use Rattle.sims_one.specs.Pages.{asked, lists_in, IsWanted}
+use Rattle.sims_one.specs.Asked.{asked, IsWanted}
+use Rattle.sims_one.specs.Fronts.{lists_in}
 use Rattle.sims_one.proofs.PageLaws.{first_has}
 use Rattle.sims_one.proofs.pages.page_with.Goals as goal
 

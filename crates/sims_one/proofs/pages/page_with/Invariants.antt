@@ -1,7 +1,7 @@
 use Rattle.std.proofs.Common.{◌≡◌, map, take}
 use Rattle.theory.specs.LowIndex.{graph_of}
 use Rattle.sims_one.specs.Targets.{table_of}
-use Rattle.sims_one.specs.Pages.{lists_in}
+use Rattle.sims_one.specs.Fronts.{lists_in}
 use Rattle.sims_one.proofs.pages.page_with.Given as goal
 
 abbrev pub invariant-loop-i : goal.invariant-loop-i

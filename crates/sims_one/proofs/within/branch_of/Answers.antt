@@ -1,7 +1,7 @@
 use Rattle.std.proofs.Common.{◌++◌, ◌∷◌, [], List, ℕ, get_or, sym, subst}
 use Rattle.sims_one.specs.Targets.{IsFront, AreAllowed}
 use Rattle.sims_one.specs.Search.{NoneWithin}
-use Rattle.sims_one.specs.Pages.{asked}
+use Rattle.sims_one.specs.Asked.{asked}
 use Rattle.sims_one.proofs.WantedLaws.{open_next, none_next}
 use Rattle.sims_one.proofs.within.branch_of.Goals as goal
 

@@ -1,5 +1,5 @@
 use Rattle.std.proofs.Common.{◌<◌, arith}
-use Rattle.sims_one.specs.Pages.{asked}
+use Rattle.sims_one.specs.Asked.{asked}
 use Rattle.sims_one.proofs.EdgeLaws.{on_ok}
 use Rattle.sims_one.proofs.WantedLaws.{table_complete, wanted_any, wanted_two_sided}
 use Rattle.sims_one.proofs.within.is_wanted.Goals as goal

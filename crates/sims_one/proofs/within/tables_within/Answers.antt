@@ -2,7 +2,8 @@ use Rattle.std.proofs.Common.{ℕ, List, length, refl, subst, arith}
 use Rattle.std.proofs.lemmas.List.{length-map}
 use Rattle.sims_one.specs.Targets.{IsWithin}
 use Rattle.sims_one.specs.Search.{NoneFrom}
-use Rattle.sims_one.specs.Pages.{asked, lists_in, AddsWanted}
+use Rattle.sims_one.specs.Asked.{asked, AddsWanted}
+use Rattle.sims_one.specs.Fronts.{lists_in}
 use Rattle.sims_one.proofs.RankLaws.{table_falls}
 use Rattle.sims_one.proofs.WantedLaws.{listed_on, tables_end, tables_enough, first_after, kept_front}
 use Rattle.sims_one.proofs.within.tables_within.Goals as goal

@@ -1,5 +1,6 @@
 use Rattle.std.proofs.Common.{◌≤◌, ℕ, List, length}
-use Rattle.sims_one.specs.Pages.{asked, lists_in}
+use Rattle.sims_one.specs.Asked.{asked}
+use Rattle.sims_one.specs.Fronts.{lists_in}
 use Rattle.sims_one.proofs.RankLaws.{rank}
 use Rattle.sims_one.proofs.WantedLaws.{AreListed}
 use Rattle.sims_one.proofs.within.tables_within.Given as goal

@@ -1,6 +1,7 @@
 use Rattle.std.proofs.Common.{◌≡◌, subst, sym, ◌∙◌, length, vec_len}
 use Rattle.std.proofs.lemmas.Bool.{eqb-true}
-use Rattle.sims_one.specs.Pages.{asked, lists_in, AreJoined}
+use Rattle.sims_one.specs.Asked.{asked}
+use Rattle.sims_one.specs.Fronts.{lists_in, AreJoined}
 use Rattle.sims_one.proofs.CutLaws.{joined_end, no_lists}
 use Rattle.sims_one.proofs.batches.Sweep.is_over.Goals as goal
 

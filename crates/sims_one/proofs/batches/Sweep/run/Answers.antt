@@ -1,5 +1,6 @@
 use Rattle.std.proofs.Common.{◌≡◌, subst, length, arith}
-use Rattle.sims_one.specs.Pages.{asked, lists_in, AreJoined}
+use Rattle.sims_one.specs.Asked.{asked}
+use Rattle.sims_one.specs.Fronts.{lists_in, AreJoined}
 use Rattle.sims_one.proofs.CutLaws.{joined_end, no_lists}
 use Rattle.sims_one.proofs.batches.Sweep.run.Goals as goal
 

@@ -1,5 +1,6 @@
 use Rattle.std.proofs.Common.{length}
-use Rattle.sims_one.specs.Pages.{asked, lists_in, AreJoined}
+use Rattle.sims_one.specs.Asked.{asked}
+use Rattle.sims_one.specs.Fronts.{lists_in, AreJoined}
 use Rattle.sims_one.proofs.batches.Sweep.run.Given as goal
 
 abbrev pub invariant-loop-alloc : goal.invariant-loop-alloc

@@ -1,5 +1,6 @@
 use Rattle.std.proofs.Common.{◌∙◌}
-use Rattle.sims_one.specs.Pages.{asked, lists_in}
+use Rattle.sims_one.specs.Asked.{asked}
+use Rattle.sims_one.specs.Fronts.{lists_in}
 use Rattle.sims_one.proofs.CutLaws.{open_batch, joined_batch, on_done}
 use Rattle.sims_one.proofs.batches.Sweep.run_batch.Goals as goal
 

@@ -1,5 +1,6 @@
 use Rattle.std.proofs.Common.{subst}
-use Rattle.sims_one.specs.Pages.{asked, lists_in, AreLonger}
+use Rattle.sims_one.specs.Asked.{asked}
+use Rattle.sims_one.specs.Fronts.{lists_in, AreLonger}
 use Rattle.sims_one.proofs.CutLaws.{joined_longer}
 use Rattle.sims_one.proofs.batches.Sweep.split.Goals as goal
 
