@@ -13,19 +13,24 @@ use std::cmp::min;
 use std::thread::Threads;
 
 // How often all front parts are made longer.
-const ROUNDS: usize = 24;
+const ROUNDS: usize = 6;
 
-// How many parts of a batch each worker has.
-const SHARE: usize = 16;
+// How many parts of the first batch each worker has, and the most of a further one, which has twice
+// as many as the one before it.
+const FIRST_SHARE: usize = 2;
+
+const MOST_SHARE: usize = 8;
 
 // How many front parts there are for each worker before a batch is taken from them.
-const ENOUGH: usize = 32;
+const ENOUGH: usize = 16;
 
-// A search: the front parts behind which it has still to go, and the tables before these.
+// A search: the front parts behind which it has still to go, the tables before these, and how many
+// parts of the next batch each worker has.
 #[derive(Drop)]
 struct Sweep {
     fronts: Vec<Vec<usize>>,
     tables: Vec<Vec<usize>>,
+    share: usize,
 }
 
 // The parts of these front parts.
@@ -70,6 +75,7 @@ impl Sweep {
         Ok(Sweep {
             fronts,
             tables: Vec::new(alloc),
+            share: FIRST_SHARE,
         })
     }
 
@@ -117,7 +123,9 @@ impl Sweep {
         ensures fewer { OnOk result (length self.new.fronts.items
             < length self.old.fronts.items) }
     {
-        let most = min(workers.saturating_mul(SHARE), self.fronts.len());
+        let share = workers.saturating_mul(self.share).max(1);
+        let most = min(share, self.fronts.len());
+        self.share = min(self.share.saturating_mul(2), MOST_SHARE);
         let rest = self.fronts.split_off(most)?;
         let mut parts = parts_of(alloc, request, self.fronts.as_slice())?;
         self.fronts = rest;
