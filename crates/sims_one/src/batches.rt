@@ -13,7 +13,7 @@ use std::cmp::min;
 use std::thread::Threads;
 
 // How often all front parts are made longer.
-const ROUNDS: usize = 6;
+const ROUNDS: usize = 12;
 
 // How many parts of the first batch each worker has, and the most of a further one, which has twice
 // as many as the one before it.
