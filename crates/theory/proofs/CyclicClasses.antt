@@ -16,7 +16,7 @@ use Rattle.theory.proofs.CyclicRows.{cyclic_is, ring, all_rows, over_3, apart, a
 -- words that end at two nodes of the ring are of two classes
 classes_apart : (u v : Word) (n m : ℕ) → IsOver 1 u → path ring 0 u ≡ Some n → path ring 0 v ≡ Some m → n ≢ m → Related cyclic u v → ⊥
 classes_apart u v n m over p q ne r =
-    apart all_rows over_3 u v n m p q ne ((hlt_related cyclic all_rows cyclic_is (inl refl) all_rows_met u v over).1 r)
+    apart all_rows (omega arith) over_3 u v n m p q ne ((hlt_related cyclic all_rows cyclic_is (inl refl) (inl all_rows_met) u v over).1 r)
 
 itself : (u : Word) → IsOver 1 u → SameClass cyclic u u
 itself u over = record { left = over; right = over; related = (related_congruence cyclic).reflexive u }

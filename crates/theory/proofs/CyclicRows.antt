@@ -1,17 +1,17 @@
 -- The rows of the monoid with one generator of order three.
-use Rattle.std.proofs.Common.{◌≡◌, ◌≢◌, ℕ, zero, suc, ◌<◌, List, [], ◌∷◌, ◌++◌, refl, sym, ◌∙◌, ap, subst, subst₂, arith, inl, inr, Some, Contains, append_assoc, append-nil}
+use Rattle.std.proofs.Common.{◌≡◌, ◌≢◌, ℕ, zero, suc, ◌<◌, List, [], ◌∷◌, ◌++◌, length, refl, sym, ◌∙◌, ap, subst, subst₂, arith, inl, inr, Some, Contains, append_assoc, append-nil}
 use Rattle.theory.specs.Word.{Word, IsOver}
 use Rattle.theory.specs.ShortLex.{◌≺◌}
 use Rattle.theory.specs.Congruence.{IsWellFormed}
-use Rattle.theory.specs.Facts.{AllDefined, given, symmetric, transitive, extended, relation}
-use Rattle.theory.specs.Hlt.{HltFacts, HltDefines, IsMet, HltStage, HltEnds, start, row, AllMet}
+use Rattle.theory.specs.Facts.{Facts, AllDefined, given, symmetric, transitive, extended, relation}
+use Rattle.theory.specs.Hlt.{lookahead_rows, HltFacts, HltDefines, IsMet, HltStage, HltEnds, start, row, AllMet}
 use Rattle.theory.specs.Graph.{Graph, path, target, IsModel}
 use Rattle.theory.specs.Examples.{a1, a2, a3, cyclic}
 use Rattle.theory.proofs.Counting.{in_from_contains, contains_from_in}
 use Rattle.theory.proofs.Related.{none_either, none_contained}
 use Rattle.theory.proofs.FactsLaws.{facts_over}
 use Rattle.theory.proofs.GraphLaws.{facts_in_model}
-use Rattle.theory.proofs.HltLaws.{hlt_stage_past, hlt_defines_over}
+use Rattle.theory.proofs.HltLaws.{hlt_first_rows, hlt_stage_length, hlt_stage_past, hlt_defines_over}
 use Rattle.theory.proofs.ReducedRules.{greater_full}
 use Rattle.theory.proofs.CyclicExample.{one_relation, one_letter_shorter, point, point_path, all_defined_by_three}
 use Rattle.std.proofs.lemmas.List.{same_from_push}
@@ -64,16 +64,17 @@ ring_model U over =
     full (b ∷ s) a e = cc
 
 -- words that end at two nodes of the ring are not related
-pub apart : (U : List Word) → ((w : Word) → Contains U w → IsOver 1 w) → (u v : Word) (n m : ℕ) → path ring 0 u ≡ Some n
-    → path ring 0 v ≡ Some m → n ≢ m → HltFacts cyclic U u v → ⊥
-apart U over u v n m p q ne f =
-    let at = facts_in_model cyclic (HltDefines cyclic U) (Contains U) ring (ring_model U over) u v f in
+pub apart : (U : List Word) → length U < lookahead_rows → ((w : Word) → Contains U w → IsOver 1 w) → (u v : Word) (n m : ℕ)
+    → path ring 0 u ≡ Some n → path ring 0 v ≡ Some m → n ≢ m → HltFacts cyclic U u v → ⊥
+apart U few over u v n m p q ne f =
+    let at = facts_in_model cyclic (HltDefines cyclic U) (Contains U) ring (ring_model U over) u v ((hlt_first_rows cyclic U few u v).0 f) in
     let one : n ≡ at.0 = let e : Some n ≡ Some at.0 = sym p ∙ at.1 in cc in
     let two : m ≡ at.0 = let e : Some m ≡ Some at.0 = sym q ∙ at.2 in cc in
     ne (one ∙ sym two)
 
-defined_over : (U : List Word) → ((w : Word) → Contains U w → IsOver 1 w) → (v : Word) → HltFacts cyclic U v v → IsOver 1 v
-defined_over U over v f = (facts_over cyclic (HltDefines cyclic U) (Contains U) cyclic_is (hlt_defines_over cyclic U cyclic_is over) v v f).0
+defined_over : (U : List Word) → length U < lookahead_rows → ((w : Word) → Contains U w → IsOver 1 w) → (v : Word) → HltFacts cyclic U v v → IsOver 1 v
+defined_over U few over v f =
+    (facts_over cyclic (HltDefines cyclic U) (Contains U) cyclic_is (hlt_defines_over cyclic U cyclic_is over) v v ((hlt_first_rows cyclic U few v v).0 f)).0
 
 over_1 : (w : Word) → Contains ([] ∷ []) w → IsOver 1 w
 over_1 w m = elim (in_from_contains w ([] ∷ []) m) [ inl e ↦ subst (λ x. IsOver 1 x) (sym e) tt | inr n ↦ absurd n ]
@@ -86,11 +87,11 @@ over_2 w m = elim (in_from_contains w (a1 ∷ [] ∷ []) m) [
 
 -- the row of a word in U defines its extension
 extension : (U : List Word) (w : Word) → Contains U w → HltFacts cyclic U (w ++ 0 ∷ []) (w ++ 0 ∷ [])
-extension U w m = given (refl, inr (inr (w, m, inl (record { letter = 0; over = omega arith; is = refl }))))
+extension U w m = given (inl (refl, inr (inr (w, m, inl (record { letter = 0; over = omega arith; is = refl })))))
 
 pub row_1 : HltStage cyclic 1 ([] ∷ [])
 row_1 = row start (record {
-  defined = (given (refl, inl refl));
+  defined = (given (inl (refl, inl refl)));
   unmet = λ m. none_contained m.0 m.1;
   least = λ v d h. absurd (greater_full [] v h refl);
 })
@@ -99,37 +100,37 @@ pub row_2 : HltStage cyclic 2 (a1 ∷ [] ∷ [])
 row_2 = row row_1 (record {
   defined = extension ([] ∷ []) [] (0, omega arith, refl);
   unmet = unmet;
-  least = λ v d h. before v (defined_over ([] ∷ []) over_1 v d) h;
+  least = λ v d h. before v (defined_over ([] ∷ []) (omega arith) over_1 v d) h;
 })
   where
     unmet : IsMet (HltFacts cyclic ([] ∷ [])) ([] ∷ []) a1 → ⊥
     unmet m = elim (in_from_contains m.0 ([] ∷ []) m.1) [
-      | inl e ↦ apart ([] ∷ []) over_1 a1 [] 1 0 refl refl (λ d. omega arith) (subst (λ v. HltFacts cyclic ([] ∷ []) a1 v) e m.2)
+      | inl e ↦ apart ([] ∷ []) (omega arith) over_1 a1 [] 1 0 refl refl (λ d. omega arith) (subst (λ v. HltFacts cyclic ([] ∷ []) a1 v) e m.2)
       | inr n ↦ absurd n
     ]
 
     before : (v : Word) → IsOver 1 v → v ≺ a1 → IsMet (HltFacts cyclic ([] ∷ [])) ([] ∷ []) v
-    before [] over h = ([], (0, omega arith, refl), (given (refl, inl refl)))
+    before [] over h = ([], (0, omega arith, refl), (given (inl (refl, inl refl))))
     before (b ∷ v) over h = absurd (omega (arith, one_letter_shorter (b ∷ v) a1 over (omega arith, tt) h))
 
 pub row_3 : HltStage cyclic 3 (a2 ∷ a1 ∷ [] ∷ [])
 row_3 = row row_2 (record {
   defined = extension (a1 ∷ [] ∷ []) a1 (0, omega arith, refl);
   unmet = unmet;
-  least = λ v d h. before v (defined_over (a1 ∷ [] ∷ []) over_2 v d) h;
+  least = λ v d h. before v (defined_over (a1 ∷ [] ∷ []) (omega arith) over_2 v d) h;
 })
   where
     unmet : IsMet (HltFacts cyclic (a1 ∷ [] ∷ [])) (a1 ∷ [] ∷ []) a2 → ⊥
     unmet m = elim (in_from_contains m.0 (a1 ∷ [] ∷ []) m.1) [
-      | inl e ↦ apart (a1 ∷ [] ∷ []) over_2 a2 a1 2 1 refl refl (λ d. omega arith) (subst (λ v. HltFacts cyclic (a1 ∷ [] ∷ []) a2 v) e m.2)
+      | inl e ↦ apart (a1 ∷ [] ∷ []) (omega arith) over_2 a2 a1 2 1 refl refl (λ d. omega arith) (subst (λ v. HltFacts cyclic (a1 ∷ [] ∷ []) a2 v) e m.2)
       | inr n ↦ elim n [
-        | inl e ↦ apart (a1 ∷ [] ∷ []) over_2 a2 [] 2 0 refl refl (λ d. omega arith) (subst (λ v. HltFacts cyclic (a1 ∷ [] ∷ []) a2 v) e m.2)
+        | inl e ↦ apart (a1 ∷ [] ∷ []) (omega arith) over_2 a2 [] 2 0 refl refl (λ d. omega arith) (subst (λ v. HltFacts cyclic (a1 ∷ [] ∷ []) a2 v) e m.2)
         | inr k ↦ absurd k
       ]
     ]
 
     before : (v : Word) → IsOver 1 v → v ≺ a2 → IsMet (HltFacts cyclic (a1 ∷ [] ∷ [])) (a1 ∷ [] ∷ []) v
-    before [] over h = ([], (1, omega arith, refl), (given (refl, inl refl)))
+    before [] over h = ([], (1, omega arith, refl), (given (inl (refl, inl refl))))
     before (b ∷ []) over h =
         let zeroth : 0 ≡ b = omega (arith, over.0) in (
           a1,
@@ -140,14 +141,16 @@ row_3 = row row_2 (record {
 
 -- two rows do not suffice
 pub two_rows_are_not_enough : HltEnds cyclic 2 → ⊥
-two_rows_are_not_enough = hlt_stage_past cyclic 2 row_3
+two_rows_are_not_enough ends =
+    let late = hlt_stage_past cyclic 2 row_3 ends in
+    omega (arith, ends.within, late.0.0, late.0.1, hlt_stage_length cyclic ends.stage)
 
 abbrev pub all_rows : List Word
 all_rows = a2 ∷ a1 ∷ [] ∷ []
 
 third : HltFacts cyclic all_rows [] a3
 third =
-    relation [] [] [] a2 0 (given (refl, inl refl)) (2, omega arith, refl) (inr (0, omega arith, refl)) (given (refl, inl refl))
+    relation [] [] [] a2 0 (given (inl (refl, inl refl))) (2, omega arith, refl) (inr (0, omega arith, refl)) (given (inl (refl, inl refl)))
     (extension all_rows a1 (1, omega arith, refl))
 
 abbrev IsPlaced : Word → Type 0
@@ -193,15 +196,15 @@ over_3 w m = elim (in_from_contains w all_rows m) [
 
 -- after three rows every defined word is met
 pub all_rows_met : AllMet cyclic all_rows
-all_rows_met w d = all_placed [] w ([], (2, omega arith, refl), given (refl, inl refl)) (defined_over all_rows over_3 w d)
+all_rows_met w d = all_placed [] w ([], (2, omega arith, refl), given (inl (refl, inl refl))) (defined_over all_rows (omega arith) over_3 w d)
 
 -- three rows suffice
 pub three_rows_are_enough : HltEnds cyclic 3
-three_rows_are_enough = record { count = 3; within = omega arith; words = all_rows; stage = row_3; all = all_rows_met }
+three_rows_are_enough = record { count = 3; within = omega arith; words = all_rows; stage = row_3; ended = inl all_rows_met }
 
 -- before the first row only the empty word is defined
 pub defined_before_rows : (u : Word) → HltFacts cyclic [] u u → u ≡ []
-defined_before_rows u f = let at = facts_in_model cyclic (HltDefines cyclic []) (Contains []) point model u u f in point_path u at.0 at.1
+defined_before_rows u f = let at = facts_in_model cyclic (HltDefines cyclic []) (Contains []) point model u u ((hlt_first_rows cyclic [] (omega arith) u u).0 f) in point_path u at.0 at.1
   where
     defined : (w : Word) → HltDefines cyclic [] w → (node : ℕ) × (path point 0 w ≡ Some node)
     defined w (inl p) = absurd (none_either p.side p.of.0 p.of.1)
@@ -216,11 +219,13 @@ defined_before_rows u f = let at = facts_in_model cyclic (HltDefines cyclic []) 
 
 -- the first row traces aaa, and then all words are defined
 pub first_row_defines_all : AllDefined 1 (HltFacts cyclic ([] ∷ []))
-first_row_defines_all =
-    all_defined_by_three (HltDefines cyclic ([] ∷ [])) (Contains ([] ∷ [])) (traced a1 a2 refl) (traced a2 a1 refl)
+first_row_defines_all w over =
+    (hlt_first_rows cyclic ([] ∷ []) (omega arith) w w).1
+    (all_defined_by_three (HltDefines cyclic ([] ∷ [])) (Contains ([] ∷ [])) (traced a1 a2 refl) (traced a2 a1 refl)
     (relation [] [] [] a2 0 (given (refl, inl refl)) (0, omega arith, refl) (inr (0, omega arith, refl)) (given (refl, inl refl)) (traced a2 a1 refl))
+    w over)
   where
-    traced : (v after : Word) → a3 ≡ v ++ after → HltFacts cyclic ([] ∷ []) v v
+    traced : (v after : Word) → a3 ≡ v ++ after → Facts cyclic (HltDefines cyclic ([] ∷ [])) (Contains ([] ∷ [])) v v
     traced v after e =
         given
         (refl, inr (inr ([], (0, omega arith, refl), inr (record { side = a3; of = ([], inl (0, omega arith, refl)); prefix = record { after = after; is = e } }))))

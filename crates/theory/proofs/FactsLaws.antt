@@ -10,6 +10,10 @@ use Rattle.theory.proofs.Words.{over_append, over_left, over_right}
 use Rattle.theory.proofs.Chains.{either_symm, related_congruence}
 use Rattle.theory.proofs.Related.{element_over, side_element, step_over, related_behind, related_by_relation_at, related_by_pair, none_either}
 
+-- what follows from G with relations read at the words U
+abbrev pub Known : Congruence → (Word → Word → Type 0) → (Word → Type 0) → Word → Word → Type 0
+Known c G U = Follows c.presentation.relations c.pairs G U
+
 -- what follows lies within each relation that has it
 pub follows_least : (relations pairs : List (Word × Word)) (Given : Word → Word → Type 0) (U : Word → Type 0) (V : Word → Word → Type 0)
     → HasParts relations pairs Given U V → {u v : Word} → Follows relations pairs Given U u v → V u v
@@ -91,17 +95,24 @@ facts_grow c D U D' U' d m =
     follows_grow c.presentation.relations c.pairs (Defines D) (Defines D') U U'
     (λ u v g. given (g.0, elim g.1 [ inl e ↦ inl e | inr h ↦ inr (d u h) ])) m
 
--- Facts lies within `~`
-pub facts_related : (c : Congruence) (D U : Word → Type 0) → IsRightSided c → (u v : Word) → Facts c D U u v → Related c u v
-facts_related c D U right u v =
-    facts_least c D U (Related c) (record {
-      given = defines_within D (Related c) ((related_congruence c).reflexive []) (λ w d. (related_congruence c).reflexive w);
+-- what follows from related words, wherever relations are read, lies within `~`
+pub follows_related : (c : Congruence) (G : Word → Word → Type 0) (U : Word → Type 0) → IsRightSided c → ((u v : Word) → G u v → Related c u v)
+    → (u v : Word) → Known c G U u v → Related c u v
+follows_related c G U right known u v =
+    follows_least c.presentation.relations c.pairs G U (Related c) (record {
+      given = known;
       symmetric = (related_congruence c).symmetric;
       transitive = (related_congruence c).transitive;
       extended = λ u v a f g. related_behind c right u v (a ∷ []) f;
       relation = λ u w r s a f m e g k. related_by_relation_at c u r (s ++ a ∷ []) e;
       pair = λ r s a e g k. related_by_pair c r (s ++ a ∷ []) e;
     })
+
+pub defines_related : (c : Congruence) (D : Word → Type 0) (u v : Word) → Defines D u v → Related c u v
+defines_related c D = defines_within D (Related c) ((related_congruence c).reflexive []) (λ w d. (related_congruence c).reflexive w)
+
+pub facts_related : (c : Congruence) (D U : Word → Type 0) → IsRightSided c → (u v : Word) → Facts c D U u v → Related c u v
+facts_related c D U right = follows_related c (Defines D) U right (defines_related c D)
 
 -- a word is empty, or a word and a last letter
 pub last_letter : (u : Word) → (u ≡ []) ⊎ ((v : Word) × (a : ℕ) × (u ≡ v ++ a ∷ []))
@@ -112,22 +123,22 @@ last_letter (a ∷ u) = inr (elim (last_letter u) as (λ _. (v : Word) × (b : �
 ])
 
 -- what every word's being defined, and related to a word of U, gives
-module _ (c : Congruence) (D U : Word → Type 0) (all : AllDefined c.presentation.letters (Facts c D U)) where
+module _ (c : Congruence) (G : Word → Word → Type 0) (U : Word → Type 0) (all : AllDefined c.presentation.letters (Known c G U)) where
   -- related words stay so under a word
-  facts_behind : (y u v : Word) → IsOver c.presentation.letters (u ++ y) → Facts c D U u v → Facts c D U (u ++ y) (v ++ y)
+  facts_behind : (y u v : Word) → IsOver c.presentation.letters (u ++ y) → Known c G U u v → Known c G U (u ++ y) (v ++ y)
   facts_behind [] u v over f = rw (append-nil, append-nil) f
   facts_behind (a ∷ y) u v over f =
       let over' : IsOver c.presentation.letters ((u ++ a ∷ []) ++ y) = rw append_assoc over in
-      let next : Facts c D U (u ++ a ∷ []) (v ++ a ∷ []) =
+      let next : Known c G U (u ++ a ∷ []) (v ++ a ∷ []) =
       extended u v a f (all (u ++ a ∷ []) (over_left c.presentation.letters (u ++ a ∷ []) y over')) in
-      let both : Facts c D U ((u ++ a ∷ []) ++ y) ((v ++ a ∷ []) ++ y) = facts_behind y (u ++ a ∷ []) (v ++ a ∷ []) over' next in
-      subst₂ (λ p q. Facts c D U p q) (append_assoc u (a ∷ []) y) (append_assoc v (a ∷ []) y) both
+      let both : Known c G U ((u ++ a ∷ []) ++ y) ((v ++ a ∷ []) ++ y) = facts_behind y (u ++ a ∷ []) (v ++ a ∷ []) over' next in
+      subst₂ (λ p q. Known c G U p q) (append_assoc u (a ∷ []) y) (append_assoc v (a ∷ []) y) both
 
   -- the two sides of a pair
-  facts_by_pair : (r s : Word) → IsOver c.presentation.letters r → IsOver c.presentation.letters s → EitherWay c.pairs r s → Facts c D U r s
+  facts_by_pair : (r s : Word) → IsOver c.presentation.letters r → IsOver c.presentation.letters s → EitherWay c.pairs r s → Known c G U r s
   facts_by_pair r s over_r over_s h = go (last_letter s) (last_letter r)
     where
-      go : (s ≡ []) ⊎ ((v : Word) × (a : ℕ) × (s ≡ v ++ a ∷ [])) → (r ≡ []) ⊎ ((v : Word) × (a : ℕ) × (r ≡ v ++ a ∷ [])) → Facts c D U r s
+      go : (s ≡ []) ⊎ ((v : Word) × (a : ℕ) × (s ≡ v ++ a ∷ [])) → (r ≡ []) ⊎ ((v : Word) × (a : ℕ) × (r ≡ v ++ a ∷ [])) → Known c G U r s
       go (inr l) end =
           let over : IsOver c.presentation.letters (l.0 ++ l.1 ∷ []) = subst (λ w. IsOver c.presentation.letters w) l.2 over_s in
           rw (l.2) (pair r l.0 l.1 (subst (λ w. EitherWay c.pairs r w) l.2 h) (all r over_r) (all l.0 (over_left c.presentation.letters l.0 (l.1 ∷ []) over)))
@@ -136,19 +147,19 @@ module _ (c : Congruence) (D U : Word → Type 0) (all : AllDefined c.presentati
           symmetric
           (rw (l.2)
           (pair s l.0 l.1 (subst (λ w. EitherWay c.pairs s w) l.2 (either_symm c.pairs r s h)) (all s over_s) (all l.0 (over_left c.presentation.letters l.0 (l.1 ∷ []) over))))
-      go (inl e) (inl d) = rw (e, d) (empty_fact c D U)
+      go (inl e) (inl d) = rw (e, d) (all [] tt)
 
   -- two sides of a relation behind a word
-  facts_by_relation : ((w : Word) → IsOver c.presentation.letters w → (v : Word) × U v × Facts c D U w v) → (x r s : Word)
+  facts_by_relation : ((w : Word) → IsOver c.presentation.letters w → (v : Word) × U v × Known c G U w v) → (x r s : Word)
       → IsOver c.presentation.letters x → IsOver c.presentation.letters r → IsOver c.presentation.letters s
-      → EitherWay c.presentation.relations r s → Facts c D U (x ++ r) (x ++ s)
+      → EitherWay c.presentation.relations r s → Known c G U (x ++ r) (x ++ s)
   facts_by_relation met x r s over_x over_r over_s h = go (last_letter s) (last_letter r)
     where
       k : ℕ
       k = c.presentation.letters
 
       go : (s ≡ []) ⊎ ((v : Word) × (a : ℕ) × (s ≡ v ++ a ∷ [])) → (r ≡ []) ⊎ ((v : Word) × (a : ℕ) × (r ≡ v ++ a ∷ []))
-          → Facts c D U (x ++ r) (x ++ s)
+          → Known c G U (x ++ r) (x ++ s)
       go (inr l) end =
           let over : IsOver c.presentation.letters (l.0 ++ l.1 ∷ []) = subst (λ w. IsOver c.presentation.letters w) l.2 over_s in
           let at = met x over_x in
@@ -164,9 +175,9 @@ module _ (c : Congruence) (D U : Word → Type 0) (all : AllDefined c.presentati
           (all (x ++ l.0) (over_append c.presentation.letters x l.0 over_x (over_left c.presentation.letters l.0 (l.1 ∷ []) over)))))
       go (inl e) (inl d) = rw (e, d) (all (x ++ []) (over_append c.presentation.letters x [] over_x tt))
 
-  -- then `~` lies within Facts
-  pub facts_full : IsWellFormed c → IsRightSided c → ((w : Word) → IsOver c.presentation.letters w → (v : Word) × U v × Facts c D U w v)
-      → (u v : Word) → IsOver c.presentation.letters u → Related c u v → Facts c D U u v
+  -- then `~` lies within what follows
+  pub facts_full : IsWellFormed c → IsRightSided c → ((w : Word) → IsOver c.presentation.letters w → (v : Word) × U v × Known c G U w v)
+      → (u v : Word) → IsOver c.presentation.letters u → Related c u v → Known c G U u v
   facts_full is right met u v over h = go u h.0 over h.1
     where
       sides : (r s : Word) → EitherWay c.presentation.relations r s → IsOver c.presentation.letters r × IsOver c.presentation.letters s
@@ -184,35 +195,35 @@ module _ (c : Congruence) (D U : Word → Type 0) (all : AllDefined c.presentati
           )
 
       by_relation : (u w : Word) → IsOver c.presentation.letters u → Step (EitherWay c.presentation.relations) TwoSided u w
-          → Facts c D U u w
+          → Known c G U u w
       by_relation u w over a =
           let whole : IsOver c.presentation.letters (a.before ++ (a.from ++ a.after)) = subst (λ w. IsOver c.presentation.letters w) a.source over in
           let whole' : IsOver c.presentation.letters ((a.before ++ a.from) ++ a.after) = rw append_assoc whole in
-          let one : Facts c D U (a.before ++ a.from) (a.before ++ a.to) =
+          let one : Known c G U (a.before ++ a.from) (a.before ++ a.to) =
           facts_by_relation met a.before a.from a.to (over_left c.presentation.letters a.before (a.from ++ a.after) whole)
           (sides a.from a.to a.base).0 (sides a.from a.to a.base).1 a.base in
-          let both : Facts c D U ((a.before ++ a.from) ++ a.after) ((a.before ++ a.to) ++ a.after) =
+          let both : Known c G U ((a.before ++ a.from) ++ a.after) ((a.before ++ a.to) ++ a.after) =
           facts_behind a.after (a.before ++ a.from) (a.before ++ a.to) whole' one in
-          subst₂ (λ p q. Facts c D U p q) (append_assoc a.before a.from a.after ∙ sym a.source) (append_assoc a.before a.to a.after ∙ sym a.target)
+          subst₂ (λ p q. Known c G U p q) (append_assoc a.before a.from a.after ∙ sym a.source) (append_assoc a.before a.to a.after ∙ sym a.target)
           both
 
-      by_pair : (u w : Word) → IsOver c.presentation.letters u → Step (EitherWay c.pairs) c.kind u w → Facts c D U u w
+      by_pair : (u w : Word) → IsOver c.presentation.letters u → Step (EitherWay c.pairs) c.kind u w → Known c G U u w
       by_pair u w over b = elim right [
         | inl e ↦ fronted (subst (λ kind. MayStand kind b.before b.after) e b.place)
         | inr e ↦ absurd (none_either b.from b.to (subst (λ pairs. EitherWay pairs b.from b.to) e b.base))
       ]
         where
-          fronted : b.before ≡ [] → Facts c D U u w
+          fronted : b.before ≡ [] → Known c G U u w
           fronted e =
               let source : u ≡ b.from ++ b.after = b.source ∙ ap (λ x. x ++ (b.from ++ b.after)) e in
               let target : w ≡ b.to ++ b.after = b.target ∙ ap (λ x. x ++ (b.to ++ b.after)) e in
               let whole : IsOver c.presentation.letters (b.from ++ b.after) = subst (λ x. IsOver c.presentation.letters x) source over in
-              let one : Facts c D U b.from b.to =
+              let one : Known c G U b.from b.to =
               facts_by_pair b.from b.to (pair_sides b.from b.to b.base).0 (pair_sides b.from b.to b.base).1 b.base in
-              subst₂ (λ p q. Facts c D U p q) (sym source) (sym target) (facts_behind b.after b.from b.to whole one)
+              subst₂ (λ p q. Known c G U p q) (sym source) (sym target) (facts_behind b.after b.from b.to whole one)
 
       step : (u w : Word) → IsOver c.presentation.letters u → StepBy (EitherWay c.presentation.relations) c.kind c.pairs u w
-          → Facts c D U u w × IsOver c.presentation.letters w
+          → Known c G U u w × IsOver c.presentation.letters w
       step u w over h = elim h [
         | inl a ↦ (
           by_relation u w over a,
@@ -222,42 +233,29 @@ module _ (c : Congruence) (D U : Word → Type 0) (all : AllDefined c.presentati
       ]
 
       go : (u : Word) (ws : List Word) → IsOver c.presentation.letters u
-          → Chain (StepBy (EitherWay c.presentation.relations) c.kind c.pairs) u ws v → Facts c D U u v
-      go u [] over e = subst (λ x. Facts c D U u x) e (all u over)
+          → Chain (StepBy (EitherWay c.presentation.relations) c.kind c.pairs) u ws v → Known c G U u v
+      go u [] over e = subst (λ x. Known c G U u x) e (all u over)
       go u (w ∷ ws) over chain =
           let first = step u w over chain.0 in
           transitive first.0 (go w ws first.1 chain.1)
 
--- related to one of the words
-abbrev IsCovered : Congruence → (Word → Type 0) → (Word → Type 0) → List Word → Word → Type 0
-IsCovered c D U words w = (v : Word) × Contains words v × Facts c D U w v
+-- related to a word of D
+abbrev pub IsCovered : (Word → Type 0) → (Word → Word → Type 0) → Word → Type 0
+IsCovered D V w = (x : Word) × D x × V w x
 
--- each defined word is related to the empty word or a word of D
-pub facts_covered : (c : Congruence) (D : List Word) (U : Word → Type 0) → (u v : Word) → Facts c (Contains D) U u v
-    → (w : Word) × Contains ([] ∷ D) w × Facts c (Contains D) U u w
-facts_covered c D U u v f = (facts_least c (Contains D) U V have f).1
+-- where what is given is between words that are related to words of D, so is all that follows
+pub follows_covered : (c : Congruence) (G : Word → Word → Type 0) (U D : Word → Type 0)
+    → ((u v : Word) → G u v → IsCovered D (Known c G U) u × IsCovered D (Known c G U) v) → (u v : Word) → Known c G U u v
+    → IsCovered D (Known c G U) u × IsCovered D (Known c G U) v
+follows_covered c G U D covered u v f = let all = follows_least c.presentation.relations c.pairs G U V have f in (all.1, all.2)
   where
     V : Word → Word → Type 0
-    V u v = Facts c (Contains D) U u v × IsCovered c (Contains D) U ([] ∷ D) u × IsCovered c (Contains D) U ([] ∷ D) v
+    V u v = Known c G U u v × IsCovered D (Known c G U) u × IsCovered D (Known c G U) v
 
-    empty : V [] []
-    empty = let none : Facts c (Contains D) U [] [] = given (refl, inl refl) in (
-      none,
-      ([], (0, omega arith, refl), none),
-      ([], (0, omega arith, refl), none),
-    )
-
-    words : (w : Word) → Contains D w → V w w
-    words w d = let here : IsCovered c (Contains D) U ([] ∷ D) w = (w, (suc d.0, omega (arith, d.1), d.2), given (refl, inr d)) in (
-      given (refl, inr d),
-      here,
-      here,
-    )
-
-    have : HasFacts c (Contains D) U V
+    have : HasParts c.presentation.relations c.pairs G U V
     have =
         record {
-          given = defines_within (Contains D) V empty words;
+          given = λ u v g. let both = covered u v g in (given g, both.0, both.1);
           symmetric = λ u v f. (symmetric f.0, f.2, f.1);
           transitive = λ u v w f g. (transitive f.0 g.0, f.1, g.2);
           extended = λ u v a f g. let next = extended u v a f.0 g.0 in (next, g.1, (g.1.0, g.1.1, transitive (symmetric next) g.1.2));
@@ -268,6 +266,26 @@ facts_covered c D U u v f = (facts_least c (Contains D) U V have f).1
           );
           pair = λ r s a e g k. let next = pair r s a e g.0 k.0 in (next, g.1, (g.1.0, g.1.1, transitive (symmetric next) g.1.2));
         }
+
+-- what is defined is related to itself, which is the empty word or a word of D
+pub defines_covered : (D : Word → Type 0) (V : Word → Word → Type 0) → ((u v : Word) → Defines D u v → V u v) → (u v : Word) → Defines D u v
+    → IsCovered (λ w. (w ≡ []) ⊎ D w) V u × IsCovered (λ w. (w ≡ []) ⊎ D w) V v
+defines_covered D V within u v d =
+    let here : IsCovered (λ w. (w ≡ []) ⊎ D w) V u = (u, d.1, within u u (refl, d.1)) in
+    (here, subst (λ w. IsCovered (λ w. (w ≡ []) ⊎ D w) V w) d.0 here)
+
+-- each defined word is related to the empty word or a word of D
+pub facts_covered : (c : Congruence) (D : List Word) (U : Word → Type 0) → (u v : Word) → Facts c (Contains D) U u v
+    → (w : Word) × Contains ([] ∷ D) w × Facts c (Contains D) U u w
+facts_covered c D U u v f =
+    let at =
+    (follows_covered c (Defines (Contains D)) U (λ w. (w ≡ []) ⊎ Contains D w)
+    (defines_covered (Contains D) (Facts c (Contains D) U) (λ x y d. given d)) u v f).0 in
+    (at.0, listed at.0 at.1, at.2)
+  where
+    listed : (w : Word) → (w ≡ []) ⊎ Contains D w → Contains ([] ∷ D) w
+    listed w (inl e) = (0, omega arith, sym e)
+    listed w (inr m) = (suc m.0, omega (arith, m.1), m.2)
 
 -- a prefix of a word and a last letter
 pub prefix_last : (p v : Word) (a : ℕ) → IsPrefix p (v ++ a ∷ []) → IsPrefix p v ⊎ (p ≡ v ++ a ∷ [])
@@ -281,37 +299,50 @@ prefix_last p v a h =
     ]
 
 -- each prefix of w is defined
-abbrev pub HasPrefixes : Congruence → (Word → Type 0) → (Word → Type 0) → Word → Type 0
-HasPrefixes c D U w = (p : Word) → IsPrefix p w → Facts c D U p p
+abbrev pub HasPrefixes : (Word → Word → Type 0) → Word → Type 0
+HasPrefixes V w = (p : Word) → IsPrefix p w → V p p
 
--- where the prefixes of the words of D are defined, so are those of each defined word
-pub facts_prefixes : (c : Congruence) (D U : Word → Type 0) → ((w : Word) → D w → HasPrefixes c D U w) → (u v : Word) → Facts c D U u v
-    → HasPrefixes c D U u
-facts_prefixes c D U closed u v f = (facts_least c D U V have f).1
+-- the empty word's are, if it is defined itself
+pub empty_prefixes : (V : Word → Word → Type 0) → V [] [] → HasPrefixes V []
+empty_prefixes V empty p h = rw (nil_from_length p (omega (arith, length-append p h.after, ap length h.is))) empty
+
+-- where what is given is between words whose prefixes are defined, so is all that follows
+pub follows_prefixes : (c : Congruence) (G : Word → Word → Type 0) (U : Word → Type 0)
+    → ((u v : Word) → G u v → HasPrefixes (Known c G U) u × HasPrefixes (Known c G U) v) → (u v : Word) → Known c G U u v
+    → HasPrefixes (Known c G U) u × HasPrefixes (Known c G U) v
+follows_prefixes c G U closed u v f = let all = follows_least c.presentation.relations c.pairs G U V have f in (all.1, all.2)
   where
     V : Word → Word → Type 0
-    V u v = Facts c D U u v × HasPrefixes c D U u × HasPrefixes c D U v
+    V u v = Known c G U u v × HasPrefixes (Known c G U) u × HasPrefixes (Known c G U) v
 
-    more : (v : Word) (a : ℕ) → HasPrefixes c D U v → Facts c D U (v ++ a ∷ []) (v ++ a ∷ []) → HasPrefixes c D U (v ++ a ∷ [])
+    more : (v : Word) (a : ℕ) → HasPrefixes (Known c G U) v → Known c G U (v ++ a ∷ []) (v ++ a ∷ []) → HasPrefixes (Known c G U) (v ++ a ∷ [])
     more v a prefixes whole p h = elim (prefix_last p v a h) [ inl q ↦ prefixes p q | inr e ↦ rw e whole ]
 
-    none : HasPrefixes c D U []
-    none p h = rw (nil_from_length p (omega (arith, length-append p h.after, ap length h.is))) (empty_fact c D U)
-
-    itself : {u v : Word} → Facts c D U u v → Facts c D U v v
+    itself : {u v : Word} → Known c G U u v → Known c G U v v
     itself f = transitive (symmetric f) f
 
-    have : HasFacts c D U V
+    have : HasParts c.presentation.relations c.pairs G U V
     have =
         record {
-          given = defines_within D V (empty_fact c D U, none, none) (λ w d. (given_fact c D U w d, closed w d, closed w d));
+          given = λ u v g. let both = closed u v g in (given g, both.0, both.1);
           symmetric = λ u v f. (symmetric f.0, f.2, f.1);
           transitive = λ u v w f g. (transitive f.0 g.0, f.1, g.2);
           extended = λ u v a f g. let next = extended u v a f.0 g.0 in (next, g.1, more v a f.2 (itself next));
           relation = λ u w r s a f m e g k. let next = relation u w r s a f.0 m e g.0 k.0 in
-              (next, g.1, subst (λ x. HasPrefixes c D U x) (append_assoc u s (a ∷ [])) (more (u ++ s) a k.1 (rw append_assoc (itself next))));
+              (next, g.1, subst (λ x. HasPrefixes (Known c G U) x) (append_assoc u s (a ∷ [])) (more (u ++ s) a k.1 (rw append_assoc (itself next))));
           pair = λ r s a e g k. let next = pair r s a e g.0 k.0 in (next, g.1, more s a k.1 (itself next));
         }
+
+-- where the prefixes of the words of D are defined, so are those of each defined word
+pub defines_prefixes : (D : Word → Type 0) (V : Word → Word → Type 0) → V [] [] → ((w : Word) → D w → HasPrefixes V w) → (u v : Word)
+    → Defines D u v → HasPrefixes V u × HasPrefixes V v
+defines_prefixes D V empty words =
+    defines_within D (λ u v. HasPrefixes V u × HasPrefixes V v) (empty_prefixes V empty, empty_prefixes V empty) (λ w d. (words w d, words w d))
+
+pub facts_prefixes : (c : Congruence) (D U : Word → Type 0) → ((w : Word) → D w → HasPrefixes (Facts c D U) w) → (u v : Word) → Facts c D U u v
+    → HasPrefixes (Facts c D U) u
+facts_prefixes c D U words u v f =
+    (follows_prefixes c (Defines D) U (defines_prefixes D (Facts c D U) (empty_fact c D U) words) u v f).0
 
 -- related words are over the letters
 pub facts_over : (c : Congruence) (D U : Word → Type 0) → IsWellFormed c → ((w : Word) → D w → IsOver c.presentation.letters w)

@@ -5,7 +5,7 @@ use Rattle.theory.specs.Congruence.{Congruence, IsWellFormed, IsRightSided, as_r
 use Rattle.theory.specs.Graph.{Graph, SameEnd, PathsRelate}
 use Rattle.theory.proofs.KindLaws.{as_right_related, as_right_well_formed, as_right_sided}
 use Rattle.theory.specs.Chain.{Related}
-use Rattle.theory.specs.Facts.{AllDefined}
+use Rattle.theory.specs.Facts.{Defines, AllDefined}
 use Rattle.theory.specs.Felsch.{FelschFacts, IsLeastUndefined, FelschStage, FelschEnds, start, define}
 use Rattle.theory.proofs.Words.{order_cases}
 use Rattle.theory.proofs.FactsLaws.{facts_grow, facts_related, facts_full, facts_covered}
@@ -85,7 +85,7 @@ pub felsch_related : (c : Congruence) (D : List Word) → IsWellFormed c → IsR
     → FelschFacts c D u v ↔ Related c u v
 felsch_related c D is right all u v over = (
   facts_related c (Contains D) (λ w. Unit {0}) right u v,
-  facts_full c (Contains D) (λ w. Unit {0}) all is right (λ w h. (w, tt, all w h)) u v over,
+  facts_full c (Defines (Contains D)) (λ w. Unit {0}) all is right (λ w h. (w, tt, all w h)) u v over,
 )
 
 -- and each word is related to the empty word or to one that was defined

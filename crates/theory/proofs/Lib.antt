@@ -6,6 +6,7 @@ pub mod Related
 pub mod FactsLaws
 pub mod FelschLaws
 pub mod HltLaws
+pub mod ListedWords
 pub mod Listings
 pub mod Completeness
 pub mod CompletionLaws

@@ -4,16 +4,16 @@ use Rattle.std.proofs.lemmas.Bool.{cases_lt}
 use Rattle.std.proofs.lemmas.List.{nil_from_length}
 use Rattle.theory.specs.Word.{Word, IsOver, IsPrefix}
 use Rattle.theory.specs.Congruence.{Congruence}
-use Rattle.theory.specs.Facts.{given}
+use Rattle.theory.specs.Facts.{Defines, ClosedAll, given}
 use Rattle.theory.specs.Felsch.{FelschFacts, FelschStage, IsLeastUndefined, start, define}
 use Rattle.theory.specs.Hlt as hlt
-use Rattle.theory.specs.Hlt.{HltFacts, HltDefines, HltStage}
+use Rattle.theory.specs.Hlt.{HltFacts, HltDefines, FactsFrom, Drawn, RowFacts, HltStage}
 use Rattle.theory.proofs.Words.{shorter_first, over_left}
 use Rattle.theory.proofs.Related.{none_contained}
 use Rattle.theory.proofs.Counting.{in_from_contains, contains_from_in}
-use Rattle.theory.proofs.FactsLaws.{HasPrefixes, prefix_last, facts_prefixes}
+use Rattle.theory.proofs.FactsLaws.{HasPrefixes, prefix_last, follows_prefixes, defines_prefixes, facts_prefixes}
 use Rattle.theory.proofs.FelschLaws.{felsch_grows}
-use Rattle.theory.proofs.HltLaws.{hlt_grows}
+use Rattle.theory.proofs.HltLaws.{hlt_grows, hlt_row_grows, hlt_row_within, hlt_lookahead}
 
 -- a prefix is the word, or shorter
 prefix_cases : (p w : Word) → IsPrefix p w → (p ≡ w) ⊎ (length p < length w)
@@ -29,17 +29,17 @@ prefix_over k p w h over = over_left k p h.after (subst (λ x. IsOver k x) h.is 
 
 -- the prefixes of the least undefined word are less, so they are defined
 newest : (c : Congruence) (D : List Word) (w : Word) → IsLeastUndefined c.presentation.letters (FelschFacts c D) w
-    → HasPrefixes c (Contains (w ∷ D)) (λ x. Unit {0}) w
+    → HasPrefixes (FelschFacts c (w ∷ D)) w
 newest c D w l p h = elim (prefix_cases p w h) [
   | inl e ↦ subst (λ x. FelschFacts c (w ∷ D) x x) (sym e) (given (refl, inr (0, omega arith, refl)))
   | inr less ↦ felsch_grows c D w p p (l.least p (prefix_over c.presentation.letters p w h l.over) (shorter_first p w less))
 ]
 
 felsch_words : (c : Congruence) → {i : ℕ} {D : List Word} → FelschStage c i D → (w : Word) → Contains D w
-    → HasPrefixes c (Contains D) (λ x. Unit {0}) w
+    → HasPrefixes (FelschFacts c D) w
 felsch_words c start w m = absurd (none_contained w m)
 felsch_words c (define {D = D} {w = new} s l) w m = elim (in_from_contains w (new ∷ D) m) [
-  | inl e ↦ subst (λ x. HasPrefixes c (Contains (new ∷ D)) (λ y. Unit {0}) x) (sym e) (newest c D new l)
+  | inl e ↦ subst (λ x. HasPrefixes (FelschFacts c (new ∷ D)) x) (sym e) (newest c D new l)
   | inr n ↦ λ p h. felsch_grows c D new p p (felsch_words c s w (contains_from_in w D n) p h)
 ]
 
@@ -52,27 +52,73 @@ prefix_trans : (p v u : Word) → IsPrefix p v → IsPrefix v u → IsPrefix p u
 prefix_trans p v u h k = record { after = h.after ++ k.after; is = k.is ∙ ap (λ x. x ++ k.after) h.is ∙ append_assoc p h.after k.after }
 
 -- what a list of rows defines has its prefixes, where the words of the list have
-hlt_words : (c : Congruence) (U : List Word) → ((w : Word) → Contains U w → HasPrefixes c (HltDefines c U) (Contains U) w) → (v : Word)
-    → HltDefines c U v → HasPrefixes c (HltDefines c U) (Contains U) v
-hlt_words c U rows v (inl f) p h = given (refl, inr (inl (record { side = f.side; of = f.of; prefix = prefix_trans p v f.side h f.prefix })))
-hlt_words c U rows v (inr r) p h = elim r.2 [
+row_words : (c : Congruence) (G : Word → Word → Type 0) (U : List Word) → ((w : Word) → Contains U w → HasPrefixes (FactsFrom c G U) w)
+    → (v : Word) → HltDefines c U v → HasPrefixes (FactsFrom c G U) v
+row_words c G U rows v (inl f) p h =
+    given (inl (refl, inr (inl (record { side = f.side; of = f.of; prefix = prefix_trans p v f.side h f.prefix }))))
+row_words c G U rows v (inr r) p h = elim r.2 [
   | inl x ↦ elim (prefix_last p r.0 x.letter (subst (λ w. IsPrefix p w) x.is h)) [
     | inl k ↦ rows r.0 r.1 p k
-    | inr e ↦ subst (λ w. HltFacts c U w w) (sym e) (given (refl, inr (inr (r.0, r.1, inl (record { letter = x.letter; over = x.over; is = refl })))))
+    | inr e ↦ subst (λ w. FactsFrom c G U w w) (sym e)
+        (given (inl (refl, inr (inr (r.0, r.1, inl (record { letter = x.letter; over = x.over; is = refl }))))))
   ]
-  | inr t ↦ given (refl, inr (inr (r.0, r.1, inr (record { side = t.side; of = t.of; prefix = prefix_trans p v (r.0 ++ t.side) h t.prefix }))))
+  | inr t ↦
+      given (inl (refl, inr (inr (r.0, r.1, inr (record { side = t.side; of = t.of; prefix = prefix_trans p v (r.0 ++ t.side) h t.prefix })))))
 ]
 
-hlt_rows : (c : Congruence) → {i : ℕ} {U : List Word} → HltStage c i U → (w : Word) → Contains U w
-    → HasPrefixes c (HltDefines c U) (Contains U) w
-hlt_rows c hlt.start w m = absurd (none_contained w m)
-hlt_rows c (hlt.row {U = U} {w = new} s l) w m = elim (in_from_contains w (new ∷ U) m) [
-  | inl e ↦ subst (λ x. HasPrefixes c (HltDefines c (new ∷ U)) (Contains (new ∷ U)) x) (sym e)
-      (λ p h. hlt_grows c U new p p (facts_prefixes c (HltDefines c U) (Contains U) (hlt_words c U (hlt_rows c s)) new new l.defined p h))
-  | inr n ↦ λ p h. hlt_grows c U new p p (hlt_rows c s w (contains_from_in w U n) p h)
-]
+-- the prefixes of both of two words are defined
+abbrev HavePrefixes : (Word → Word → Type 0) → Word → Word → Type 0
+HavePrefixes V u v = HasPrefixes V u × HasPrefixes V v
+
+-- so has what follows from them, where what is known beside them has
+from_prefixes : (c : Congruence) (G : Word → Word → Type 0) (U : List Word) → ((w : Word) → Contains U w → HasPrefixes (FactsFrom c G U) w)
+    → ((u v : Word) → G u v → HavePrefixes (FactsFrom c G U) u v) → (u v : Word) → FactsFrom c G U u v → HavePrefixes (FactsFrom c G U) u v
+from_prefixes c G U rows known =
+    follows_prefixes c (λ u v. Defines (HltDefines c U) u v ⊎ G u v) (Contains U) (λ x y g. elim g [
+      | inl d ↦ defines_prefixes (HltDefines c U) (FactsFrom c G U) (given (inl (refl, inl refl))) (row_words c G U rows) x y d
+      | inr k ↦ known x y k
+    ])
+
+-- at a stage the words with a row have their prefixes, and what lookaheads have drawn has
+record HavePrefixesAt (c : Congruence) (U : List Word) : Type 0 where
+  rows : (w : Word) → Contains U w → HasPrefixes (HltFacts c U) w
+  drawn : (u v : Word) → Drawn c U u v → HavePrefixes (HltFacts c U) u v
+
+facts_at : (c : Congruence) (U : List Word) → HavePrefixesAt c U → (u v : Word) → HltFacts c U u v → HavePrefixes (HltFacts c U) u v
+facts_at c U at = from_prefixes c (Drawn c U) U at.rows at.drawn
+
+-- one more row
+next_at : (c : Congruence) (U : List Word) (new : Word) → HavePrefixesAt c U → HltFacts c U new new → HavePrefixesAt c (new ∷ U)
+next_at c U new at defined = record {
+  rows = λ w m p h. hlt_row_within c U new p p (in_row w m p h);
+  drawn = λ u v d. elim d [
+    | inl k ↦ let both = at.drawn u v k in (λ p h. hlt_grows c U new p p (both.0 p h), λ p h. hlt_grows c U new p p (both.1 p h))
+    | inr l ↦ let both = follows_prefixes c (RowFacts c U new) (λ x. Unit {0}) by_row u v l.1 in (
+      λ p h. (hlt_lookahead c U new l.0 p p).0 (both.0 p h),
+      λ p h. (hlt_lookahead c U new l.0 p p).0 (both.1 p h),
+    )
+  ];
+}
+  where
+    in_row : (w : Word) → Contains (new ∷ U) w → HasPrefixes (RowFacts c U new) w
+    in_row w m p h = hlt_row_grows c U new p p (elim (in_from_contains w (new ∷ U) m) [
+      | inl e ↦ (facts_at c U at new new defined).0 p (subst (λ x. IsPrefix p x) e h)
+      | inr n ↦ at.rows w (contains_from_in w U n) p h
+    ])
+
+    in_drawn : (u v : Word) → Drawn c U u v → HavePrefixes (RowFacts c U new) u v
+    in_drawn u v d = let both = at.drawn u v d in
+        (λ p h. hlt_row_grows c U new p p (both.0 p h), λ p h. hlt_row_grows c U new p p (both.1 p h))
+
+    by_row : (u v : Word) → RowFacts c U new u v → HavePrefixes (ClosedAll c (RowFacts c U new)) u v
+    by_row u v f = let both = from_prefixes c (Drawn c U) (new ∷ U) in_row in_drawn u v f in
+        (λ p h. given (both.0 p h), λ p h. given (both.1 p h))
+
+prefixes_at : (c : Congruence) → {i : ℕ} {U : List Word} → HltStage c i U → HavePrefixesAt c U
+prefixes_at c hlt.start = record { rows = λ w m. absurd (none_contained w m); drawn = λ u v d. absurd d }
+prefixes_at c (hlt.row {U = U} {w = new} s l) = next_at c U new (prefixes_at c s) l.defined
 
 -- and at each stage of the strategy of rows
 pub hlt_prefixes : (c : Congruence) → {i : ℕ} {U : List Word} → HltStage c i U → (u p : Word) → HltFacts c U u u → IsPrefix p u
     → HltFacts c U p p
-hlt_prefixes c {U} s u p f = facts_prefixes c (HltDefines c U) (Contains U) (hlt_words c U (hlt_rows c s)) u u f p
+hlt_prefixes c {U} s u p f = (facts_at c U (prefixes_at c s) u u f).0 p

@@ -1,11 +1,11 @@
 // What partial tables know, and the stages of Felsch and of Haselgrove, Leech and Trotter.
-ghost use Rattle.std.specs.Prelude.{◌≡◌, ℕ, suc, ◌≤◌, ◌↔◌, List, [], ◌∷◌, Contains};
+ghost use Rattle.std.specs.Prelude.{◌≡◌, ℕ, suc, ◌<◌, ◌≤◌, ◌↔◌, List, [], ◌∷◌, length, Contains};
 ghost use Rattle.theory.specs.Word.{Word, IsOver, IsPrefix};
 ghost use Rattle.theory.specs.Congruence.{Congruence, IsWellFormed, IsRightSided, as_right, as_right_word};
 ghost use Rattle.theory.specs.Chain.{Related};
 ghost use Rattle.theory.specs.Facts.{Facts, HasFacts, Defines, Merged, ClosedAt, ClosedAll, AllDefined};
 ghost use Rattle.theory.specs.Felsch.{FelschFacts, FelschStage, FelschEnds};
-ghost use Rattle.theory.specs.Hlt.{HltFacts, HltDefines, RowGiven, IsMet, HltStage, AllMet, HltEnds};
+ghost use Rattle.theory.specs.Hlt.{HltFacts, HltDefines, lookahead_rows, IsLookahead, RowFacts, RowGiven, IsMet, HltStage, AllMet, HasEnded, HltEnds};
 ghost use Rattle.theory.specs.Graph.{Graph, SameEnd, PathsRelate, IsModel};
 
 use crate::predicates::{Relation, Words};
@@ -78,29 +78,39 @@ pub fn felsch_is_complete()
 {}
 
 /// Each stage of the strategy of rows is determined, and a larger budget suffices where a smaller
-/// one does; no rows never suffice. That a budget does not suffice is shown by one stage more, or
-/// by a defined word that is related to none that had its row.
+/// one does; no rows never suffice. A budget does not suffice where no less one does and its own
+/// stage has not ended: a defined word is related to none that had its row, and if a lookahead has
+/// come, not all words are defined. Where there is a stage past a budget that suffices, a lookahead
+/// has ended it.
 pub fn hlt_stage_is_one()
     ensures one { (c : Congruence) (i : ℕ) (U U' : List Word) → HltStage c i U → HltStage c i U'
         → U ≡ U' }
     ensures more { (c : Congruence) (m n : ℕ) → m ≤ n → HltEnds c m → HltEnds c n }
-    ensures past { (c : Congruence) (m : ℕ) (U : List Word) → HltStage c (suc m) U → HltEnds c m
-        → ⊥ }
-    ensures fails { (c : Congruence) (m : ℕ) (U : List Word) (w : Word) → HltStage c m U
+    ensures past { (c : Congruence) (m : ℕ) (U : List Word) → HltStage c (suc m) U
+        → (ends : HltEnds c m) → IsLookahead (length ends.words)
+        × AllDefined c.presentation.letters (HltFacts c ends.words) }
+    ensures next { (c : Congruence) (m : ℕ) (U : List Word) → ((i : ℕ) → i < m → HltEnds c i → ⊥)
+        → HltStage c m U → (HasEnded c U → ⊥) → HltEnds c m → ⊥ }
+    ensures fails { (c : Congruence) (i : ℕ) (U : List Word) (w : Word) → HltStage c i U
         → HltFacts c U w w → (IsMet (HltFacts c U) U w → ⊥)
-        → HltEnds c m → ⊥ }
+        → (IsLookahead i → AllDefined c.presentation.letters (HltFacts c U) → ⊥)
+        → HasEnded c U → ⊥ }
     ensures none { (c : Congruence) → HltEnds c 0 → ⊥ }
 {}
 
-/// Where every defined word is related to one that had its row, all words are defined, the facts
-/// are exactly the congruence, and the finitely many words with a row cover its classes.
+/// Where the strategy of rows has ended, all words are defined, the facts are exactly the
+/// congruence, and finitely many words cover its classes; those with a row do if every defined word
+/// is related to one.
 pub fn hlt_is_complete()
-    ensures defined { (c : Congruence) (U : List Word) → AllMet c U
+    ensures defined { (c : Congruence) (U : List Word) → HasEnded c U
         → AllDefined c.presentation.letters (HltFacts c U) }
     ensures related { (c : Congruence) (U : List Word) → IsWellFormed c → IsRightSided c
-        → AllMet c U
+        → HasEnded c U
         → (u v : Word) → IsOver c.presentation.letters u → HltFacts c U u v ↔ Related c u v }
-    ensures finite { (c : Congruence) (U : List Word) → IsRightSided c → AllMet c U
+    ensures finite { (c : Congruence) (U : List Word) → IsRightSided c → HasEnded c U
+        → (words : List Word) × ((u : Word) → IsOver c.presentation.letters u
+        → (w : Word) × Contains words w × Related c u w) }
+    ensures rows { (c : Congruence) (U : List Word) → IsRightSided c → AllMet c U
         → (u : Word) → IsOver c.presentation.letters u → (w : Word) × Contains U w × Related c u w }
 {}
 
@@ -118,12 +128,24 @@ pub fn felsch_goes_on()
         → ClosedAll c (Merged (FelschFacts c D) w w) u v ↔ FelschFacts c (w ∷ D) u v }
 {}
 
-/// Closing at the word of a row alone gives the facts after the row.
+/// Closing at the word of a row alone gives the facts after the row, before a lookahead.
 pub fn hlt_row_closes()
     ensures { (c : Congruence) (U : List Word) (w : Word) (g : Graph)
         → ((u v : Word) → RowGiven c U w u v → SameEnd g u v)
-        → ((u v : Word) → SameEnd g u v → HltFacts c (w ∷ U) u v)
-        → (u v : Word) → ClosedAt c (SameEnd g) w u v ↔ HltFacts c (w ∷ U) u v }
+        → ((u v : Word) → SameEnd g u v → RowFacts c U w u v)
+        → (u v : Word) → ClosedAt c (SameEnd g) w u v ↔ RowFacts c U w u v }
+{}
+
+/// Where no lookahead comes after the row, these are the facts of the stage; where one comes,
+/// closing everywhere gives them. Before the first one they are those of the rows alone.
+pub fn hlt_looks_ahead()
+    ensures none { (c : Congruence) (U : List Word) (w : Word) → (IsLookahead (suc (length U)) → ⊥)
+        → (u v : Word) → RowFacts c U w u v ↔ HltFacts c (w ∷ U) u v }
+    ensures drawn { (c : Congruence) (U : List Word) (w : Word) (g : Graph)
+        → IsLookahead (suc (length U)) → PathsRelate g (RowFacts c U w)
+        → (u v : Word) → ClosedAll c (SameEnd g) u v ↔ HltFacts c (w ∷ U) u v }
+    ensures first { (c : Congruence) (U : List Word) → length U < lookahead_rows
+        → (u v : Word) → HltFacts c U u v ↔ Facts c (HltDefines c U) (Contains U) u v }
 {}
 
 /// A graph whose paths are the facts where a strategy ends decides the congruence, whatever its
@@ -135,7 +157,7 @@ pub fn graphs_decide()
         → IsOver (as_right c).presentation.letters (as_right_word c u)
         → Related c u v ↔ SameEnd g (as_right_word c u) (as_right_word c v) }
     ensures hlt { (c : Congruence) (U : List Word) (g : Graph) → IsWellFormed c
-        → AllMet (as_right c) U
+        → HasEnded (as_right c) U
         → PathsRelate g (HltFacts (as_right c) U) → (u v : Word)
         → IsOver (as_right c).presentation.letters (as_right_word c u)
         → Related c u v ↔ SameEnd g (as_right_word c u) (as_right_word c v) }
