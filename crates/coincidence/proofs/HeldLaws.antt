@@ -4,7 +4,7 @@ use Rattle.theory.specs.Congruence.{Congruence, IsWellFormed}
 use Rattle.theory.specs.Graph.{Graph, target, IsGraph}
 use Rattle.coincidence.specs.Live.{IsOn, IsLiveGraph}
 use Rattle.coincidence.specs.Links.{Links, IsSources}
-use Rattle.coincidence.specs.Pending.{new_nodes, IsClosedBut}
+use Rattle.coincidence.specs.Pending.{IsClosedBut}
 use Rattle.std.proofs.Common.{inl, inr}
 use Rattle.std.proofs.lemmas.Bool.{cases_eq}
 use Rattle.std.proofs.lemmas.List.{get_or-set_same, get_or-set_other}
@@ -21,13 +21,13 @@ use Rattle.coincidence.specs.declared.order.Order.{Order}
 use Rattle.coincidence.specs.Table.{CosetTable, IsTable, IsHeld, shown, bare}
 use Rattle.coincidence.specs.declared.pending.Pending.{Pending}
 use Rattle.coincidence.proofs.MarkLaws.{no_mark}
-use Rattle.coincidence.specs.declared.pending.Pending.TheVariants.{NewEdge}
+use Rattle.coincidence.specs.declared.pending.Pending.TheVariants.{NewNode, NewEdge}
 use Rattle.coincidence.proofs.LinkLaws.{root_sources}
 use Rattle.coincidence.proofs.MarkLaws.{marks_pushed}
 use Rattle.coincidence.specs.Closing.{IsEdged}
 use Rattle.coincidence.proofs.FoldLaws.{edged_with}
 use Rattle.coincidence.proofs.StepLaws.{edged_live}
-use Rattle.coincidence.proofs.PendingLaws.{closed_renewed, closed_start, renewed_edged}
+use Rattle.coincidence.proofs.PendingLaws.{closed_renewed, closed_root, renewed_edged}
 use Rattle.coincidence.proofs.TableLaws.{root_graph, root_live}
 use Rattle.std.proofs.lemmas.List.{length_push}
 use Rattle.std.proofs.Common.{length-set, get_or}
@@ -106,7 +106,7 @@ between P c false links live marked links' live' marked' t e view h = subst (λ 
 between P c true links live marked links' live' marked' t e view h = cc
 
 -- a new table
-pub new_whole : (c : Congruence) (o : Order) → IsWellFormed c → IsKept c.presentation.letters (bare c) (false ∷ []) o → IsWhole c (record { graph = bare c; firsts = bare c; nexts = bare c }) (true ∷ []) (false ∷ []) o (new_nodes 1)
+pub new_whole : (c : Congruence) (o : Order) → IsWellFormed c → IsKept c.presentation.letters (bare c) (false ∷ []) o → IsWhole c (record { graph = bare c; firsts = bare c; nexts = bare c }) (true ∷ []) (false ∷ []) o (NewNode 0 ∷ [])
 new_whole c o is kept = record {
   congruence = is;
   graph = root_graph c.presentation.letters;
@@ -114,21 +114,13 @@ new_whole c o is kept = record {
   shape = refl;
   marks = λ n on. absurd (no_mark n on);
   sources = root_sources c.presentation.letters;
-  closed = closed_start c.presentation.relations (bare c) (true ∷ []) 1 only_root;
+  closed = closed_root c.presentation.relations (bare c) (true ∷ []) only_root;
   order = kept;
 }
   where
-    only_root : (n : ℕ) → IsOn (true ∷ []) n → n < 1
-    only_root zero on = omega arith
+    only_root : (n : ℕ) → IsOn (true ∷ []) n → n ≡ 0
+    only_root zero on = refl
     only_root (suc n) on = cc
-
--- with each node new, nothing else is pending
-pub restarted : (c : Congruence) (links : Links) (live marked : List Bool) (o : Order) (pending : List Pending) (failed : Bool) → IsHeld c failed links live marked o pending → IsHeld c failed links live marked o (new_nodes (length links.graph))
-restarted c links live marked o pending failed h = record {
-  table = h.table;
-  closed = λ e. let w = held_whole c links live marked o pending failed e h in closed_start c.presentation.relations links.graph live (length links.graph) (λ node on. on_inside links.graph live node w.lives on);
-  order = h.order;
-}
 
 -- a node more, which has no mark
 pub one_more : (c : Congruence) (k : ℕ) (links links' : Links) (live live' marked marked' : List Bool) (o o' : Order) (pending pending' : List Pending) (node letter made : ℕ) → IsWhole c links live marked o pending → k ≡ c.presentation.letters → IsGraph k links'.graph → IsLiveGraph links'.graph live'

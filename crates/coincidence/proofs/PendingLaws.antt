@@ -1,5 +1,5 @@
 -- What is closed apart from new nodes and edges.
-use Rattle.std.proofs.Common.{◌≡◌, ℕ, zero, suc, ◌+◌, ◌-◌, ◌<◌, arith, length, take, get_or, append_assoc, List, [], ◌∷◌, ◌++◌, refl, sym, ◌∙◌, ap, ◌⊎◌, inl, inr, Bool, Option, Some, None, subst, option_and_then}
+use Rattle.std.proofs.Common.{◌≡◌, ℕ, ◌+◌, ◌-◌, ◌<◌, arith, length, take, get_or, List, [], ◌∷◌, ◌++◌, refl, sym, ◌∙◌, ap, ◌⊎◌, inl, inr, Bool, Option, Some, None, subst, option_and_then}
 use Rattle.std.proofs.lemmas.Bool.{cases_eq}
 use Rattle.std.proofs.lemmas.List.{take_all, take_more}
 use Rattle.theory.specs.Word.{Word}
@@ -9,7 +9,7 @@ use Rattle.word_graph.proofs.WalkLaws.{some_same}
 use Rattle.coincidence.specs.Live.{IsOn, IsLiveGraph}
 use Rattle.coincidence.specs.Closing.{IsEdged}
 use Rattle.coincidence.specs.Drawing.{IsLast}
-use Rattle.coincidence.specs.Pending.{new_nodes, IsAmong, IsSettled, IsClosedBut, Crosses, IsClosedThrough, IsRenewed}
+use Rattle.coincidence.specs.Pending.{IsAmong, IsSettled, IsClosedBut, Crosses, IsClosedThrough, IsRenewed}
 use Rattle.coincidence.specs.declared.pending.Pending.{Pending}
 use Rattle.coincidence.specs.declared.pending.Pending.TheVariants.{NewNode, NewEdge}
 
@@ -67,23 +67,16 @@ closed_renewed pairs old new was is before after live renewed closed node r s a 
     renewed.kept j a m (path_live new is live node j s on second) (path_live new is live node m r on first)
     (closed node r s a m j here (λ k. old_node (renewed.pending (NewNode node) k)) sides r'.0 s'.0 r'.1 s'.1)
 
--- a table with the root alone
-among_nodes : (node n : ℕ) → node < n → IsAmong (NewNode node) (new_nodes n)
-among_nodes node zero less = absurd (omega (arith, less))
-among_nodes node (suc n) less = elim (cases_eq node n) [
-  | inl e ↦ subst (λ z. IsAmong (NewNode z) (new_nodes n ++ NewNode n ∷ [])) (sym e) (among_last (NewNode n) (new_nodes n))
-  | inr d ↦ among_before (NewNode node) (NewNode n) (new_nodes n) (among_nodes node n (omega (arith, less, d)))
-]
-
-pub closed_start : (pairs : List (Word × Word)) (g : Graph) (live : List Bool) (n : ℕ) → ((node : ℕ) → IsOn live node → node < n) → IsClosedBut pairs g live (new_nodes n)
-closed_start pairs g live n within node r s a m j on old_node = absurd (old_node (among_nodes node n (within node on)))
+-- a table with the root alone, which is new
+pub closed_root : (pairs : List (Word × Word)) (g : Graph) (live : List Bool) → ((node : ℕ) → IsOn live node → node ≡ 0) → IsClosedBut pairs g live (NewNode 0 ∷ [])
+closed_root pairs g live only node r s a m j on old_node = absurd (old_node (inl (ap NewNode (only node on))))
 
 -- the newest of the list
-pub newest_entry : (n : ℕ) (entries : List Pending) (entry : Pending) → 0 < length entries → entry ≡ get_or entries (length entries - 1) entry → IsLast (new_nodes n ++ entries) (Some entry)
-newest_entry n entries entry some e =
-    let whole : entries ≡ take (length entries - 1) entries ++ entry ∷ [] =
-    sym (take_all ((length entries - 1) + 1) entries (omega (arith, some))) ∙ take_more entries (length entries - 1) entry (omega (arith, some)) ∙ ap (λ z. take (length entries - 1) entries ++ z ∷ []) (sym e) in
-    (new_nodes n ++ take (length entries - 1) entries, ap (λ z. new_nodes n ++ z) whole ∙ sym (append_assoc (new_nodes n) (take (length entries - 1) entries) (entry ∷ [])))
+pub newest_entry : (entries : List Pending) (entry : Pending) → 0 < length entries → entry ≡ get_or entries (length entries - 1) entry → IsLast entries (Some entry)
+newest_entry entries entry some e = (
+  take (length entries - 1) entries,
+  sym (take_all ((length entries - 1) + 1) entries (omega (arith, some))) ∙ take_more entries (length entries - 1) entry (omega (arith, some)) ∙ ap (λ z. take (length entries - 1) entries ++ z ∷ []) (sym e),
+)
 
 -- with nothing pending all is closed
 settled_all : (g : Graph) (n : ℕ) (u : Word) → IsSettled g [] n u

@@ -195,7 +195,7 @@ cut_quiet g node n side other place cut leads = (λ j a m r. absurd (whole m r.2
       | inr same ↦ longer (same ∙ sym e ∙ side_is)
     ]
 
-get_at : (front : Word) (letter : ℕ) (back : Word) → slice_get (front ++ letter ∷ back) (length front) ≡ Some letter
+pub get_at : (front : Word) (letter : ℕ) (back : Word) → slice_get (front ++ letter ∷ back) (length front) ≡ Some letter
 get_at [] letter back = refl
 get_at (x ∷ front) letter back = get_at front letter back
 

@@ -15,3 +15,4 @@ pub mod Reading
 pub mod Drawing
 pub mod Ordering
 pub mod Kept
+pub mod Rings

@@ -1,16 +1,11 @@
 -- New nodes and edges, and what is closed apart from them.
-use Rattle.std.specs.Prelude.{◌≡◌, ℕ, zero, suc, List, [], ◌∷◌, ◌++◌, ◌⊎◌, Bool, Some}
+use Rattle.std.specs.Prelude.{◌≡◌, ℕ, List, [], ◌∷◌, ◌++◌, ◌⊎◌, Bool, Some}
 use Rattle.theory.specs.Word.{Word}
 use Rattle.theory.specs.Congruence.{EitherWay}
 use Rattle.theory.specs.Graph.{Graph, target, path}
 use Rattle.coincidence.specs.Live.{IsOn}
 use Rattle.coincidence.specs.declared.pending.Pending.{Pending}
 use Rattle.coincidence.specs.declared.pending.Pending.TheVariants.{NewNode, NewEdge}
-
--- the nodes before a number, each new
-abbrev pub new_nodes : ℕ → List Pending
-new_nodes zero = []
-new_nodes (suc n) = new_nodes n ++ NewNode n ∷ []
 
 -- x is one of the list
 abbrev pub IsAmong : {X : Type 0} → X → List X → Type 0

@@ -17,7 +17,9 @@ mod joins;
 mod marks;
 mod order;
 mod pending;
+mod periods;
 mod reads;
+mod rings;
 mod tables;
 
 pub use tables::Table;

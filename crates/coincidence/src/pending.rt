@@ -1,7 +1,6 @@
 // What is new in a graph and not read yet.
-ghost use Rattle.std.specs.Prelude.{◌≡◌, ℕ, List, [], ◌∷◌, ◌++◌, Option, Some, None, OnOk, OnErr};
+ghost use Rattle.std.specs.Prelude.{◌≡◌, List, [], ◌∷◌, ◌++◌, Option, Some, None, OnOk, OnErr};
 ghost use Rattle.coincidence.specs.Drawing.{IsLast};
-ghost use Rattle.coincidence.specs.Pending.{new_nodes};
 
 use ports::NoMemory;
 use std::alloc::Global;
@@ -15,21 +14,20 @@ pub enum Pending {
     NewEdge(usize, Letter),
 }
 
-// What is pending, the newest last: first each node before a number, then the entries.
+// What is pending, the newest last. An entry of a node that is lost stays until it comes to be
+// read, and asks for nothing then.
 #[derive(Drop)]
 pub struct Worklist {
-    nodes: usize,
     entries: Vec<Pending>,
 }
 
 impl Model for Worklist {
-    ghost use Rattle.std.specs.Prelude.{List, ◌++◌};
+    ghost use Rattle.std.specs.Prelude.{List};
     ghost use Rattle.coincidence.specs.declared.pending.Pending.{Pending as Entry};
-    ghost use Rattle.coincidence.specs.Pending.{new_nodes};
 
     ghost Value = { List Entry };
 
-    ghost view = { λ w. new_nodes w.nodes ++ w.entries.items };
+    ghost view = { λ w. w.entries.items };
 }
 
 impl Worklist {
@@ -38,7 +36,6 @@ impl Worklist {
         ensures { result ≡ [] }
     {
         Worklist {
-            nodes: 0,
             entries: Vec::new(alloc),
         }
     }
@@ -58,12 +55,10 @@ impl Worklist {
     {
         let count = self.entries.len();
         if 0 < count {
-            return Some(self.entries[count - 1]);
+            Some(self.entries[count - 1])
+        } else {
+            None
         }
-        if self.nodes == 0 {
-            return None;
-        }
-        Some(Pending::NewNode(self.nodes - 1))
     }
 
     /// Takes the newest entry away.
@@ -71,17 +66,6 @@ impl Worklist {
         ensures { (front : List Pending) (entry : Pending) → self.old ≡ front ++ entry ∷ []
             → self.new ≡ front }
     {
-        match self.entries.pop() {
-            Some(_) => {}
-            None => self.nodes = self.nodes.saturating_sub(1),
-        }
-    }
-
-    /// Each node before the number is pending, and nothing else.
-    pub fn restart(&mut self, nodes: usize)
-        ensures { self.new ≡ new_nodes nodes }
-    {
-        self.entries.clear();
-        self.nodes = nodes;
+        self.entries.pop();
     }
 }

@@ -8,6 +8,7 @@ ghost use Rattle.coincidence.specs.Reading.{IsCut, IsDueBoth, IsDueBehind, IsDue
 
 use crate::due::Due;
 use crate::edges::Edges;
+use crate::rings::comes_round;
 use presentation::Pairs;
 use words::{Letter, Word};
 
@@ -147,6 +148,9 @@ fn may_cross(edges: &Edges, node: usize, letter: Letter, side: &Word, place: usi
 fn due_along(edges: &Edges, node: usize, letter: Letter, side: &Word, other: &Word) -> Due
     ensures { IsDueAlong edges.now.graph node letter side.now side.now other.now result }
 {
+    if comes_round(edges, node, letter, side, other) {
+        return Due::Nothing;
+    }
     for place in 0..side.len() {
         if may_cross(edges, node, letter, side, place) {
             match due_behind(edges, node, side, place, other) {

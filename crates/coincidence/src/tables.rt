@@ -86,7 +86,7 @@ impl Table {
         marked.push(false)?;
         let order = Order::new(alloc)?;
         let mut pending = Worklist::new(alloc);
-        pending.restart(1);
+        pending.push(Pending::NewNode(0))?;
         Ok(Table {
             alloc,
             congruence,
@@ -291,7 +291,6 @@ impl Table {
         ensures congruence { self.new.congruence ≡ self.old.congruence }
         ensures table { IsTable self.new }
     {
-        self.pending.restart(self.edges.nodes());
         self.close(Some(node))
     }
 

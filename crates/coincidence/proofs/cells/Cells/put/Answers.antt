@@ -1,5 +1,5 @@
-use Rattle.std.proofs.Common.{◌≡◌, ◌+◌, ◌*◌, ℕ, ap, sym, ◌∙◌, subst, ◌<◌, set, length}
-use Rattle.coincidence.specs.Cells.{rows_of, with_entry}
+use Rattle.std.proofs.Common.{◌≡◌, ◌+◌, ◌*◌, ap, sym, ◌∙◌, subst, ◌<◌, length}
+use Rattle.coincidence.specs.Cells.{with_entry}
 use Rattle.coincidence.proofs.CellLaws.{length_rows, within_code, within_rows, write_rows}
 use Rattle.coincidence.proofs.cells.Cells.put.Goals as goal
 

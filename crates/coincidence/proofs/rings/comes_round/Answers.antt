@@ -1,0 +1,10 @@
+use Rattle.std.proofs.Common.{◌≡◌, ◌<◌, length, subst, arith}
+use Rattle.coincidence.proofs.RingLaws.{IsRingBelow, round_quiet}
+use Rattle.coincidence.proofs.rings.comes_round.Goals as goal
+
+pub returns : goal.returns
+returns c = λ _.
+    let end : c.loop-place.place ≡ c.period-count.result = omega arith in
+    let some : 0 < length c.args.side.now = omega (arith, c.if-count-len.false, c.len.ensures, c.period-count.ensures.within) in
+    round_quiet c.args.edges.now.graph c.args.node c.args.letter c.args.side.now c.args.other.now c.period-count.result (c.is_empty.ensures.0 c.if-not-is_empty.false) (c.period-count.ensures.some some) c.period-count.ensures.turned
+    (subst (λ z. IsRingBelow c.args.edges.now.graph c.args.node c.args.letter c.args.side.now z) end c.loop-place.invariant)
