@@ -4,7 +4,6 @@ use Rattle.theory.specs.Word.{Word, IsPrefix}
 use Rattle.theory.specs.Congruence.{Congruence}
 use Rattle.theory.specs.Graph.{Graph, target, path}
 use Rattle.theory.specs.Facts.{symmetric, transitive, extended}
-use Rattle.theory.specs.Hlt.{HltFacts}
 use Rattle.theory.proofs.GraphLaws.{path_append}
 use Rattle.theory.proofs.FactsLaws.{prefix_last}
 use Rattle.coincidence.specs.Closing.{IsEdged}
@@ -14,40 +13,40 @@ use Rattle.coincidence.proofs.CloseLaws.{edged_path}
 use Rattle.coincidence.proofs.FoldLaws.{edged_with}
 use Rattle.coincidence.proofs.FollowsLaws.{path_more}
 use Rattle.coincidence.proofs.TableLaws.{on_inside}
-use Rattle.tc_hlt.specs.Tracing.{AreSides, IsAlong, IsGrown, IsWithin}
+use Rattle.tc_hlt.specs.Tracing.{AreSides, IsAlong, IsGrown, IsWithin, FactsAfter}
 use Rattle.tc_hlt.proofs.GrowLaws.{prefix_there}
 
 -- an edge of the letter a from at to the node to, where x and front lead to at, and x and other to that node
-module _ (c : Congruence) (U : List Word) (g new : Graph) (at a to : ℕ) (edged : IsEdged g new at a to) (within : IsWithin c U g) (front other : Word)
-    (hf : path g 0 front ≡ Some at) (ho : path g 0 other ≡ Some to) (fact : HltFacts c U other (front ++ a ∷ [])) where
+module _ (c : Congruence) (L U : List Word) (g new : Graph) (at a to : ℕ) (edged : IsEdged g new at a to) (within : IsWithin c L U g) (front other : Word)
+    (hf : path g 0 front ≡ Some at) (ho : path g 0 other ≡ Some to) (fact : FactsAfter c L U other (front ++ a ∷ [])) where
   -- a path in new, behind a word that is related to one with a path to its start, is related to one with a path to its end
-  ends : (u done w : Word) (k n : ℕ) → path g 0 w ≡ Some k → HltFacts c U w done → path new k u ≡ Some n → (v : Word) × (path g 0 v ≡ Some n) × HltFacts c U v (done ++ u)
-  ends [] done w k n leads same e = (w, leads ∙ e, subst (HltFacts c U w) (sym (append-nil done)) same)
+  ends : (u done w : Word) (k n : ℕ) → path g 0 w ≡ Some k → FactsAfter c L U w done → path new k u ≡ Some n → (v : Word) × (path g 0 v ≡ Some n) × FactsAfter c L U v (done ++ u)
+  ends [] done w k n leads same e = (w, leads ∙ e, subst (FactsAfter c L U w) (sym (append-nil done)) same)
   ends (b ∷ u) done w k n leads same e = go (target new k b) refl (λ w' k' l s r. ends u (done ++ b ∷ []) w' k' n l s r) e
     where
       Goal : Type 0
-      Goal = (v : Word) × (path g 0 v ≡ Some n) × HltFacts c U v (done ++ b ∷ u)
+      Goal = (v : Word) × (path g 0 v ≡ Some n) × FactsAfter c L U v (done ++ b ∷ u)
 
-      regroup : (v : Word) × (path g 0 v ≡ Some n) × HltFacts c U v ((done ++ b ∷ []) ++ u) → Goal
-      regroup r = (r.0, r.1, subst (HltFacts c U r.0) (append_assoc done (b ∷ []) u) r.2)
+      regroup : (v : Word) × (path g 0 v ≡ Some n) × FactsAfter c L U v ((done ++ b ∷ []) ++ u) → Goal
+      regroup r = (r.0, r.1, subst (FactsAfter c L U r.0) (append_assoc done (b ∷ []) u) r.2)
 
       go : (o : Option ℕ) → target new k b ≡ o
-          → ((w' : Word) (k' : ℕ) → path g 0 w' ≡ Some k' → HltFacts c U w' (done ++ b ∷ []) → path new k' u ≡ Some n → (v : Word) × (path g 0 v ≡ Some n) × HltFacts c U v ((done ++ b ∷ []) ++ u))
+          → ((w' : Word) (k' : ℕ) → path g 0 w' ≡ Some k' → FactsAfter c L U w' (done ++ b ∷ []) → path new k' u ≡ Some n → (v : Word) × (path g 0 v ≡ Some n) × FactsAfter c L U v ((done ++ b ∷ []) ++ u))
           → option_and_then (λ next. path new next u) o ≡ Some n → Goal
       go None h further r = cc
       go (Some t) h further r = elim (edged.back k b t h) [
         | inl o ↦
             let there : path g 0 (w ++ b ∷ []) ≡ Some t = path_more g 0 k w b leads ∙ o in
-            let defined : HltFacts c U (w ++ b ∷ []) (w ++ b ∷ []) = within (w ++ b ∷ []) (w ++ b ∷ []) (t, there, there) in
+            let defined : FactsAfter c L U (w ++ b ∷ []) (w ++ b ∷ []) = within (w ++ b ∷ []) (w ++ b ∷ []) (t, there, there) in
             regroup (further (w ++ b ∷ []) t there (extended w done b same defined) r)
         | inr o ↦
-            let defined : HltFacts c U (front ++ a ∷ []) (front ++ a ∷ []) = transitive (symmetric fact) fact in
-            let near : HltFacts c U front done = transitive (within front w (at, hf, leads ∙ ap (λ z. Some z) o.0)) same in
-            let last : HltFacts c U other (done ++ a ∷ []) = transitive fact (extended front done a near defined) in
-            regroup (further other t (ho ∙ ap (λ z. Some z) (sym o.2)) (subst (λ z. HltFacts c U other (done ++ z ∷ [])) (sym o.1) last) r)
+            let defined : FactsAfter c L U (front ++ a ∷ []) (front ++ a ∷ []) = transitive (symmetric fact) fact in
+            let near : FactsAfter c L U front done = transitive (within front w (at, hf, leads ∙ ap (λ z. Some z) o.0)) same in
+            let last : FactsAfter c L U other (done ++ a ∷ []) = transitive fact (extended front done a near defined) in
+            regroup (further other t (ho ∙ ap (λ z. Some z) (sym o.2)) (subst (λ z. FactsAfter c L U other (done ++ z ∷ [])) (sym o.1) last) r)
       ]
 
-  pub drawn_within : HltFacts c U [] [] → IsWithin c U new
+  pub drawn_within : FactsAfter c L U [] [] → IsWithin c L U new
   drawn_within empty u v h =
       let one = ends u [] [] 0 h.0 refl empty h.1 in
       let two = ends v [] [] 0 h.0 refl empty h.2 in
@@ -65,8 +64,8 @@ drawn_grown old new node at a to front other is d live less none hf ho = record 
     | inl p ↦ let s = prefix_there old.graph v (x ++ front) at p (leads x front at hx hf) in (s.0, kept 0 s.0 v s.1, kept 0 s.0 v s.2)
     | inr e ↦ let end : path new.graph 0 v ≡ Some to = ap (λ z. path new.graph 0 z) e ∙ path_more new.graph 0 at (x ++ front) a (kept 0 at (x ++ front) (leads x front at hx hf)) ∙ edge.edge in (to, end, end)
   ];
-  within = λ U x hx facts pairs within.
-      drawn_within old.congruence U old.graph new.graph at a to edge within (x ++ front) (x ++ other) (leads x front at hx hf) (leads x other to hx ho)
+  within = λ L U x hx facts pairs within.
+      drawn_within old.congruence L U old.graph new.graph at a to edge within (x ++ front) (x ++ other) (leads x front at hx hf) (leads x other to hx ho)
       (pairs (x ++ other) ((x ++ front) ++ a ∷ []) (inl (refl, append_assoc x front (a ∷ [])))) (within [] [] (0, refl, refl));
 }
   where

@@ -7,14 +7,14 @@ use Rattle.words.proofs.TextLemmas.{over_at}
 use Rattle.theory.specs.Word.{Word, IsPrefix, IsOver}
 use Rattle.theory.specs.Congruence.{Congruence, AreElements}
 use Rattle.theory.specs.Graph.{Graph, target, path, SameEnd}
-use Rattle.theory.specs.Hlt.{HltFacts, IsSide, IsExtension, IsInRow}
+use Rattle.theory.specs.Hlt.{IsSide, IsExtension, IsInRow}
 use Rattle.theory.proofs.GraphLaws.{path_append, path_front}
 use Rattle.theory.proofs.FactsLaws.{prefix_last}
 use Rattle.theory.proofs.Related.{element_over, side_element}
 use Rattle.coincidence.specs.Table.{CosetTable, IsTable, IsLive}
 use Rattle.coincidence.proofs.DueLaws.{split_last}
 use Rattle.coincidence.proofs.FollowsLaws.{path_more}
-use Rattle.tc_hlt.specs.Tracing.{AreSides, AreSidesAny, IsGrown, IsNext, IsAlong, IsAlongAny, IsAlongBoth, IsWithin, NoDrawing}
+use Rattle.tc_hlt.specs.Tracing.{AreSides, AreSidesAny, IsGrown, IsNext, IsAlong, IsAlongAny, IsAlongBoth, IsWithin, FactsAfter, NoDrawing}
 
 -- where a word leads from a live node is live
 pub leads_live : (t : CosetTable) (n m : ℕ) (u : Word) → IsTable t → IsLive t n → path t.graph n u ≡ Some m → IsLive t m
@@ -44,7 +44,7 @@ grown_none D E t node failed there = record {
   marks = λ n. (λ on. on, λ on. on);
   failed = failed;
   there = there;
-  within = λ U x hx facts drawn within. within;
+  within = λ L U x hx facts drawn within. within;
 }
 
 -- one after another, at one node
@@ -55,11 +55,11 @@ grown_both D D' E E' old mid new node f g = record {
   marks = λ n. (λ on. (f.marks n).0 ((g.marks n).0 on), λ on. (g.marks n).1 ((f.marks n).1 on));
   failed = g.failed;
   there = λ x v hx h. elim h [ inl d ↦ grown_same D' E' mid new node g v v (f.there x v hx d) | inr e ↦ g.there x v (f.paths 0 node x hx) e ];
-  within = λ U x hx facts drawn within.
-      let mid_within : IsWithin old.congruence U mid.graph = f.within U x hx (λ v d. facts v (inl d)) (λ u v d. drawn u v (inl d)) within in
-      subst (λ (c : Congruence). IsWithin c U new.graph) f.congruence
-      (g.within U x (f.paths 0 node x hx) (λ v e. subst (λ (c : Congruence). HltFacts c U v v) (sym f.congruence) (facts v (inr e))) (λ u v e. subst (λ (c : Congruence). HltFacts c U u v) (sym f.congruence) (drawn u v (inr e)))
-      (subst (λ (c : Congruence). IsWithin c U mid.graph) (sym f.congruence) mid_within));
+  within = λ L U x hx facts drawn within.
+      let mid_within : IsWithin old.congruence L U mid.graph = f.within L U x hx (λ v d. facts v (inl d)) (λ u v d. drawn u v (inl d)) within in
+      subst (λ (c : Congruence). IsWithin c L U new.graph) f.congruence
+      (g.within L U x (f.paths 0 node x hx) (λ v e. subst (λ (c : Congruence). FactsAfter c L U v v) (sym f.congruence) (facts v (inr e))) (λ u v e. subst (λ (c : Congruence). FactsAfter c L U u v) (sym f.congruence) (drawn u v (inr e)))
+      (subst (λ (c : Congruence). IsWithin c L U mid.graph) (sym f.congruence) mid_within));
 }
 
 -- the same words, told otherwise, and no fewer pairs
@@ -71,7 +71,7 @@ grown_as D D' E E' old new node to from drawn g = record {
   marks = g.marks;
   failed = g.failed;
   there = λ x v hx e. g.there x v hx (to x v e);
-  within = λ U x hx facts pairs within. g.within U x hx (λ v d. facts v (from x v d)) (λ u v d. pairs u v (drawn x u v d)) within;
+  within = λ L U x hx facts pairs within. g.within L U x hx (λ v d. facts v (from x v d)) (λ u v d. pairs u v (drawn x u v d)) within;
 }
 
 -- the edge is there
@@ -98,14 +98,14 @@ grown_further old mid new node at a done f here g = record {
     | inl p ↦ grown_same (IsNext a) NoDrawing mid new at g v v (f.there x v hx p)
     | inr e ↦ g.there (x ++ done) v (leads x hx) e
   ];
-  within = λ U x hx facts drawn within.
-      let mid_within : IsWithin old.congruence U mid.graph = f.within U x hx (λ v p. facts v (longer x v p)) drawn within in
-      let new_within : IsWithin mid.congruence U new.graph =
-      g.within U (x ++ done) (leads x hx)
-      (λ v e. subst (λ (c : Congruence). HltFacts c U v v) (sym f.congruence) (facts v (whole x v e)))
+  within = λ L U x hx facts drawn within.
+      let mid_within : IsWithin old.congruence L U mid.graph = f.within L U x hx (λ v p. facts v (longer x v p)) drawn within in
+      let new_within : IsWithin mid.congruence L U new.graph =
+      g.within L U (x ++ done) (leads x hx)
+      (λ v e. subst (λ (c : Congruence). FactsAfter c L U v v) (sym f.congruence) (facts v (whole x v e)))
       (λ u v h. absurd h)
-      (subst (λ (c : Congruence). IsWithin c U mid.graph) (sym f.congruence) mid_within) in
-      subst (λ (c : Congruence). IsWithin c U new.graph) f.congruence new_within;
+      (subst (λ (c : Congruence). IsWithin c L U mid.graph) (sym f.congruence) mid_within) in
+      subst (λ (c : Congruence). IsWithin c L U new.graph) f.congruence new_within;
 }
   where
     leads : (x : Word) → path old.graph 0 x ≡ Some node → path mid.graph 0 (x ++ done) ≡ Some at

@@ -1,6 +1,7 @@
 pub mod DefineLaws
 pub mod DrawnLaws
 pub mod GrowLaws
+pub mod LookLaws
 pub mod RowLaws
 pub mod StartLaws
 pub mod TurnLaws

@@ -7,54 +7,60 @@ use Rattle.theory.specs.Word.{Word, IsPrefix}
 use Rattle.theory.specs.Congruence.{Congruence, EitherWay}
 use Rattle.theory.specs.Graph.{Graph, path, SameEnd, PathsRelate}
 use Rattle.theory.specs.Facts.{ClosedAt, given, relation, symmetric}
-use Rattle.theory.specs.Hlt.{HltFacts, HltStage, IsInRow, IsLeastUnmet, IsMet, RowGiven, start, row}
+use Rattle.theory.specs.Hlt.{HltFacts, HltStage, HltEnds, IsInRow, IsLeastUnmet, IsMet, RowFacts, RowGiven, start, row}
 use Rattle.theory.proofs.Related.{none_contained}
 use Rattle.theory.proofs.Counting.{in_from_contains, contains_from_in}
 use Rattle.theory.proofs.FactsLaws.{last_letter}
 use Rattle.theory.proofs.GraphLaws.{same_end_trans}
-use Rattle.theory.proofs.HltLaws.{hlt_grows}
+use Rattle.theory.proofs.HltLaws.{hlt_row_grows, hlt_row_within, hlt_ends_more, hlt_ends_next, hlt_not_ended}
 use Rattle.theory.proofs.TableSteps.{hlt_row_between}
 use Rattle.coincidence.specs.Live.{IsOn}
 use Rattle.coincidence.specs.Marks.{KeepsMarks}
 use Rattle.coincidence.specs.Table.{CosetTable, IsTable}
 use Rattle.coincidence.proofs.TableLaws.{on_inside}
 use Rattle.tc_hlt.specs.Tracing.{AreSidesAny, IsGrown, IsWithin}
-use Rattle.tc_hlt.specs.Stage.{HasRows, IsReady}
+use Rattle.tc_hlt.specs.Stage.{HasLastRow, IsReady}
 use Rattle.tc_hlt.proofs.GrowLaws.{grown_same, grown_live}
 
--- a relation is a fact where a word has its row
-relation_fact : (c : Congruence) (U : List Word) (w r s : Word) → EitherWay c.presentation.relations r s → HltFacts c (w ∷ U) (w ++ r) (w ++ s)
+-- a relation is a fact where a word has its row, before a lookahead
+relation_fact : (c : Congruence) (U : List Word) (w r s : Word) → EitherWay c.presentation.relations r s → RowFacts c U w (w ++ r) (w ++ s)
 relation_fact c U w r s sides = go (last_letter s) (last_letter r)
   where
     back : EitherWay c.presentation.relations s r
     back = elim sides [ inl m ↦ inr m | inr m ↦ inl m ]
 
     -- a prefix of a side is defined behind the word
-    there : (x y p : Word) → EitherWay c.presentation.relations x y → IsPrefix p x → HltFacts c (w ∷ U) (w ++ p) (w ++ p)
-    there x y p e h = given (refl, inr (inr (w, (0, omega arith, refl), inr (record { side = x; of = (y, e); prefix = record { after = h.after; is = ap (λ z. w ++ z) h.is ∙ sym (append_assoc w p h.after) } }))))
+    there : (x y p : Word) → EitherWay c.presentation.relations x y → IsPrefix p x → RowFacts c U w (w ++ p) (w ++ p)
+    there x y p e h = given (inl (refl, inr (inr (w, (0, omega arith, refl), inr (record { side = x; of = (y, e); prefix = record { after = h.after; is = ap (λ z. w ++ z) h.is ∙ sym (append_assoc w p h.after) } })))))
 
-    whole : (x y : Word) → EitherWay c.presentation.relations x y → HltFacts c (w ∷ U) (w ++ x) (w ++ x)
+    whole : (x y : Word) → EitherWay c.presentation.relations x y → RowFacts c U w (w ++ x) (w ++ x)
     whole x y e = there x y x e (record { after = []; is = sym (append-nil x) })
 
-    empty : HltFacts c (w ∷ U) w w
-    empty = subst₂ (HltFacts c (w ∷ U)) (append-nil w) (append-nil w) (there r s [] sides (record { after = r; is = refl }))
+    empty : RowFacts c U w w w
+    empty = subst₂ (RowFacts c U w) (append-nil w) (append-nil w) (there r s [] sides (record { after = r; is = refl }))
 
-    last : (x y z : Word) (a : ℕ) → EitherWay c.presentation.relations x y → EitherWay c.presentation.relations y x → y ≡ z ++ a ∷ [] → HltFacts c (w ∷ U) (w ++ x) (w ++ y)
+    last : (x y z : Word) (a : ℕ) → EitherWay c.presentation.relations x y → EitherWay c.presentation.relations y x → y ≡ z ++ a ∷ [] → RowFacts c U w (w ++ x) (w ++ y)
     last x y z a one two e =
-        subst (λ v. HltFacts c (w ∷ U) (w ++ x) (w ++ v)) (sym e)
+        subst (λ v. RowFacts c U w (w ++ x) (w ++ v)) (sym e)
         (relation w w x z a empty (0, omega arith, refl) (subst (λ v. EitherWay c.presentation.relations x v) e one) (whole x y one) (there y x z two (record { after = a ∷ []; is = e })))
 
-    go : (s ≡ []) ⊎ ((v : Word) × (a : ℕ) × (s ≡ v ++ a ∷ [])) → (r ≡ []) ⊎ ((v : Word) × (a : ℕ) × (r ≡ v ++ a ∷ [])) → HltFacts c (w ∷ U) (w ++ r) (w ++ s)
+    go : (s ≡ []) ⊎ ((v : Word) × (a : ℕ) × (s ≡ v ++ a ∷ [])) → (r ≡ []) ⊎ ((v : Word) × (a : ℕ) × (r ≡ v ++ a ∷ [])) → RowFacts c U w (w ++ r) (w ++ s)
     go (inr h) k = last r s h.0 h.1 sides back h.2
     go (inl e) (inr k) = symmetric (last s r k.0 k.1 back sides k.2)
-    go (inl e) (inl d) = subst (λ v. HltFacts c (w ∷ U) (w ++ r) (w ++ v)) (d ∙ sym e) (whole r s sides)
+    go (inl e) (inl d) = subst (λ v. RowFacts c U w (w ++ r) (w ++ v)) (d ∙ sym e) (whole r s sides)
 
--- the words that had their row are defined
+-- the words that had their row are defined, before a lookahead after the last one and after it
 pub stage_words : (c : Congruence) → {i : ℕ} {U : List Word} → HltStage c i U → (w : Word) → Contains U w → HltFacts c U w w
 stage_words c start w m = absurd (none_contained w m)
-stage_words c (row {U = U} {w = new} s l) w m = elim (in_from_contains w (new ∷ U) m) [
-  | inl e ↦ subst (λ x. HltFacts c (new ∷ U) x x) (sym e) (hlt_grows c U new new new l.defined)
-  | inr n ↦ hlt_grows c U new w w (stage_words c s w (contains_from_in w U n))
+stage_words c (row {U = U} {w = new} s l) w m = hlt_row_within c U new w w (elim (in_from_contains w (new ∷ U) m) [
+  | inl e ↦ subst (λ x. RowFacts c U new x x) (sym e) (hlt_row_grows c U new new new l.defined)
+  | inr n ↦ hlt_row_grows c U new w w (stage_words c s w (contains_from_in w U n))
+])
+
+pub row_words : (c : Congruence) {i : ℕ} (U : List Word) (new : Word) → HltStage c i (new ∷ U) → (w : Word) → Contains (new ∷ U) w → RowFacts c U new w w
+row_words c U new (row s l) w m = elim (in_from_contains w (new ∷ U) m) [
+  | inl e ↦ subst (λ x. RowFacts c U new x x) (sym e) (hlt_row_grows c U new new new l.defined)
+  | inr n ↦ hlt_row_grows c U new w w (stage_words c s w (contains_from_in w U n))
 ]
 
 -- a word is met by the paths where it is by what they relate
@@ -84,6 +90,18 @@ marked_node marked node inside = get_or-set_same marked node true false inside
 pub marked_other : (marked : List Bool) (node n : ℕ) → n ≢ node → IsOn (slice_set marked node true) n ↔ IsOn marked n
 marked_other marked node n other = let e : get_or (slice_set marked node true) n false ≡ get_or marked n false = get_or-set_other marked node n true false other in (λ on. sym e ∙ on, λ on. e ∙ on)
 
+-- where the next row is told, the strategy has not ended
+pub ready_ends : (t : CosetTable) (made node : ℕ) → IsReady t made node → HltEnds t.congruence made → ⊥
+ready_ends t made node ready =
+    let least = first_unmet t made node ready in
+    let c : Congruence = t.congruence in
+    hlt_ends_next c made ready.rows.words ready.rows.earlier ready.rows.stage
+    (hlt_not_ended c made ready.rows.words ready.first.word ready.rows.stage least.defined least.unmet
+    (λ due all. ready.unended (due, λ w over. (ready.rows.shows w w).1 (all w over))))
+
+ready_unended : (t : CosetTable) (made node : ℕ) → IsReady t made node → (i : ℕ) → i < suc made → HltEnds t.congruence i → ⊥
+ready_unended t made node ready i less ends = ready_ends t made node ready (hlt_ends_more t.congruence i made (omega (arith, less)) ends)
+
 -- a row: the table grows by what it defines, the node gets its mark, and all is drawn that follows there
 module _ (old mid new : CosetTable) (made node : ℕ) (was : IsTable old) (is : IsTable mid) (g : IsGrown (IsInRow old.congruence) (AreSidesAny old.congruence.presentation.relations) old mid node) (ready : IsReady old made node)
     (closed : PathsRelate new.graph (ClosedAt old.congruence (SameEnd mid.graph) ready.first.word))
@@ -93,10 +111,10 @@ module _ (old mid new : CosetTable) (made node : ℕ) (was : IsTable old) (is : 
   there u v (inl f) = grown_same (IsInRow old.congruence) (AreSidesAny old.congruence.presentation.relations) old mid node g u v ((ready.rows.shows u v).1 f)
   there u v (inr d) = subst (λ x. SameEnd mid.graph u x) d.0 (elim d.1 [
     | inl e ↦ subst (λ x. SameEnd mid.graph x x) (sym e) (0, refl, refl)
-    | inr (inl p) ↦ fact u (given (refl, inr (inl p)))
+    | inr (inl p) ↦ fact u (given (inl (refl, inr (inl p))))
     | inr (inr r) ↦ elim (in_from_contains r.0 (ready.first.word ∷ ready.rows.words) r.1) [
       | inl e ↦ g.there ready.first.word u ready.first.leads (subst (λ x. IsInRow old.congruence x u) e r.2)
-      | inr n ↦ fact u (given (refl, inr (inr (r.0, contains_from_in r.0 ready.rows.words n, r.2))))
+      | inr n ↦ fact u (given (inl (refl, inr (inr (r.0, contains_from_in r.0 ready.rows.words n, r.2)))))
     ]
   ])
     where
@@ -104,14 +122,14 @@ module _ (old mid new : CosetTable) (made node : ℕ) (was : IsTable old) (is : 
       fact x f = grown_same (IsInRow old.congruence) (AreSidesAny old.congruence.presentation.relations) old mid node g x x ((ready.rows.shows x x).1 f)
 
   -- and nothing but facts
-  within : IsWithin old.congruence (ready.first.word ∷ ready.rows.words) mid.graph
+  within : IsWithin old.congruence ready.rows.words (ready.first.word ∷ ready.rows.words) mid.graph
   within =
-      g.within (ready.first.word ∷ ready.rows.words) ready.first.word ready.first.leads
-      (λ v r. given (refl, inr (inr (ready.first.word, (0, omega arith, refl), r))))
-      (λ u v d. subst₂ (HltFacts old.congruence (ready.first.word ∷ ready.rows.words)) (sym d.3) (sym d.4) (relation_fact old.congruence ready.rows.words ready.first.word d.0 d.1 d.2))
-      (λ u v h. hlt_grows old.congruence ready.rows.words ready.first.word u v ((ready.rows.shows u v).0 h))
+      g.within ready.rows.words (ready.first.word ∷ ready.rows.words) ready.first.word ready.first.leads
+      (λ v r. given (inl (refl, inr (inr (ready.first.word, (0, omega arith, refl), r)))))
+      (λ u v d. subst₂ (RowFacts old.congruence ready.rows.words ready.first.word) (sym d.3) (sym d.4) (relation_fact old.congruence ready.rows.words ready.first.word d.0 d.1 d.2))
+      (λ u v h. hlt_row_grows old.congruence ready.rows.words ready.first.word u v ((ready.rows.shows u v).0 h))
 
-  row_shows : PathsRelate new.graph (HltFacts old.congruence (ready.first.word ∷ ready.rows.words))
+  row_shows : PathsRelate new.graph (RowFacts old.congruence ready.rows.words ready.first.word)
   row_shows u v =
       let same = hlt_row_between old.congruence ready.rows.words ready.first.word (SameEnd mid.graph) there within u v in
       (λ h. same.0 ((closed u v).0 h), λ f. (closed u v).1 (same.1 f))
@@ -167,11 +185,13 @@ module _ (old mid new : CosetTable) (made node : ℕ) (was : IsTable old) (is : 
         | inr d ↦ (marked_other mid.marked node m d).1 ((g.marks m).1 on)
       ]
 
-  pub row_made : new.congruence ≡ old.congruence → new.failed ≡ false → HasRows new (suc made)
+  pub row_made : new.congruence ≡ old.congruence → new.failed ≡ false → HasLastRow new (suc made)
   row_made e failed = record {
-    words = ready.first.word ∷ ready.rows.words;
+    word = ready.first.word;
+    words = ready.rows.words;
     stage = subst (λ (c : Congruence). HltStage c (suc made) (ready.first.word ∷ ready.rows.words)) (sym e) (row ready.rows.stage (first_unmet old made node ready));
-    shows = subst (λ (c : Congruence). PathsRelate new.graph (HltFacts c (ready.first.word ∷ ready.rows.words))) (sym e) row_shows;
+    earlier = subst (λ (c : Congruence). (i : ℕ) → i < suc made → HltEnds c i → ⊥) (sym e) (ready_unended old made node ready);
+    shows = subst (λ (c : Congruence). PathsRelate new.graph (RowFacts c ready.rows.words ready.first.word)) (sym e) row_shows;
     marks = λ u n hu. (row_met u n hu, row_marked u n hu);
     failed = failed;
   }
@@ -181,7 +201,7 @@ pub row_closed : {X Y : Type 0} (r : Result X Y) (old mid marked new : CosetTabl
     → marked ≡ record mid { marked = slice_set mid.marked node true } → new.congruence ≡ marked.congruence
     → OnOk r ((w : Word) → path marked.graph 0 w ≡ Some node → PathsRelate new.graph (ClosedAt marked.congruence (SameEnd marked.graph) w))
     → OnOk r (KeepsMarks marked.graph marked.marked new.graph new.marked) → OnOk r (new.failed ≡ false)
-    → OnOk r ((made : ℕ) → IsReady old made node → HasRows new (suc made))
+    → OnOk r ((made : ℕ) → IsReady old made node → HasLastRow new (suc made))
 row_closed (Ok v) old mid marked new node was is g e now closed marks failed = λ made ready.
     let shows : PathsRelate new.graph (ClosedAt mid.congruence (SameEnd mid.graph) ready.first.word) =
     subst (λ (t : CosetTable). (w : Word) → path t.graph 0 w ≡ Some node → PathsRelate new.graph (ClosedAt t.congruence (SameEnd t.graph) w)) e closed

@@ -6,8 +6,9 @@ use Rattle.theory.specs.Word.{Word, IsPrefix}
 use Rattle.theory.specs.ShortLex.{◌≺◌}
 use Rattle.theory.specs.Congruence.{Congruence, EitherWay}
 use Rattle.theory.specs.Graph.{Graph, path, SameEnd, PathsRelate}
-use Rattle.theory.specs.Facts.{given, symmetric, transitive, pair}
-use Rattle.theory.specs.Hlt.{HltFacts, HltDefines, start}
+use Rattle.theory.specs.Facts.{Defines, given, symmetric, transitive, pair}
+use Rattle.theory.specs.Hlt.{HltFacts, HltDefines, Drawn, start}
+use Rattle.theory.proofs.HltLaws.{hlt_first_rows}
 use Rattle.theory.proofs.Words.{before_no_longer, before_irrefl}
 use Rattle.theory.proofs.Related.{none_contained}
 use Rattle.theory.proofs.FactsLaws.{facts_least, defines_within, last_letter}
@@ -24,7 +25,7 @@ use Rattle.tc_hlt.proofs.GrowLaws.{grown_same, prefix_there}
 
 -- the sides of a pair are defined all the way
 pub side_fact : (c : Congruence) (U : List Word) (side s p : Word) → EitherWay c.pairs side s → IsPrefix p side → HltFacts c U p p
-side_fact c U side s p is h = given (refl, inr (inl (record { side = side; of = (s, is); prefix = h })))
+side_fact c U side s p is h = given (inl (refl, inr (inl (record { side = side; of = (s, is); prefix = h }))))
 
 -- so they are related
 pub pair_fact : (c : Congruence) (U : List Word) (r s : Word) → EitherWay c.pairs r s → EitherWay c.pairs s r → HltFacts c U r s
@@ -52,7 +53,7 @@ pub record IsStartedTo (t : CosetTable) (c : Congruence) (i : ℕ) : Type 0 wher
   pub table : IsTable t
   pub congruence : t.congruence ≡ c
   pub failed : t.failed ≡ false
-  pub within : IsWithin c [] t.graph
+  pub within : IsWithin c [] [] t.graph
   pub pairs : (k : ℕ) (p : Word × Word) → k < i → get_or c.pairs k p ≡ p → SameEnd t.graph p.0 p.1
   pub none : (n : ℕ) → IsOn t.marked n → ⊥
 
@@ -72,16 +73,16 @@ started_none t c is same fresh = record {
   table = is;
   congruence = same;
   failed = fresh.failed;
-  within = subst (λ (g : Graph). IsWithin c [] g) (sym fresh.graph) (λ u v h. root u v h);
+  within = subst (λ (g : Graph). IsWithin c [] [] g) (sym fresh.graph) (λ u v h. root u v h);
   pairs = λ k p less. absurd (omega arith);
   none = λ n on. off n (subst (λ ms. IsOn ms n) fresh.marked on);
 }
   where
-    root : IsWithin c [] (replicate t.congruence.presentation.letters None ∷ [])
+    root : IsWithin c [] [] (replicate t.congruence.presentation.letters None ∷ [])
     root u v h =
         let left : u ≡ [] = root_end t.congruence.presentation.letters h.0 u h.1 in
         let right : v ≡ [] = root_end t.congruence.presentation.letters h.0 v h.2 in
-        subst (λ z. HltFacts c [] z v) (sym left) (subst (λ z. HltFacts c [] [] z) (sym right) (given (refl, inl refl)))
+        subst (λ z. HltFacts c [] z v) (sym left) (subst (λ z. HltFacts c [] [] z) (sym right) (given (inl (refl, inl refl))))
 
     off : (n : ℕ) → IsOn (false ∷ []) n → ⊥
     off zero on = cc
@@ -109,13 +110,13 @@ module _ (t first second new : CosetTable) (c : Congruence) (i x y : ℕ) (p : W
   same : second.congruence ≡ c
   same = g.congruence ∙ f.congruence ∙ was.congruence
 
-  traced_within : IsWithin c [] second.graph
+  traced_within : IsWithin c [] [] second.graph
   traced_within =
-      let one : IsWithin t.congruence [] first.graph = f.within [] [] refl (λ v h. subst (λ (k : Congruence). HltFacts k [] v v) (sym was.congruence) (side_fact c [] p.0 p.1 v either h)) (λ u v h. absurd h) (subst (λ (k : Congruence). IsWithin k [] t.graph) (sym was.congruence) was.within) in
+      let one : IsWithin t.congruence [] [] first.graph = f.within [] [] [] refl (λ v h. subst (λ (k : Congruence). HltFacts k [] v v) (sym was.congruence) (side_fact c [] p.0 p.1 v either h)) (λ u v h. absurd h) (subst (λ (k : Congruence). IsWithin k [] [] t.graph) (sym was.congruence) was.within) in
       let mid : first.congruence ≡ c = f.congruence ∙ was.congruence in
-      let one' : IsWithin c [] first.graph = subst (λ (k : Congruence). IsWithin k [] first.graph) was.congruence one in
-      let two : IsWithin first.congruence [] second.graph = g.within [] [] refl (λ v h. subst (λ (k : Congruence). HltFacts k [] v v) (sym mid) (side_fact c [] p.1 p.0 v back h)) (λ u v h. absurd h) (subst (λ (k : Congruence). IsWithin k [] first.graph) (sym mid) one') in
-      subst (λ (k : Congruence). IsWithin k [] second.graph) mid two
+      let one' : IsWithin c [] [] first.graph = subst (λ (k : Congruence). IsWithin k [] [] first.graph) was.congruence one in
+      let two : IsWithin first.congruence [] [] second.graph = g.within [] [] [] refl (λ v h. subst (λ (k : Congruence). HltFacts k [] v v) (sym mid) (side_fact c [] p.1 p.0 v back h)) (λ u v h. absurd h) (subst (λ (k : Congruence). IsWithin k [] [] first.graph) (sym mid) one') in
+      subst (λ (k : Congruence). IsWithin k [] [] second.graph) mid two
 
   pub started_more : IsTable new → new.congruence ≡ second.congruence → new.failed ≡ false → PathsRelate new.graph (MergedNodes second.graph x y) → KeepsMarks second.graph second.marked new.graph new.marked
       → IsStartedTo new c (i + 1)
@@ -123,7 +124,7 @@ module _ (t first second new : CosetTable) (c : Congruence) (i x y : ℕ) (p : W
     table = is;
     congruence = now ∙ same;
     failed = failed;
-    within = λ u v h. follows_letters c.presentation.relations c.pairs (Contains []) (WithPair second.graph x y) (λ u v. (u ≡ v) × ((u ≡ []) ⊎ HltDefines c [] u)) merged u v ((relates u v).0 h);
+    within = λ u v h. follows_letters c.presentation.relations c.pairs (Contains []) (WithPair second.graph x y) (λ u v. Defines (HltDefines c []) u v ⊎ Drawn c [] u v) merged u v ((relates u v).0 h);
     pairs = pairs;
     none = none;
   }
@@ -158,6 +159,7 @@ started_all t c i end s = record {
   rows = record {
     words = [];
     stage = start;
+    earlier = λ i less. absurd (omega (arith, less));
     shows = subst (λ (k : Congruence). PathsRelate t.graph (HltFacts k [])) (sym s.congruence) shows;
     marks = λ u n hu. (λ on. absurd (s.none n on), λ met. absurd (none_contained met.0 met.1));
     failed = s.failed;
@@ -168,6 +170,7 @@ started_all t c i end s = record {
     unmarked = s.none 0;
     least = λ v n less hv. absurd (nothing_before v less);
   };
+  unended = λ whole. omega (arith, whole.0.0);
 }
   where
     nothing_before : (v : Word) → v ≺ [] → ⊥
@@ -185,12 +188,12 @@ started_all t c i end s = record {
     shows : PathsRelate t.graph (HltFacts c [])
     shows u v = (
       s.within u v,
-      facts_least c (HltDefines c []) (Contains []) (SameEnd t.graph) (record {
+      λ f. facts_least c (HltDefines c []) (Contains []) (SameEnd t.graph) (record {
         given = defines_within (HltDefines c []) (SameEnd t.graph) (0, refl, refl) defined;
         symmetric = same_end_symm t.graph;
         transitive = same_end_trans t.graph;
         extended = λ u v a h k. same_end_extended t.graph u v (a ∷ []) h k;
         relation = λ u w r s' a h m e k l. absurd (none_contained w m);
         pair = λ r s' a e h k. sides r (s' ++ a ∷ []) e;
-      }),
+      }) ((hlt_first_rows c [] (omega arith) u v).0 f),
     )

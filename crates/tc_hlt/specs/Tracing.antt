@@ -3,13 +3,17 @@ use Rattle.std.specs.Prelude.{◌≡◌, ◌↔◌, ◌⊎◌, ℕ, false, List,
 use Rattle.theory.specs.Word.{Word, IsPrefix}
 use Rattle.theory.specs.Congruence.{Congruence, EitherWay}
 use Rattle.theory.specs.Graph.{Graph, path, SameEnd}
-use Rattle.theory.specs.Hlt.{HltFacts, IsSide}
+use Rattle.theory.specs.Hlt.{FactsFrom, Drawn, IsSide}
 use Rattle.coincidence.specs.Live.{IsOn}
 use Rattle.coincidence.specs.Table.{CosetTable}
 
--- the paths relate nothing but facts
-abbrev pub IsWithin : Congruence → List Word → Graph → Type 0
-IsWithin c U g = (u v : Word) → SameEnd g u v → HltFacts c U u v
+-- what follows from the rows of the words U, and what lookaheads have drawn after those of L
+abbrev pub FactsAfter : Congruence → List Word → List Word → Word → Word → Type 0
+FactsAfter c L U = FactsFrom c (Drawn c L) U
+
+-- the paths relate nothing but such facts
+abbrev pub IsWithin : Congruence → List Word → List Word → Graph → Type 0
+IsWithin c L U g = (u v : Word) → SameEnd g u v → FactsAfter c L U u v
 
 -- nothing is drawn
 abbrev pub NoDrawing : Word → Word → Word → Type 0
@@ -25,10 +29,10 @@ pub record IsGrown (D : Word → Word → Type 0) (E : Word → Word → Word �
   pub marks : (n : ℕ) → IsOn new.marked n ↔ IsOn old.marked n
   pub failed : new.failed ≡ false
   pub there : (x v : Word) → path old.graph 0 x ≡ Some node → D x v → SameEnd new.graph v v
-  pub within : (U : List Word) (x : Word) → path old.graph 0 x ≡ Some node
-      → ((v : Word) → D x v → HltFacts old.congruence U v v)
-      → ((u v : Word) → E x u v → HltFacts old.congruence U u v)
-      → IsWithin old.congruence U old.graph → IsWithin old.congruence U new.graph
+  pub within : (L U : List Word) (x : Word) → path old.graph 0 x ≡ Some node
+      → ((v : Word) → D x v → FactsAfter old.congruence L U v v)
+      → ((u v : Word) → E x u v → FactsAfter old.congruence L U u v)
+      → IsWithin old.congruence L U old.graph → IsWithin old.congruence L U new.graph
 
 -- v is x and the letter
 abbrev pub IsNext : ℕ → Word → Word → Type 0

@@ -1,11 +1,13 @@
-// The strategy of rows, a row at a time.
+// The strategy of rows with lookahead, a row at a time.
 ghost use Rattle.std.specs.Prelude.{◌≡◌, ℕ, ◌+◌, ◌≤◌, min, [], ◌∷◌, replicate, IfOk, OnOk, false, cond, ◌↔◌, IsTrue, None};
 ghost use Rattle.theory.specs.Congruence.{IsRightSided};
-ghost use Rattle.theory.specs.Facts.{AllDefined};
-ghost use Rattle.theory.specs.Graph.{SameEnd, Shows, IsGraph};
+ghost use Rattle.theory.specs.Facts.{AllDefined, ClosedAll};
+ghost use Rattle.theory.specs.Graph.{SameEnd, PathsRelate, Shows, IsGraph};
 ghost use Rattle.word_graph.specs.Standard.{IsStandardGraph};
+ghost use Rattle.coincidence.specs.Marks.{KeepsMarks};
 ghost use Rattle.coincidence.specs.Table.{IsTable};
-ghost use Rattle.tc_hlt.specs.Stage.{IsAtEnd, IsAtStage, HasRows, IsReady, IsFresh, Stands, TellsNext, answer_of};
+ghost use Rattle.theory.specs.Hlt.{IsLookahead};
+ghost use Rattle.tc_hlt.specs.Stage.{IsAtEnd, IsAtStage, HasRows, HasLastRow, IsWhole, IsReady, IsFresh, Stands, IsTurn, TellsNext, answer_of};
 
 use crate::rows::{make_row, trace};
 use coincidence::Table;
@@ -16,9 +18,12 @@ use std::alloc::Global;
 use std::marker::Model;
 use word_graph::WordGraph;
 
-/// A coset enumeration by the strategy of Haselgrove, Leech and Trotter with a budget of rows: an
-/// engine that decides whether each defined word is related to one with a row after at most so
-/// many.
+// How many rows are made from one lookahead to the next.
+const LOOKAHEAD_ROWS: usize = 100;
+
+/// A coset enumeration by the strategy of Haselgrove, Leech and Trotter with lookahead and a budget
+/// of rows: an engine that decides whether after at most so many each defined word is related to
+/// one with a row, or all words are defined after a lookahead.
 #[derive(Drop)]
 pub struct Hlt {
     congruence: Congruence,
@@ -83,54 +88,100 @@ fn begin(table: &mut Table, congruence: &Congruence, begun: bool) -> Result<(), 
     start(table, congruence)
 }
 
-// Makes the row of the node, if it is due.
+// Whether a lookahead comes after so many rows.
+fn is_lookahead(made: usize) -> bool
+    ensures { IsTrue result ↔ IsLookahead made }
+{
+    0 < made && made % LOOKAHEAD_ROWS == 0
+}
+
+// Draws all facts at all words. Tells whether each word has a path then.
+fn draw_all(table: &mut Table) -> Result<bool, NoMemory>
+    requires { IsTable table.old }
+    ensures relates { OnOk result (PathsRelate table.new.graph
+        (ClosedAll table.old.congruence (SameEnd table.old.graph))) }
+    ensures marks { OnOk result (KeepsMarks table.old.graph table.old.marked table.new.graph
+        table.new.marked) }
+    ensures whole { IfOk result (λ whole. IsTrue whole
+        ↔ AllDefined table.new.congruence.presentation.letters (SameEnd table.new.graph)) }
+    ensures ok { OnOk result (table.new.failed ≡ false) }
+    ensures congruence { table.new.congruence ≡ table.old.congruence }
+    ensures table { IsTable table.new }
+{
+    table.close_all()?;
+    let missing = table.first_missing()?;
+    Ok(missing.is_none())
+}
+
+// The lookahead after the last row, if one comes. Tells whether each word has a path after it.
+fn look_ahead(table: &mut Table, made: usize) -> Result<bool, NoMemory>
+    requires { IsTable table.old }
+    ensures rows { OnOk result (HasLastRow table.old made → HasRows table.new made) }
+    ensures whole { IfOk result (λ whole. IsTrue whole ↔ IsWhole table.new made) }
+    ensures congruence { table.new.congruence ≡ table.old.congruence }
+    ensures table { IsTable table.new }
+{
+    if !is_lookahead(made) {
+        return Ok(false);
+    }
+    draw_all(table)
+}
+
+// Makes the row of the node, if it is due, and the lookahead after it. Tells whether each word has
+// a path after a lookahead.
 fn row_due(
     table: &mut Table,
     congruence: &Congruence,
     node: usize,
     due: bool,
-) -> Result<(), NoMemory>
+    made: usize,
+) -> Result<bool, NoMemory>
     requires table { IsTable table.old }
-    requires ready { (made : ℕ) × IsReady table.old made node }
+    requires ready { (before : ℕ) × IsReady table.old before node × (made ≡ before + cond due 1 0) }
     requires congruence { congruence.now.congruence ≡ table.old.congruence }
-    ensures rows { OnOk result ((made : ℕ) → IsReady table.old made node
-        → HasRows table.new (made + cond due 1 0)) }
+    ensures rows { OnOk result (HasRows table.new made) }
+    ensures whole { IfOk result (λ whole. IsTrue whole ↔ IsWhole table.new made) }
     ensures congruence { table.new.congruence ≡ table.old.congruence }
     ensures table { IsTable table.new }
 {
-    if due {
-        make_row(table, congruence, node)?;
+    if !due {
+        return Ok(false);
     }
-    Ok(())
+    make_row(table, congruence, node)?;
+    look_ahead(table, made)
 }
 
-// One turn: the row of the node, if it is due. Tells the node of the next.
+// One turn: the row of the node, if it is due, and the lookahead after it, with which so many rows
+// are made. Tells the node of the next row, unless the strategy has ended.
 fn go_on(
     table: &mut Table,
     congruence: &Congruence,
     begun: bool,
     node: usize,
     due: bool,
+    made: usize,
 ) -> Result<Option<usize>, NoMemory>
     requires table { IsTable table.old }
-    requires stands { (made : ℕ) × Stands table.old begun made node }
+    requires turn { IsTurn table.old begun node due made }
     requires congruence { congruence.now.congruence ≡ table.old.congruence }
-    ensures rows { OnOk result ((made : ℕ) → Stands table.old begun made node
-        → HasRows table.new (made + cond due 1 0)) }
-    ensures next { IfOk result (TellsNext table.new) }
+    ensures rows { OnOk result (HasRows table.new made) }
+    ensures next { IfOk result (TellsNext table.new made) }
     ensures congruence { table.new.congruence ≡ table.old.congruence }
     ensures table { IsTable table.new }
 {
     begin(table, congruence, begun)?;
-    row_due(table, congruence, node, due)?;
+    let whole = row_due(table, congruence, node, due, made)?;
+    if whole {
+        return Ok(None);
+    }
     table.first_unprocessed()
 }
 
-// What the turn gives: whether a word is unmet, the rows made and the budget tell.
-fn answer(unmet: bool, made: usize, budget: usize) -> Progress
-    ensures { result ≡ answer_of unmet made budget }
+// What the turn gives: whether there is a next row, the rows made and the budget tell.
+fn answer(goes_on: bool, made: usize, budget: usize) -> Progress
+    ensures { result ≡ answer_of goes_on made budget }
 {
-    if !unmet {
+    if !goes_on {
         Progress::Decided
     } else if made < budget {
         Progress::More
@@ -163,9 +214,10 @@ impl Racer for Hlt {
 
     ghost said = { λ h. h.said };
 
-    /// One row with all that follows from it; at the first turn, before it, what the pairs give.
-    /// Without a budget no row is made. After it the graph shows the facts of the stage with so
-    /// many rows, unless memory was wanting.
+    /// One row with all that follows from it, and after a row whose number is a multiple of 100 all
+    /// that follows at all words; at the first turn, before it, what the pairs give. Without a
+    /// budget no row is made. After it the graph shows the facts of the stage with so many rows,
+    /// unless memory was wanting.
     fn advance(&mut self) -> Progress
         ensures task { (self.new.congruence ≡ self.old.congruence)
             × (self.new.budget ≡ self.old.budget) }
@@ -189,18 +241,20 @@ impl Racer for Hlt {
             return self.said;
         };
         let due = self.made < self.budget;
+        let made = count(self.made, self.budget);
         let Ok(next) = go_on(
             &mut self.table,
             &self.congruence,
             self.begun,
             self.next,
             due,
+            made,
         ) else {
             self.begun = true;
             self.said = Progress::NoMemory;
             return Progress::NoMemory;
         };
-        self.made = count(self.made, self.budget);
+        self.made = made;
         self.begun = true;
         self.said = answer(next.is_some(), self.made, self.budget);
         self.next = next.unwrap_or(0);
@@ -242,8 +296,8 @@ impl Hlt {
     }
 
     /// The graph of an enumeration that is decided: the standard one with the equal paths of the
-    /// table, which shows the facts of the last stage, at which each word is defined and related to
-    /// one with a row. Refused only where memory is wanting.
+    /// table, which shows the facts of the last stage, at which the strategy has ended and each
+    /// word is defined. Refused only where memory is wanting.
     pub fn graph(&self) -> Result<WordGraph, NoMemory>
         requires { self.now.said ≡ Progress.Decided }
         ensures standard { IfOk result (λ g. IsStandardGraph

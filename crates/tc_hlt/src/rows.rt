@@ -5,7 +5,7 @@ ghost use Rattle.theory.specs.Graph.{target as target_of, path as path_of};
 ghost use Rattle.theory.specs.Hlt.{IsSide, IsExtension, IsInRow};
 ghost use Rattle.coincidence.specs.Table.{IsTable, IsLive};
 ghost use Rattle.tc_hlt.specs.Tracing.{AreSides, AreSidesAny, IsGrown, IsNext, IsAlong, IsAlongAny, IsAlongBoth, NoDrawing};
-ghost use Rattle.tc_hlt.specs.Stage.{IsReady, HasRows};
+ghost use Rattle.tc_hlt.specs.Stage.{IsReady, HasLastRow};
 
 use coincidence::Table;
 use ports::NoMemory;
@@ -219,7 +219,7 @@ pub fn make_row(table: &mut Table, congruence: &Congruence, node: usize) -> Resu
     requires node { IsLive table.old node }
     requires congruence { congruence.now.congruence ≡ table.old.congruence }
     ensures row { OnOk result ((made : ℕ) → IsReady table.old made node
-        → HasRows table.new (suc made)) }
+        → HasLastRow table.new (suc made)) }
     ensures congruence { table.new.congruence ≡ table.old.congruence }
     ensures table { IsTable table.new }
 {

@@ -15,7 +15,7 @@ fn word(presentation: &Presentation, alloc: Global, text: &[u8]) -> Result<Word,
     ensures { IfOk result (λ w. IsOver presentation.now.presentation.letters w) }
 {
     let alphabet = presentation.alphabet();
-    match alphabet.read_word(alloc, text, true) {
+    match alphabet.read_powers(alloc, text, true) {
         Ok(word) => Ok(word),
         Err(_) => Err(NoMemory),
     }
@@ -170,6 +170,24 @@ fn collapses_to_one_class(rt: HostRuntime) -> Result<(), Fail> {
     let mut engine = enumeration(alloc, trivial(alloc)?, 1)?;
     assert_eq!(rt; engine.advance(), Progress::Decided);
     assert_eq!(rt; nodes(&engine)?, 1);
+    Ok(())
+}
+
+// The monoid of one letter of which 150 are the empty word.
+fn long_cycle(alloc: Global) -> Result<Presentation, NoMemory> {
+    let mut presentation = free(alloc, b"a", true)?;
+    add(&mut presentation, alloc, b"a^150", b"")?;
+    Ok(presentation)
+}
+
+#[test]
+fn a_lookahead_decides(rt: HostRuntime) -> Result<(), Fail> {
+    let alloc = rt.alloc();
+    let mut engine = enumeration(alloc, long_cycle(alloc)?, 100)?;
+    assert_eq!(rt; end(&mut engine), Progress::Decided);
+    assert_eq!(rt; nodes(&engine)?, 150);
+    let mut fewer = enumeration(alloc, long_cycle(alloc)?, 99)?;
+    assert_eq!(rt; end(&mut fewer), Progress::Spent);
     Ok(())
 }
 
