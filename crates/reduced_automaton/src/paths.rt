@@ -97,7 +97,8 @@ impl<'a> KnownPaths for AllPaths<'a> {
     }
 }
 
-// The node to which the edge of one of the first letters, so many, leads.
+/// The node to which the edge of the letter leads. `None` exactly where there is no such edge, or
+/// the letter is none of the first `letters`.
 pub fn target_within(graph: &Table, letters: usize, node: usize, letter: Letter) -> Option<usize>
     ensures { result ≡ target_of (narrowed letters (edges graph.now)) node letter }
 {
