@@ -1,6 +1,6 @@
 -- Problems: congruences on presentations (Sims 1994), and on semigroups by generators of one kind,
 -- each with a letter (Froidure and Pin 1997).
-use Rattle.std.specs.Prelude.{◌≡◌, ℕ, ◌+◌, ◌≤◌, ◌⊎◌, Bool, true, false, List, [], ◌∷◌, ◌++◌, ◌==◌, length, codes, decimal}
+use Rattle.std.specs.Prelude.{◌≡◌, ℕ, ◌+◌, ◌≤◌, ◌⊎◌, Bool, true, false, List, [], ◌∷◌, ◌++◌, ◌==◌, length, codes, decimal, Contains}
 use Rattle.std.specs.Cmp.Lexicographic.{pointwise}
 use Rattle.std.specs.List.{join_by}
 use Rattle.std.specs.Option.{option_eq}
@@ -11,8 +11,10 @@ use Rattle.theory.specs.Congruence.{Congruence, as_right, is_two_sided}
 use Rattle.theory.specs.Class.{SameClass}
 use Rattle.theory.specs.Felsch.{FelschEnds}
 use Rattle.theory.specs.Hlt.{HltEnds}
-use Rattle.theory.specs.Decided.{CompletionDecides}
+use Rattle.theory.specs.Completion.{CompletionEnds}
+use Rattle.theory.specs.Marked.{completed}
 use Rattle.theory.specs.Value.{SameValue, SameElement, HasAtMostValues, HasMoreValues}
+use Rattle.words.specs.Alphabet.{marker}
 use Rattle.elements.specs.Generators.{HaveOneShape, value_by}
 use Rattle.elements.specs.Fields.{decimal_or_dash}
 use Rattle.elements.specs.Transf.{composed}
@@ -135,9 +137,11 @@ IsWellPosed (PPerm p) = IsPosed (λ t. (length t, 0)) p.letters p.generators p.p
 IsWellPosed (BMat p) = IsPosed (λ m. (m.dimension, 0)) p.letters p.generators p.pairs
 IsWellPosed (MaxPlus p) = IsPosed (λ m. (m.dimension, m.bound)) p.letters p.generators p.pairs
 
--- the congruence has at most 8,192 relations and pairs together
-abbrev pub IsSolvable : Congruence → Type 0
-IsSolvable c = length c.presentation.relations + length c.pairs ≤ 8192
+-- the congruence has at most 8,192 relations and pairs together, and where its pairs are one-sided
+-- the marker is none of the letters
+pub record IsSolvable (c : presented.Posed) : Type 0 where
+  pub few : length c.congruence.presentation.relations + length c.congruence.pairs ≤ 8192
+  pub unmarked : is_two_sided c.congruence ≡ false → ¬ Contains c.alphabet marker
 
 -- two-sided pairs, or none
 abbrev pub are_two_sided : Kind → List (Word × Word) → Bool
@@ -155,7 +159,7 @@ allows_rules (MaxPlus p) = are_two_sided p.kind p.pairs
 
 -- a problem that scripts pose
 abbrev pub IsPosable : Problem → Type 0
-IsPosable (Presented p) = IsSolvable p.congruence
+IsPosable (Presented p) = IsSolvable p
 IsPosable (Transf p) = Unit {0}
 IsPosable (PPerm p) = Unit {0}
 IsPosable (BMat p) = Unit {0}
@@ -166,9 +170,9 @@ abbrev pub EnumerationEnds : Congruence → Budgets → Type 0
 EnumerationEnds c b = FelschEnds (as_right c) b.defs ⊎ HltEnds (as_right c) b.rows
 
 -- some engine decides the congruence within its budget: a strategy of coset enumeration, or
--- completion where it is two-sided
+-- completion, with a marker where pairs are one-sided
 abbrev pub IsCongruenceDecided : Congruence → Budgets → Type 0
-IsCongruenceDecided c b = EnumerationEnds c b ⊎ CompletionDecides c b.length
+IsCongruenceDecided c b = EnumerationEnds c b ⊎ CompletionEnds (completed c) b.length
 
 -- the problem is decided within the budgets: some engine decides it, or the words have no more
 -- values than may be
