@@ -1,11 +1,8 @@
 -- What the lanes of a race for a problem know at its start and at its end.
-use Rattle.std.proofs.Common.{◌≡◌, ℕ, zero, suc, refl, sym, ◌∙◌, ap, ap₂, subst, inl, inr, Bool, true, false, cond, List, [], ◌∷◌, ◌++◌, Some}
+use Rattle.std.proofs.Common.{◌≡◌, ℕ, zero, suc, refl, sym, ◌∙◌, ap, ap₂, subst, inl, inr, List, [], ◌∷◌, ◌++◌, length, arith, ◌≤◌, Some}
 use Rattle.std.specs.Prelude.{slice_get}
-use Rattle.theory.specs.Word.{Word}
-use Rattle.theory.specs.Congruence.{Presentation, Congruence, IsTwoSided, as_right, is_two_sided}
-use Rattle.theory.specs.Completion.{CompletionEnds}
-use Rattle.theory.specs.declared.Kind.{Kind}
-use Rattle.theory.specs.declared.Kind.TheVariants.{TwoSided, Right, Left}
+use Rattle.theory.specs.Congruence.{Congruence, as_right}
+use Rattle.theory.specs.Marked.{completed}
 use Rattle.problem.specs.declared.budgets.Budgets.{Budgets}
 use Rattle.presentation.specs.Presented.{Posed}
 use Rattle.problem.specs.declared.kinds.Problem.{Problem}
@@ -18,33 +15,13 @@ use Rattle.race.specs.declared.lanes.Lane.{Lane}
 use Rattle.race.specs.declared.lanes.LaneState.TheVariants.{Running}
 use Rattle.race.specs.declared.playing.Outcome.{Outcome}
 use Rattle.race.specs.declared.playing.Outcome.TheVariants.{Won, AllSpent}
-use Rattle.congruence.proofs.RewrittenRules.{two_sided}
 use Rattle.congruence.specs.declared.engine.Engine.{Engine}
-use Rattle.congruence.specs.Engines.{EngineTask, Definitions, Rows, Rewriting, Transformations, PartialPermutations, BooleanMatrices, TruncatedMatrices, HasDecided, HasMoreElements, IsEndOf, IsTaskFor, as_racer, congruence_tasks, ends_within, pairs_task, related_presentation, said_of, task_of, tasks_for}
-
-test_from_two_sided : (c : Congruence) → IsTwoSided c → is_two_sided c ≡ true
-test_from_two_sided c = go c.presentation c.kind c.pairs
-  where
-    go : (p : Presentation) (kind : Kind) (pairs : List (Word × Word))
-        → IsTwoSided (record { presentation = p; kind = kind; pairs = pairs })
-        → is_two_sided (record { presentation = p; kind = kind; pairs = pairs }) ≡ true
-    go p TwoSided pairs h = refl
-    go p Right pairs (inl e) = cc
-    go p Right [] (inr e) = refl
-    go p Right (x ∷ xs) (inr e) = cc
-    go p Left pairs (inl e) = cc
-    go p Left [] (inr e) = refl
-    go p Left (x ∷ xs) (inr e) = cc
+use Rattle.congruence.specs.Engines.{EngineTask, Definitions, Rows, Rewriting, Transformations, PartialPermutations, BooleanMatrices, TruncatedMatrices, HasDecided, HasMoreElements, IsEndOf, IsTaskFor, as_racer, congruence_tasks, ends_within, pairs_task, said_of, task_of, tasks_for}
 
 -- a lane that has had no turn, at its place
 fresh_fits : (i : ℕ) (e : Engine) (l : Lane Engine) → fresh i e ≡ l → LaneFits as_racer 0 i l × (l.state ≡ Running)
 fresh_fits i e l same =
     subst (λ (m : Lane Engine). LaneFits as_racer 0 i m × (m.state ≡ Running)) same (record { number = refl; step = λ h. cc; state = tt }, refl)
-
-two_start : (f h : Engine) → Starts as_racer (fresh 0 f ∷ fresh 1 h ∷ [])
-two_start f h zero l at = let e : fresh 0 f ≡ l = cc in fresh_fits 0 f l e
-two_start f h (suc zero) l at = let e : fresh 1 h ≡ l = cc in fresh_fits 1 h l e
-two_start f h (suc (suc i)) l at = cc
 
 three_start : (f h k : Engine) → Starts as_racer (fresh 0 f ∷ fresh 1 h ∷ fresh 2 k ∷ [])
 three_start f h k zero l at = let e : fresh 0 f ≡ l = cc in fresh_fits 0 f l e
@@ -52,31 +29,36 @@ three_start f h k (suc zero) l at = let e : fresh 1 h ≡ l = cc in fresh_fits 1
 three_start f h k (suc (suc zero)) l at = let e : fresh 2 k ≡ l = cc in fresh_fits 2 k l e
 three_start f h k (suc (suc (suc i))) l at = cc
 
--- lanes that were pushed one after another
-module _ (none one two : List (Lane Engine)) (a b : Lane Engine) (f h : Engine) (begun : none ≡ []) (first : one ≡ none ++ a ∷ []) (second : two ≡ one ++ b ∷ [])
-    (at_zero : a ≡ fresh 0 f) (at_one : b ≡ fresh 1 h) where
-  two_are : two ≡ fresh 0 f ∷ fresh 1 h ∷ []
-  two_are = second ∙ ap (λ (ls : List (Lane Engine)). ls ++ b ∷ []) (first ∙ ap (λ (ls : List (Lane Engine)). ls ++ a ∷ []) begun)
-      ∙ ap₂ (λ (l m : Lane Engine). l ∷ m ∷ []) at_zero at_one
+-- lanes that were added one after another
+abbrev added : List (Lane Engine) → Engine → List (Lane Engine)
+added lanes e = lanes ++ fresh (length lanes) e ∷ []
 
-  pub two_pushed : (all : List (Lane Engine)) → all ≡ two → Starts as_racer all
-  two_pushed all same = subst (λ (ls : List (Lane Engine)). Starts as_racer ls) (sym (same ∙ two_are)) (two_start f h)
+pub three_added : (none one two three : List (Lane Engine)) (f h k : Engine) → none ≡ []
+    → one ≡ none ++ fresh (length none) f ∷ [] → two ≡ one ++ fresh (length one) h ∷ [] → three ≡ two ++ fresh (length two) k ∷ []
+    → three ≡ fresh 0 f ∷ fresh 1 h ∷ fresh 2 k ∷ []
+three_added none one two three f h k begun first second third =
+    third ∙ ap (λ ls. added ls k) (second ∙ ap (λ ls. added ls h) (first ∙ ap (λ ls. added ls f) begun))
 
-  pub three_pushed : (three all : List (Lane Engine)) (d : Lane Engine) (k : Engine) → three ≡ two ++ d ∷ [] → d ≡ fresh 2 k → all ≡ three → Starts as_racer all
-  three_pushed three all d k third at_two same =
-      subst (λ (ls : List (Lane Engine)). Starts as_racer ls)
-      (sym (same ∙ third ∙ ap₂ (λ (ls : List (Lane Engine)) (m : Lane Engine). ls ++ m ∷ []) two_are at_two)) (three_start f h k)
+module _ (all : List (Lane Engine)) (f h k : Engine) (are : all ≡ fresh 0 f ∷ fresh 1 h ∷ fresh 2 k ∷ []) where
+  pub three_begin : Starts as_racer all
+  three_begin = subst (λ (ls : List (Lane Engine)). Starts as_racer ls) (sym are) (three_start f h k)
+
+  pub three_few : length all ≤ 64
+  three_few = omega (arith, ap length are)
+
+  pub three_tasks : (c : Congruence) (b : Budgets) → task_of f ≡ Definitions (record { congruence = as_right c; budget = b.defs })
+      → task_of h ≡ Rows (record { congruence = as_right c; budget = b.rows })
+      → task_of k ≡ Rewriting (record { presentation = completed c; length = b.length }) → tasks as_racer all ≡ congruence_tasks c b
+  three_tasks c b first second third =
+      ap (λ (ls : List (Lane Engine)). tasks as_racer ls) are
+      ∙ ap₂ (λ (x y : EngineTask). x ∷ y ∷ task_of k ∷ []) first second
+      ∙ ap (λ (z : EngineTask). Definitions (record { congruence = as_right c; budget = b.defs })
+      ∷ Rows (record { congruence = as_right c; budget = b.rows }) ∷ z ∷ []) third
 
 -- a task of the problem within the budgets
 record IsTaskWithin (p : Problem) (b : Budgets) (t : EngineTask) : Type 0 where
   pub task : IsTaskFor p t
   pub ends : ends_within t → IsDecided p b
-
--- the task of a list that has it where the test holds
-where_test : (test : Bool) (r t : EngineTask) (i : ℕ) → slice_get (cond test (r ∷ []) []) i ≡ Some t → (test ≡ true) × (r ≡ t)
-where_test true r t zero at = (refl, cc)
-where_test true r t (suc i) at = cc
-where_test false r t i at = cc
 
 congruence_task : (p : Posed) (b : Budgets) (t : EngineTask) (i : ℕ) → slice_get (congruence_tasks p.congruence b) i ≡ Some t → IsTaskWithin (problem.Presented p) b t
 congruence_task p b t zero at =
@@ -85,9 +67,10 @@ congruence_task p b t zero at =
 congruence_task p b t (suc zero) at =
     subst (λ s. IsTaskWithin (problem.Presented p) b s) (let e : Rows (record { congruence = as_right p.congruence; budget = b.rows }) ≡ t = cc in e)
     (record { task = refl; ends = λ h. inl (inr h) })
-congruence_task p b t (suc (suc i)) at =
-    let found = where_test (is_two_sided p.congruence) (Rewriting (record { presentation = related_presentation p.congruence; length = b.length })) t i at in
-    subst (λ s. IsTaskWithin (problem.Presented p) b s) found.1 (record { task = (found.0, refl); ends = λ h. inr (two_sided p.congruence found.0, h) })
+congruence_task p b t (suc (suc zero)) at =
+    subst (λ s. IsTaskWithin (problem.Presented p) b s) (let e : Rewriting (record { presentation = completed p.congruence; length = b.length }) ≡ t = cc in e)
+    (record { task = refl; ends = λ h. inr h })
+congruence_task p b t (suc (suc (suc i))) at = cc
 
 -- the task of a list of one
 one_task : (s t : EngineTask) (i : ℕ) → slice_get (s ∷ []) i ≡ Some t → s ≡ t
@@ -155,15 +138,10 @@ pub spent_never : (p : Problem) (b : Budgets) (lanes : List (Lane Engine)) → t
     → ((l : Lane Engine) → slice_get lanes 0 ≡ Some l → said_of l.racer ≡ Progress.Spent → HasMoreElements (task_of l.racer)) → IsUndecided p b
 spent_never (problem.Presented p) b lanes same told more = no_engine
   where
-    rewriting_fails : is_two_sided p.congruence ≡ true → CompletionEnds (related_presentation p.congruence) b.length → ⊥
-    rewriting_fails test ends =
-        let task : EngineTask = Rewriting (record { presentation = related_presentation p.congruence; length = b.length }) in
-        fails_at (problem.Presented p) b lanes same 2 task told (ap (λ two. slice_get (cond two (task ∷ []) []) 0) test) ends
-
     no_engine : IsCongruenceDecided p.congruence b → ⊥
     no_engine (inl (inl ends)) = fails_at (problem.Presented p) b lanes same 0 (Definitions (record { congruence = as_right p.congruence; budget = b.defs })) told refl ends
     no_engine (inl (inr ends)) = fails_at (problem.Presented p) b lanes same 1 (Rows (record { congruence = as_right p.congruence; budget = b.rows })) told refl ends
-    no_engine (inr (two, ends)) = rewriting_fails (test_from_two_sided p.congruence two) ends
+    no_engine (inr ends) = fails_at (problem.Presented p) b lanes same 2 (Rewriting (record { presentation = completed p.congruence; length = b.length })) told refl ends
 spent_never (problem.Transf p) b lanes same told more =
     more_at (problem.Transf p) b lanes same (Transformations (pairs_task p b.elements)) told refl more []
 spent_never (problem.PPerm p) b lanes same told more =

@@ -7,6 +7,7 @@ pub mod PlaceLaws
 pub mod GraphLaws
 pub mod LaneLaws
 pub mod RewrittenRules
+pub mod ReducerLaws
 pub mod RewrittenWords
 pub mod RewrittenCounts
 pub mod ListedRuleLists

@@ -1,25 +1,26 @@
 -- The rules of a completion decide the congruence.
-use Rattle.std.proofs.Common.{◌≡◌, ℕ, true, List, [], ◌∷◌, length, refl, ◌⊎◌, inl, inr, ◌↔◌, Option, Some, None}
+use Rattle.std.proofs.Common.{◌≡◌, ℕ, suc, Bool, true, false, List, [], ◌∷◌, length, refl, ap, subst, ◌∙◌, ◌⊎◌, inl, inr, ◌↔◌, Option, Some, None}
 use Rattle.std.proofs.lemmas.Bool.{eqb-true}
 use Rattle.std.proofs.lemmas.List.{nil_from_length}
 use Rattle.std.proofs.lemmas.List.Elements.{All-nil, All-cons}
 use Rattle.theory.specs.declared.Kind.{Kind}
 use Rattle.theory.specs.declared.Kind.TheVariants.{TwoSided, Right, Left}
-use Rattle.theory.specs.Word.{Word, IsOver}
-use Rattle.theory.specs.Congruence.{Congruence, IsTwoSided, IsWellFormed, of_presentation, is_two_sided}
-use Rattle.theory.specs.Chain.{Step}
+use Rattle.theory.specs.Word.{Word, IsOver, IsElement}
+use Rattle.theory.specs.Congruence.{Congruence, Presentation, IsTwoSided, IsWellFormed, of_presentation, is_two_sided, with_relations}
+use Rattle.theory.specs.Chain.{Related, Step}
 use Rattle.theory.specs.Class.{SameClass, IsLeast, IsNormal, IsReducedRule, IsRuleList, RuleBefore}
-use Rattle.theory.specs.Completion.{IsReduced, Listed, Reduces, Rule}
+use Rattle.theory.specs.Completion.{CompletionEnds, IsReduced, Listed, Reduces, Rule}
 use Rattle.theory.specs.Listing.{IsListOf}
-use Rattle.theory.proofs.Chains.{joined_map, step_more}
+use Rattle.theory.specs.Marked.{as_marked_word, completed, completed_word, marked}
+use Rattle.theory.proofs.Chains.{joined_map, joined_refl, step_more}
 use Rattle.theory.proofs.Completed.{completed_least, completed_reduced}
+use Rattle.theory.proofs.CompletedKinds.{completed_decides_kinds, completed_least_kinds, two_sided_from_test}
 use Rattle.theory.proofs.KindLaws.{pairs_as_relations, relations_well_formed}
-use Rattle.theory.proofs.Related.{element_over}
-use Rattle.reduced_automaton.specs.Automaton.{Reading}
+use Rattle.theory.proofs.MarkedLaws.{marked_normal}
+use Rattle.theory.proofs.Related.{element_over, related_element}
 use Rattle.reduced_automaton.specs.Rules.{AreOver}
 use Rattle.reduced_automaton.proofs.ReadingLaws.{list_same}
-use Rattle.congruence.specs.Engines.{related_presentation}
-use Rattle.congruence.specs.Rewriting.{AreRulesOf, DecidesBy}
+use Rattle.congruence.specs.Rewriting.{AreRulesOf}
 
 -- Rules that are among others.
 module _ (B C : Word → Word → Type 0) (more : (u v : Word) → B u v → C u v) where
@@ -47,55 +48,91 @@ rule_list_same R S same =
     list_same (λ (p : Word × Word). IsReducedRule R p.0 p.1) (λ (p : Word × Word). IsReducedRule S p.0 p.1) RuleBefore
     (λ p. (rule_same R S same p.0 p.1, rule_same S R (λ u v. ((same u v).1, (same u v).0)) p.0 p.1)) None
 
--- the test tells what is two-sided
-pub two_sided : (c : Congruence) → is_two_sided c ≡ true → IsTwoSided c
-two_sided c = go c.kind
-  where
-    go : (kind : Kind) → is_two_sided (record c { kind = kind }) ≡ true → (kind ≡ TwoSided) ⊎ (c.pairs ≡ [])
-    go TwoSided t = inl refl
-    go Right t = inr (nil_from_length c.pairs (eqb-true (length c.pairs) 0 t))
-    go Left t = inr (nil_from_length c.pairs (eqb-true (length c.pairs) 0 t))
+-- the presentation that is completed, and the word that is reduced, by the test of what is two-sided
+abbrev pub presentation_by : Congruence → Bool → Presentation
+presentation_by c b = elim b [ true ↦ with_relations c.presentation c.pairs | false ↦ marked c ]
+
+abbrev pub word_by : Congruence → Bool → Word → Word
+word_by c b u = elim b [ true ↦ u | false ↦ as_marked_word c u ]
 
 -- the classes of a two-sided congruence are those of its presentation with the pairs as relations
-class_same : (c : Congruence) → IsTwoSided c → (u v : Word) → SameClass (of_presentation (related_presentation c)) u v ↔ SameClass c u v
+class_same : (c : Congruence) → IsTwoSided c → (u v : Word) → SameClass (of_presentation (with_relations c.presentation c.pairs)) u v ↔ SameClass c u v
 class_same c two u v = (
   λ h. record { left = h.left; right = h.right; related = (pairs_as_relations c two u v).1 h.related },
   λ h. record { left = h.left; right = h.right; related = (pairs_as_relations c two u v).0 h.related },
 )
 
+-- the word to which the rules of a completion lead stands for the normal form
+normal_from : (c : Congruence) → IsWellFormed c → (b : Bool) → is_two_sided c ≡ b → (L : ℕ) → CompletionEnds (presentation_by c b) L → (u x : Word)
+    → IsElement c.presentation.is_monoid c.presentation.letters u → Reduces (Rule (presentation_by c b) L) (word_by c b u) x
+    → IsReduced (Rule (presentation_by c b) L) x → (w : Word) × (x ≡ word_by c b w) × IsNormal (SameClass c) u w
+normal_from c formed false one L ends u x element down here = marked_normal c formed L ends u x element down here
+normal_from c formed true test L ends u x element down here =
+    let two = two_sided_from_test c test in
+    let P : Presentation = with_relations c.presentation c.pairs in
+    let whole = relations_well_formed c formed in
+    let related = (pairs_as_relations c two u x).1
+    ((completed_reduced P L whole ends u x x x down here (joined_refl (Step (Rule P L) TwoSided) x) here).1 refl) in
+    let right = related_element c formed u x related element in (
+      x,
+      refl,
+      record {
+        related = record { left = element; right = right; related = related };
+        least =
+            least_same (SameClass (of_presentation P)) (SameClass c) (class_same c two) x ((completed_least P L whole ends x right).1 here);
+      },
+    )
+
+-- the rules of a two-sided congruence are its reduced rules
+list_from : (c : Congruence) (rules : List (Word × Word)) (b : Bool) → is_two_sided c ≡ b
+    → IsRuleList (SameClass (of_presentation (presentation_by c b))) rules → b ≡ true → IsRuleList (SameClass c) rules
+list_from c rules true test list e =
+    let two = two_sided_from_test c test in
+    rule_list_same (SameClass (of_presentation (with_relations c.presentation c.pairs))) (SameClass c) (class_same c two) rules list
+list_from c rules false test list e = cc
+
+-- what rules decide: two words are related exactly where the words that are reduced for them have one reduced word, an element is least
+-- exactly where that word is reduced, and a reduced word stands for a normal form
+pub record DecidesBy (c : Congruence) (rules : List (Word × Word)) : Type 0 where
+  pub well_formed : IsWellFormed c
+  pub decides : (u v x y : Word) → IsOver c.presentation.letters u
+      → Reduces (Listed rules) (completed_word c u) x → IsReduced (Listed rules) x
+      → Reduces (Listed rules) (completed_word c v) y → IsReduced (Listed rules) y → Related c u v ↔ (x ≡ y)
+  pub least : (u : Word) → IsElement c.presentation.is_monoid c.presentation.letters u
+      → IsLeast (SameClass c) u ↔ IsReduced (Listed rules) (completed_word c u)
+  pub normal : (u x : Word) → IsElement c.presentation.is_monoid c.presentation.letters u
+      → Reduces (Listed rules) (completed_word c u) x → IsReduced (Listed rules) x
+      → (w : Word) × (x ≡ completed_word c w) × IsNormal (SameClass c) u w
+  pub list : is_two_sided c ≡ true → IsRuleList (SameClass c) rules
+
 module _ (c : Congruence) (rules : List (Word × Word)) (formed : IsWellFormed c) (are : AreRulesOf c rules) where
-  to_rule : (u v : Word) → Listed rules u v → Rule (related_presentation c) are.length u v
+  to_rule : (u v : Word) → Listed rules u v → Rule (completed c) are.length u v
   to_rule u v = (are.reduced u v).0
 
-  from_rule : (u v : Word) → Rule (related_presentation c) are.length u v → Listed rules u v
+  from_rule : (u v : Word) → Rule (completed c) are.length u v → Listed rules u v
   from_rule u v = (are.reduced u v).1
 
-  pub decides_by : DecidesBy c (record { letters = c.presentation.letters; rules = rules; states = []; graph = [] })
-  decides_by =
-      let two = two_sided c are.two_sided in
-      let whole = relations_well_formed c formed in
-      let one = class_same c two in
-      let back : (u v : Word) → SameClass c u v ↔ SameClass (of_presentation (related_presentation c)) u v = λ u v. ((one u v).1, (one u v).0) in
-      record {
-        well_formed = formed;
-        letters = refl;
-        decides = λ u v x y down_u here down_v there.
-            let p = pairs_as_relations c two u v in
-            let q = completed_reduced (related_presentation c) are.length whole are.ends u v x y
-            (reduces_more (Listed rules) (Rule (related_presentation c) are.length) to_rule u x down_u)
-            (reduced_less (Rule (related_presentation c) are.length) (Listed rules) from_rule x here)
-            (reduces_more (Listed rules) (Rule (related_presentation c) are.length) to_rule v y down_v)
-            (reduced_less (Rule (related_presentation c) are.length) (Listed rules) from_rule y there) in
-            (λ h. q.0 (p.0 h), λ e. p.1 (q.1 e));
-        least = λ u element.
-            let q = completed_least (related_presentation c) are.length whole are.ends u element in (
-              λ h. reduced_less (Listed rules) (Rule (related_presentation c) are.length) to_rule u
-                  (q.0 (least_same (SameClass c) (SameClass (of_presentation (related_presentation c))) back u h)),
-              λ h. least_same (SameClass (of_presentation (related_presentation c))) (SameClass c) one u
-                  (q.1 (reduced_less (Rule (related_presentation c) are.length) (Listed rules) from_rule u h)),
-            );
-        list = rule_list_same (SameClass (of_presentation (related_presentation c))) (SameClass c) one rules are.list;
-      }
+  down : (u v : Word) → Reduces (Listed rules) u v → Reduces (Rule (completed c) are.length) u v
+  down = reduces_more (Listed rules) (Rule (completed c) are.length) to_rule
+
+  stays : (u : Word) → IsReduced (Listed rules) u → IsReduced (Rule (completed c) are.length) u
+  stays = reduced_less (Rule (completed c) are.length) (Listed rules) from_rule
+
+  pub decides_by : DecidesBy c rules
+  decides_by = record {
+    well_formed = formed;
+    decides = λ u v x y over down_u here down_v there.
+        completed_decides_kinds c formed are.length are.ends u v x y over (down (completed_word c u) x down_u) (stays x here)
+        (down (completed_word c v) y down_v) (stays y there);
+    least = λ u element.
+        let q = completed_least_kinds c formed are.length are.ends u element in (
+          λ h. reduced_less (Listed rules) (Rule (completed c) are.length) to_rule (completed_word c u) (q.0 h),
+          λ h. q.1 (stays (completed_word c u) h),
+        );
+    normal = λ u x element down_u here.
+        normal_from c formed (is_two_sided c) refl are.length are.ends u x element (down (completed_word c u) x down_u) (stays x here);
+    list = λ two. list_from c rules (is_two_sided c) refl are.list two;
+  }
 
 -- the sides of reduced rules are words over the letters
 rules_over : (R : Word → Word → Type 0) (k : ℕ) → ((u v : Word) → R u v → IsOver k u × IsOver k v) → (cursor : Option (Word × Word))
@@ -105,14 +142,22 @@ rules_over R k over cursor [] h = All-nil (λ (r : Word × Word). IsOver k r.0 �
 rules_over R k over cursor (p ∷ rules) h =
     All-cons (λ (r : Word × Word). IsOver k r.0 × IsOver k r.1) p rules (over p.0 p.1 h.0.has.normal.related) (rules_over R k over (Some p) rules h.1)
 
-pub sides_over : (c : Congruence) (rules : List (Word × Word)) → AreRulesOf c rules → AreOver c.presentation.letters rules
+-- the letters are those of the presentation that is completed
+pub sides_over : (c : Congruence) (rules : List (Word × Word)) → AreRulesOf c rules → AreOver (completed c).letters rules
 sides_over c rules are =
-    rules_over (SameClass (of_presentation (related_presentation c))) c.presentation.letters
-    (λ u v h. (element_over c.presentation.is_monoid c.presentation.letters u h.left, element_over c.presentation.is_monoid c.presentation.letters v h.right))
+    rules_over (SameClass (of_presentation (completed c))) (completed c).letters
+    (λ u v h. (element_over (completed c).is_monoid (completed c).letters u h.left, element_over (completed c).is_monoid (completed c).letters v h.right))
     None rules are.list
 
--- whatever the states are
-pub decides_with : (c : Congruence) (a : Reading) → a.letters ≡ c.presentation.letters → AreRulesOf c a.rules → IsWellFormed c → DecidesBy c a
-decides_with c a letters are formed =
-    let by = decides_by c a.rules formed are in
-    record { well_formed = formed; letters = letters; decides = by.decides; least = by.least; list = by.list }
+-- which are one more with the marker
+pub letters_plain : (c : Congruence) → is_two_sided c ≡ true → (completed c).letters ≡ c.presentation.letters
+letters_plain c test = ap (λ b. (presentation_by c b).letters) test
+
+pub letters_marked : (c : Congruence) → is_two_sided c ≡ false → (completed c).letters ≡ suc c.presentation.letters
+letters_marked c test = ap (λ b. (presentation_by c b).letters) test ∙ go c.presentation c.kind c.pairs test
+  where
+    go : (p : Presentation) (kind : Kind) (pairs : List (Word × Word)) → let k : Congruence = record { presentation = p; kind = kind; pairs = pairs } in
+        is_two_sided k ≡ false → (marked k).letters ≡ suc p.letters
+    go p TwoSided pairs h = cc
+    go p Right pairs h = refl
+    go p Left pairs h = refl

@@ -1,11 +1,12 @@
 -- The engines of a race for a problem, and the ends of such races.
-use Rattle.std.specs.Prelude.{◌≡◌, ℕ, true, cond, ◌==◌, List, [], ◌∷◌, Option, Some, slice_get}
+use Rattle.std.specs.Prelude.{◌≡◌, ℕ, ◌==◌, List, [], ◌∷◌, Option, Some, slice_get}
 use Rattle.std.specs.Cmp.Lexicographic.{pointwise}
 use Rattle.std.specs.Option.{option_eq}
-use Rattle.theory.specs.Congruence.{Congruence, Presentation, as_right, with_relations, is_two_sided}
+use Rattle.theory.specs.Congruence.{Congruence, as_right}
 use Rattle.theory.specs.Felsch.{FelschEnds}
 use Rattle.theory.specs.Hlt.{HltEnds}
 use Rattle.theory.specs.Completion.{CompletionEnds}
+use Rattle.theory.specs.Marked.{completed}
 use Rattle.elements.specs.Transf.{composed}
 use Rattle.elements.specs.PPerm.{partially_composed}
 use Rattle.elements.specs.BMat.{BooleanMatrix, boolean_product}
@@ -108,19 +109,14 @@ as_racer = record {
   said = said_of;
 }
 
--- the presentation whose relations are those of the congruence and its pairs
-abbrev pub related_presentation : Congruence → Presentation
-related_presentation c = with_relations c.presentation c.pairs
-
 -- the tasks for a congruence on a presentation: Felsch's strategy, the strategy of rows, and
--- completion where it is two-sided
+-- completion, with a marker where pairs are one-sided
 abbrev pub congruence_tasks : Congruence → Budgets → List EngineTask
 congruence_tasks c b =
     Definitions (record { congruence = as_right c; budget = b.defs })
     ∷ Rows (record { congruence = as_right c; budget = b.rows })
-    ∷ cond (is_two_sided c)
-    (Rewriting (record { presentation = related_presentation c; length = b.length }) ∷ [])
-    []
+    ∷ Rewriting (record { presentation = completed c; length = b.length })
+    ∷ []
 
 -- the search for the classes of at most so many elements
 abbrev pub pairs_task : {V : Type 0} → PosedOf V → ℕ → PairsTask V
@@ -139,8 +135,7 @@ tasks_for (problem.MaxPlus p) b = TruncatedMatrices (pairs_task p b.elements) �
 abbrev pub IsCongruenceTask : Congruence → EngineTask → Type 0
 IsCongruenceTask c (Definitions t) = t.congruence ≡ as_right c
 IsCongruenceTask c (Rows t) = t.congruence ≡ as_right c
-IsCongruenceTask c (Rewriting t) =
-    (is_two_sided c ≡ true) × (t.presentation ≡ related_presentation c)
+IsCongruenceTask c (Rewriting t) = t.presentation ≡ completed c
 IsCongruenceTask c t = ⊥
 
 -- the task is one for the problem, within some budget
@@ -154,7 +149,7 @@ IsTaskFor p t = ⊥
 
 -- a completion that has made no turn, for the congruence within a length
 pub record IsCompletionFor (c : Congruence) (L : ℕ) (k : CompletionRun) : Type 0 where
-  pub presentation : k.presentation ≡ related_presentation c
+  pub presentation : k.presentation ≡ completed c
   pub length : k.length ≡ L
   pub said : k.said ≡ More
 

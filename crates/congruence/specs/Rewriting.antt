@@ -1,30 +1,58 @@
 -- Congruences that the rules of a completion decide.
-use Rattle.std.specs.Prelude.{◌≡◌, ◌↔◌, ℕ, List, true}
-use Rattle.theory.specs.Word.{Word, IsElement}
+use Rattle.std.specs.Prelude.{◌≡◌, ◌↔◌, ℕ, suc, ◌++◌, Bool, true, false, List}
+use Rattle.theory.specs.Word.{Word}
 use Rattle.theory.specs.Congruence.{Congruence, IsWellFormed, of_presentation, is_two_sided}
-use Rattle.theory.specs.Chain.{Related}
-use Rattle.theory.specs.Class.{SameClass, IsLeast, IsRuleList}
+use Rattle.theory.specs.Class.{SameClass, IsRuleList}
 use Rattle.theory.specs.Completion.{CompletionEnds, IsReduced, Listed, Reduces, Rule}
-use Rattle.reduced_automaton.specs.Automaton.{Reading}
-use Rattle.congruence.specs.Engines.{related_presentation}
+use Rattle.theory.specs.Marked.{completed, marker_before, marker_behind}
+use Rattle.reduced_automaton.specs.Automaton.{IsReducedWord}
+use Rattle.reduced_automaton.specs.Frames.{IsFramed}
+use Rattle.reduced_automaton.specs.declared.frames.Frame.{Frame}
+use Rattle.congruence.specs.declared.reducers.Reducer.{Reducer}
+use Rattle.congruence.specs.declared.reducers.Reducer.TheVariants.{Plain, Marked}
 
 -- the rules of a completion that ends for the congruence, in order
 pub record AreRulesOf (c : Congruence) (rules : List (Word × Word)) : Type 0 where
-  pub two_sided : is_two_sided c ≡ true
   pub length : ℕ
-  pub ends : CompletionEnds (related_presentation c) length
-  pub reduced : (u v : Word) → Listed rules u v ↔ Rule (related_presentation c) length u v
-  pub list : IsRuleList (SameClass (of_presentation (related_presentation c))) rules
+  pub ends : CompletionEnds (completed c) length
+  pub reduced : (u v : Word) → Listed rules u v ↔ Rule (completed c) length u v
+  pub list : IsRuleList (SameClass (of_presentation (completed c))) rules
 
--- the rules decide the congruence, they are its reduced rules, and the least words of its classes
--- are the elements to which none applies
-pub record DecidesBy (c : Congruence) (a : Reading) : Type 0 where
+-- the word between the prefix and the suffix
+abbrev pub within_frame : Frame → Word → Word
+within_frame frame u = frame.prefix ++ (u ++ frame.suffix)
+
+-- the marker before the words over the letters for right pairs, behind them for left pairs
+abbrev pub marker_frame : Congruence → Frame
+marker_frame c = record {
+  prefix = marker_before c.kind c.presentation.letters;
+  letters = c.presentation.letters;
+  suffix = marker_behind c.kind c.presentation.letters;
+}
+
+-- the rules of a reducer
+abbrev pub rules_in : Reducer → List (Word × Word)
+rules_in (Plain a) = a.rules
+rules_in (Marked f) = f.automaton.rules
+
+-- the word that is reduced for a word
+abbrev pub word_in : Reducer → Word → Word
+word_in (Plain a) u = u
+word_in (Marked f) u = within_frame f.frame u
+
+-- a word over the letters to which, as it is reduced, no rule applies
+abbrev pub IsReducedIn : Reducer → Word → Type 0
+IsReducedIn (Plain a) = IsReducedWord a
+IsReducedIn (Marked f) = IsFramed f.automaton f.frame
+
+-- words are reduced as they are where pairs are two-sided, and else with the marker
+abbrev pub ReducesFor : Congruence → Reducer → Type 0
+ReducesFor c (Plain a) = (is_two_sided c ≡ true) × (a.letters ≡ c.presentation.letters)
+ReducesFor c (Marked f) = (is_two_sided c ≡ false) × (f.frame ≡ marker_frame c)
+    × (f.automaton.letters ≡ suc c.presentation.letters)
+
+-- the reducer has the rules of a completion that ends for the congruence
+pub record IsReducerOf (c : Congruence) (r : Reducer) : Type 0 where
   pub well_formed : IsWellFormed c
-  pub letters : a.letters ≡ c.presentation.letters
-  pub decides : (u v x y : Word)
-      → Reduces (Listed a.rules) u x → IsReduced (Listed a.rules) x
-      → Reduces (Listed a.rules) v y → IsReduced (Listed a.rules) y
-      → Related c u v ↔ (x ≡ y)
-  pub least : (u : Word) → IsElement c.presentation.is_monoid c.presentation.letters u
-      → IsLeast (SameClass c) u ↔ IsReduced (Listed a.rules) u
-  pub list : IsRuleList (SameClass c) a.rules
+  pub words : ReducesFor c r
+  pub rules : AreRulesOf c (rules_in r)

@@ -66,6 +66,83 @@ impl Model for Solved {
     ghost invariant = { λ s. HasDecided (problem_of s.classes) s.lanes s.winner };
 }
 
+// The classes of the elements of the problem, which is given by generators and which the lane of
+// this number has decided.
+fn elements_of<'a>(
+    lanes: &'a Ended,
+    winner: usize,
+    posed: &'a GeneratedProblem,
+) -> ElementClasses<'a>
+    requires { HasDecided posed.now lanes.now winner }
+    ensures { IsSolutionFor posed.now (element_list result) }
+{
+    let engine = lanes.lanes()[winner].racer();
+    engine.element_classes(posed.alloc(), posed.problem())
+}
+
+// The number of these classes, if it is at most the bound.
+fn index_of_elements(lanes: &Ended, winner: usize, posed: &GeneratedProblem, bound: usize) -> Index
+    requires { HasDecided posed.now lanes.now winner }
+    ensures { IsIndexWithin (SameClassOf posed.now) bound result }
+{
+    let elements = elements_of(lanes, winner, posed);
+    index_in(posed.problem(), &elements, bound)
+}
+
+// The first least word of these classes after the cursor, or the first at all.
+fn next_of_elements(
+    lanes: &Ended,
+    winner: usize,
+    posed: &GeneratedProblem,
+    after: Option<&Word>,
+) -> Result<Option<Word>, NoMemory>
+    requires { HasDecided posed.now lanes.now winner }
+    ensures goes_on { GoesOnOrEnds (IsLeast (SameClassOf posed.now)) ◌≺◌ }
+    ensures next { IfOk result (λ next. MatchOption next
+        (IsLast (IsLeast (SameClassOf posed.now)) ◌≺◌ (option_copied after.entry))
+        (IsNext (IsLeast (SameClassOf posed.now)) ◌≺◌ (option_copied after.entry))) }
+{
+    let elements = elements_of(lanes, winner, posed);
+    next_in(posed.problem(), &elements, after)
+}
+
+impl Classes {
+    // The number of classes, if it is at most the bound.
+    fn index(&mut self, lanes: &Ended, winner: usize, bound: usize) -> Result<Index, NoMemory>
+        requires { HasDecided (problem_of self.old) lanes.now winner }
+        ensures kept { self.new ≡ self.old }
+        ensures index { IfOk result (IsIndexWithin (SameClassOf (problem_of self.old)) bound) }
+    {
+        match self {
+            Classes::Cosets(classes) => classes.index(bound),
+            Classes::Reduced(classes) => classes.index(bound),
+            Classes::Elements(posed) => Ok(index_of_elements(lanes, winner, posed, bound)),
+        }
+    }
+
+    // The first least word of a class after the cursor, or the first at all.
+    fn next_after(
+        &mut self,
+        lanes: &Ended,
+        winner: usize,
+        after: Option<&Word>,
+    ) -> Result<Option<Word>, NoMemory>
+        requires { HasDecided (problem_of self.old) lanes.now winner }
+        ensures kept { self.new ≡ self.old }
+        ensures goes_on { GoesOnOrEnds (IsLeast (SameClassOf (problem_of self.old))) ◌≺◌ }
+        ensures next { IfOk result (λ next. MatchOption next
+            (IsLast (IsLeast (SameClassOf (problem_of self.old))) ◌≺◌ (option_copied after.entry))
+            (IsNext (IsLeast (SameClassOf (problem_of self.old))) ◌≺◌
+            (option_copied after.entry))) }
+    {
+        match self {
+            Classes::Cosets(classes) => classes.next_after(after),
+            Classes::Reduced(classes) => classes.next_after(after),
+            Classes::Elements(posed) => next_of_elements(lanes, winner, posed, after),
+        }
+    }
+}
+
 impl Solved {
     // The answers by the classes that the winner gave, with the lanes of the race.
     pub(crate) fn new(classes: Classes, lanes: Ended, winner: usize) -> Solved
@@ -87,15 +164,6 @@ impl Solved {
         self.lanes.lanes()[self.winner].racer()
     }
 
-    // The classes of the elements, where the problem is given by generators.
-    fn elements(&self, posed: &GeneratedProblem) -> ElementClasses<'_>
-        requires { posed.now ≡ self.now.problem }
-        ensures { IsSolutionFor posed.now (element_list result) }
-    {
-        self.engine()
-            .element_classes(posed.alloc(), posed.problem())
-    }
-
     /// The lanes of the race for the problem, as it left them.
     pub fn lanes(&self) -> &Ended
         ensures { result.now ≡ self.now.lanes }
@@ -103,17 +171,13 @@ impl Solved {
         &self.lanes
     }
 
-    /// The number of classes, if it is at most the bound. Refused only where memory is wanting.
-    pub fn index(&self, bound: usize) -> Result<Index, NoMemory>
-        ensures { IfOk result (IsIndexWithin (SameClassOf self.now.problem) bound) }
+    /// The number of classes, if it is at most the bound. Refused only where memory is wanting. What
+    /// is known stays the same; reduced words are found faster another time.
+    pub fn index(&mut self, bound: usize) -> Result<Index, NoMemory>
+        ensures kept { self.new ≡ self.old }
+        ensures index { IfOk result (IsIndexWithin (SameClassOf self.old.problem) bound) }
     {
-        match &self.classes {
-            Classes::Cosets(classes) => classes.index(bound),
-            Classes::Reduced(classes) => classes.index(bound),
-            Classes::Elements(posed) => {
-                Ok(index_in(posed.problem(), &self.elements(posed), bound))
-            }
-        }
+        self.classes.index(&self.lanes, self.winner, bound)
     }
 
     /// Whether the two words, which are elements, are of one class. Refused only where memory is
@@ -128,7 +192,10 @@ impl Solved {
         match &self.classes {
             Classes::Cosets(classes) => classes.equal(u, v),
             Classes::Reduced(classes) => classes.equal(u, v),
-            Classes::Elements(posed) => equal_in(posed.problem(), &self.elements(posed), u, v),
+            Classes::Elements(posed) => {
+                let elements = elements_of(&self.lanes, self.winner, posed);
+                equal_in(posed.problem(), &elements, u, v)
+            }
         }
     }
 
@@ -141,7 +208,10 @@ impl Solved {
         match &self.classes {
             Classes::Cosets(classes) => classes.normal(u),
             Classes::Reduced(classes) => classes.normal(u),
-            Classes::Elements(posed) => normal_in(posed.problem(), &self.elements(posed), u),
+            Classes::Elements(posed) => {
+                let elements = elements_of(&self.lanes, self.winner, posed);
+                normal_in(posed.problem(), &elements, u)
+            }
         }
     }
 
@@ -149,17 +219,14 @@ impl Solved {
     /// none. The cursor need not be the least word of its class. What holds of every decided
     /// problem is told here: after each cursor comes a next class, or none. Refused only where
     /// memory is wanting.
-    pub fn next_after(&self, after: Option<&Word>) -> Result<Option<Word>, NoMemory>
-        ensures goes_on { GoesOnOrEnds (IsLeast (SameClassOf self.now.problem)) ◌≺◌ }
+    pub fn next_after(&mut self, after: Option<&Word>) -> Result<Option<Word>, NoMemory>
+        ensures kept { self.new ≡ self.old }
+        ensures goes_on { GoesOnOrEnds (IsLeast (SameClassOf self.old.problem)) ◌≺◌ }
         ensures next { IfOk result (λ next. MatchOption next
-            (IsLast (IsLeast (SameClassOf self.now.problem)) ◌≺◌ (option_copied after.entry))
-            (IsNext (IsLeast (SameClassOf self.now.problem)) ◌≺◌ (option_copied after.entry))) }
+            (IsLast (IsLeast (SameClassOf self.old.problem)) ◌≺◌ (option_copied after.entry))
+            (IsNext (IsLeast (SameClassOf self.old.problem)) ◌≺◌ (option_copied after.entry))) }
     {
-        match &self.classes {
-            Classes::Cosets(classes) => classes.next_after(after),
-            Classes::Reduced(classes) => classes.next_after(after),
-            Classes::Elements(posed) => next_in(posed.problem(), &self.elements(posed), after),
-        }
+        self.classes.next_after(&self.lanes, self.winner, after)
     }
 
     /// The reduced rules of a two-sided congruence, in short-lex order of their left sides
@@ -172,7 +239,8 @@ impl Solved {
             Classes::Cosets(classes) => classes.rules(),
             Classes::Reduced(classes) => classes.rules(),
             Classes::Elements(posed) => {
-                rules_in(posed.alloc(), posed.problem(), &self.elements(posed))
+                let elements = elements_of(&self.lanes, self.winner, posed);
+                rules_in(posed.alloc(), posed.problem(), &elements)
             }
         }
     }

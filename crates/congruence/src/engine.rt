@@ -32,7 +32,7 @@ pub enum Engine {
     Felsch(Felsch),
     /// Coset enumeration by the strategy of Haselgrove, Leech and Trotter.
     Hlt(Hlt),
-    /// Completion by rewriting rules, of a two-sided congruence.
+    /// Completion by rewriting rules.
     Completion(Completion),
     /// The classes of the elements that transformations generate.
     Transf(PairsRacer<Transf>),

@@ -1,5 +1,5 @@
 // The lanes of a race for a problem.
-ghost use Rattle.std.specs.Prelude.{◌≡◌, ◌≤◌, [], ◌∷◌, None, length, IfOk};
+ghost use Rattle.std.specs.Prelude.{◌≡◌, ◌<◌, ◌≤◌, [], ◌∷◌, ◌++◌, None, length, IfOk, OnOk};
 ghost use Rattle.theory.specs.Congruence.{as_right, IsWellFormed};
 ghost use Rattle.problem.specs.Problem.{IsPosable, IsSolvable};
 ghost use Rattle.race.specs.Lanes.{fresh};
@@ -21,7 +21,7 @@ use tc_hlt::Hlt;
 // The right congruence that stands for the congruence: two-sided pairs become relations, and with
 // left pairs all is read backwards.
 fn as_right(alloc: Global, congruence: &Congruence) -> Result<Congruence, NoMemory>
-    requires { IsSolvable congruence.now.congruence }
+    requires { IsSolvable congruence.now }
     ensures congruence { IfOk result (λ c. c.congruence ≡ as_right congruence.now.congruence) }
     ensures well_formed { IsWellFormed congruence.now.congruence }
 {
@@ -44,43 +44,54 @@ fn as_right(alloc: Global, congruence: &Congruence) -> Result<Congruence, NoMemo
     }
 }
 
-// The completion of the presentation with the pairs as relations.
+// The completion of the presentation with the pairs as relations; one-sided pairs have the marker.
 fn completion_of(
     alloc: Global,
     congruence: &Congruence,
     length: usize,
 ) -> Result<Completion, NoMemory>
-    requires { IsSolvable congruence.now.congruence }
+    requires { IsSolvable congruence.now }
     ensures { IfOk result (IsCompletionFor congruence.now.congruence length) }
 {
     let presentation = congruence.presentation();
-    let relations = presentation.with_pairs(alloc, congruence.pairs())?;
-    Completion::new(alloc, &relations, length)
+    if congruence.is_two_sided() {
+        let relations = presentation.with_pairs(alloc, congruence.pairs())?;
+        return Completion::new(alloc, &relations, length);
+    }
+    Completion::new(alloc, &congruence.marked(alloc)?, length)
+}
+
+// Puts a lane of the engine behind the others.
+fn add_lane(lanes: &mut Vec<Lane<Engine>>, engine: Engine) -> Result<(), NoMemory>
+    requires { length lanes.old.items < 64 }
+    ensures { OnOk result (lanes.new.items
+        ≡ lanes.old.items ++ fresh (length lanes.old.items) engine ∷ []) }
+{
+    lanes.push(Lane::new(lanes.len(), engine))?;
+    Ok(())
 }
 
 // The lanes for a congruence on a presentation: Felsch's strategy, the strategy of rows, and
-// completion where it is two-sided.
+// completion.
 fn congruence_lanes(
     alloc: Global,
     congruence: &Congruence,
     budgets: &Budgets,
 ) -> Result<Vec<Lane<Engine>>, NoMemory>
-    requires { IsSolvable congruence.now.congruence }
+    requires { IsSolvable congruence.now }
     ensures starts { IfOk result (λ lanes. Starts as_racer lanes.items) }
     ensures count { IfOk result (λ lanes. length lanes.items ≤ 64) }
     ensures tasks { IfOk result (λ lanes. tasks as_racer lanes.items
         ≡ congruence_tasks congruence.now.congruence budgets.now) }
 {
     let task = as_right(alloc, congruence)?;
-    let felsch = Felsch::new(alloc, &task, budgets.defs)?;
-    let hlt = Hlt::new(alloc, &task, budgets.rows)?;
     let mut lanes = Vec::new(alloc);
-    lanes.push(Lane::new(0, Engine::Felsch(felsch)))?;
-    lanes.push(Lane::new(1, Engine::Hlt(hlt)))?;
-    if congruence.is_two_sided() {
-        let completion = completion_of(alloc, congruence, budgets.length)?;
-        lanes.push(Lane::new(2, Engine::Completion(completion)))?;
-    }
+    let felsch = Felsch::new(alloc, &task, budgets.defs)?;
+    add_lane(&mut lanes, Engine::Felsch(felsch))?;
+    let hlt = Hlt::new(alloc, &task, budgets.rows)?;
+    add_lane(&mut lanes, Engine::Hlt(hlt))?;
+    let completion = completion_of(alloc, congruence, budgets.length)?;
+    add_lane(&mut lanes, Engine::Completion(completion))?;
     Ok(lanes)
 }
 
@@ -108,7 +119,7 @@ fn one_lane(alloc: Global, engine: Engine) -> Result<Vec<Lane<Engine>>, NoMemory
     ensures { IfOk result (λ lanes. lanes.items ≡ fresh 0 engine ∷ []) }
 {
     let mut lanes = Vec::new(alloc);
-    lanes.push(Lane::new(0, engine))?;
+    add_lane(&mut lanes, engine)?;
     Ok(lanes)
 }
 

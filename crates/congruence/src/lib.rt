@@ -14,6 +14,7 @@ mod engine;
 mod lanes;
 mod listing;
 mod reduced_words;
+mod reducers;
 mod solving;
 
 pub use answers::{Index, Solved};

@@ -10,32 +10,33 @@ ghost use Rattle.congruence.specs.Indexes.{IsIndexWithin};
 ghost use Rattle.congruence.specs.Rewriting.{AreRulesOf};
 
 use crate::answers::Index;
+use crate::reducers::Reducer;
 use ports::NoMemory;
 use presentation::Congruence;
-use reduced_automaton::{Automaton, Rules};
+use reduced_automaton::Rules;
 use std::alloc::Global;
 use std::marker::Model;
 use words::Word;
 
-/// The classes of a two-sided congruence by its reduced rules: a word is the least of its class
-/// exactly where no rule applies to it. The empty word counts as a class of a monoid, and is no
-/// element of a semigroup.
+/// The classes of a congruence by the rules of a completion: a word is the least of its class
+/// exactly where no rule applies to it, with the marker where pairs are one-sided. The empty word
+/// counts as a class of a monoid, and is no element of a semigroup.
 #[derive(Drop)]
 pub struct ReducedClasses {
     alloc: Global,
     congruence: Congruence,
-    automaton: Automaton,
+    words: Reducer,
 }
 
 impl Model for ReducedClasses {
     ghost use Rattle.presentation.specs.Presented.{Posed};
-    ghost use Rattle.congruence.specs.Rewriting.{DecidesBy};
+    ghost use Rattle.congruence.specs.Rewriting.{IsReducerOf};
 
     ghost Value = { Posed };
 
     ghost view = { λ s. s.congruence };
 
-    ghost invariant = { λ s. DecidesBy s.congruence.congruence s.automaton };
+    ghost invariant = { λ s. IsReducerOf s.congruence.congruence s.words };
 }
 
 impl ReducedClasses {
@@ -49,21 +50,21 @@ impl ReducedClasses {
         requires { AreRulesOf congruence.now.congruence rules.now }
         ensures { IfOk result (λ s. s ≡ congruence.now) }
     {
-        let presentation = congruence.presentation();
-        let automaton = Automaton::build(alloc, presentation.letters(), rules)?;
+        let words = Reducer::new(alloc, congruence, rules)?;
         let congruence = congruence.copy(alloc)?;
         Ok(ReducedClasses {
             alloc,
             congruence,
-            automaton,
+            words,
         })
     }
 
     /// The number of classes, if it is at most the bound. Refused only where memory is wanting.
-    pub fn index(&self, bound: usize) -> Result<Index, NoMemory>
-        ensures { IfOk result (IsIndexWithin (SameClass self.now.congruence) bound) }
+    pub fn index(&mut self, bound: usize) -> Result<Index, NoMemory>
+        ensures kept { self.new ≡ self.old }
+        ensures index { IfOk result (IsIndexWithin (SameClass self.old.congruence) bound) }
     {
-        if self.automaton.is_infinite() {
+        if self.words.is_infinite() {
             return Ok(Index::Infinite);
         }
         self.count(bound)
@@ -71,9 +72,10 @@ impl ReducedClasses {
 
     // The number of classes, if it is at most the bound, where they are finitely many. Refused only
     // where memory is wanting.
-    fn count(&self, bound: usize) -> Result<Index, NoMemory>
-        requires { (n : ℕ) × HasIndex (SameClass self.now.congruence) n }
-        ensures { IfOk result (IsIndexWithin (SameClass self.now.congruence) bound) }
+    fn count(&mut self, bound: usize) -> Result<Index, NoMemory>
+        requires { (n : ℕ) × HasIndex (SameClass self.old.congruence) n }
+        ensures kept { self.new ≡ self.old }
+        ensures index { IfOk result (IsIndexWithin (SameClass self.old.congruence) bound) }
     {
         let mut count = 0;
         let mut next = self.next_after(None)?;
@@ -96,8 +98,8 @@ impl ReducedClasses {
             self.now.congruence.presentation.letters v.now }
         ensures { IfOk result (λ same. IsTrue same ↔ SameClass self.now.congruence u.now v.now) }
     {
-        let left = self.automaton.reduce(u)?;
-        let right = self.automaton.reduce(v)?;
+        let left = self.words.reduce(self.alloc, u)?;
+        let right = self.words.reduce(self.alloc, v)?;
         Ok(left.letters() == right.letters())
     }
 
@@ -108,27 +110,29 @@ impl ReducedClasses {
             self.now.congruence.presentation.letters u.now }
         ensures { IfOk result (IsNormal (SameClass self.now.congruence) u.now) }
     {
-        self.automaton.reduce(u)
+        let reduced = self.words.reduce(self.alloc, u)?;
+        self.words.word_inside(self.alloc, reduced)
     }
 
     /// The first least word of a class after the cursor, or the first at all; `None` where there is
     /// none. The cursor need not be the least word of its class. What holds of every decided
     /// congruence is told here: after each cursor comes a next class, or none. Refused only where
     /// memory is wanting.
-    pub fn next_after(&self, after: Option<&Word>) -> Result<Option<Word>, NoMemory>
-        ensures goes_on { GoesOnOrEnds (IsLeast (SameClass self.now.congruence)) ◌≺◌ }
+    pub fn next_after(&mut self, after: Option<&Word>) -> Result<Option<Word>, NoMemory>
+        ensures kept { self.new ≡ self.old }
+        ensures goes_on { GoesOnOrEnds (IsLeast (SameClass self.old.congruence)) ◌≺◌ }
         ensures next { IfOk result (λ next. MatchOption next
-            (IsLast (IsLeast (SameClass self.now.congruence)) ◌≺◌ (option_copied after.entry))
-            (IsNext (IsLeast (SameClass self.now.congruence)) ◌≺◌ (option_copied after.entry))) }
+            (IsLast (IsLeast (SameClass self.old.congruence)) ◌≺◌ (option_copied after.entry))
+            (IsNext (IsLeast (SameClass self.old.congruence)) ◌≺◌ (option_copied after.entry))) }
     {
         match after {
-            Some(cursor) => self.automaton.next_after(Some(cursor)),
+            Some(cursor) => self.words.next_after(Some(cursor)),
             None => {
                 if self.congruence.presentation().is_monoid() {
-                    self.automaton.next_after(None)
+                    self.words.next_after(None)
                 } else {
                     let empty = Word::new(self.alloc);
-                    self.automaton.next_after(Some(&empty))
+                    self.words.next_after(Some(&empty))
                 }
             }
         }
@@ -140,6 +144,6 @@ impl ReducedClasses {
         requires { is_two_sided self.now.congruence ≡ true }
         ensures { IfOk result (IsRuleList (SameClass self.now.congruence)) }
     {
-        self.automaton.rules().copy(self.alloc)
+        self.words.rules().copy(self.alloc)
     }
 }

@@ -77,6 +77,7 @@ fn known<R: Abort + Threads + Sync>(
 {
     assert!(rt; congruence.presentation().relations().len() < 10);
     assert!(rt; congruence.pairs().len() < 10);
+    assert!(rt; !congruence.presentation().alphabet().has_marker());
     let problem = Problem::Presented(congruence);
     match solve(rt, alloc, &problem, budgets, 2, &Open)? {
         Verdict::Known(solved) => Ok(Some(solved)),
@@ -85,7 +86,7 @@ fn known<R: Abort + Threads + Sync>(
 }
 
 // Whether the class after the cursor is that of the word.
-fn next_is(solved: &Solved, after: Option<&Word>, want: &Word) -> Result<bool, Fail> {
+fn next_is(solved: &mut Solved, after: Option<&Word>, want: &Word) -> Result<bool, Fail> {
     match solved.next_after(after)? {
         Some(next) => Ok(next.letters() == want.letters()),
         None => Ok(false),
@@ -96,7 +97,7 @@ fn next_is(solved: &Solved, after: Option<&Word>, want: &Word) -> Result<bool, F
 fn check_classes(
     rt: &impl Abort,
     alloc: Global,
-    solved: &Solved,
+    solved: &mut Solved,
     texts: &[&str],
 ) -> Result<(), Fail> {
     let alphabet = Alphabet::new(alloc, b"ab")?;
@@ -111,19 +112,35 @@ fn check_classes(
     Ok(())
 }
 
+// The congruence that the pair of a letter and the empty word generates on the monoid of the
+// relations on a and b.
+fn with_pair(
+    rt: &impl Abort,
+    alloc: Global,
+    relations: &[(&str, &str)],
+    kind: Kind,
+    letter: &str,
+) -> Result<Congruence, Fail>
+    ensures kind { IfOk result (λ c. c.congruence.kind ≡ kind) }
+    ensures monoid { IfOk result (λ c. c.congruence.presentation.is_monoid ≡ true) }
+    ensures letters { IfOk result (λ c. c.congruence.presentation.letters ≡ 2) }
+{
+    let presentation = presented(alloc, "ab", true, relations)?;
+    assert!(rt; presentation.is_monoid());
+    assert!(rt; presentation.letters() == 2);
+    let left = word(alloc, presentation.alphabet(), letter)?;
+    let mut pairs = Pairs::new(alloc);
+    pairs.push(left, Word::new(alloc))?;
+    Ok(Congruence::new(presentation, kind, pairs))
+}
+
 // The congruence that the pair of a and the empty word generates on the symmetric group.
 fn collapsed(rt: &impl Abort, alloc: Global, kind: Kind) -> Result<Congruence, Fail>
     ensures kind { IfOk result (λ c. c.congruence.kind ≡ kind) }
     ensures monoid { IfOk result (λ c. c.congruence.presentation.is_monoid ≡ true) }
     ensures letters { IfOk result (λ c. c.congruence.presentation.letters ≡ 2) }
 {
-    let presentation = presented(alloc, "ab", true, &RELATIONS)?;
-    assert!(rt; presentation.is_monoid());
-    assert!(rt; presentation.letters() == 2);
-    let left = word(alloc, presentation.alphabet(), "a")?;
-    let mut pairs = Pairs::new(alloc);
-    pairs.push(left, Word::new(alloc))?;
-    Ok(Congruence::new(presentation, kind, pairs))
+    with_pair(rt, alloc, &RELATIONS, kind, "a")
 }
 
 // The first letter a is left out at the front.
@@ -145,7 +162,7 @@ fn check_words(rt: &impl Abort, alloc: Global, solved: &Solved) -> Result<(), Fa
 fn check_after(
     rt: &impl Abort,
     alloc: Global,
-    solved: &Solved,
+    solved: &mut Solved,
     cursor: &str,
     next: &str,
 ) -> Result<(), Fail> {
@@ -157,12 +174,12 @@ fn check_after(
 }
 
 // The classes, the words, what comes after a cursor, and the index.
-fn check_answers(rt: &impl Abort, alloc: Global, solved: &Solved) -> Result<(), Fail>
-    requires monoid { has_empty_word solved.now.problem ≡ true }
-    requires letters { count_of solved.now.problem ≡ 2 }
+fn check_answers(rt: &impl Abort, alloc: Global, solved: &mut Solved) -> Result<(), Fail>
+    requires monoid { has_empty_word solved.old.problem ≡ true }
+    requires letters { count_of solved.old.problem ≡ 2 }
 {
-    check_classes(rt, alloc, solved, &["1", "b", "ba"])?;
     check_words(rt, alloc, solved)?;
+    check_classes(rt, alloc, solved, &["1", "b", "ba"])?;
     check_after(rt, alloc, solved, "a", "b")?;
     assert_eq!(rt; solved.index(2)?, Index::Over);
     Ok(())
@@ -173,7 +190,7 @@ fn right_pairs_hold_at_the_front(rt: HostRuntime) -> Result<(), Fail> {
     let alloc = rt.alloc();
     let congruence = collapsed(&rt, alloc, Kind::Right)?;
     match known(&rt, alloc, congruence, &budgets(50, 0, 9))? {
-        Some(solved) => check_answers(&rt, alloc, &solved),
+        Some(mut solved) => check_answers(&rt, alloc, &mut solved),
         None => panic!(rt; "undecided"),
     }
 }
@@ -187,7 +204,7 @@ fn check_known<R: Abort + Threads + Sync>(
     texts: &[&str],
 ) -> Result<(), Fail> {
     match known(rt, alloc, congruence, budgets)? {
-        Some(solved) => check_classes(rt, alloc, &solved, texts),
+        Some(mut solved) => check_classes(rt, alloc, &mut solved, texts),
         None => panic!(rt; "undecided"),
     }
 }
@@ -298,8 +315,8 @@ fn check_rules(
 }
 
 // The classes and the reduced rules are those of the symmetric group of degree three.
-fn check_symmetric(rt: &impl Abort, alloc: Global, solved: &Solved) -> Result<(), Fail>
-    requires { allows_rules solved.now.problem ≡ true }
+fn check_symmetric(rt: &impl Abort, alloc: Global, solved: &mut Solved) -> Result<(), Fail>
+    requires { allows_rules solved.old.problem ≡ true }
 {
     let rules = [
         ("aa", ""),
@@ -309,8 +326,8 @@ fn check_symmetric(rt: &impl Abort, alloc: Global, solved: &Solved) -> Result<()
         ("bba", "ab"),
         ("bbb", ""),
     ];
-    check_classes(rt, alloc, solved, &["", "a", "b", "ab", "ba", "bb"])?;
     check_rules(rt, alloc, solved, &rules)?;
+    check_classes(rt, alloc, solved, &["", "a", "b", "ab", "ba", "bb"])?;
     assert_eq!(rt; solved.index(5)?, Index::Over);
     Ok(())
 }
@@ -323,7 +340,7 @@ fn check_budgets<R: Abort + Threads + Sync>(
 ) -> Result<(), Fail> {
     let presentation = presented(alloc, "ab", true, &RELATIONS)?;
     match decided(rt, alloc, presentation, budgets)? {
-        Some(solved) => check_symmetric(rt, alloc, &solved),
+        Some(mut solved) => check_symmetric(rt, alloc, &mut solved),
         None => panic!(rt; "undecided"),
     }
 }
@@ -341,10 +358,11 @@ fn check_schedule(rt: &impl Abort, alloc: Global, schedule: &[usize]) -> Result<
     let presentation = presented(alloc, "ab", true, &RELATIONS)?;
     let congruence = Congruence::new(presentation, Kind::TwoSided, Pairs::new(alloc));
     assert!(rt; congruence.presentation().relations().len() < 10);
+    assert!(rt; !congruence.presentation().alphabet().has_marker());
     let turns = schedule.to_vec(alloc)?;
     let problem = Problem::Presented(congruence);
     match decide(alloc, &problem, &budgets(10_000, 1_000, 12), &turns)? {
-        Verdict::Known(solved) => check_symmetric(rt, alloc, &solved),
+        Verdict::Known(mut solved) => check_symmetric(rt, alloc, &mut solved),
         Verdict::Undecided(_) => panic!(rt; "undecided"),
     }
 }
@@ -388,13 +406,13 @@ fn long_overlaps_end_no_completion(rt: HostRuntime) -> Result<(), Fail> {
 }
 
 // There are infinitely many classes, and the one rule leads from ab to the empty word.
-fn check_bicyclic(rt: &impl Abort, alloc: Global, solved: &Solved) -> Result<(), Fail>
-    requires { allows_rules solved.now.problem ≡ true }
+fn check_bicyclic(rt: &impl Abort, alloc: Global, solved: &mut Solved) -> Result<(), Fail>
+    requires { allows_rules solved.old.problem ≡ true }
 {
+    check_rules(rt, alloc, solved, &[("ab", "")])?;
     assert_eq!(rt; solved.index(0)?, Index::Infinite);
     assert_eq!(rt; solved.index(3)?, Index::Infinite);
-    check_after(rt, alloc, solved, "abb", "baa")?;
-    check_rules(rt, alloc, solved, &[("ab", "")])
+    check_after(rt, alloc, solved, "abb", "baa")
 }
 
 #[test]
@@ -402,9 +420,58 @@ fn the_bicyclic_monoid_is_infinite(rt: HostRuntime) -> Result<(), Fail> {
     let alloc = rt.alloc();
     let presentation = presented(alloc, "ab", true, &[("ab", "")])?;
     match decided(&rt, alloc, presentation, &budgets(9, 9, 2))? {
-        Some(solved) => check_bicyclic(&rt, alloc, &solved),
+        Some(mut solved) => check_bicyclic(&rt, alloc, &mut solved),
         None => panic!(rt; "undecided"),
     }
+}
+
+// The word is of the class of the other, which comes first but for the empty word and is followed
+// by the third; there are infinitely many classes.
+fn check_powers(
+    rt: &impl Abort,
+    alloc: Global,
+    solved: &mut Solved,
+    texts: (&str, &str, &str),
+) -> Result<(), Fail>
+    requires monoid { has_empty_word solved.old.problem ≡ true }
+    requires letters { count_of solved.old.problem ≡ 2 }
+{
+    let alphabet = Alphabet::new(alloc, b"ab")?;
+    let long = word(alloc, &alphabet, texts.0)?;
+    let short = word(alloc, &alphabet, texts.1)?;
+    assert!(rt; solved.normal(&long)?.letters() == short.letters());
+    assert!(rt; solved.equal(&long, &short)?);
+    assert_eq!(rt; solved.index(3)?, Index::Infinite);
+    assert!(rt; next_is(solved, None, &Word::new(alloc))?);
+    check_after(rt, alloc, solved, "", texts.1)?;
+    check_after(rt, alloc, solved, texts.1, texts.2)
+}
+
+#[test]
+fn one_sided_pairs_are_completed_with_a_marker(rt: HostRuntime) -> Result<(), Fail> {
+    let alloc = rt.alloc();
+    for (kind, letter, texts) in [
+        (Kind::Right, "b", ("bba", "a", "aa")),
+        (Kind::Left, "a", ("baa", "b", "bb")),
+    ] {
+        let congruence = with_pair(&rt, alloc, &[("ab", "")], kind, letter)?;
+        match known(&rt, alloc, congruence, &budgets(0, 0, 2))? {
+            Some(mut solved) => check_powers(&rt, alloc, &mut solved, texts)?,
+            None => panic!(rt; "undecided"),
+        }
+        let congruence = with_pair(&rt, alloc, &[("ab", "")], kind, letter)?;
+        assert!(rt; known(&rt, alloc, congruence, &budgets(9, 9, 1))?.is_none());
+    }
+    Ok(())
+}
+
+#[test]
+fn completion_lists_finitely_many_classes_of_one_side(rt: HostRuntime) -> Result<(), Fail> {
+    let alloc = rt.alloc();
+    let right = collapsed(&rt, alloc, Kind::Right)?;
+    check_known(&rt, alloc, right, &budgets(0, 0, 12), &["1", "b", "ba"])?;
+    let left = collapsed(&rt, alloc, Kind::Left)?;
+    check_known(&rt, alloc, left, &budgets(0, 0, 12), &["1", "b", "ab"])
 }
 
 // How the lanes have ended.
@@ -423,6 +490,7 @@ fn cyclic_race<R: Abort + Threads + Sync>(
     let presentation = presented(alloc, "a", true, &[("aaa", "")])?;
     let congruence = Congruence::new(presentation, Kind::TwoSided, Pairs::new(alloc));
     assert!(rt; congruence.presentation().relations().len() < 10);
+    assert!(rt; !congruence.presentation().alphabet().has_marker());
     match solve(
         rt,
         alloc,
@@ -478,10 +546,10 @@ fn lanes_with_pair<R: Abort + Threads + Sync>(
 }
 
 #[test]
-fn completion_is_no_lane_for_one_sided_pairs(rt: HostRuntime) -> Result<(), Fail> {
+fn each_kind_of_pairs_has_three_lanes(rt: HostRuntime) -> Result<(), Fail> {
     let alloc = rt.alloc();
-    assert_eq!(rt; lanes_with_pair(&rt, alloc, Kind::Right)?, 2);
-    assert_eq!(rt; lanes_with_pair(&rt, alloc, Kind::Left)?, 2);
+    assert_eq!(rt; lanes_with_pair(&rt, alloc, Kind::Right)?, 3);
+    assert_eq!(rt; lanes_with_pair(&rt, alloc, Kind::Left)?, 3);
     Ok(())
 }
 

@@ -1,19 +1,33 @@
-use Rattle.std.proofs.Common.{ap}
+use Rattle.std.proofs.Common.{◌≡◌, ◌∷◌, [], ◌∙◌, ap, ap₂}
+use Rattle.theory.specs.Congruence.{Congruence, Presentation}
 use Rattle.congruence.specs.declared.engine.Engine.TheVariants.{Felsch, Hlt, Completion}
-use Rattle.congruence.proofs.LaneLaws.{two_pushed, three_pushed}
+use Rattle.congruence.specs.Engines.{Definitions, Rewriting, Rows, task_of}
+use Rattle.congruence.proofs.LaneLaws.{three_added, three_begin, three_few, three_tasks}
 use Rattle.congruence.proofs.lanes.congruence_lanes.Goals as goal
-use Rattle.congruence.proofs.lanes.congruence_lanes.Goals.{then-is_two_sided+in_ok-completion+in_ok-push-3, else-is_two_sided}
 
 pub returns-clause-starts : goal.returns-clause-starts
 returns-clause-starts c =
-    elim c.if-is_two_sided.branch [
-      | then-is_two_sided+in_ok-completion+in_ok-push-3 w ↦
-          three_pushed c.new-lanes.result.items c.push.new.self.items c.push-2.new.self.items c.new-3.result c.new-4.result
-          (Felsch c.in_ok-felsch.felsch) (Hlt c.in_ok-hlt.hlt) c.new-lanes.ensures.items c.in_ok-push.ensures.items c.in_ok-push-2.ensures.items
-          c.new-3.ensures c.new-4.ensures w.push-then-is_two_sided.new.self.items c.if-is_two_sided.lanes.items w.new-then-is_two_sided.result
-          (Completion w.in_ok-completion.completion) w.in_ok-push-3.ensures.items w.new-then-is_two_sided.ensures (ap (λ v. v.items) w.lanes-is)
-      | else-is_two_sided w ↦
-          two_pushed c.new-lanes.result.items c.push.new.self.items c.push-2.new.self.items c.new-3.result c.new-4.result
-          (Felsch c.in_ok-felsch.felsch) (Hlt c.in_ok-hlt.hlt) c.new-lanes.ensures.items c.in_ok-push.ensures.items c.in_ok-push-2.ensures.items
-          c.new-3.ensures c.new-4.ensures c.if-is_two_sided.lanes.items (ap (λ v. v.items) w.lanes-is)
-    ]
+    three_begin c.add_lane-3.new.lanes.items (Felsch c.in_ok-felsch.felsch) (Hlt c.in_ok-hlt.hlt) (Completion c.in_ok-completion.completion)
+    (three_added c.new-lanes.result.items c.add_lane.new.lanes.items c.add_lane-2.new.lanes.items c.add_lane-3.new.lanes.items
+    (Felsch c.in_ok-felsch.felsch) (Hlt c.in_ok-hlt.hlt) (Completion c.in_ok-completion.completion)
+    c.new-lanes.ensures.items c.in_ok-add_lane.ensures c.in_ok-add_lane-2.ensures c.in_ok-add_lane-3.ensures)
+
+pub returns-clause-count : goal.returns-clause-count
+returns-clause-count c =
+    three_few c.add_lane-3.new.lanes.items (Felsch c.in_ok-felsch.felsch) (Hlt c.in_ok-hlt.hlt) (Completion c.in_ok-completion.completion)
+    (three_added c.new-lanes.result.items c.add_lane.new.lanes.items c.add_lane-2.new.lanes.items c.add_lane-3.new.lanes.items
+    (Felsch c.in_ok-felsch.felsch) (Hlt c.in_ok-hlt.hlt) (Completion c.in_ok-completion.completion)
+    c.new-lanes.ensures.items c.in_ok-add_lane.ensures c.in_ok-add_lane-2.ensures c.in_ok-add_lane-3.ensures)
+
+pub returns-clause-tasks : goal.returns-clause-tasks
+returns-clause-tasks c =
+    three_tasks c.add_lane-3.new.lanes.items (Felsch c.in_ok-felsch.felsch) (Hlt c.in_ok-hlt.hlt) (Completion c.in_ok-completion.completion)
+    (three_added c.new-lanes.result.items c.add_lane.new.lanes.items c.add_lane-2.new.lanes.items c.add_lane-3.new.lanes.items
+    (Felsch c.in_ok-felsch.felsch) (Hlt c.in_ok-hlt.hlt) (Completion c.in_ok-completion.completion)
+    c.new-lanes.ensures.items c.in_ok-add_lane.ensures c.in_ok-add_lane-2.ensures c.in_ok-add_lane-3.ensures)
+    c.args.congruence.now.congruence c.args.budgets.now
+    (ap (λ f. task_of (Felsch f)) c.in_ok-felsch.ensures
+    ∙ ap (λ (r : Congruence). Definitions (record { congruence = r; budget = c.args.budgets.now.defs })) c.in_ok-task.ensures.congruence)
+    (ap (λ h. task_of (Hlt h)) c.in_ok-hlt.ensures
+    ∙ ap (λ (r : Congruence). Rows (record { congruence = r; budget = c.args.budgets.now.rows })) c.in_ok-task.ensures.congruence)
+    (ap₂ (λ (p : Presentation) L. Rewriting (record { presentation = p; length = L })) c.in_ok-completion.ensures.presentation c.in_ok-completion.ensures.length)

@@ -1,4 +1,4 @@
-use Rattle.std.proofs.Common.{◌∙◌, subst, IfOk, MatchOption, Option}
+use Rattle.std.proofs.Common.{ap, subst, IfOk, MatchOption, Option}
 use Rattle.std.specs.Option.{option_copied}
 use Rattle.theory.specs.Word.{Word as Letters}
 use Rattle.problem.specs.declared.kinds.Problem.{Problem}
@@ -6,37 +6,16 @@ use Rattle.problem.specs.Problem.{SameClassOf}
 use Rattle.theory.specs.ShortLex.{◌≺◌}
 use Rattle.theory.specs.Class.{IsLeast}
 use Rattle.theory.specs.Listing.{IsLast, IsNext, GoesOnOrEnds}
-use Rattle.congruence.proofs.ViewLaws.{of_cosets, of_elements, of_reduced}
+use Rattle.congruence.specs.Solution.{Solution}
 use Rattle.congruence.proofs.answers.Solved.next_after.Goals as goal
 
-pub returns-in-Cosets-clause-goes_on : goal.returns-in-Cosets-clause-goes_on
-returns-in-Cosets-clause-goes_on c =
-    subst (λ (k : Problem). GoesOnOrEnds (IsLeast (SameClassOf k)) ◌≺◌)
-    (of_cosets c.args.self.now c.self.inside.classes c.self.inside.lanes c.self.view_is c.in-Cosets.classes c.in-Cosets.is)
+pub returns-clause-goes_on : goal.returns-clause-goes_on
+returns-clause-goes_on c =
+    subst (λ (k : Problem). GoesOnOrEnds (IsLeast (SameClassOf k)) ◌≺◌) (ap (λ (s : Solution). s.problem) c.self.view_is)
     c.next_after.ensures.goes_on
 
-pub returns-in-Cosets-clause-next : goal.returns-in-Cosets-clause-next
-returns-in-Cosets-clause-next c =
+pub returns-clause-next : goal.returns-clause-next
+returns-clause-next c =
     subst (λ (k : Problem). IfOk c.next_after.result (λ (next : Option Letters). MatchOption next
     (IsLast (IsLeast (SameClassOf k)) ◌≺◌ (option_copied c.args.after)) (IsNext (IsLeast (SameClassOf k)) ◌≺◌ (option_copied c.args.after))))
-    (of_cosets c.args.self.now c.self.inside.classes c.self.inside.lanes c.self.view_is c.in-Cosets.classes c.in-Cosets.is)
-    c.next_after.ensures.next
-
-pub returns-in-Reduced-clause-goes_on : goal.returns-in-Reduced-clause-goes_on
-returns-in-Reduced-clause-goes_on c =
-    subst (λ (k : Problem). GoesOnOrEnds (IsLeast (SameClassOf k)) ◌≺◌)
-    (of_reduced c.args.self.now c.self.inside.classes c.self.inside.lanes c.self.view_is c.in-Reduced.classes c.in-Reduced.is)
-    c.next_after-in-Reduced.ensures.goes_on
-
-pub returns-in-Reduced-clause-next : goal.returns-in-Reduced-clause-next
-returns-in-Reduced-clause-next c =
-    subst (λ (k : Problem). IfOk c.next_after-in-Reduced.result (λ (next : Option Letters). MatchOption next
-    (IsLast (IsLeast (SameClassOf k)) ◌≺◌ (option_copied c.args.after)) (IsNext (IsLeast (SameClassOf k)) ◌≺◌ (option_copied c.args.after))))
-    (of_reduced c.args.self.now c.self.inside.classes c.self.inside.lanes c.self.view_is c.in-Reduced.classes c.in-Reduced.is)
-    c.next_after-in-Reduced.ensures.next
-
-pub returns-in-Elements-clause-goes_on : goal.returns-in-Elements-clause-goes_on
-returns-in-Elements-clause-goes_on c =
-    subst (λ (k : Problem). GoesOnOrEnds (IsLeast (SameClassOf k)) ◌≺◌)
-    (c.problem.ensures.is ∙ of_elements c.args.self.now c.self.inside.classes c.self.inside.lanes c.self.view_is c.in-Elements.posed c.in-Elements.is)
-    c.next_in.ensures.goes_on
+    (ap (λ (s : Solution). s.problem) c.self.view_is) c.next_after.ensures.next
