@@ -35,6 +35,7 @@ query_in_elements p name.Cayley tokens l there = cayley_cause p tokens ∙ lift 
 query_in_elements p (name.LowIndex two_sided) tokens l there = absurd (true≢false (sym there))
 query_in_elements p name.Meet tokens l there = absurd (true≢false (sym there))
 query_in_elements p name.Join tokens l there = absurd (true≢false (sym there))
+query_in_elements p name.Chain tokens l there = absurd (true≢false (sym there))
 query_in_elements p name.Green tokens l there = green_cause p tokens ∙ lift _ _ _ _ (never-late (is_empty p.queries) (length (pairs_of p.problem) == 0)) l
 query_in_elements p name.Idempotents tokens l there = idempotents_cause p tokens ∙ lift _ _ _ _ (never-late (is_empty p.queries) (length (pairs_of p.problem) == 0)) l
 
@@ -50,6 +51,7 @@ lacking-of p name.Cayley tokens l = lacking_cause _ _ _ (never-late (is_empty p.
 lacking-of p (name.LowIndex two_sided) tokens l = lacking_cause _ _ _ (never-late (is_empty p.queries) (length (pairs_of p.problem) == 0)) l
 lacking-of p name.Meet tokens l = lacking_cause _ _ _ (never-late (is_empty p.queries) (length (pairs_of p.problem) == 0)) l
 lacking-of p name.Join tokens l = lacking_cause _ _ _ (never-late (is_empty p.queries) (length (pairs_of p.problem) == 0)) l
+lacking-of p name.Chain tokens l = lacking_cause _ _ _ (never-late (is_empty p.queries) (length (pairs_of p.problem) == 0)) l
 lacking-of p name.Green tokens l = lacking_cause _ _ _ (never-late (is_empty p.queries) (length (pairs_of p.problem) == 0)) l
 lacking-of p name.Idempotents tokens l = lacking_cause _ _ _ (never-late (is_empty p.queries) (length (pairs_of p.problem) == 0)) l
 

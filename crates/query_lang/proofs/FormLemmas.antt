@@ -32,7 +32,7 @@ use Rattle.query_lang.specs.declared.role.Role.TheVariants as role
 use Rattle.query_lang.specs.Roles.{count_for, count_for_both, inverse_tokens, is_too_many, letter_in, role_of, with_inverse}
 use Rattle.query_lang.specs.Script.{asked, common_line, finished, is_presentation, pair_line, pair_or_query, presentation_line, query_line, relation_line, role_line, role_or_common, with_asked}
 use Rattle.query_lang.specs.Grammar.{Head, Partial, is_empty, script_in}
-use Rattle.query_lang.specs.Forms.{Form, Relation, OfRole, Pair, Index, Equal, Normal, Classes, Rules, Element, Cayley, LowIndex, Meet, Join, Green, Idempotents, ACongruenceTable, asked_of_relations, forms_of, inverse_shape, roles_of, shapes_of}
+use Rattle.query_lang.specs.Forms.{Form, Relation, OfRole, Pair, Index, Equal, Normal, Classes, Rules, Element, Cayley, LowIndex, Meet, Join, Chain, Green, Idempotents, ACongruenceTable, asked_of_relations, forms_of, inverse_shape, roles_of, shapes_of}
 use Rattle.query_lang.specs.LineCauses.{when, first_of, cause_in, cause_of_token, form_among, form_causes, named_causes, is_barred, is_pair_too_many, is_relation_too_many, mixes_kinds, shape_for, shape_causes}
 use Rattle.query_lang.proofs.FoldLemmas.{partial, reader_of}
 use Rattle.query_lang.proofs.TableLemmas.{causes_in_order}
@@ -351,6 +351,20 @@ pub idempotents_cause : (p : Partial) (tokens : List Token) → query_cause p na
 idempotents_cause p [] = not-barred _ (length (pairs_of p.problem) == 0)
 idempotents_cause p (t ∷ tokens) = refl
 
+chain-sides : (p : Partial) (barred : Bool) (u v : Result Word Cause)
+    → cause_in (if barred then Err cause.QueryNotAllowed else and_then (λ q. Ok (with_asked (script_in p) q)) (and_then (λ (x : Word × Word). Ok (query.Chain x.0 x.1)) (and_then (λ x. and_then (λ y. Ok (x, y)) v) u)))
+    ≡ first_of (when cause.QueryNotAllowed barred ∷ cause_in u ∷ cause_in v ∷ [])
+chain-sides p true u v = refl
+chain-sides p false (Err c) v = refl
+chain-sides p false (Ok x) (Err c) = refl
+chain-sides p false (Ok x) (Ok y) = refl
+
+chain_cause : (p : Partial) (tokens : List Token) → query_cause p name.Chain tokens ≡ first_of (query_causes p Chain tokens)
+chain_cause p [] = refl
+chain_cause p (s ∷ []) = refl
+chain_cause p (s ∷ t ∷ []) = chain-sides p (not (allows_rules p.problem)) (element_of p.head.version (letters_of p.problem) (has_empty_word p.problem) s) (element_of p.head.version (letters_of p.problem) (has_empty_word p.problem) t)
+chain_cause p (s ∷ t ∷ u ∷ tokens) = refl
+
 pub lift : (late lacks : Bool) (w : Option Cause) (cs : List (Option Cause)) → late ≡ false → lacks ≡ false
     → first_of (w ∷ cs) ≡ first_of (when cause.LineOutOfOrder late ∷ when cause.NoGenerator lacks ∷ w ∷ None ∷ None ∷ None ∷ cs)
 lift late lacks None cs h k = behind late lacks (None ∷ None ∷ None ∷ None ∷ cs) h k
@@ -373,6 +387,7 @@ form_of name.Cayley = Cayley
 form_of (name.LowIndex two_sided) = LowIndex two_sided
 form_of name.Meet = Meet
 form_of name.Join = Join
+form_of name.Chain = Chain
 form_of name.Green = Green
 form_of name.Idempotents = Idempotents
 
@@ -387,6 +402,7 @@ query_in_presentation head o queries name.Rules tokens there = rules_cause (part
 query_in_presentation head o queries (name.LowIndex two_sided) tokens there = lowindex_cause two_sided (partial head (Presented o) queries) tokens ∙ lift _ _ _ _ (never-late (is_empty queries) (length o.congruence.pairs == 0)) refl
 query_in_presentation head o queries name.Meet tokens there = meet_cause (partial head (Presented o) queries) tokens ∙ lift _ _ _ _ (never-late (is_empty queries) (length o.congruence.pairs == 0)) refl
 query_in_presentation head o queries name.Join tokens there = join_cause (partial head (Presented o) queries) tokens ∙ lift _ _ _ _ (never-late (is_empty queries) (length o.congruence.pairs == 0)) refl
+query_in_presentation head o queries name.Chain tokens there = chain_cause (partial head (Presented o) queries) tokens ∙ lift _ _ _ _ (never-late (is_empty queries) (length o.congruence.pairs == 0)) refl
 query_in_presentation head o queries name.Element tokens there = absurd (true≢false (sym there))
 query_in_presentation head o queries name.Cayley tokens there = absurd (true≢false (sym there))
 query_in_presentation head o queries name.Green tokens there = absurd (true≢false (sym there))
@@ -398,19 +414,20 @@ same-cause f (Err c) = refl
 
 -- the query by its name
 pick-query : (given : Result NameOf Cause → Option Cause) (said : Option Form → Option Cause) → given (Err cause.UnknownLine) ≡ said None
-    → ((name : NameOf) → is_name_there true name ≡ true → given (Ok name) ≡ said (Some (form_of name))) → (i e n c r l k m j : Bool)
-    → given (ok_or (if i then Some name.Index else if e then Some name.Equal else if n then Some name.Normal else if c then Some name.Classes else if r then Some name.Rules else if l then Some (name.LowIndex false) else if k then Some (name.LowIndex true) else if m then Some name.Meet else if j then Some name.Join else None) cause.UnknownLine)
-    ≡ said (if i then Some Index else if e then Some Equal else if n then Some Normal else if c then Some Classes else if r then Some Rules else if l then Some (LowIndex false) else if k then Some (LowIndex true) else if m then Some Meet else if j then Some Join else None)
-pick-query given said none each true e n c r l k m j = each name.Index refl
-pick-query given said none each false true n c r l k m j = each name.Equal refl
-pick-query given said none each false false true c r l k m j = each name.Normal refl
-pick-query given said none each false false false true r l k m j = each name.Classes refl
-pick-query given said none each false false false false true l k m j = each name.Rules refl
-pick-query given said none each false false false false false true k m j = each (name.LowIndex false) refl
-pick-query given said none each false false false false false false true m j = each (name.LowIndex true) refl
-pick-query given said none each false false false false false false false true j = each name.Meet refl
-pick-query given said none each false false false false false false false false true = each name.Join refl
-pick-query given said none each false false false false false false false false false = none
+    → ((name : NameOf) → is_name_there true name ≡ true → given (Ok name) ≡ said (Some (form_of name))) → (i e n c r l k m j w : Bool)
+    → given (ok_or (if i then Some name.Index else if e then Some name.Equal else if n then Some name.Normal else if c then Some name.Classes else if r then Some name.Rules else if l then Some (name.LowIndex false) else if k then Some (name.LowIndex true) else if m then Some name.Meet else if j then Some name.Join else if w then Some name.Chain else None) cause.UnknownLine)
+    ≡ said (if i then Some Index else if e then Some Equal else if n then Some Normal else if c then Some Classes else if r then Some Rules else if l then Some (LowIndex false) else if k then Some (LowIndex true) else if m then Some Meet else if j then Some Join else if w then Some Chain else None)
+pick-query given said none each true e n c r l k m j w = each name.Index refl
+pick-query given said none each false true n c r l k m j w = each name.Equal refl
+pick-query given said none each false false true c r l k m j w = each name.Normal refl
+pick-query given said none each false false false true r l k m j w = each name.Classes refl
+pick-query given said none each false false false false true l k m j w = each name.Rules refl
+pick-query given said none each false false false false false true k m j w = each (name.LowIndex false) refl
+pick-query given said none each false false false false false false true m j w = each (name.LowIndex true) refl
+pick-query given said none each false false false false false false false true j w = each name.Meet refl
+pick-query given said none each false false false false false false false false true w = each name.Join refl
+pick-query given said none each false false false false false false false false false true = each name.Chain refl
+pick-query given said none each false false false false false false false false false false = none
 
 -- the pair by its kind, or the query
 pub pick_pair : (version : Version) (t g l : Bool) (r : ReaderOf) (first : Token) (tokens : List Token) (said : Option Form → Option Cause) (f : Option Form)
@@ -437,13 +454,13 @@ pick-role version false false true r first tokens said f each h = each role.Inve
 pick-role version false false false r first tokens said f each h = h
 
 query-by-name : (r : ReaderOf) (head : Head) (o : Posed) (queries : List Query) (first : Token) (tokens : List Token) → is_presentation r ≡ true → finished r ≡ Ok (script_in (partial head (Presented o) queries))
-    → cause_in (query_line head.version r first tokens) ≡ first_of (named_causes (partial head (Presented o) queries) (form_among (Index ∷ Equal ∷ Normal ∷ Classes ∷ Rules ∷ LowIndex false ∷ LowIndex true ∷ Meet ∷ Join ∷ []) first) tokens)
+    → cause_in (query_line head.version r first tokens) ≡ first_of (named_causes (partial head (Presented o) queries) (form_among (Index ∷ Equal ∷ Normal ∷ Classes ∷ Rules ∷ LowIndex false ∷ LowIndex true ∷ Meet ∷ Join ∷ Chain ∷ []) first) tokens)
 query-by-name r head o queries first tokens kind h =
     ap (λ b. cause_in (and_then (λ name. and_then (λ script. and_then (λ s. Ok (Asking s)) (asked head.version script name tokens)) (finished r)) (ok_or (query_name_of b first) cause.UnknownLine))) kind
     ∙ pick-query (λ x. cause_in (and_then (λ name. and_then (λ script. and_then (λ s. Ok (Asking s)) (asked head.version script name tokens)) (finished r)) x)) (λ form. first_of (named_causes (partial head (Presented o) queries) form tokens)) refl
     (λ name there. ap (λ x. cause_in (and_then (λ script. and_then (λ s. Ok (Asking s)) (asked head.version script name tokens)) x)) h ∙ same-cause (λ s. Asking s) (asked head.version (script_in (partial head (Presented o) queries)) name tokens) ∙ query_in_presentation head o queries name tokens there)
     (is_word (codes "index") first) (is_word (codes "equal") first) (is_word (codes "normal") first) (is_word (codes "classes") first) (is_word (codes "rules") first) (is_word (codes "lowindex") first) (is_word (codes "lowindex2") first)
-    (is_word (codes "meet") first) (is_word (codes "join") first)
+    (is_word (codes "meet") first) (is_word (codes "join") first) (is_word (codes "chain") first)
 
 -- a pair or a query has the cause that is said
 common_cause : (head : Head) (o : Posed) (queries : List Query) (first : Token) (tokens : List Token)

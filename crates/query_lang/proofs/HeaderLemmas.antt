@@ -1,6 +1,8 @@
 -- The causes of headers as the reader gives them.
-use Rattle.std.proofs.Common.{◌≡◌, ℕ, Bool, true, false, if◌then◌else◌, List, [], ◌∷◌, codes, Option, Some, None, Result, Ok, Err, is_none, option_and_then, refl, ◌∙◌}
+use Rattle.std.proofs.Common.{◌≡◌, ℕ, Bool, true, false, if◌then◌else◌, List, [], ◌∷◌, codes, Option, Some, None, Result, Ok, Err, is_none, option_and_then, refl, ◌∙◌, arith, inl, inr, Contains}
 use Rattle.std.specs.Option.{ok_or}
+use Rattle.std.proofs.lemmas.List.Elements.{All-contains}
+use Rattle.words.specs.Alphabet.{IsAlphabetOf, IsLetterByte, marker}
 use Rattle.query_lang.specs.declared.cause.Cause.{Cause}
 use Rattle.query_lang.specs.declared.cause.Cause.TheVariants as cause
 use Rattle.query_lang.specs.Draft.{AnyDraft}
@@ -16,6 +18,13 @@ use Rattle.query_lang.specs.Script.{header_line}
 use Rattle.query_lang.specs.Token.{Token, is_word, number_of, number_within}
 use Rattle.query_lang.specs.LineCauses.{HeaderForm, Numbers, Letters, when, first_of, cause_in, header_form_causes, header_causes, version_causes}
 use Rattle.query_lang.proofs.FormLemmas.{same-cause}
+
+-- the marker is none of the letters of a text
+pub letters_unmarked : (wide : Bool) (letters : List ℕ) → IsAlphabetOf (IsLetterByte wide) letters → Contains letters marker → ⊥
+letters_unmarked wide letters is has = elim (All-contains (IsLetterByte wide) letters marker is.sound.all has) [
+  | inl h ↦ omega (arith, h.0)
+  | inr h ↦ omega (arith, h.1)
+]
 
 size : (n : Option ℕ) → cause_in (ok_or n cause.BadNumber) ≡ first_of (when cause.BadNumber (is_none n) ∷ [])
 size None = refl

@@ -14,13 +14,13 @@ use Rattle.query_lang.specs.Asked.{ScriptOf}
 use Rattle.query_lang.specs.Draft as draft
 use Rattle.query_lang.specs.Draft.{AnyDraft, posed_of}
 use Rattle.query_lang.specs.Outcome.{and_then}
-use Rattle.query_lang.specs.Query.{is_rule_list, needs_generators, needs_no_pairs, needs_relations}
+use Rattle.query_lang.specs.Query.{needs_two_sided, needs_generators, needs_no_pairs, needs_relations}
 use Rattle.query_lang.specs.Texts.{texts}
 use Rattle.query_lang.specs.Token.{Token, is_word}
 use Rattle.query_lang.specs.declared.version.Version.{Version}
 use Rattle.query_lang.specs.Script.{ReaderOf, Posing, Relating, Pairing, Asking}
 use Rattle.query_lang.specs.Script.{common_line, element_line, finished, generator_line, is_presentation}
-use Rattle.query_lang.specs.QueryLines.{NameOf, Index, Equal, Normal, Classes, Rules, Element, Cayley, LowIndex, Meet, Join, Green, Idempotents, count_of, cursor_of, is_name_barred, is_name_there, limits_of, page_of, query_name, query_name_of, search_of, table_cursor_of}
+use Rattle.query_lang.specs.QueryLines.{NameOf, Index, Equal, Normal, Classes, Rules, Element, Cayley, LowIndex, Meet, Join, Chain, Green, Idempotents, count_of, cursor_of, is_name_barred, is_name_there, limits_of, page_of, query_name, query_name_of, search_of, table_cursor_of}
 
 pub no_page : (version : Version) (letters : List ℕ) (allow_empty : Bool) (tokens : List (Bor (List ℕ))) → length tokens ≢ 1 → length tokens ≢ 3 → page_of version letters allow_empty (texts tokens) ≡ Err WrongNumberOfWords
 no_page version letters allow_empty [] h k = refl
@@ -54,8 +54,9 @@ allowed : (b : Bool) → not b ≡ false → b ≡ true
 allowed true h = refl
 allowed false h = absurd (true≢false h)
 
-pub rules_allowed : (p : Problem) (q : Query) → is_name_barred p (query_name q) ≡ false → is_rule_list q ≡ true → allows_rules p ≡ true
+pub rules_allowed : (p : Problem) (q : Query) → is_name_barred p (query_name q) ≡ false → needs_two_sided q ≡ true → allows_rules p ≡ true
 rules_allowed p query.RuleList h e = allowed (allows_rules p) h
+rules_allowed p (query.Chain u v) h e = allowed (allows_rules p) h
 rules_allowed p query.Index h e = absurd (true≢false (sym e))
 rules_allowed p (query.Equal u v) h e = absurd (true≢false (sym e))
 rules_allowed p (query.Normal u) h e = absurd (true≢false (sym e))
@@ -82,6 +83,7 @@ without_pairs p query.Idempotents h e = no_pairs (pairs_of p) h
 without_pairs p query.RuleList h e = absurd (true≢false (sym e))
 without_pairs p query.Index h e = absurd (true≢false (sym e))
 without_pairs p (query.Equal u v) h e = absurd (true≢false (sym e))
+without_pairs p (query.Chain u v) h e = absurd (true≢false (sym e))
 without_pairs p (query.Normal u) h e = absurd (true≢false (sym e))
 without_pairs p (query.Classes count after) h e = absurd (true≢false (sym e))
 without_pairs p (query.ElementOf u) h e = absurd (true≢false (sym e))
@@ -103,6 +105,7 @@ needs_none_generated b query.Cayley h e = absent b h e
 needs_none_generated b (query.LowIndex two_sided classes count after) h e = refl
 needs_none_generated b (query.Meet s t) h e = refl
 needs_none_generated b (query.Join s t) h e = refl
+needs_none_generated b (query.Chain u v) h e = refl
 needs_none_generated b (query.Green relation) h e = absent b h e
 needs_none_generated b query.Idempotents h e = absent b h e
 
@@ -110,6 +113,7 @@ pub relations_given : (b : Bool) (q : Query) → is_name_there b (query_name q) 
 relations_given b (query.LowIndex two_sided classes count after) h e = h
 relations_given b (query.Meet s t) h e = h
 relations_given b (query.Join s t) h e = h
+relations_given b (query.Chain u v) h e = h
 relations_given b query.Index h e = absurd (true≢false (sym e))
 relations_given b (query.Equal u v) h e = absurd (true≢false (sym e))
 relations_given b (query.Normal u) h e = absurd (true≢false (sym e))
@@ -124,32 +128,33 @@ relations_given b query.Idempotents h e = absurd (true≢false (sym e))
 pub name_is_there : (b : Bool) (t : Token) (name : NameOf) → ok_or (query_name_of b t) UnknownLine ≡ Ok name → is_name_there b name ≡ true
 name_is_there b t name =
     go b (is_word (codes "index") t) (is_word (codes "equal") t) (is_word (codes "normal") t) (is_word (codes "classes") t) (is_word (codes "rules") t)
-    (is_word (codes "lowindex") t) (is_word (codes "lowindex2") t) (is_word (codes "meet") t) (is_word (codes "join") t) (is_word (codes "element") t) (is_word (codes "cayley") t)
+    (is_word (codes "lowindex") t) (is_word (codes "lowindex2") t) (is_word (codes "meet") t) (is_word (codes "join") t) (is_word (codes "chain") t) (is_word (codes "element") t) (is_word (codes "cayley") t)
     (is_word (codes "green") t) (is_word (codes "idempotents") t)
   where
     there : (b : Bool) (one : NameOf) → is_name_there b one ≡ true → ◌≡◌ {A = Result NameOf Cause} (Ok one) (Ok name) → is_name_there b name ≡ true
     there b one h e = let same : one ≡ name = cc in ap (is_name_there b) (sym same) ∙ h
 
-    go : (b i e n c r l k m j y z g d : Bool)
+    go : (b i e n c r l k m j w y z g d : Bool)
         → ok_or (if i then Some Index else if e then Some Equal else if n then Some Normal else if c then Some Classes else if r then Some Rules
-        else if b && l then Some (LowIndex false) else if b && k then Some (LowIndex true) else if b && m then Some Meet else if b && j then Some Join else if not b && y then Some Element else if not b && z then Some Cayley
+        else if b && l then Some (LowIndex false) else if b && k then Some (LowIndex true) else if b && m then Some Meet else if b && j then Some Join else if b && w then Some Chain else if not b && y then Some Element else if not b && z then Some Cayley
         else if not b && g then Some Green else if not b && d then Some Idempotents else None) UnknownLine ≡ Ok name
         → is_name_there b name ≡ true
-    go b true e n c r l k m j y z g d h = there b Index refl h
-    go b false true n c r l k m j y z g d h = there b Equal refl h
-    go b false false true c r l k m j y z g d h = there b Normal refl h
-    go b false false false true r l k m j y z g d h = there b Classes refl h
-    go b false false false false true l k m j y z g d h = there b Rules refl h
-    go true false false false false false true k m j y z g d h = there true (LowIndex false) refl h
-    go true false false false false false false true m j y z g d h = there true (LowIndex true) refl h
-    go true false false false false false false false true j y z g d h = there true Meet refl h
-    go true false false false false false false false false true y z g d h = there true Join refl h
-    go true false false false false false false false false false y z g d h = absurd (cc)
-    go false false false false false false l k m j true z g d h = there false Element refl h
-    go false false false false false false l k m j false true g d h = there false Cayley refl h
-    go false false false false false false l k m j false false true d h = there false Green refl h
-    go false false false false false false l k m j false false false true h = there false Idempotents refl h
-    go false false false false false false l k m j false false false false h = absurd (cc)
+    go b true e n c r l k m j w y z g d h = there b Index refl h
+    go b false true n c r l k m j w y z g d h = there b Equal refl h
+    go b false false true c r l k m j w y z g d h = there b Normal refl h
+    go b false false false true r l k m j w y z g d h = there b Classes refl h
+    go b false false false false true l k m j w y z g d h = there b Rules refl h
+    go true false false false false false true k m j w y z g d h = there true (LowIndex false) refl h
+    go true false false false false false false true m j w y z g d h = there true (LowIndex true) refl h
+    go true false false false false false false false true j w y z g d h = there true Meet refl h
+    go true false false false false false false false false true w y z g d h = there true Join refl h
+    go true false false false false false false false false false true y z g d h = there true Chain refl h
+    go true false false false false false false false false false false y z g d h = absurd (cc)
+    go false false false false false false l k m j w true z g d h = there false Element refl h
+    go false false false false false false l k m j w false true g d h = there false Cayley refl h
+    go false false false false false false l k m j w false false true d h = there false Green refl h
+    go false false false false false false l k m j w false false false true h = there false Idempotents refl h
+    go false false false false false false l k m j w false false false false h = absurd (cc)
 
 -- what is posed so far is of the script's kind
 

@@ -427,6 +427,10 @@ query_read head problem queries line q some sign (grammar.join {S} {T} {s} {t} i
     asked_line head problem queries name.Join line (codes "join") (S ∷ T ∷ []) q some sign is (other (codes "join") refl refl refl) (ap (λ b. query_name_of b (codes "join")) h) refl
     (ap (λ (ps : List (Word × Word)). not (length ps == 0)) none)
     (ap (and_then (λ (p : Graph × Graph). Ok (query.Join p.0 p.1))) (tables_read (partial head problem queries) S T s t left right))
+query_read head problem queries line q some sign (grammar.chain {U} {V} {u} {v} is h allows left right) =
+    asked_line head problem queries name.Chain line (codes "chain") (U ∷ V ∷ []) q some sign is (other (codes "chain") refl refl refl) (ap (λ b. query_name_of b (codes "chain")) h) refl
+    (ap not allows)
+    (ap (and_then (λ (p : Word × Word). Ok (query.Chain p.0 p.1))) (both_read head.version (letters_of problem) (has_empty_word problem) U V u v left right))
 query_read head problem queries line q some sign (grammar.green {X} is h none named) =
     asked_line head problem queries name.Green line (codes "green") (X ∷ []) q some sign is (other (codes "green") refl refl refl) (ap (λ b. query_name_of b (codes "green")) h) refl
     (ap (λ (ps : List (Word × Word)). not (length ps == 0)) none)

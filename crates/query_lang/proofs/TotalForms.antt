@@ -17,7 +17,7 @@ use Rattle.query_lang.specs.Token.{Token, Line, is_word, relation_of}
 use Rattle.query_lang.specs.Pairing.{is_same_kind}
 use Rattle.query_lang.specs.Grammar as grammar
 use Rattle.query_lang.specs.Grammar.{Head, IsCongruenceTableOf, IsLowTableOf, Partial, section_reached, LineReads, is_generator_line, lacks_generator}
-use Rattle.query_lang.specs.Forms.{Form, Relation, OfRole, Pair, Index, Equal, Normal, Classes, Rules, Element, Cayley, LowIndex, Meet, Join, Green, Idempotents, ACongruenceTable, name_of, shapes_of, section_of, asked_of_relations, forms_of, inverse_shape}
+use Rattle.query_lang.specs.Forms.{Form, Relation, OfRole, Pair, Index, Equal, Normal, Classes, Rules, Element, Cayley, LowIndex, Meet, Join, Chain, Green, Idempotents, ACongruenceTable, name_of, shapes_of, section_of, asked_of_relations, forms_of, inverse_shape}
 use Rattle.query_lang.specs.declared.role.Role.{Role}
 use Rattle.query_lang.specs.declared.role.Role.TheVariants as role
 use Rattle.query_lang.specs.declared.version.Version.{Version}
@@ -278,6 +278,15 @@ join-read p first (s ∷ t ∷ []) k g e c =
     (_, grammar.query c.has_generator g (grammar.join (ap (λ n. n ∷ s ∷ t ∷ []) e) k (no-elements _ (not-applies _ c.allowed)) a.1 b.1))
 join-read p first (s ∷ t ∷ w ∷ tokens) k g e c = absurd (true≢false c.shaped)
 
+chain-read : (p : Partial) (first : Token) (tokens : List Token) → is_presented p.problem ≡ true → is_generator_line p (first ∷ tokens) ≡ false → FormReads p first tokens Chain
+chain-read p first [] k g e c = absurd (true≢false c.shaped)
+chain-read p first (s ∷ []) k g e c = absurd (true≢false c.shaped)
+chain-read p first (s ∷ t ∷ []) k g e c =
+    let u = word-read _ _ c.tokens_read in
+    let v = word-read _ _ u.2 in
+    (_, grammar.query c.has_generator g (grammar.chain (ap (λ n. n ∷ s ∷ t ∷ []) e) k (not-applies _ c.allowed) u.1 v.1))
+chain-read p first (s ∷ t ∷ w ∷ tokens) k g e c = absurd (true≢false c.shaped)
+
 green-read : (p : Partial) (first : Token) (tokens : List Token) → is_presented p.problem ≡ false → is_generator_line p (first ∷ tokens) ≡ false → FormReads p first tokens Green
 green-read p first [] k g e c = absurd (true≢false c.shaped)
 green-read p first (s ∷ []) k g e c =
@@ -357,7 +366,8 @@ common-read p first tokens k g =
     (also (LowIndex false) (lowindex-read false p first tokens k g)
     (also (LowIndex true) (lowindex-read true p first tokens k g)
     (also Meet (meet-read p first tokens k g)
-    (also Join (join-read p first tokens k g) every)))))))))))
+    (also Join (join-read p first tokens k g)
+    (also Chain (chain-read p first tokens k g) every))))))))))))
 
 -- the forms of a presentation
 each-read : (version : Version) (sizes : ℕ × ℕ) (o : Posed) (queries : List Query) (first : Token) (tokens : List Token) →

@@ -33,6 +33,7 @@ pub data Form : Type 0 where
   LowIndex : (two_sided : Bool) → Form
   Meet : Form
   Join : Form
+  Chain : Form
   Green : Form
   Idempotents : Form
 
@@ -56,6 +57,7 @@ name_of (LowIndex false) = codes "lowindex"
 name_of (LowIndex true) = codes "lowindex2"
 name_of Meet = codes "meet"
 name_of Join = codes "join"
+name_of Chain = codes "chain"
 name_of Green = codes "green"
 name_of Idempotents = codes "idempotents"
 
@@ -83,6 +85,7 @@ shapes_of is_monoid (LowIndex two_sided) = (ANumber 1 16 ∷ ANumber 0 1000000 �
     ∷ (ANumber 1 16 ∷ ANumber 0 1000000 ∷ After ∷ ALowTable ∷ []) ∷ []
 shapes_of is_monoid Meet = (ACongruenceTable ∷ ACongruenceTable ∷ []) ∷ []
 shapes_of is_monoid Join = (ACongruenceTable ∷ ACongruenceTable ∷ []) ∷ []
+shapes_of is_monoid Chain = (AWord ∷ AWord ∷ []) ∷ []
 shapes_of is_monoid Green = (ARelation ∷ []) ∷ []
 shapes_of is_monoid Idempotents = [] ∷ []
 
@@ -101,6 +104,7 @@ section_of Cayley = 4
 section_of (LowIndex two_sided) = 4
 section_of Meet = 4
 section_of Join = 4
+section_of Chain = 4
 section_of Green = 4
 section_of Idempotents = 4
 
@@ -113,7 +117,7 @@ roles_of Two = OfRole Identity ∷ OfRole Zero ∷ OfRole Inverse ∷ []
 abbrev pub asked_of_relations : List Form
 asked_of_relations = Pair TwoSided ∷ Pair Right ∷ Pair Left
     ∷ Index ∷ Equal ∷ Normal ∷ Classes ∷ Rules ∷ LowIndex false ∷ LowIndex true
-    ∷ Meet ∷ Join ∷ []
+    ∷ Meet ∷ Join ∷ Chain ∷ []
 
 -- the forms that a script of this version and kind has: a presentation, or generators
 abbrev pub forms_of : Version → (is_presentation : Bool) → List Form

@@ -169,6 +169,9 @@ pub data IsQuery (p : Partial) (line : Line) : Query → Type 0 where
   join : {S T : Token} {s t : Graph} → line ≡ codes "join" ∷ S ∷ T ∷ []
       → is_presented p.problem ≡ true → pairs_of p.problem ≡ []
       → IsCongruenceTableOf p S s → IsCongruenceTableOf p T t → IsQuery p line (ask.Join s t)
+  chain : {U V : Token} {u v : Word} → line ≡ codes "chain" ∷ U ∷ V ∷ []
+      → is_presented p.problem ≡ true → allows_rules p.problem ≡ true
+      → IsWordOf p U u → IsWordOf p V v → IsQuery p line (ask.Chain u v)
   green : {X : Token} {relation : Relation} → line ≡ codes "green" ∷ X ∷ []
       → is_presented p.problem ≡ false → pairs_of p.problem ≡ []
       → relation_of X ≡ Some relation → IsQuery p line (ask.Green relation)

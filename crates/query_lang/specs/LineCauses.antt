@@ -15,7 +15,7 @@ use Rattle.query_lang.specs.Asked.{ScriptOf}
 use Rattle.query_lang.specs.Entries.{all_of, below, below_or_dash, bit, is_injective}
 use Rattle.query_lang.specs.Fields.{field_of}
 use Rattle.query_lang.specs.LineWords.{element_of}
-use Rattle.query_lang.specs.Forms.{Form, Relation, OfRole, Pair, Rules, Cayley, LowIndex, Meet, Join, Green, Idempotents, Place, AWord, ALetter, ANumber, After, ALowTable, ACongruenceTable, ARelation, name_of, shapes_of, section_of, forms_of}
+use Rattle.query_lang.specs.Forms.{Form, Relation, OfRole, Pair, Rules, Cayley, LowIndex, Meet, Join, Chain, Green, Idempotents, Place, AWord, ALetter, ANumber, After, ALowTable, ACongruenceTable, ARelation, name_of, shapes_of, section_of, forms_of}
 use Rattle.query_lang.specs.Outline.{alphabet_of}
 use Rattle.query_lang.specs.Pairing.{is_same_kind, most_pairs}
 use Rattle.query_lang.specs.Relations.{most_relations, relations_of}
@@ -121,6 +121,7 @@ is_barred p Cayley = not (length (pairs_of p.problem) == 0)
 is_barred p (LowIndex two_sided) = not (length (pairs_of p.problem) == 0)
 is_barred p Meet = not (length (pairs_of p.problem) == 0)
 is_barred p Join = not (length (pairs_of p.problem) == 0)
+is_barred p Chain = not (allows_rules p.problem)
 is_barred p Green = not (length (pairs_of p.problem) == 0)
 is_barred p Idempotents = not (length (pairs_of p.problem) == 0)
 is_barred p form = false

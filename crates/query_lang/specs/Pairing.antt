@@ -1,10 +1,11 @@
 -- Pairs that lines give, one after another, or why a line is refused.
-use Rattle.std.specs.Prelude.{ℕ, ◌≤◌, Bool, true, false, ◌||◌, List, ◌==◌, length, codes, if◌then◌else◌, Option, Some, None, Result, Ok, Err}
+use Rattle.std.specs.Prelude.{◌≡◌, ℕ, ◌≤◌, Bool, true, false, ◌||◌, List, ◌==◌, length, codes, Contains, if◌then◌else◌, Option, Some, None, Result, Ok, Err}
 use Rattle.theory.specs.declared.Kind.{Kind}
 use Rattle.theory.specs.declared.Kind.TheVariants.{TwoSided, Right, Left}
 use Rattle.theory.specs.Word.{Word}
+use Rattle.words.specs.Alphabet.{marker}
 use Rattle.problem.specs.declared.kinds.Problem.{Problem}
-use Rattle.problem.specs.Problem.{has_empty_word, kind_of, letters_of, pairs_of, with_pair}
+use Rattle.problem.specs.Problem.{has_empty_word, is_presented, kind_of, letters_of, pairs_of, with_pair}
 use Rattle.query_lang.specs.declared.version.Version.{Version}
 use Rattle.query_lang.specs.declared.cause.Cause.{Cause}
 use Rattle.query_lang.specs.declared.cause.Cause.TheVariants as cause
@@ -17,10 +18,12 @@ use Rattle.query_lang.specs.Relations.{most_relations, relations_of}
 abbrev pub most_pairs : ℕ
 most_pairs = 4096
 
--- neither the relations nor the pairs are too many
+-- neither the relations nor the pairs are too many, and the marker is none of the letters of a
+-- presentation
 pub record IsPairable (p : Problem) : Type 0 where
   pub few_relations : length (relations_of p) ≤ most_relations
   pub few_pairs : length (pairs_of p) ≤ most_pairs
+  pub unmarked : is_presented p ≡ true → ¬ Contains (letters_of p) marker
 
 -- the kind of the pairs whose lines begin so
 abbrev pub pair_kind_of : Token → Option Kind

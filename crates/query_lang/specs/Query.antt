@@ -4,7 +4,7 @@ use Rattle.theory.specs.Word.{IsElement, Word}
 use Rattle.problem.specs.declared.kinds.Problem.{Problem}
 use Rattle.problem.specs.Problem.{allows_rules, has_empty_word, is_presented, letters_of, pairs_of}
 use Rattle.query_lang.specs.declared.script.Query.{Query}
-use Rattle.query_lang.specs.declared.script.Query.TheVariants.{Index, Equal, Normal, Classes, RuleList, ElementOf, Cayley, LowIndex, Meet, Join, Green, Idempotents}
+use Rattle.query_lang.specs.declared.script.Query.TheVariants.{Index, Equal, Normal, Classes, RuleList, ElementOf, Cayley, LowIndex, Meet, Join, Chain, Green, Idempotents}
 use Rattle.query_lang.specs.Relations.{relations_of}
 use Rattle.query_lang.specs.Tables.{IsCongruenceTable, IsLowTable}
 
@@ -30,6 +30,7 @@ IsQueryOver empty k relations (Meet s t) =
     IsCongruenceTable empty k relations s × IsCongruenceTable empty k relations t
 IsQueryOver empty k relations (Join s t) =
     IsCongruenceTable empty k relations s × IsCongruenceTable empty k relations t
+IsQueryOver empty k relations (Chain u v) = IsElement empty k u × IsElement empty k v
 IsQueryOver empty k relations (Green relation) = Unit {0}
 IsQueryOver empty k relations Idempotents = Unit {0}
 
@@ -45,6 +46,7 @@ needs_generators Cayley = true
 needs_generators (LowIndex two_sided classes count after) = false
 needs_generators (Meet s t) = false
 needs_generators (Join s t) = false
+needs_generators (Chain u v) = false
 needs_generators (Green relation) = true
 needs_generators Idempotents = true
 
@@ -60,23 +62,25 @@ needs_relations Cayley = false
 needs_relations (LowIndex two_sided classes count after) = true
 needs_relations (Meet s t) = true
 needs_relations (Join s t) = true
+needs_relations (Chain u v) = true
 needs_relations (Green relation) = false
 needs_relations Idempotents = false
 
--- whether the query asks for the rules
-abbrev pub is_rule_list : Query → Bool
-is_rule_list Index = false
-is_rule_list (Equal u v) = false
-is_rule_list (Normal u) = false
-is_rule_list (Classes count after) = false
-is_rule_list RuleList = true
-is_rule_list (ElementOf u) = false
-is_rule_list Cayley = false
-is_rule_list (LowIndex two_sided classes count after) = false
-is_rule_list (Meet s t) = false
-is_rule_list (Join s t) = false
-is_rule_list (Green relation) = false
-is_rule_list Idempotents = false
+-- whether the query is there only where the congruence is two-sided
+abbrev pub needs_two_sided : Query → Bool
+needs_two_sided Index = false
+needs_two_sided (Equal u v) = false
+needs_two_sided (Normal u) = false
+needs_two_sided (Classes count after) = false
+needs_two_sided RuleList = true
+needs_two_sided (ElementOf u) = false
+needs_two_sided Cayley = false
+needs_two_sided (LowIndex two_sided classes count after) = false
+needs_two_sided (Meet s t) = false
+needs_two_sided (Join s t) = false
+needs_two_sided (Chain u v) = true
+needs_two_sided (Green relation) = false
+needs_two_sided Idempotents = false
 
 -- whether the query is there only without pairs
 abbrev pub needs_no_pairs : Query → Bool
@@ -90,15 +94,16 @@ needs_no_pairs Cayley = true
 needs_no_pairs (LowIndex two_sided classes count after) = true
 needs_no_pairs (Meet s t) = true
 needs_no_pairs (Join s t) = true
+needs_no_pairs (Chain u v) = false
 needs_no_pairs (Green relation) = true
 needs_no_pairs Idempotents = true
 
--- the query is one of this problem: it is there for it, rules are allowed where it asks for them,
--- there are no pairs where it needs that, its words and tables are over the letters, and the
--- relations hold at the tables of a meet or a join
+-- the query is one of this problem: it is there for it, pairs are two-sided where it needs that,
+-- there are none where it needs that, its words and tables are over the letters, and the relations
+-- hold at the tables of a meet or a join
 pub record IsQueryOf (p : Problem) (query : Query) : Type 0 where
   pub there : is_presented p ≡ true → needs_generators query ≡ false
   pub presented : needs_relations query ≡ true → is_presented p ≡ true
-  pub allowed : is_rule_list query ≡ true → allows_rules p ≡ true
+  pub allowed : needs_two_sided query ≡ true → allows_rules p ≡ true
   pub unpaired : needs_no_pairs query ≡ true → pairs_of p ≡ []
   pub over : IsQueryOver (has_empty_word p) (length (letters_of p)) (relations_of p) query

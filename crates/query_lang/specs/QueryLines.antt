@@ -28,6 +28,7 @@ pub data NameOf : Type 0 where
   LowIndex : (two_sided : Bool) → NameOf
   Meet : NameOf
   Join : NameOf
+  Chain : NameOf
   Green : NameOf
   Idempotents : NameOf
 
@@ -43,6 +44,7 @@ query_name_of is_presentation t =
     else if is_presentation && is_word (codes "lowindex2") t then Some (LowIndex true)
     else if is_presentation && is_word (codes "meet") t then Some Meet
     else if is_presentation && is_word (codes "join") t then Some Join
+    else if is_presentation && is_word (codes "chain") t then Some Chain
     else if not is_presentation && is_word (codes "element") t then Some Element
     else if not is_presentation && is_word (codes "cayley") t then Some Cayley
     else if not is_presentation && is_word (codes "green") t then Some Green
@@ -61,6 +63,7 @@ is_name_there is_presentation Cayley = not is_presentation
 is_name_there is_presentation (LowIndex two_sided) = is_presentation
 is_name_there is_presentation Meet = is_presentation
 is_name_there is_presentation Join = is_presentation
+is_name_there is_presentation Chain = is_presentation
 is_name_there is_presentation Green = not is_presentation
 is_name_there is_presentation Idempotents = not is_presentation
 
@@ -76,6 +79,7 @@ is_name_barred p Cayley = not (length (pairs_of p) == 0)
 is_name_barred p (LowIndex two_sided) = not (length (pairs_of p) == 0)
 is_name_barred p Meet = not (length (pairs_of p) == 0)
 is_name_barred p Join = not (length (pairs_of p) == 0)
+is_name_barred p Chain = not (allows_rules p)
 is_name_barred p Green = not (length (pairs_of p) == 0)
 is_name_barred p Idempotents = not (length (pairs_of p) == 0)
 
@@ -91,6 +95,7 @@ query_name ask.Cayley = Cayley
 query_name (ask.LowIndex two_sided classes count after) = LowIndex two_sided
 query_name (ask.Meet s t) = Meet
 query_name (ask.Join s t) = Join
+query_name (ask.Chain u v) = Chain
 query_name (ask.Green relation) = Green
 query_name ask.Idempotents = Idempotents
 
@@ -129,6 +134,7 @@ name_takes Cayley tokens = are_none tokens
 name_takes (LowIndex two_sided) tokens = are_two_or_four tokens
 name_takes Meet tokens = are_two tokens
 name_takes Join tokens = are_two tokens
+name_takes Chain tokens = are_two tokens
 name_takes Green tokens = are_one tokens
 name_takes Idempotents tokens = are_none tokens
 
@@ -200,6 +206,8 @@ query_of version letters allow_empty relations Meet tokens = and_then (λ p. Ok 
     (two_tables allow_empty (length letters) relations tokens)
 query_of version letters allow_empty relations Join tokens = and_then (λ p. Ok (ask.Join p.0 p.1))
     (two_tables allow_empty (length letters) relations tokens)
+query_of version letters allow_empty relations Chain tokens = and_then (λ p. Ok (ask.Chain p.0 p.1))
+    (two_words version letters allow_empty tokens)
 query_of version letters allow_empty relations Green tokens =
     and_then (λ relation. Ok (ask.Green relation)) (one_relation tokens)
 query_of version letters allow_empty relations Idempotents tokens = bare ask.Idempotents tokens

@@ -1,7 +1,8 @@
 -- A presentation to which relations are added.
-use Rattle.std.specs.Prelude.{ℕ, ◌≤◌, Bool, List, [], ◌∷◌, length}
+use Rattle.std.specs.Prelude.{ℕ, ◌≤◌, Bool, List, [], ◌∷◌, length, Contains}
 use Rattle.theory.specs.Word.{Word, IsElement}
 use Rattle.theory.specs.Congruence.{of_presentation, with_relations}
+use Rattle.words.specs.Alphabet.{marker}
 use Rattle.presentation.specs.Presented.{Presented, Posed}
 use Rattle.problem.specs.declared.kinds.Problem.{Problem}
 use Rattle.problem.specs.declared.kinds.Problem.TheVariants as problem
@@ -22,9 +23,10 @@ relations_of (problem.MaxPlus p) = []
 abbrev pub outlined : Presented → Posed
 outlined p = record { alphabet = p.alphabet; congruence = of_presentation p.presentation }
 
--- the relations are not too many
-abbrev pub IsOutline : Posed → Type 0
-IsOutline o = length o.congruence.presentation.relations ≤ most_relations
+-- the relations are not too many, and the marker is none of the letters
+pub record IsOutline (o : Posed) : Type 0 where
+  pub few : length o.congruence.presentation.relations ≤ most_relations
+  pub unmarked : ¬ Contains o.alphabet marker
 
 -- no relation yet: a free monoid or semigroup
 abbrev pub free_over : Bool → List ℕ → Posed

@@ -1,6 +1,6 @@
 // The header of a script.
-ghost use Rattle.std.specs.Prelude.{◌≡◌, IfOk, IfErr, None, Ok};
-ghost use Rattle.words.specs.Alphabet.{IsAlphabetFault, alphabet_fault};
+ghost use Rattle.std.specs.Prelude.{◌≡◌, IfOk, IfErr, None, Ok, Contains};
+ghost use Rattle.words.specs.Alphabet.{IsAlphabetFault, alphabet_fault, marker};
 ghost use Rattle.query_lang.specs.Faults.{IsLineFault};
 ghost use Rattle.query_lang.specs.Header.{header_of, outline_of, size_of, sizes_of};
 ghost use Rattle.query_lang.specs.Texts.{texts};
@@ -42,6 +42,7 @@ fn sizes_of(tokens: &[&[u8]]) -> Result<(u32, u32), Cause>
 fn alphabet_of(alloc: Global, wide: bool, letters: &[u8]) -> Result<Alphabet, AlphabetFault>
     ensures ok { IfOk result (λ alphabet. alphabet ≡ letters.now) }
     ensures faultless { IfOk result (λ _. alphabet_fault wide letters.now ≡ None) }
+    ensures unmarked { IfOk result (λ alphabet. ¬ Contains alphabet marker) }
     ensures err { IfErr result (IsAlphabetFault (alphabet_fault wide letters.now)) }
 {
     if wide {

@@ -1,6 +1,7 @@
 // Relations that lines give, one after another.
-ghost use Rattle.std.specs.Prelude.{◌≡◌, ◌≢◌, ◌<◌, ◌≤◌, ◌+◌, IfOk, IfErr, IfSome, true, None, Ok, length};
+ghost use Rattle.std.specs.Prelude.{◌≡◌, ◌≢◌, ◌<◌, ◌≤◌, ◌+◌, IfOk, IfErr, IfSome, true, None, Ok, length, Contains};
 ghost use Rattle.std.specs.Option.{option_copied};
+ghost use Rattle.words.specs.Alphabet.{marker};
 ghost use Rattle.presentation.specs.Added.{identity_relations, zero_relations, inverse_relations};
 ghost use Rattle.query_lang.specs.Faults.{IsLineFault};
 ghost use Rattle.query_lang.specs.Relations.{IsSide, add_relation, add_relations, free_over, most_relations};
@@ -44,8 +45,9 @@ impl Model for Outline {
 }
 
 impl Outline {
-    /// No relation yet.
+    /// No relation yet; the marker is none of the letters.
     pub fn new(alloc: Global, alphabet: Alphabet, monoid: bool) -> Outline
+        requires { ¬ Contains alphabet marker }
         ensures { result ≡ free_over monoid alphabet }
     {
         Outline {

@@ -45,6 +45,8 @@ enum Name {
     Meet,
     /// `join`
     Join,
+    /// `chain`
+    Chain,
     /// `green`
     Green,
     /// `idempotents`
@@ -75,21 +77,22 @@ impl Model for QueryName {
       | kept.LowIndex two_sided ↦ said.LowIndex two_sided
       | kept.Meet ↦ said.Meet
       | kept.Join ↦ said.Join
+      | kept.Chain ↦ said.Chain
       | kept.Green ↦ said.Green
       | kept.Idempotents ↦ said.Idempotents
     ] };
 }
 
 impl QueryName {
-    /// Whether a query of this name is not there for the pairs of the problem: the rules for right
-    /// or left pairs, the Cayley graphs, tables of low index, meets, joins, Green's relations and
-    /// idempotents for any.
+    /// Whether a query of this name is not there for the pairs of the problem: the rules and chains
+    /// for right or left pairs, the Cayley graphs, tables of low index, meets, joins, Green's
+    /// relations and idempotents for any.
     pub fn is_barred(&self, problem: &Problem) -> bool
         ensures { result ≡ is_name_barred problem.now self.now }
     {
         match self.name {
             Name::Index | Name::Equal | Name::Normal | Name::Classes | Name::Element => false,
-            Name::Rules => !problem.allows_rules(),
+            Name::Rules | Name::Chain => !problem.allows_rules(),
             Name::Cayley
             | Name::LowIndex { .. }
             | Name::Meet
@@ -106,7 +109,7 @@ impl QueryName {
         match self.name {
             Name::Index | Name::Rules | Name::Cayley | Name::Idempotents => tokens.is_empty(),
             Name::Normal | Name::Element | Name::Green => matches!(tokens, [_]),
-            Name::Equal | Name::Meet | Name::Join => matches!(tokens, [_, _]),
+            Name::Equal | Name::Meet | Name::Join | Name::Chain => matches!(tokens, [_, _]),
             Name::Classes => matches!(tokens, [_] | [_, _, _]),
             Name::LowIndex { .. } => matches!(tokens, [_, _] | [_, _, _, _]),
         }
@@ -131,6 +134,7 @@ pub fn query_name_of(is_presentation: bool, first: &[u8]) -> Option<QueryName>
         },
         text if is_presentation && is_word(b"meet", text) => Name::Meet,
         text if is_presentation && is_word(b"join", text) => Name::Join,
+        text if is_presentation && is_word(b"chain", text) => Name::Chain,
         text if !is_presentation && is_word(b"element", text) => Name::Element,
         text if !is_presentation && is_word(b"cayley", text) => Name::Cayley,
         text if !is_presentation && is_word(b"green", text) => Name::Green,
@@ -339,6 +343,10 @@ pub fn query_of(
         Name::Join => {
             let (left, right) = two_tables(alloc, allow_empty, letters, relations, tokens)?;
             Ok(Query::Join(left, right))
+        }
+        Name::Chain => {
+            let (from, to) = two_words(alloc, version, alphabet, allow_empty, tokens)?;
+            Ok(Query::Chain(from, to))
         }
         Name::Green => Ok(Query::Green(one_relation(tokens)?)),
         Name::Idempotents => Ok(bare(Query::Idempotents, tokens)?),

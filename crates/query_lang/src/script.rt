@@ -60,6 +60,10 @@ pub enum Query {
     /// The join of two right congruences, by their tables. Relations are given, and no pairs; the
     /// relations hold at both tables.
     Join(WordGraph, WordGraph),
+    /// A chain from the first word to the second one, each word of which is got from the one before
+    /// by one relation or pair at one place (Book and Otto, *String-rewriting systems*, 1993, 2.1).
+    /// Relations are given, and pairs are two-sided, or there are none.
+    Chain(Word, Word),
     /// The classes of one of Green's relations, where generators are given, and no pairs.
     Green(Relation),
     /// The idempotents, where generators are given, and no pairs.

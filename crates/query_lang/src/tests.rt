@@ -421,6 +421,28 @@ fn meets_and_joins_depend_on_the_header(rt: HostRuntime) -> Result<(), Fail> {
 }
 
 #[test]
+fn chains_are_read_or_refused(rt: HostRuntime) -> Result<(), Fail> {
+    let alloc = rt.alloc();
+    for (script, line, cause) in [
+        (
+            "monoid ab\ntwosided a b\nchain ab 1\nchain 1 1\n",
+            0usize,
+            0u8,
+        ),
+        ("version 2\nsemigroup ab\nchain a^2 ab\n", 0, 0),
+        ("monoid ab\nright a b\nchain a c\n", 3, 19),
+        ("monoid ab\nleft a b\nchain a\n", 3, 3),
+        ("monoid ab\nchain a b a\n", 2, 3),
+        ("semigroup ab\nchain 1 c\n", 2, 15),
+        ("semigroup ab\nchain a c\n", 2, 13),
+        ("trans 1\na = 0\nchain a a\n", 3, 7),
+    ] {
+        assert_eq!(rt; fault_of(alloc, script)?, (line, cause), "{script}");
+    }
+    Ok(())
+}
+
+#[test]
 fn green_and_idempotents_are_read_or_refused(rt: HostRuntime) -> Result<(), Fail> {
     let alloc = rt.alloc();
     for (script, line, cause) in [
@@ -486,14 +508,16 @@ fn a_script_holds_its_tables(rt: HostRuntime) -> Result<(), Fail> {
     let alloc = rt.alloc();
     let script = read_script(
         alloc,
-        b"monoid a\nlowindex 3 7\nlowindex2 4 8 after 1/2/0\nmeet 1/0 1/2/1\njoin 0 1/1\n",
+        b"monoid a\nlowindex 3 7\nlowindex2 4 8 after 1/2/0\nmeet 1/0 1/2/1\njoin 0 1/1\n\
+          chain aa 1\n",
     )?;
-    assert_eq!(rt; script.queries().len(), 4);
+    assert_eq!(rt; script.queries().len(), 5);
     for (query, want) in script.queries().iter().zip([
         "lowindex 3 7",
         "lowindex2 4 8 after 3",
         "meet 2 3",
         "join 1 2",
+        "chain 2 0",
     ]) {
         assert_eq!(rt; text_of(alloc, script.problem(), query)?.as_str(), want);
     }
@@ -604,6 +628,7 @@ fn text_of(alloc: Global, problem: &Problem, query: &Query) -> Result<String, Fa
         Query::Join(left, right) => {
             Ok(format!(in alloc; "join {} {}", left.nodes(), right.nodes())?)
         }
+        Query::Chain(from, to) => Ok(format!(in alloc; "chain {} {}", from.len(), to.len())?),
         Query::Green(relation) => Ok(format!(in alloc; "green {relation:?}")?),
         Query::Idempotents => Ok(format!(in alloc; "idempotents")?),
     }

@@ -2,7 +2,7 @@ use Rattle.std.proofs.Common.{◌≡◌, true, false, List, [], All, length, sym
 use Rattle.std.proofs.lemmas.List.Elements.{All-push}
 use Rattle.problem.specs.Problem.{allows_rules, has_empty_word, is_presented, letters_of, pairs_of}
 use Rattle.query_lang.specs.Asked.{ScriptOf}
-use Rattle.query_lang.specs.Query.{IsQueryOf, IsQueryOver, is_rule_list, needs_generators, needs_no_pairs, needs_relations}
+use Rattle.query_lang.specs.Query.{IsQueryOf, IsQueryOver, needs_two_sided, needs_generators, needs_no_pairs, needs_relations}
 use Rattle.query_lang.specs.Relations.{relations_of}
 use Rattle.theory.specs.Word.{Word}
 use Rattle.query_lang.specs.QueryLines.{is_name_barred, is_name_there, query_name}
@@ -18,7 +18,7 @@ invariant_of-result c =
     let open_to : is_name_barred p (query_name query) ≡ false = ap (is_name_barred p) name ∙ sym c.is_barred.ensures ∙ c.if-is_barred.false in
     let there : is_presented p ≡ true → needs_generators query ≡ false = λ presented. needs_none_generated (is_presented p) query kind presented in
     let presented : needs_relations query ≡ true → is_presented p ≡ true = λ needs. relations_given (is_presented p) query kind needs in
-    let allowed : is_rule_list query ≡ true → allows_rules p ≡ true = λ asked. rules_allowed p query open_to asked in
+    let allowed : needs_two_sided query ≡ true → allows_rules p ≡ true = λ asked. rules_allowed p query open_to asked in
     let unpaired : needs_no_pairs query ≡ true → pairs_of p ≡ [] = λ needs. without_pairs p query open_to needs in
     let over : IsQueryOver (has_empty_word p) (length (letters_of p)) (relations_of p) query =
     subst (λ (relations : List (Word × Word)). IsQueryOver (has_empty_word p) (length (letters_of p)) relations query) c.relations_of-relations.ensures
