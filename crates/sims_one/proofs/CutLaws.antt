@@ -8,7 +8,7 @@ use Rattle.std.proofs.lemmas.List.Elements.{All-head, All-tail}
 use Rattle.sims_one.specs.Targets.{seen, least_target, most_nodes, IsFront, AreAllowed, IsTable, IsWithin, IsBeyond}
 use Rattle.sims_one.specs.Search.{Before, NoneFrom}
 use Rattle.sims_one.specs.Asked.{AreFirst, Asked, IsWanted, IsWantedWithin, AreTables, AreTablesWithin}
-use Rattle.sims_one.specs.Fronts.{AddsFront, IsOpen, AreOpen, IsWithinOne, ComeBefore, AreOrdered, AreLonger, IsWantedWithinOne, AreJoined, Sought, part_tasks, lists_in}
+use Rattle.sims_one.specs.Fronts.{AddsLonger, IsOpen, AreOpen, IsWithinOne, ComeBefore, AreOrdered, AreLonger, IsWantedWithinOne, AreJoined, Sought, part_tasks, lists_in}
 use Rattle.sims_one.proofs.FrontLaws.{front_none, front_push, allowed_push, front_next, allowed_next, before_itself, before_heads, common_front, Compared, compared}
 use Rattle.sims_one.proofs.FrontLaws.Compared.{begins, below, above}
 use Rattle.sims_one.proofs.SearchLaws.{within_beyond}
@@ -104,29 +104,35 @@ module _ (a : Asked) where
     pub ordered : AreOrdered us
     pub opened : AreOpen a us
 
-  pub split_none : (t : List ℕ) → AreSplit t (least_target a.presentation.is_monoid) []
-  split_none t = record {
-    kept = λ u table after b less. absurd (omega (arith, b.from, less));
+  -- the least target that is tried
+  pub split_from : (t : List ℕ) (f : ℕ)
+      → ((u : List ℕ) → IsTable a.presentation a.classes u → (b : IsBeyond t (least_target a.presentation.is_monoid) u) → IsWithin t u → f ≤ b.target) → AreSplit t f []
+  split_from t f least = record {
+    kept = λ u table after b less. absurd (omega (arith, least u table b (record { rest = b.target ∷ b.rest; is = b.is }), less));
     within = λ u h. absurd h;
     ordered = tt;
     opened = tt;
   }
 
+  pub split_none : (t : List ℕ) → AreSplit t (least_target a.presentation.is_monoid) []
+  split_none t = split_from t (least_target a.presentation.is_monoid) (λ u table b within. b.from)
+
   next_within : (t u : List ℕ) (f : ℕ) (b : IsBeyond t (least_target a.presentation.is_monoid) u) → b.target ≡ f → IsWithin (t ++ f ∷ []) u
   next_within t u f b e = record { rest = b.rest; is = b.is ∙ ap (λ z. t ++ z ∷ b.rest) e ∙ sym (append_assoc t (f ∷ []) b.rest) }
 
-  pub split_more : (t : List ℕ) (f : ℕ) (us : List (List ℕ)) → AreSplit t f us → least_target a.presentation.is_monoid ≤ f → IsOpen a (t ++ f ∷ []) → AreSplit t (f + 1) (us ++ (t ++ f ∷ []) ∷ [])
-  split_more t f us s least is = record {
+  -- the front parts behind one target more
+  pub split_on : (t : List ℕ) (f : ℕ) (us more : List (List ℕ)) → AreSplit t f us → least_target a.presentation.is_monoid ≤ f → AreLonger a ((t ++ f ∷ []) ∷ []) more → AreSplit t (f + 1) (us ++ more)
+  split_on t f us more s least l = record {
     kept = λ u table after b less. elim (cases_lt b.target f) [
-      | inl low ↦ within_first us ((t ++ f ∷ []) ∷ []) u (s.kept u table after b low)
-      | inr high ↦ within_second us ((t ++ f ∷ []) ∷ []) u (inl (next_within t u f b (omega (arith, less, high))))
+      | inl low ↦ within_first us more u (s.kept u table after b low)
+      | inr high ↦ within_second us more u (l.kept u table after (inl (next_within t u f b (omega (arith, less, high)))))
     ];
-    within = λ u h. elim (within_either us ((t ++ f ∷ []) ∷ []) u h) [
+    within = λ u h. elim (within_either us more u h) [
       | inl w ↦ let k = s.within u w in (k.0, omega (arith, k.1))
-      | inr w ↦ last u w
+      | inr w ↦ last u (l.within u w)
     ];
-    ordered = ordered_both us ((t ++ f ∷ []) ∷ []) s.ordered ((λ u v h k. absurd k), tt) across;
-    opened = open_both us ((t ++ f ∷ []) ∷ []) s.opened (is, tt);
+    ordered = ordered_both us more s.ordered (l.ordered ((λ u v h k. absurd k), tt)) (λ u v h k. across u v h (l.within v k));
+    opened = open_both us more s.opened l.opened;
   }
     where
       last : (u : List ℕ) → IsWithinOne ((t ++ f ∷ []) ∷ []) u → (b : IsBeyond t (least_target a.presentation.is_monoid) u) × (b.target < f + 1)
@@ -139,23 +145,41 @@ module _ (a : Asked) where
           subst₂ Before (sym k.0.is) (sym (w.is ∙ append_assoc t (f ∷ []) w.rest)) (before_heads t k.0.target f k.0.rest w.rest k.1)
       across u v h (inr w) = absurd w
 
-  pub split_past : (t : List ℕ) (f : ℕ) (us : List (List ℕ)) → AreSplit t f us → NoneFrom a.presentation a.classes a.cursor (t ++ f ∷ []) → AreSplit t (f + 1) us
-  split_past t f us s none = record {
-    kept = λ u table after b less. elim (cases_lt b.target f) [
-      | inl low ↦ s.kept u table after b low
-      | inr high ↦ absurd (none u table (next_within t u f b (omega (arith, less, high))) after)
-    ];
-    within = λ u h. let k = s.within u h in (k.0, omega (arith, k.1));
-    ordered = s.ordered;
-    opened = s.opened;
+  pub split_more : (t : List ℕ) (f : ℕ) (us : List (List ℕ)) → AreSplit t f us → least_target a.presentation.is_monoid ≤ f → IsOpen a (t ++ f ∷ []) → AreSplit t (f + 1) (us ++ (t ++ f ∷ []) ∷ [])
+  split_more t f us s least is = split_on t f us ((t ++ f ∷ []) ∷ []) s least (longer_whole (t ++ f ∷ []) is)
+
+  -- no table after the cursor goes on behind the front part
+  pub longer_past : (t : List ℕ) → NoneFrom a.presentation a.classes a.cursor t → AreLonger a (t ∷ []) []
+  longer_past t none = record {
+    kept = λ u table after h. elim h [ inl w ↦ absurd (none u table w after) | inr w ↦ w ];
+    within = λ u h. absurd h;
+    ordered = λ o. tt;
+    opened = tt;
   }
 
-  -- the front parts behind others
-  pub split_on : (t : List ℕ) (f : ℕ) (first ts us longer : List (List ℕ)) → AreSplit t f longer → least_target a.presentation.is_monoid ≤ f → IsOpen a (t ++ f ∷ []) → ts ≡ first ++ longer → AddsFront a (t ++ f ∷ []) ts us
-      → (more : List (List ℕ)) × (us ≡ first ++ more) × AreSplit t (f + 1) more
-  split_on t f first ts us longer s least is e (inl added) =
-      (longer ++ (t ++ f ∷ []) ∷ [], added ∙ ap (λ zs. zs ++ (t ++ f ∷ []) ∷ []) e ∙ append_assoc first longer ((t ++ f ∷ []) ∷ []), split_more t f longer s least is)
-  split_on t f first ts us longer s least is e (inr past) = (longer, past.1 ∙ e, split_past t f longer s past.0)
+  -- what is added behind other front parts
+  pub adds : (t : List ℕ) (ts us longer : List (List ℕ)) → us ≡ ts ++ longer → AreLonger a (t ∷ []) longer → AddsLonger a t ts us
+  adds t ts us longer e l = record { longer = longer; added = e; are = l }
+
+  pub adds_none : (t : List ℕ) (ts : List (List ℕ)) → NoneFrom a.presentation a.classes a.cursor t → AddsLonger a t ts ts
+  adds_none t ts none = adds t ts ts [] (sym (append-nil ts)) (longer_past t none)
+
+  -- the front parts with a target below f more, behind others
+  pub record HasSplit (t : List ℕ) (f : ℕ) (ts us : List (List ℕ)) : Type 0 where
+    pub longer : List (List ℕ)
+    pub added : us ≡ ts ++ longer
+    pub split : AreSplit t f longer
+
+  pub has_split_from : (t : List ℕ) (f : ℕ) (ts : List (List ℕ))
+      → ((u : List ℕ) → IsTable a.presentation a.classes u → (b : IsBeyond t (least_target a.presentation.is_monoid) u) → IsWithin t u → f ≤ b.target) → HasSplit t f ts ts
+  has_split_from t f ts least = record { longer = []; added = sym (append-nil ts); split = split_from t f least }
+
+  pub has_split_on : (t : List ℕ) (f : ℕ) (ts us vs : List (List ℕ)) → HasSplit t f ts us → least_target a.presentation.is_monoid ≤ f → AddsLonger a (t ++ f ∷ []) us vs → HasSplit t (f + 1) ts vs
+  has_split_on t f ts us vs h least more = record {
+    longer = h.longer ++ more.longer;
+    added = more.added ∙ ap (λ zs. zs ++ more.longer) h.added ∙ append_assoc ts h.longer more.longer;
+    split = split_on t f h.longer more.longer h.split least more.are;
+  }
 
   pub open_more : (t : List ℕ) (f : ℕ) → IsOpen a t → length t < a.presentation.letters * seen t → f ≤ seen t → least_target a.presentation.is_monoid ≤ f → f < most_nodes a.presentation.is_monoid a.classes → IsOpen a (t ++ f ∷ [])
   open_more t f is wants low least most = record { front = front_push a.presentation.letters t f is.front wants low; allowed = allowed_push a.presentation a.classes t f is.allowed least most }
@@ -165,9 +189,10 @@ module _ (a : Asked) where
   open_at (t ∷ ts) zero d h less = h.0
   open_at (t ∷ ts) (suc i) d h less = open_at ts i d h.1 (omega arith)
 
-  pub split_end : (t : List ℕ) (limit : ℕ) (us : List (List ℕ)) → AreSplit t limit us → length t < a.presentation.letters * seen t
-      → ((m : ℕ) → m < most_nodes a.presentation.is_monoid a.classes → m ≤ seen t → m < limit) → AreLonger a (t ∷ []) us
-  split_end t limit us s wants past = record {
+  pub split_end : (t : List ℕ) (f limit : ℕ) (us : List (List ℕ)) → AreSplit t f us → limit ≤ f → length t < a.presentation.letters * seen t
+      → ((u : List ℕ) → IsTable a.presentation a.classes u → (b : IsBeyond t (least_target a.presentation.is_monoid) u) → IsWithin t u
+      → b.target < most_nodes a.presentation.is_monoid a.classes → b.target ≤ seen t → b.target < limit) → AreLonger a (t ∷ []) us
+  split_end t f limit us s ends wants past = record {
     kept = λ u table after h. one u table after h;
     within = λ u h. let k = s.within u h in inl (record { rest = k.0.target ∷ k.0.rest; is = k.0.is });
     ordered = λ _. s.ordered;
@@ -179,7 +204,8 @@ module _ (a : Asked) where
           let b = within_beyond a.presentation a.classes t wants u table w in
           let front : IsFront a.presentation.letters (t ++ b.target ∷ b.rest) = subst (λ (xs : List ℕ). IsFront a.presentation.letters xs) b.is table.front in
           let allowed : AreAllowed a.presentation a.classes (t ++ b.target ∷ b.rest) = subst (λ (xs : List ℕ). AreAllowed a.presentation a.classes xs) b.is table.allowed in
-          s.kept u table after b (past b.target (allowed_next a.presentation a.classes t b.target b.rest allowed).1 (front_next a.presentation.letters t b.target b.rest front))
+          let below = past u table b w (allowed_next a.presentation a.classes t b.target b.rest allowed).1 (front_next a.presentation.letters t b.target b.rest front) in
+          s.kept u table after b (omega (arith, below, ends))
       one u table after (inr w) = absurd w
 
   pub open_none : IsOpen a []
@@ -249,7 +275,7 @@ module _ (a : Asked) where
 
   -- the front parts of one target
   pub split_first : (limit : ℕ) (us : List (List ℕ)) → AreSplit [] limit us → 0 < a.presentation.letters → ((m : ℕ) → m < most_nodes a.presentation.is_monoid a.classes → m < 2 → m < limit) → AreJoined a us []
-  split_first limit us s some past = joined_longer ([] ∷ []) us [] joined_none (split_end [] limit us s (omega (arith, some)) (λ m most low. past m most (omega (arith, low))))
+  split_first limit us s some past = joined_longer ([] ∷ []) us [] joined_none (split_end [] limit limit us s (omega arith) (omega (arith, some)) (λ u table b w most low. past b.target most (omega (arith, low))))
 
   open_first : (bs ts : List (List ℕ)) → AreOpen a (bs ++ ts) → AreOpen a bs
   open_first [] ts h = tt

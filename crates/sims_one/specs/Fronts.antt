@@ -2,7 +2,7 @@
 use Rattle.std.specs.Prelude.{◌≡◌, ℕ, suc, ◌+◌, ◌≤◌, ◌⊎◌, List, [], ◌∷◌, ◌++◌, length, map, Some, Vec}
 use Rattle.std.specs.declared.alloc.Global.{Global}
 use Rattle.sims_one.specs.Targets.{IsFront, AreAllowed, IsTable, IsWithin}
-use Rattle.sims_one.specs.Search.{Before, NoneFrom}
+use Rattle.sims_one.specs.Search.{Before}
 use Rattle.sims_one.specs.Asked.{AreFirst, Asked, IsWanted, AreTables}
 
 -- the targets that tables may begin with
@@ -36,10 +36,11 @@ pub record AreLonger (a : Asked) (ts us : List (List ℕ)) : Type 0 where
   pub ordered : AreOrdered ts → AreOrdered us
   pub opened : AreOpen a us
 
--- the front parts are us now: t is added unless no table after the cursor goes on behind it
-abbrev pub AddsFront : Asked → List ℕ → List (List ℕ) → List (List ℕ) → Type 0
-AddsFront a t ts us = (us ≡ ts ++ t ∷ [])
-    ⊎ (NoneFrom a.presentation a.classes a.cursor t × (us ≡ ts))
+-- the front parts are us now: those are added into which t has been made longer
+pub record AddsLonger (a : Asked) (t : List ℕ) (ts us : List (List ℕ)) : Type 0 where
+  pub longer : List (List ℕ)
+  pub added : us ≡ ts ++ longer
+  pub are : AreLonger a (t ∷ []) longer
 
 -- a table that is asked for, behind one of the front parts
 abbrev pub IsWantedWithinOne : Asked → List (List ℕ) → List ℕ → Type 0

@@ -12,17 +12,23 @@ use std::alloc::Global;
 use std::cmp::min;
 use std::thread::Threads;
 
-// How often all front parts are made longer.
+// How often front parts are made longer before the first batch, at most.
+const FIRST_ROUNDS: usize = 4;
+
+// How many front parts each worker has then in a large search, and how few are left when they are
+// made longer again.
+const ENOUGH: usize = 64;
+
+const FEW: usize = 8;
+
+// How often the front parts that are left are made longer, at most.
 const ROUNDS: usize = 12;
 
 // How many parts of the first batch each worker has, and the most of a further one, which has twice
 // as many as the one before it.
 const FIRST_SHARE: usize = 2;
 
-const MOST_SHARE: usize = 8;
-
-// How many front parts there are for each worker before a batch is taken from them.
-const ENOUGH: usize = 16;
+const MOST_SHARE: usize = 256;
 
 // A search: the front parts behind which it has still to go, the tables before these, and how many
 // parts of the next batch each worker has.
@@ -89,7 +95,7 @@ impl Sweep {
         self.fronts.is_empty() || self.tables.len() > request.count
     }
 
-    // Makes the front parts longer by a target, unless fewer than two would be left of more.
+    // Makes the front parts longer, unless fewer than two would be left of more.
     fn split(&mut self, alloc: Global, request: &Request) -> Result<(), NoMemory>
         requires asked { IsAsked (asked request.now) }
         requires joined { AreJoined (asked request.now)
@@ -133,6 +139,24 @@ impl Sweep {
         add_tables(&mut self.tables, parts)
     }
 
+    // Makes the front parts longer until there are enough, but not more often than a small search is
+    // worth.
+    fn grow(&mut self, alloc: Global, request: &Request, enough: usize) -> Result<(), NoMemory>
+        requires asked { IsAsked (asked request.now) }
+        requires joined { AreJoined (asked request.now)
+            (lists_in self.old.fronts.items) (lists_in self.old.tables.items) }
+        ensures { OnOk result (AreJoined (asked request.now)
+            (lists_in self.new.fronts.items) (lists_in self.new.tables.items)) }
+    {
+        for _ in 0..FIRST_ROUNDS {
+            if self.fronts.len() >= enough {
+                return Ok(());
+            }
+            self.split(alloc, request)?;
+        }
+        Ok(())
+    }
+
     // Batches, while there are at least so many front parts and the search is not over.
     fn run<T: Threads + Sync, G: Gate + Sync>(
         &mut self,
@@ -160,11 +184,39 @@ impl Sweep {
         }
         Ok(())
     }
+
+    // Batches until few front parts are left, which are made longer each time. Those at the end of
+    // the list have most of the search behind them.
+    fn run_wide<T: Threads + Sync, G: Gate + Sync>(
+        &mut self,
+        rt: &T,
+        alloc: Global,
+        request: &Request,
+        workers: usize,
+        gate: &G,
+    ) -> Result<(), NoMemory>
+        requires workers { 1 ≤ workers }
+        requires asked { IsAsked (asked request.now) }
+        requires joined { AreJoined (asked request.now)
+            (lists_in self.old.fronts.items) (lists_in self.old.tables.items) }
+        ensures { OnOk result (AreJoined (asked request.now)
+            (lists_in self.new.fronts.items) (lists_in self.new.tables.items)) }
+    {
+        let few = workers.saturating_mul(FEW);
+        for _ in 0..ROUNDS {
+            self.run(rt, alloc, request, workers, gate, few)?;
+            if self.is_over(request) {
+                return Ok(());
+            }
+            self.split(alloc, request)?;
+        }
+        Ok(())
+    }
 }
 
 /// The tables that are asked for, by parts that run over so many workers. The front parts are made
-/// longer until there are enough of them, and again once fewer are left. Refused only where memory
-/// is wanting.
+/// longer until there are enough of them, and again each time that few are left. Refused only where
+/// memory is wanting.
 pub fn tables_by_parts<T: Threads + Sync, G: Gate + Sync>(
     rt: &T,
     alloc: Global,
@@ -177,19 +229,10 @@ pub fn tables_by_parts<T: Threads + Sync, G: Gate + Sync>(
     ensures { IfOk result (λ ts. AreTables (asked request.now) (lists_in ts.items)) }
 {
     let mut sweep = Sweep::new(alloc, request)?;
-    for _ in 0..ROUNDS {
-        sweep.split(alloc, request)?;
-        sweep.run(
-            rt,
-            alloc,
-            request,
-            workers,
-            gate,
-            workers.saturating_mul(ENOUGH),
-        )?;
-        if sweep.is_over(request) {
-            return Ok(sweep.tables);
-        }
+    let enough = workers.saturating_mul(ENOUGH);
+    sweep.grow(alloc, request, enough)?;
+    if sweep.fronts.len() >= enough {
+        sweep.run_wide(rt, alloc, request, workers, gate)?;
     }
     sweep.run(rt, alloc, request, workers, gate, 1)?;
     Ok(sweep.tables)

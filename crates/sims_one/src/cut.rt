@@ -1,54 +1,86 @@
 // The cut of the search at front parts.
-ghost use Rattle.std.specs.Prelude.{◌≡◌, ◌≤◌, ◌++◌, ◌∷◌, [], List, ℕ, IfOk, OnOk, false};
-ghost use Rattle.sims_one.specs.Search.{NoneFrom};
+ghost use Rattle.std.specs.Prelude.{◌≡◌, ◌≤◌, ◌++◌, ◌∷◌, [], IfOk, OnOk};
+ghost use Rattle.sims_one.specs.Known.{IsBranch};
 ghost use Rattle.sims_one.specs.Asked.{asked, IsAsked};
-ghost use Rattle.sims_one.specs.Fronts.{IsOpen, AreOpen, AreLonger, AddsFront, AreJoined, lists_in};
+ghost use Rattle.sims_one.specs.Fronts.{IsOpen, AreOpen, AreLonger, AddsLonger, AreJoined, lists_in};
 
-use crate::paths::greatest;
+use crate::branch::Branch;
 use crate::request::Request;
-use crate::search::{least_target, most_nodes};
+use crate::search::{candidate_limit, enter, least_candidate, least_target, most_nodes};
 use crate::within::{branch_of, place_of};
 use ports::NoMemory;
 use std::alloc::Global;
 use std::cmp::Ordering;
 
-// Whether tables after the cursor may go on behind the front part.
-fn is_live(alloc: Global, request: &Request, front: &[usize]) -> Result<bool, NoMemory>
-    requires asked { IsAsked (asked request.now) }
-    requires opened { IsOpen (asked request.now) front.now }
-    ensures { IfOk result (λ b. b ≡ false → NoneFrom request.now.presentation.now.presentation
-        request.now.classes request.now.cursor.now front.now) }
-{
-    if place_of(front, request.cursor) == Ordering::Less {
-        return Ok(false);
-    }
-    let branch = branch_of(alloc, request, front)?;
-    Ok(branch.is_some())
-}
+// How many targets front parts gain at a time.
+const DEPTH: usize = 3;
 
-// Adds the front part with one target more, unless no table after the cursor goes on behind it.
-fn add_longer(
+// Adds the front parts with at most so many targets more than the branch, in order, but for those
+// behind which there is no table after the cursor. The targets of a whole table stay as they are.
+#[cycle(grow)]
+fn grow(
     alloc: Global,
     request: &Request,
-    front: &[usize],
-    target: usize,
+    branch: &mut Branch,
+    depth: usize,
     fronts: &mut Vec<Vec<usize>>,
 ) -> Result<(), NoMemory>
     requires asked { IsAsked (asked request.now) }
-    requires opened { IsOpen (asked request.now) (front.now ++ target ∷ []) }
-    ensures { OnOk result (AddsFront (asked request.now) (front.now ++ target ∷ [])
+    requires branch { IsBranch request.now.presentation.now.presentation request.now.classes
+        branch.old.targets.items branch.old.levels.items }
+    ensures fronts { OnOk result (AddsLonger (asked request.now) branch.old.targets.items
         (lists_in fronts.old.items) (lists_in fronts.new.items)) }
+    ensures branch { OnOk result (IsBranch request.now.presentation.now.presentation
+        request.now.classes branch.new.targets.items branch.new.levels.items) }
+    ensures same { OnOk result (branch.new.targets.items ≡ branch.old.targets.items) }
 {
-    let mut longer = Vec::from_slice(alloc, front)?;
-    longer.push(target)?;
-    if is_live(alloc, request, longer.as_slice())? {
-        fronts.push(longer)?;
+    if place_of(&branch.targets, request.cursor) == Ordering::Less {
+        return Ok(());
+    }
+    let place = branch.targets.len();
+    let known = branch.known();
+    if depth == 0 || request.presentation.letters() * known.nodes <= place {
+        fronts.push(Vec::from_slice(alloc, &branch.targets)?)?;
+        return Ok(());
+    }
+    let least = least_candidate(known, place, least_target(request.presentation));
+    let limit = candidate_limit(request.presentation, request.classes, known, place);
+    for target in least..limit {
+        grow_with(alloc, request, branch, target, depth - 1, fronts)?;
     }
     Ok(())
 }
 
-// Adds the front parts with one target more behind which there may be tables after the cursor. The
-// targets of a whole table stay as they are.
+// The same behind the targets of the branch with one more.
+#[cycle(grow)]
+fn grow_with(
+    alloc: Global,
+    request: &Request,
+    branch: &mut Branch,
+    target: usize,
+    depth: usize,
+    fronts: &mut Vec<Vec<usize>>,
+) -> Result<(), NoMemory>
+    requires asked { IsAsked (asked request.now) }
+    requires branch { IsBranch request.now.presentation.now.presentation request.now.classes
+        branch.old.targets.items branch.old.levels.items }
+    requires opened { IsOpen (asked request.now) (branch.old.targets.items ++ target ∷ []) }
+    ensures fronts { OnOk result (AddsLonger (asked request.now)
+        (branch.old.targets.items ++ target ∷ [])
+        (lists_in fronts.old.items) (lists_in fronts.new.items)) }
+    ensures branch { OnOk result (IsBranch request.now.presentation.now.presentation
+        request.now.classes branch.new.targets.items branch.new.levels.items) }
+    ensures same { OnOk result (branch.new.targets.items ≡ branch.old.targets.items) }
+{
+    if !enter(request.presentation, request.classes, branch, target)? {
+        return Ok(());
+    }
+    grow(alloc, request, branch, depth, fronts)?;
+    branch.pop();
+    Ok(())
+}
+
+// Adds the front parts with a few targets more than this one, as `grow` does.
 fn split(
     alloc: Global,
     request: &Request,
@@ -57,20 +89,13 @@ fn split(
 ) -> Result<(), NoMemory>
     requires asked { IsAsked (asked request.now) }
     requires opened { IsOpen (asked request.now) front.now }
-    ensures { OnOk result ((longer : List (List ℕ))
-        × (lists_in fronts.new.items ≡ lists_in fronts.old.items ++ longer)
-        × AreLonger (asked request.now) (front.now ∷ []) longer) }
+    ensures { OnOk result (AddsLonger (asked request.now) front.now
+        (lists_in fronts.old.items) (lists_in fronts.new.items)) }
 {
-    let nodes = greatest(front) + 1;
-    if request.presentation.letters() * nodes <= front.len() {
-        fronts.push(Vec::from_slice(alloc, front)?)?;
+    let Some(mut branch) = branch_of(alloc, request, front)? else {
         return Ok(());
-    }
-    let limit = most_nodes(request.presentation, request.classes).min(nodes + 1);
-    for target in least_target(request.presentation)..limit {
-        add_longer(alloc, request, front, target, fronts)?;
-    }
-    Ok(())
+    };
+    grow(alloc, request, &mut branch, DEPTH, fronts)
 }
 
 /// The front parts of one target, in order. Refused only where memory is wanting.
@@ -87,7 +112,7 @@ pub fn first_fronts(alloc: Global, request: &Request) -> Result<Vec<Vec<usize>>,
     Ok(fronts)
 }
 
-/// The front parts with one target more, in order, but for those behind which there is no table
+/// The front parts with a few targets more, in order, but for those behind which there is no table
 /// after the cursor. Refused only where memory is wanting.
 pub fn split_all(
     alloc: Global,

@@ -41,8 +41,8 @@ fn is_allowed(presentation: &Presentation, classes: usize, target: usize) -> boo
     least_target(presentation) <= target && target < most_nodes(presentation, classes)
 }
 
-// The least target to be tried at the place, from the first one on: where it is known, no lesser.
-fn least_candidate(known: &Known, place: usize, first: usize) -> usize
+/// The least target to be tried at the place, from the first one on: where it is known, no lesser.
+pub fn least_candidate(known: &Known, place: usize, first: usize) -> usize
     requires { place < MOST_EDGES }
     ensures from { first ≤ result }
     ensures all { (u : List ℕ) (m : ℕ) → HasEdges known.now.targets u → slice_get u place ≡ Some m
@@ -54,9 +54,9 @@ fn least_candidate(known: &Known, place: usize, first: usize) -> usize
     }
 }
 
-// The targets to be tried at the place are below this one: those that a table may have, up to the
-// next new node, and where the target is known, no greater.
-fn candidate_limit(
+/// The targets to be tried at the place are below this one: those that a table may have, up to the
+/// next new node, and where the target is known, no greater.
+pub fn candidate_limit(
     presentation: &Presentation,
     classes: usize,
     known: &Known,

@@ -24,4 +24,4 @@ loop-front-preserved c =
     let here : get_or ts i item.items ≡ c.deref.result.now = get_or-map (λ v. v.items) c.args.fronts.now i item ∙ ap (λ v. v.items) (sym c.front-item.is) ∙ sym c.deref.ensures.value in
     let more : take (i + 1) ts ≡ take i ts ++ c.deref.result.now ∷ [] = take_more ts i item.items (omega (arith, c.loop-front-test.true, length-map c.args.fronts.now (λ v. v.items))) ∙ ap (λ (t : List ℕ). take i ts ++ t ∷ []) here in
     let split = c.in_ok-split.ensures in
-    subst₂ (AreLonger a) (sym more) (sym split.1) (longer_both a (take i ts) (lists_in c.loop-front.all.items) (c.deref.result.now ∷ []) split.0 c.loop-front.invariant split.2)
+    subst₂ (AreLonger a) (sym more) (sym split.added) (longer_both a (take i ts) (lists_in c.loop-front.all.items) (c.deref.result.now ∷ []) split.longer c.loop-front.invariant split.are)

@@ -1,6 +1,0 @@
-use Rattle.sims_one.specs.Asked.{asked}
-use Rattle.sims_one.specs.Fronts.{lists_in, AreJoined}
-use Rattle.sims_one.proofs.batches.tables_by_parts.Given as goal
-
-abbrev pub invariant-loop : goal.invariant-loop
-invariant-loop g l = AreJoined (asked l.request) (lists_in l.sweep.fronts.items) (lists_in l.sweep.tables.items)
