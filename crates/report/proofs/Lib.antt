@@ -4,6 +4,7 @@ pub mod ListingLemmas
 pub mod GraphLemmas
 pub mod AnswerLemmas
 pub mod AnswerBytes
+pub mod ChainAnswers
 pub mod OneNumber
 pub mod OneGreen
 pub mod UniqueAnswer
@@ -13,3 +14,4 @@ pub mod SolvedLemmas
 pub mod TableAnswers
 pub mod GreenTables
 pub mod GreenLists
+pub mod TextLaws

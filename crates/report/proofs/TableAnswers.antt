@@ -1,18 +1,17 @@
 -- The answers that are tables.
-use Rattle.std.proofs.Common.{◌≡◌, ℕ, List, [], ◌∷◌, ◌++◌, length, Result, refl, sym, subst}
+use Rattle.std.proofs.Common.{◌≡◌, ℕ, List, [], ◌∷◌, length, Result, refl, sym, subst}
 use Rattle.ports.specs.declared.sink.Sink.{Ghosts}
 use Rattle.ports.specs.declared.fault.WriteFault.{WriteFault}
 use Rattle.ports.specs.Writes.{Writes, WritesBytes}
 use Rattle.ports.proofs.WriteLemmas.{meant_bytes}
 use Rattle.theory.specs.Graph.{Graph}
 use Rattle.theory.specs.Word.{Word}
-use Rattle.lattice.specs.Tables.{AreTables, HaveOneWidth, IsTableOf}
+use Rattle.lattice.specs.Tables.{AreTables, IsTableOf}
 use Rattle.problem.specs.declared.kinds.Problem.{Problem}
 use Rattle.problem.specs.Problem.{letters_of}
 use Rattle.query_lang.specs.declared.script.Query.{Query}
 use Rattle.query_lang.specs.declared.script.Query.TheVariants.{Meet, Join}
 use Rattle.query_lang.specs.Query.{IsQueryOf}
-use Rattle.query_lang.specs.Tables.{IsCongruenceTable}
 use Rattle.report.specs.Answer.{AreLines, IsTableAnswer}
 use Rattle.report.specs.Gains.{AreBytesOf}
 use Rattle.report.proofs.AnswerLemmas.{one_line}

@@ -1,6 +1,6 @@
 -- A query has one answer.
 use Rattle.std.proofs.Common.{◌≡◌, ℕ, zero, suc, ◌+◌, ◌<◌, ◌≤◌, Bool, true, false, inl, inr, List, [], ◌∷◌, ◌++◌, length, get_or, map, Option, None, option_map, refl, sym, ap, ap₂, subst, ◌∙◌, arith}
-use Rattle.std.specs.Prelude.{codes, decimal}
+use Rattle.std.specs.Prelude.{◌≢◌, ◌↔◌, codes, decimal}
 use Rattle.std.specs.List.{flat_map, range_with_len}
 use Rattle.std.proofs.lemmas.List.Concat.{flat_map_single}
 use Rattle.theory.specs.Word.{Word}
@@ -29,10 +29,13 @@ use Rattle.problem.specs.Problem.{SameClassOf, IsDecided, IsUndecided, letters_o
 use Rattle.congruence.specs.CayleyGraphs.{AreCayleyGraphs}
 use Rattle.query_lang.specs.Tables.{rows_in}
 use Rattle.query_lang.specs.declared.script.Query.{Query}
-use Rattle.query_lang.specs.declared.script.Query.TheVariants.{Index, Equal, Normal, Classes, RuleList, ElementOf, Cayley, LowIndex, Meet, Join, Green, Idempotents}
-use Rattle.report.specs.Lines.{index_line, end_line, normal_line, page_lines, word_line, rule_line, table_line, numbers_text, cayley_line, meet_line, join_line}
+use Rattle.query_lang.specs.declared.script.Query.TheVariants.{Index, Equal, Normal, Classes, RuleList, ElementOf, Cayley, LowIndex, Meet, Join, Chain, Green, Idempotents}
+use Rattle.report.specs.Lines.{index_line, end_line, normal_line, no_chain_line, page_lines, word_line, rule_line, table_line, numbers_text, cayley_line, meet_line, join_line}
 use Rattle.report.specs.Pages.{ArePageLines}
-use Rattle.report.specs.Answer.{cayley_lines, AreLines, AreTableLines, IsListed, IsTableAnswer, IsAnswer}
+use Rattle.report.specs.declared.awaited.Awaited.{Awaited}
+use Rattle.report.specs.declared.awaited.Awaited.TheVariants.{Nothing, Decision, Log}
+use Rattle.report.specs.Chains.{AreChainLines}
+use Rattle.report.specs.Answer.{cayley_lines, AreLines, AreTableLines, ComesAbout, FailsToCome, IsListed, IsTableAnswer, IsAnswer, awaited_by}
 use Rattle.report.proofs.OneGreen.{one_green, one_idempotents}
 use Rattle.report.proofs.OneNumber.{one_list, one_number}
 use Rattle.report.proofs.TablePages.{listed_order}
@@ -136,36 +139,69 @@ module _ (p : Problem) (bound : ℕ) where
   abbrev known : IsPartialEquivalence R
   known = problem_equivalence p
 
-  one_lines : (query : Query) (lines others : List (List ℕ)) → AreLines p bound query lines → AreLines p bound query others → lines ≡ others
-  one_lines Index lines others (inl h) (inl g) = h.2 ∙ ap (λ n. index_line bound n ∷ []) (one_index R known h.0 g.0 h.1 g.1) ∙ sym g.2
-  one_lines Index lines others (inl h) (inr g) = absurd (not_infinite R known h.0 h.1 g.0)
-  one_lines Index lines others (inr h) (inl g) = absurd (not_infinite R known g.0 g.1 h.0)
-  one_lines Index lines others (inr h) (inr g) = h.1 ∙ sym g.1
-  one_lines (Equal u v) lines others (inl h) (inl g) = h.1 ∙ sym g.1
-  one_lines (Equal u v) lines others (inl h) (inr g) = absurd (g.0 h.0)
-  one_lines (Equal u v) lines others (inr h) (inl g) = absurd (h.0 g.0)
-  one_lines (Equal u v) lines others (inr h) (inr g) = h.1 ∙ sym g.1
-  one_lines (Normal u) lines others h g = h.2 ∙ ap (λ w. normal_line (letters_of p) w ∷ []) (normal_unique R known.symmetric known.transitive u h.0 g.0 h.1 g.1) ∙ sym g.2
-  one_lines (Classes count after) lines others h g =
+  one_lines : (query : Query) (lines others : List (List ℕ)) → awaited_by query ≢ Log → AreLines p bound query lines → AreLines p bound query others → lines ≡ others
+  one_lines Index lines others none (inl h) (inl g) = h.2 ∙ ap (λ n. index_line bound n ∷ []) (one_index R known h.0 g.0 h.1 g.1) ∙ sym g.2
+  one_lines Index lines others none (inl h) (inr g) = absurd (not_infinite R known h.0 h.1 g.0)
+  one_lines Index lines others none (inr h) (inl g) = absurd (not_infinite R known g.0 g.1 h.0)
+  one_lines Index lines others none (inr h) (inr g) = h.1 ∙ sym g.1
+  one_lines (Equal u v) lines others none (inl h) (inl g) = h.1 ∙ sym g.1
+  one_lines (Equal u v) lines others none (inl h) (inr g) = absurd (g.0 h.0)
+  one_lines (Equal u v) lines others none (inr h) (inl g) = absurd (h.0 g.0)
+  one_lines (Equal u v) lines others none (inr h) (inr g) = h.1 ∙ sym g.1
+  one_lines (Normal u) lines others none h g = h.2 ∙ ap (λ w. normal_line (letters_of p) w ∷ []) (normal_unique R known.symmetric known.transitive u h.0 g.0 h.1 g.1) ∙ sym g.2
+  one_lines (Classes count after) lines others none h g =
       one_page (IsLeast R) ◌≺◌ (shortlex_strict (IsLeast R)) (word_line (letters_of p)) after count lines others h g
-  one_lines RuleList lines others h g =
+  one_lines RuleList lines others none h g =
       h.2 ∙ ap (λ rules. map (rule_line (letters_of p)) rules ++ end_line false ∷ []) (list_unique (λ rule. IsReducedRule R rule.0 rule.1) RuleBefore (rule_order R known) None h.0 g.0 h.1 g.1) ∙ sym g.2
-  one_lines (ElementOf u) lines others h g = h ∙ sym g
-  one_lines Cayley lines others h g =
+  one_lines (ElementOf u) lines others none h g = h ∙ sym g
+  one_lines Cayley lines others none h g =
       let words : g.0 ≡ h.0 = one_list R g.0 h.0 g.3.listed h.3.listed in
       let moved : AreCayleyGraphs R (count_of p) h.0 g.1 g.2 = subst (λ ws. AreCayleyGraphs R (count_of p) ws g.1 g.2) words g.3 in
       h.4
       ∙ ap (λ rows. rows ++ end_line false ∷ []) (graphs_same R known (letters_of p) (count_of p) h.0 h.1 h.2 g.1 g.2 h.3 moved ∙ ap (λ ws. cayley_lines (letters_of p) (count_of p) ws g.1 g.2) (sym words))
       ∙ sym g.4
-  one_lines (LowIndex two_sided classes count after) lines others h g = one_table_page p two_sided classes count after lines others h g
-  one_lines (Meet s t) lines others h g = one_table_line meet_line (length (letters_of p)) (lattice.Meet s t) lines others h g
-  one_lines (Join s t) lines others h g = one_table_line join_line (length (letters_of p)) (lattice.Join (length (letters_of p)) s t) lines others h g
-  one_lines (Green relation) lines others h g = one_green p relation lines others h g
-  one_lines Idempotents lines others h g = one_idempotents p lines others h g
+  one_lines (LowIndex two_sided classes count after) lines others none h g = one_table_page p two_sided classes count after lines others h g
+  one_lines (Meet s t) lines others none h g = one_table_line meet_line (length (letters_of p)) (lattice.Meet s t) lines others h g
+  one_lines (Join s t) lines others none h g = one_table_line join_line (length (letters_of p)) (lattice.Join (length (letters_of p)) s t) lines others h g
+  one_lines (Chain u v) lines others none h g = absurd (none refl)
+  one_lines (Green relation) lines others none h g = one_green p relation lines others h g
+  one_lines Idempotents lines others none h g = one_idempotents p lines others h g
 
+-- a chain has a line for its first word and one for its end besides the first one
+longer : (first second one : List ℕ) (lines : List (List ℕ)) → first ∷ second ∷ lines ≡ one ∷ [] → ⊥
+longer first second one lines h = let e : length (first ∷ second ∷ lines) ≡ length (one ∷ []) = ap length h in omega arith
+
+comes_or_fails : (p : Problem) (budgets : Budgets) (awaited : Awaited) → ComesAbout p budgets awaited → FailsToCome p budgets awaited → ⊥
+comes_or_fails p budgets Nothing comes fails = fails
+comes_or_fails p budgets Decision comes fails = not_both p budgets comes fails
+comes_or_fails p budgets Log comes fails = fails comes
+
+-- a query is left undecided by each answer, or by none
+pub one_status : (p : Problem) (budgets : Budgets) (bound : ℕ) (query : Query) (lines others : List (List ℕ)) (undecided other : Bool)
+    → IsAnswer p budgets bound query lines undecided → IsAnswer p budgets bound query others other → undecided ≡ other
+one_status p budgets bound query lines others false false h g = refl
+one_status p budgets bound query lines others false true h g = absurd (comes_or_fails p budgets (awaited_by query) h.comes g.fails)
+one_status p budgets bound query lines others true false h g = absurd (comes_or_fails p budgets (awaited_by query) g.comes h.fails)
+one_status p budgets bound query lines others true true h g = refl
+
+-- a query that waits for no completion that logs has one answer
 pub one_answer : (p : Problem) (budgets : Budgets) (bound : ℕ) (query : Query) (lines others : List (List ℕ)) (undecided other : Bool)
-    → IsAnswer p budgets bound query lines undecided → IsAnswer p budgets bound query others other → (lines ≡ others) × (undecided ≡ other)
-one_answer p budgets bound query lines others false false h g = (one_lines p bound query lines others h.are_lines g.are_lines, refl)
-one_answer p budgets bound query lines others false true h g = absurd (not_both p budgets (h.decided g.waiting) g.undecided)
-one_answer p budgets bound query lines others true false h g = absurd (not_both p budgets (g.decided h.waiting) h.undecided)
-one_answer p budgets bound query lines others true true h g = (h.line ∙ sym g.line, refl)
+    → awaited_by query ≢ Log → IsAnswer p budgets bound query lines undecided → IsAnswer p budgets bound query others other → lines ≡ others
+one_answer p budgets bound query lines others false false none h g = one_lines p bound query lines others none h.are_lines g.are_lines
+one_answer p budgets bound query lines others false true none h g = absurd (comes_or_fails p budgets (awaited_by query) h.comes g.fails)
+one_answer p budgets bound query lines others true false none h g = absurd (comes_or_fails p budgets (awaited_by query) g.comes h.fails)
+one_answer p budgets bound query lines others true true none h g = h.line ∙ sym g.line
+
+-- where one answer tells that there is no chain, so does each
+none_again : (p : Problem) (letters : List ℕ) (u v : Word) (lines others : List (List ℕ)) → AreChainLines p letters u v lines → AreChainLines p letters u v others → lines ≡ no_chain_line ∷ [] → others ≡ no_chain_line ∷ []
+none_again p letters u v lines others (inl h) g is = absurd (longer _ _ _ _ (sym h.1.2 ∙ is))
+none_again p letters u v lines others (inr h) (inl g) is = absurd (h.0 g.0)
+none_again p letters u v lines others (inr h) (inr g) is = g.1
+
+pub one_kind : (p : Problem) (budgets : Budgets) (bound : ℕ) (u v : Word) (lines others : List (List ℕ)) (undecided other : Bool)
+    → IsAnswer p budgets bound (Chain u v) lines undecided → IsAnswer p budgets bound (Chain u v) others other → (lines ≡ no_chain_line ∷ []) ↔ (others ≡ no_chain_line ∷ [])
+one_kind p budgets bound u v lines others false false h g =
+    (none_again p (letters_of p) u v lines others h.are_lines g.are_lines, none_again p (letters_of p) u v others lines g.are_lines h.are_lines)
+one_kind p budgets bound u v lines others false true h g = absurd (g.fails h.comes)
+one_kind p budgets bound u v lines others true false h g = absurd (h.fails g.comes)
+one_kind p budgets bound u v lines others true true h g = let same : lines ≡ others = h.line ∙ sym g.line in (λ is. sym same ∙ is, λ is. same ∙ is)

@@ -1,6 +1,6 @@
 -- What a query asks, over relatedness, least words, the class list and the bound alone (Froidure
 -- and Pin 1997; libsemigroups: Congruence).
-use Rattle.std.specs.Prelude.{◌≡◌, ℕ, Bool, true, false, IsTrue, ◌⊎◌, List, [], ◌∷◌, ◌++◌, length, map, slice_index_or, Option, option_map}
+use Rattle.std.specs.Prelude.{◌≡◌, ℕ, Bool, true, false, ◌⊎◌, List, [], ◌∷◌, ◌++◌, length, map, slice_index_or, Option, option_map}
 use Rattle.std.specs.List.{range_with_len}
 use Rattle.theory.specs.Word.{Word}
 use Rattle.theory.specs.ShortLex.{◌≺◌}
@@ -17,9 +17,12 @@ use Rattle.problem.specs.declared.kinds.Problem.TheVariants.{Presented, Transf, 
 use Rattle.problem.specs.Problem.{SameClassOf, IsDecided, IsUndecided, letters_of, count_of, value_text}
 use Rattle.query_lang.specs.Tables.{rows_in}
 use Rattle.query_lang.specs.declared.script.Query.{Query}
-use Rattle.query_lang.specs.declared.script.Query.TheVariants.{Index, Equal, Normal, Classes, RuleList, ElementOf, Cayley, LowIndex, Meet, Join, Green, Idempotents}
+use Rattle.query_lang.specs.declared.script.Query.TheVariants.{Index, Equal, Normal, Classes, RuleList, ElementOf, Cayley, LowIndex, Meet, Join, Chain, Green, Idempotents}
 use Rattle.congruence.specs.CayleyGraphs.{AreCayleyGraphs}
-use Rattle.report.specs.Lines.{undecided_line, index_line, infinite_line, equal_line, element_line, end_line, normal_line, word_line, rule_line, table_line, cayley_line, meet_line, join_line}
+use Rattle.report.specs.declared.awaited.Awaited.{Awaited}
+use Rattle.report.specs.declared.awaited.Awaited.TheVariants.{Nothing, Decision, Log}
+use Rattle.report.specs.Chains.{AreChainLines, ChainsAreLogged}
+use Rattle.report.specs.Lines.{undecided_line, unlogged_line, index_line, infinite_line, equal_line, element_line, end_line, normal_line, word_line, rule_line, table_line, cayley_line, meet_line, join_line}
 use Rattle.report.specs.Pages.{ArePageLines}
 use Rattle.report.specs.Greens.{AreGreenLines, AreIdempotentLines}
 
@@ -79,37 +82,55 @@ AreLines p bound (Meet s t) lines =
     IsTableAnswer meet_line (length (letters_of p)) (lattice.Meet s t) lines
 AreLines p bound (Join s t) lines =
     IsTableAnswer join_line (length (letters_of p)) (lattice.Join (length (letters_of p)) s t) lines
+AreLines p bound (Chain u v) lines = AreChainLines p (letters_of p) u v lines
 AreLines p bound (Green relation) lines = AreGreenLines relation p lines
 AreLines p bound Idempotents lines = AreIdempotentLines p lines
 
--- whether a query is answered only where the problem is decided
-abbrev pub waits : Query → Bool
-waits Index = true
-waits (Equal u v) = true
-waits (Normal u) = true
-waits (Classes count after) = true
-waits RuleList = true
-waits (ElementOf u) = false
-waits Cayley = true
-waits (LowIndex two_sided classes count after) = false
-waits (Meet s t) = false
-waits (Join s t) = false
-waits (Green relation) = true
-waits Idempotents = true
+-- what a query waits for before it is answered
+abbrev pub awaited_by : Query → Awaited
+awaited_by Index = Decision
+awaited_by (Equal u v) = Decision
+awaited_by (Normal u) = Decision
+awaited_by (Classes count after) = Decision
+awaited_by RuleList = Decision
+awaited_by (ElementOf u) = Nothing
+awaited_by Cayley = Decision
+awaited_by (LowIndex two_sided classes count after) = Nothing
+awaited_by (Meet s t) = Nothing
+awaited_by (Join s t) = Nothing
+awaited_by (Chain u v) = Log
+awaited_by (Green relation) = Decision
+awaited_by Idempotents = Decision
 
--- the answer of a query is defined: the problem is decided within the budgets, where the query
--- waits for that
+-- what is awaited comes about within the budgets
+abbrev pub ComesAbout : Problem → Budgets → Awaited → Type 0
+ComesAbout p budgets Nothing = Unit {0}
+ComesAbout p budgets Decision = IsDecided p budgets
+ComesAbout p budgets Log = ChainsAreLogged p budgets.length
+
+-- what is awaited does not come about within the budgets
+abbrev pub FailsToCome : Problem → Budgets → Awaited → Type 0
+FailsToCome p budgets Nothing = ⊥
+FailsToCome p budgets Decision = IsUndecided p budgets
+FailsToCome p budgets Log = ChainsAreLogged p budgets.length → ⊥
+
+-- the line in the place of an answer, where what is awaited does not come about
+abbrev pub line_without : Awaited → List ℕ
+line_without Nothing = []
+line_without Decision = undecided_line
+line_without Log = unlogged_line
+
+-- the answer of a query is defined: what it waits for comes about within the budgets
 pub record IsDefined (p : Problem) (budgets : Budgets) (bound : ℕ) (query : Query)
     (lines : List (List ℕ)) : Type 0 where
-  pub decided : IsTrue (waits query) → IsDecided p budgets
+  pub comes : ComesAbout p budgets (awaited_by query)
   pub are_lines : AreLines p bound query lines
 
--- the answer of a query is that the problem is not decided within the budgets
+-- the answer of a query is left undecided: what it waits for does not come about
 pub record IsLeftUndecided (p : Problem) (budgets : Budgets) (query : Query)
     (lines : List (List ℕ)) : Type 0 where
-  pub waiting : IsTrue (waits query)
-  pub undecided : IsUndecided p budgets
-  pub line : lines ≡ undecided_line ∷ []
+  pub fails : FailsToCome p budgets (awaited_by query)
+  pub line : lines ≡ line_without (awaited_by query) ∷ []
 
 -- the lines of a query's answer, and whether it is left undecided
 abbrev pub IsAnswer : Problem → Budgets → ℕ → Query → List (List ℕ) → Bool → Type 0

@@ -1,6 +1,14 @@
 -- What a state keeps of a problem.
-use Rattle.std.specs.Prelude.{◌≡◌}
+use Rattle.std.specs.Prelude.{◌≡◌, IfSome}
+use Rattle.problem.specs.declared.kinds.Problem.{Problem}
+use Rattle.congruence.specs.Verdicts.{IsVerdictOf}
+use Rattle.report.specs.Chains.{IsLogOf}
 use Rattle.report.specs.declared.state.State.{State}
+
+-- the verdict is of the problem, and so is the completion, which logs and is at its end
+pub record KeepsOf (p : Problem) (state : State) : Type 0 where
+  pub verdict : IfSome state.verdict (IsVerdictOf p state.budgets)
+  pub completion : IfSome state.completion (IsLogOf p state.budgets.length)
 
 -- the state differs at most in what it keeps of the problem
 pub record KeepsSettings (old new : State) : Type 0 where

@@ -1,5 +1,5 @@
 -- The lines of a report; each ends with a line feed.
-use Rattle.std.specs.Prelude.{ℕ, Bool, List, [], ◌∷◌, ◌++◌, map, codes, decimal, nat_le, if◌then◌else◌, slice_index_or}
+use Rattle.std.specs.Prelude.{ℕ, Bool, false, List, [], ◌∷◌, ◌++◌, length, map, codes, decimal, nat_le, if◌then◌else◌, slice_index_or}
 use Rattle.std.specs.List.{flat_map, join_by, range_with_len}
 use Rattle.theory.specs.Word.{Word}
 use Rattle.theory.specs.Graph.{Graph}
@@ -55,6 +55,18 @@ meet_line g = codes "meet " ++ (table_text g ++ codes "\n")
 abbrev pub join_line : Graph → List ℕ
 join_line g = codes "join " ++ (table_text g ++ codes "\n")
 
+-- how many steps a chain has
+abbrev pub steps_line : ℕ → List ℕ
+steps_line n = codes "chain " ++ (decimal n ++ codes "\n")
+
+-- there is no chain
+abbrev pub no_chain_line : List ℕ
+no_chain_line = codes "chain no\n"
+
+-- chains are not logged
+abbrev pub unlogged_line : List ℕ
+unlogged_line = codes "chain unlogged\n"
+
 -- numbers of k letters, each after a space
 abbrev pub numbers_text : ℕ → (ℕ → ℕ) → List ℕ
 numbers_text k number = flat_map (λ a. codes " " ++ decimal (number a)) (range_with_len 0 k)
@@ -82,3 +94,8 @@ module _ (letters : List ℕ) where
 
   abbrev pub class_line : List Word → List ℕ → List ℕ
   class_line words class = class_text words class ++ codes "\n"
+
+  -- a chain from u on: how many words follow u, all words, and the end
+  abbrev pub chain_lines : Word → List Word → List (List ℕ)
+  chain_lines u words =
+      steps_line (length words) ∷ (map word_line (u ∷ words) ++ end_line false ∷ [])

@@ -1,12 +1,16 @@
 // The answers of queries.
-ghost use Rattle.std.specs.Prelude.{◌≡◌, ◌<◌, IfSome, IsTrue, MatchOption};
+ghost use Rattle.std.specs.Prelude.{◌≡◌, ◌<◌, MatchOption};
 ghost use Rattle.ports.specs.Writes.{Writes};
 ghost use Rattle.congruence.specs.Verdicts.{IsVerdictOf};
+ghost use Rattle.problem.specs.Problem.{IsPosable};
 ghost use Rattle.query_lang.specs.Query.{IsQueryOf};
-ghost use Rattle.report.specs.Answer.{waits};
+ghost use Rattle.report.specs.Answer.{awaited_by};
+ghost use Rattle.report.specs.Chains.{IsLogOf};
 ghost use Rattle.report.specs.Gains.{AreAnswerBytes};
-ghost use Rattle.report.specs.Kept.{KeepsSettings};
+ghost use Rattle.report.specs.Kept.{KeepsOf, KeepsSettings};
 
+use crate::awaited::{Awaited, awaited_by};
+use crate::logged::write_logged;
 use crate::solved::write_solved;
 use crate::state::State;
 use crate::told::write_told;
@@ -22,37 +26,30 @@ use std::thread::Threads;
 pub enum Answered {
     /// Its answer was written.
     Defined,
-    /// The problem is not decided within the budgets; the line `undecided` was written.
+    /// What it waits for does not come about within the budgets: the line `undecided` was written,
+    /// or for a chain `chain unlogged`.
     Undecided,
 }
 
-// Whether a query is answered only where the problem is decided.
-fn waits(query: &Query) -> bool
-    ensures { result ≡ waits query.now }
-{
-    !matches!(
-        query,
-        Query::ElementOf(_) | Query::LowIndex { .. } | Query::Meet(..) | Query::Join(..)
-    )
-}
-
-// Writes the answer of a query that waits for the problem's decision.
+// Writes the answer of a query that waits for the problem's decision, which the state keeps.
 fn write_decided<O: Sink>(
     alloc: Global,
     problem: &Problem,
     query: &Query,
-    state: &State,
+    state: &mut State,
     sink: &mut O,
 ) -> Result<Answered, WriteFault>
     requires query { IsQueryOf problem.now query.now }
-    requires kept { MatchOption state.now.verdict ⊥ (IsVerdictOf problem.now state.now.budgets) }
-    requires waits { IsTrue (waits query.now) }
-    ensures { Writes O.Sink (AreAnswerBytes problem.now state.now.budgets state.now.classes
+    requires kept { MatchOption state.old.verdict ⊥ (IsVerdictOf problem.now state.old.budgets) }
+    requires waits { awaited_by query.now ≡ Awaited.Decision }
+    ensures kept { state.new ≡ state.old }
+    ensures written { Writes O.Sink (AreAnswerBytes problem.now state.old.budgets state.old.classes
         query.now) sink.old sink.new result }
 {
-    match state.verdict() {
+    let bound = state.classes();
+    match &mut state.verdict {
         Some(Verdict::Known(solved)) => {
-            write_solved(alloc, problem, solved, query, state.classes(), sink)?;
+            write_solved(alloc, problem, solved, query, bound, sink)?;
             Ok(Answered::Defined)
         }
         Some(Verdict::Undecided(_)) => {
@@ -63,12 +60,42 @@ fn write_decided<O: Sink>(
     }
 }
 
+// Writes the answer of a query that waits for a completion that logs.
+fn write_completed<O: Sink>(
+    alloc: Global,
+    problem: &Problem,
+    query: &Query,
+    state: &State,
+    sink: &mut O,
+) -> Result<Answered, WriteFault>
+    requires query { IsQueryOf problem.now query.now }
+    requires posable { IsPosable problem.now }
+    requires kept { MatchOption state.now.completion ⊥
+        (IsLogOf problem.now state.now.budgets.length) }
+    requires waits { awaited_by query.now ≡ Awaited.Log }
+    ensures { Writes O.Sink (AreAnswerBytes problem.now state.now.budgets state.now.classes
+        query.now) sink.old sink.new result }
+{
+    let Some(completion) = state.completion() else {
+        unreachable!()
+    };
+    if completion.is_decided() {
+        write_logged(alloc, problem, completion, query, sink)?;
+        Ok(Answered::Defined)
+    } else {
+        write_all(sink, b"chain unlogged\n")?;
+        Ok(Answered::Undecided)
+    }
+}
+
 /// Writes the answer of a query of the script, each line as one piece, and tells whether it is
 /// defined. The value of a word, tables of low index, meets and joins are told whatever the budgets
-/// are; the other queries are answered where the problem is decided within them, and else with the
-/// line `undecided`. It is decided, and tables are searched for, with the number of workers of the
-/// state, at least one, which changes no answer; with more than one each turn of their race, or
-/// each part of the search, is behind the gate.
+/// are. A chain is told where a completion of the relations and pairs ends within the length of the
+/// budgets, and else with the line `chain unlogged`; the other queries are answered where the
+/// problem is decided within the budgets, and else with the line `undecided`. It is decided, and
+/// tables are searched for, with the number of workers of the state, at least one, which changes no
+/// answer; with more than one each turn of their race, or each part of the search, is behind the
+/// gate.
 ///
 /// `Failed` comes only where the sink failed, and `NoMemory` for want of memory; the sink has then
 /// gained a prefix of the answer. What the state keeps is of this script's problem, and what it
@@ -83,18 +110,26 @@ pub fn write_answer<R: Threads + Sync, O: Sink, G: Gate + Sync>(
     gate: &G,
 ) -> Result<Answered, WriteFault>
     requires query { IsQueryOf script.now.problem query.now }
-    requires kept { IfSome state.old.verdict (IsVerdictOf script.now.problem state.old.budgets) }
+    requires kept { KeepsOf script.now.problem state.old }
     requires workers { 0 < state.old.workers }
-    ensures kept { IfSome state.new.verdict (IsVerdictOf script.now.problem state.new.budgets) }
+    ensures kept { KeepsOf script.now.problem state.new }
     ensures settings { KeepsSettings state.old state.new }
     ensures written { Writes O.Sink (AreAnswerBytes script.now.problem state.old.budgets
         state.old.classes query.now) sink.old sink.new result }
 {
     let problem = script.problem();
-    if !waits(query) {
-        write_told(rt, alloc, problem, query, state.workers(), sink, gate)?;
-        return Ok(Answered::Defined);
+    match awaited_by(query) {
+        Awaited::Nothing => {
+            write_told(rt, alloc, problem, query, state.workers(), sink, gate)?;
+            Ok(Answered::Defined)
+        }
+        Awaited::Decision => {
+            state.decide(rt, alloc, problem, gate)?;
+            write_decided(alloc, problem, query, state, sink)
+        }
+        Awaited::Log => {
+            state.complete(alloc, problem)?;
+            write_completed(alloc, problem, query, state, sink)
+        }
     }
-    state.decide(rt, alloc, problem, gate)?;
-    write_decided(alloc, problem, query, state, sink)
 }

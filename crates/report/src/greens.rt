@@ -1,14 +1,17 @@
 // Green's classes and idempotents, as lines.
-ghost use Rattle.std.specs.Prelude.{◌≡◌, ◌+◌, ◌<◌, ◌++◌, ◌∷◌, [], length, map, slice_index_or, take, All, OnOk, IfOk, false};
+ghost use Rattle.std.specs.Prelude.{◌≡◌, ◌+◌, ◌<◌, ◌++◌, ◌∷◌, ℕ, List, [], length, map, slice_index_or, take, All, OnOk, IfOk, false};
 ghost use Rattle.ports.specs.Writes.{Writes, WritesBytes};
+ghost use Rattle.theory.specs.Word.{Word};
 ghost use Rattle.congruence.specs.CayleyGraphs.{AreTablesFor};
 ghost use Rattle.problem.specs.Problem.{HasOneShape, letters_of, pairs_of};
 ghost use Rattle.report.specs.Gains.{AreBytesOf, bytes_of};
 ghost use Rattle.report.specs.Greens.{AreGreenLines, AreIdempotentLines};
 ghost use Rattle.report.specs.Lines.{class_line, class_text, end_line, word_line};
+ghost use Rattle.report.specs.Texts.{AreTexts};
 
 use crate::line::Line;
 use crate::listings::{write_end, write_word};
+use crate::texts::Texts;
 use froidure_pin::CayleyTables;
 use green::{Relation, classes, idempotents};
 use ports::{NoMemory, Sink, WriteFault};
@@ -16,44 +19,31 @@ use problem::Problem;
 use std::alloc::Global;
 
 // Puts a word of a class behind those before it, after a space if there are any.
-fn put_word(
-    alloc: Global,
-    problem: &Problem,
-    tables: &CayleyTables,
-    class: &[usize],
-    place: usize,
-    line: &mut Line,
-) -> Result<(), NoMemory>
-    requires tables { AreTablesFor problem.now tables.now }
-    requires numbers { All (λ i. i < length tables.now.words) class.now }
+fn put_word(texts: &Texts, class: &[usize], place: usize, line: &mut Line) -> Result<(), NoMemory>
+    requires texts { (letters : List ℕ) × (words : List Word) × AreTexts letters words texts.now }
+    requires numbers { All (λ i. i < length texts.now.ends) class.now }
     requires place { place < length class.now }
-    requires before { line.old
-        ≡ class_text (letters_of problem.now) tables.now.words (take place class.now) }
-    ensures { OnOk result (line.new
-        ≡ class_text (letters_of problem.now) tables.now.words (take (place + 1) class.now)) }
+    ensures { OnOk result ((letters : List ℕ) (words : List Word)
+        → AreTexts letters words texts.now
+        → line.old ≡ class_text letters words (take place class.now)
+        → line.new ≡ class_text letters words (take (place + 1) class.now)) }
 {
-    let word = tables.words.word(class[place])?;
     if 0 < place {
         line.text(b" ")?;
     }
-    line.word(alloc, problem.alphabet(), &word)
+    line.text(texts.text(class[place]))
 }
 
 // The line of a class, without its end.
-fn line_of(
-    alloc: Global,
-    problem: &Problem,
-    tables: &CayleyTables,
-    class: &[usize],
-) -> Result<Line, NoMemory>
-    requires tables { AreTablesFor problem.now tables.now }
-    requires numbers { All (λ i. i < length tables.now.words) class.now }
-    ensures { IfOk result (λ line. line
-        ≡ class_text (letters_of problem.now) tables.now.words class.now) }
+fn line_of(alloc: Global, texts: &Texts, class: &[usize]) -> Result<Line, NoMemory>
+    requires texts { (letters : List ℕ) × (words : List Word) × AreTexts letters words texts.now }
+    requires numbers { All (λ i. i < length texts.now.ends) class.now }
+    ensures { IfOk result (λ line. (letters : List ℕ) (words : List Word)
+        → AreTexts letters words texts.now → line ≡ class_text letters words class.now) }
 {
     let mut line = Line::starting(alloc, b"")?;
     for place in 0..class.len() {
-        put_word(alloc, problem, tables, class, place, &mut line)?;
+        put_word(texts, class, place, &mut line)?;
     }
     Ok(line)
 }
@@ -61,19 +51,18 @@ fn line_of(
 // Writes a line for each class, and the end of the list.
 fn write_lines<O: Sink>(
     alloc: Global,
-    problem: &Problem,
-    tables: &CayleyTables,
+    texts: &Texts,
     found: &[Vec<usize>],
     sink: &mut O,
 ) -> Result<(), WriteFault>
-    requires tables { AreTablesFor problem.now tables.now }
-    requires numbers { All (λ class. All (λ i. i < length tables.now.words) class.items) found.now }
-    ensures { WritesBytes O.Sink (bytes_of (map (λ class.
-        class_line (letters_of problem.now) tables.now.words class.items) found.now
-        ++ end_line false ∷ [])) sink.old sink.new result }
+    requires texts { (letters : List ℕ) × (words : List Word) × AreTexts letters words texts.now }
+    requires numbers { All (λ class. All (λ i. i < length texts.now.ends) class.items) found.now }
+    ensures { (letters : List ℕ) (words : List Word) → AreTexts letters words texts.now
+        → WritesBytes O.Sink (bytes_of (map (λ class. class_line letters words class.items)
+        found.now ++ end_line false ∷ [])) sink.old sink.new result }
 {
     for class in found {
-        line_of(alloc, problem, tables, class)?.write(sink)?;
+        line_of(alloc, texts, class)?.write(sink)?;
     }
     write_end(false, sink)
 }
@@ -115,7 +104,8 @@ pub fn write_green<O: Sink>(
         sink.old sink.new result }
 {
     let found = classes(alloc, tables, relation)?;
-    write_lines(alloc, problem, tables, &found, sink)
+    let texts = Texts::new(alloc, problem.alphabet(), &tables.words)?;
+    write_lines(alloc, &texts, &found, sink)
 }
 
 /// Writes the least words of the idempotents, and the end of the list.

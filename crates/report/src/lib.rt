@@ -2,6 +2,10 @@
 #![tactic(auto)]
 
 mod answers;
+mod awaited;
+#[cfg(test)]
+mod chain_tests;
+mod completing;
 mod facts;
 mod graphs;
 #[cfg(test)]
@@ -11,14 +15,17 @@ mod greens;
 mod lattice_tests;
 mod line;
 mod listings;
+mod logged;
 mod single;
 mod solved;
 mod state;
 mod tables;
 #[cfg(test)]
 mod tests;
+mod texts;
 mod told;
 
 pub use answers::{Answered, write_answer};
-pub use facts::answer_is_one;
+pub use awaited::Awaited;
+pub use facts::{answer_is_one, chain_kind_is_one};
 pub use state::State;

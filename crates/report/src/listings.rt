@@ -35,6 +35,23 @@ pub fn write_end<O: Sink>(more: bool, sink: &mut O) -> Result<(), WriteFault>
     }
 }
 
+/// Writes the lines of words, and the end of the list.
+pub fn write_words<O: Sink>(
+    alloc: Global,
+    alphabet: &Alphabet,
+    words: &Vec<Word>,
+    sink: &mut O,
+) -> Result<(), WriteFault>
+    requires { All (IsOver (length alphabet.now)) words.now.items }
+    ensures { WritesBytes O.Sink (bytes_of (map (word_line alphabet.now) words.now.items
+        ++ end_line false ∷ [])) sink.old sink.new result }
+{
+    for word in words {
+        write_word(alloc, alphabet, word, sink)?;
+    }
+    write_end(false, sink)
+}
+
 // Writes the line of a rule.
 fn write_rule<O: Sink>(
     alloc: Global,

@@ -1,16 +1,17 @@
 // The answers where the problem is decided.
-ghost use Rattle.std.specs.Prelude.{◌≡◌, length, IfOk, IsTrue};
+ghost use Rattle.std.specs.Prelude.{◌≡◌, length, IfOk};
 ghost use Rattle.std.specs.Option.{option_copied};
 ghost use Rattle.ports.specs.Writes.{Writes};
 ghost use Rattle.theory.specs.Class.{IsLeast};
 ghost use Rattle.theory.specs.ShortLex.{◌≺◌};
 ghost use Rattle.problem.specs.Problem.{SameClassOf, count_of, letters_of};
 ghost use Rattle.query_lang.specs.Query.{IsQueryOf};
-ghost use Rattle.report.specs.Answer.{AreLines, waits};
+ghost use Rattle.report.specs.Answer.{AreLines, awaited_by};
 ghost use Rattle.report.specs.Gains.{AreBytesOf};
 ghost use Rattle.report.specs.Lines.{word_line};
 ghost use Rattle.report.specs.Pages.{ArePageLines};
 
+use crate::awaited::Awaited;
 use crate::graphs::write_cayley;
 use crate::greens::{write_green, write_idempotents};
 use crate::listings::{write_end, write_rules, write_word};
@@ -37,15 +38,16 @@ fn copied(alloc: Global, cursor: Option<&Word>) -> Result<Option<Word>, NoMemory
 fn write_classes<O: Sink>(
     alloc: Global,
     alphabet: &Alphabet,
-    solved: &Solved,
+    solved: &mut Solved,
     count: usize,
     after: Option<&Word>,
     sink: &mut O,
 ) -> Result<(), WriteFault>
-    requires letters { letters_of solved.now.problem ≡ alphabet.now }
-    requires one_each { count_of solved.now.problem ≡ length alphabet.now }
-    ensures { Writes O.Sink (λ _. AreBytesOf (ArePageLines
-        (IsLeast (SameClassOf solved.now.problem)) ◌≺◌ (word_line alphabet.now)
+    requires letters { letters_of solved.old.problem ≡ alphabet.now }
+    requires one_each { count_of solved.old.problem ≡ length alphabet.now }
+    ensures kept { solved.new ≡ solved.old }
+    ensures written { Writes O.Sink (λ _. AreBytesOf (ArePageLines
+        (IsLeast (SameClassOf solved.old.problem)) ◌≺◌ (word_line alphabet.now)
         (option_copied after.entry) count)) sink.old sink.new result }
 {
     let mut cursor = copied(alloc, after)?;
@@ -62,19 +64,21 @@ fn write_classes<O: Sink>(
     write_end(next.is_some(), sink)
 }
 
-/// Writes the answer of a query that waits for the problem's decision, from what is known of it.
+/// Writes the answer of a query that waits for the problem's decision, from what is known of it,
+/// which stays the same.
 pub fn write_solved<O: Sink>(
     alloc: Global,
     problem: &Problem,
-    solved: &Solved,
+    solved: &mut Solved,
     query: &Query,
     bound: usize,
     sink: &mut O,
 ) -> Result<(), WriteFault>
-    requires solved { solved.now.problem ≡ problem.now }
+    requires solved { solved.old.problem ≡ problem.now }
     requires query { IsQueryOf problem.now query.now }
-    requires waits { IsTrue (waits query.now) }
-    ensures { Writes O.Sink (λ _. AreBytesOf (AreLines problem.now bound query.now))
+    requires waits { awaited_by query.now ≡ Awaited.Decision }
+    ensures kept { solved.new ≡ solved.old }
+    ensures written { Writes O.Sink (λ _. AreBytesOf (AreLines problem.now bound query.now))
         sink.old sink.new result }
 {
     let alphabet = problem.alphabet();
@@ -99,8 +103,10 @@ pub fn write_solved<O: Sink>(
         Query::Cayley => write_cayley(alloc, problem, solved.tables(), sink),
         Query::Green(relation) => { write_green(alloc, problem, solved.tables(), *relation, sink) }
         Query::Idempotents => write_idempotents(alloc, problem, solved.tables(), sink),
-        Query::ElementOf(_) | Query::LowIndex { .. } | Query::Meet(..) | Query::Join(..) => {
-            unreachable!()
-        }
+        Query::ElementOf(_)
+        | Query::LowIndex { .. }
+        | Query::Meet(..)
+        | Query::Join(..)
+        | Query::Chain(..) => unreachable!(),
     }
 }

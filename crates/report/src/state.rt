@@ -1,23 +1,27 @@
 // What is known while the queries of a script are answered.
-ghost use Rattle.std.specs.Prelude.{◌≡◌, ◌<◌, None, Some, OnOk, IfSome, MatchOption};
-ghost use Rattle.problem.specs.Problem.{IsPosable};
-ghost use Rattle.congruence.specs.Verdicts.{IsVerdictOf};
-ghost use Rattle.report.specs.Kept.{KeepsSettings};
+ghost use Rattle.std.specs.Prelude.{◌≡◌, ◌<◌, true, None, Some, OnOk, MatchOption};
+ghost use Rattle.problem.specs.Problem.{IsPosable, is_presented};
+ghost use Rattle.report.specs.Kept.{KeepsOf, KeepsSettings};
 
+use crate::completing::logged_completion;
 use congruence::{Verdict, solve};
+use knuth_bendix::Completion;
 use ports::{Gate, NoMemory};
 use problem::{Budgets, Problem};
 use std::alloc::Global;
 use std::thread::Threads;
 
 /// What the queries of one script are answered with: its budgets, the bound up to which an index is
-/// written out, how many workers may be at it, and what was found of the problem so far.
+/// written out, how many workers may be at it, and what was found of the problem so far: a verdict,
+/// and a completion that logs, at its end.
 #[derive(Drop)]
 pub struct State {
     budgets: Budgets,
     classes: usize,
     workers: usize,
-    verdict: Option<Verdict>,
+    // What was found of the problem, if it was looked for.
+    pub(crate) verdict: Option<Verdict>,
+    completion: Option<Completion>,
 }
 
 impl State {
@@ -27,12 +31,14 @@ impl State {
         ensures classes { result.classes ≡ classes }
         ensures workers { result.workers ≡ workers }
         ensures verdict { result.verdict ≡ None }
+        ensures completion { result.completion ≡ None }
     {
         State {
             budgets,
             classes,
             workers,
             verdict: None,
+            completion: None,
         }
     }
 
@@ -46,8 +52,8 @@ impl State {
     ) -> Result<(), NoMemory>
         requires posable { IsPosable problem.now }
         requires workers { 0 < self.old.workers }
-        requires kept { IfSome self.old.verdict (IsVerdictOf problem.now self.old.budgets) }
-        ensures kept { IfSome self.new.verdict (IsVerdictOf problem.now self.new.budgets) }
+        requires kept { KeepsOf problem.now self.old }
+        ensures kept { KeepsOf problem.now self.new }
         ensures settings { KeepsSettings self.old self.new }
         ensures found { OnOk result (MatchOption self.new.verdict ⊥ (λ _. Unit {0})) }
     {
@@ -58,12 +64,28 @@ impl State {
         Ok(())
     }
 
-    // What was found of the problem, if it was looked for.
-    pub(crate) fn verdict(&self) -> Option<&Verdict>
-        ensures { MatchOption result (self.now.verdict ≡ None)
-            (λ verdict. self.now.verdict ≡ Some verdict.now) }
+    // Runs a completion that logs to its end, where that was not done yet.
+    pub(crate) fn complete(&mut self, alloc: Global, problem: &Problem) -> Result<(), NoMemory>
+        requires posable { IsPosable problem.now }
+        requires presented { is_presented problem.now ≡ true }
+        requires kept { KeepsOf problem.now self.old }
+        ensures kept { KeepsOf problem.now self.new }
+        ensures settings { KeepsSettings self.old self.new }
+        ensures found { OnOk result (MatchOption self.new.completion ⊥ (λ _. Unit {0})) }
     {
-        self.verdict.as_ref()
+        if self.completion.is_none() {
+            let completion = logged_completion(alloc, problem, self.budgets.length)?;
+            self.completion = Some(completion);
+        }
+        Ok(())
+    }
+
+    // The completion that logs, if it was run.
+    pub(crate) fn completion(&self) -> Option<&Completion>
+        ensures { MatchOption result (self.now.completion ≡ None)
+            (λ completion. self.now.completion ≡ Some completion.now) }
+    {
+        self.completion.as_ref()
     }
 
     // How many workers may be at it.

@@ -1,4 +1,7 @@
 // Answers, as a sink takes them.
+ghost use Rattle.std.specs.Prelude.{◌<◌};
+ghost use Rattle.report.specs.Kept.{KeepsOf};
+
 use super::*;
 use ports::{MemSink, Open};
 use problem::Budgets;
@@ -6,6 +9,23 @@ use query_lang::{Script, read_script};
 use std::alloc::Global;
 use std::test::Fail;
 use std::thread::Threads;
+
+// Writes the answer of the only query of a script with the state.
+fn write_with<R: Threads + Sync>(
+    rt: &R,
+    alloc: Global,
+    script: &Script,
+    state: &mut State,
+    sink: &mut MemSink,
+) -> Result<Option<Answered>, Fail>
+    requires kept { KeepsOf script.now.problem state.old }
+    requires workers { 0 < state.old.workers }
+{
+    match script.queries() {
+        [query] => Ok(Some(write_answer(rt, alloc, script, query, state, sink, &Open)?)),
+        _ => Ok(None),
+    }
+}
 
 // Writes the answer of the only query of a script.
 fn write_only<R: Threads + Sync>(
@@ -16,10 +36,7 @@ fn write_only<R: Threads + Sync>(
     sink: &mut MemSink,
 ) -> Result<Option<Answered>, Fail> {
     let mut state = State::new(budgets, 2, 1);
-    match script.queries() {
-        [query] => Ok(Some(write_answer(rt, alloc, script, query, &mut state, sink, &Open)?)),
-        _ => Ok(None),
-    }
+    write_with(rt, alloc, script, &mut state, sink)
 }
 
 // The answer of the only query of a script, which a sink takes in pieces of three bytes.

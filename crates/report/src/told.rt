@@ -7,10 +7,11 @@ ghost use Rattle.word_graph.specs.TableText.{table_text};
 ghost use Rattle.lattice.specs.Tables.{AreTables, HaveOneWidth};
 ghost use Rattle.problem.specs.Problem.{is_presented, letters_of, value_text};
 ghost use Rattle.query_lang.specs.Query.{IsQueryOf};
-ghost use Rattle.report.specs.Answer.{AreLines, IsTableAnswer, waits};
+ghost use Rattle.report.specs.Answer.{AreLines, IsTableAnswer, awaited_by};
 ghost use Rattle.report.specs.Gains.{AreBytesOf};
 ghost use Rattle.report.specs.Lines.{element_line, join_line, meet_line};
 
+use crate::awaited::Awaited;
 use crate::line::Line;
 use crate::tables::{find_page, write_page};
 use lattice::{join, meet};
@@ -98,7 +99,7 @@ pub fn write_told<R: Threads + Sync, O: Sink, G: Gate + Sync>(
     gate: &G,
 ) -> Result<(), WriteFault>
     requires query { IsQueryOf problem.now query.now }
-    requires told { waits query.now ≡ false }
+    requires told { awaited_by query.now ≡ Awaited.Nothing }
     requires workers { 0 < workers }
     ensures { (bound : ℕ) → Writes O.Sink (λ _. AreBytesOf
         (AreLines problem.now bound query.now)) sink.old sink.new result }
@@ -132,6 +133,7 @@ pub fn write_told<R: Threads + Sync, O: Sink, G: Gate + Sync>(
         | Query::Classes { .. }
         | Query::RuleList
         | Query::Cayley
+        | Query::Chain(..)
         | Query::Green(_)
         | Query::Idempotents => unreachable!(),
     }

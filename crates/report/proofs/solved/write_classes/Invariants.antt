@@ -1,3 +1,4 @@
+use Rattle.std.proofs.Common.{◌≡◌}
 use Rattle.std.specs.Option.{option_copied}
 use Rattle.theory.specs.ShortLex.{◌≺◌}
 use Rattle.theory.specs.Class.{IsLeast}
@@ -7,4 +8,7 @@ use Rattle.report.proofs.PageLemmas.{IsBegun}
 use Rattle.report.proofs.solved.write_classes.Given as goal
 
 abbrev pub invariant-loop : goal.invariant-loop
-invariant-loop g l = IsBegun g.O.Sink (IsLeast (SameClassOf l.solved.problem)) ◌≺◌ (word_line l.alphabet) (option_copied l.after) l.cursor l.counter l.fn.sink l.sink
+invariant-loop g l = record {
+  kept : l.solved ≡ l.fn.solved;
+  begun : IsBegun g.O.Sink (IsLeast (SameClassOf l.fn.solved.problem)) ◌≺◌ (word_line l.alphabet) (option_copied l.after) l.cursor l.counter l.fn.sink l.sink;
+}

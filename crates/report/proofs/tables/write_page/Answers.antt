@@ -1,4 +1,4 @@
-use Rattle.std.proofs.Common.{◌≡◌, ◌<◌, ◌≤◌, ℕ, List, length, get_or, ap, subst, ◌∙◌, arith}
+use Rattle.std.proofs.Common.{◌≡◌, ◌<◌, ◌≤◌, List, length, get_or, ap, subst, ◌∙◌, arith}
 use Rattle.theory.specs.Graph.{Graph}
 use Rattle.ports.proofs.WriteLemmas.{handed_on, same_bytes}
 use Rattle.report.specs.Lines.{end_line, graph_line}
