@@ -1,6 +1,8 @@
 -- An input has one report, and beginnings are prefixes of it.
-use Rattle.std.proofs.Common.{◌≡◌, ℕ, ◌≤◌, length, arith, Bool, List, [], ◌∷◌, ◌++◌, Option, Some, None, IfSome, refl, sym, ap, ap₂, ◌∙◌, subst, append-nil}
+use Rattle.std.proofs.Common.{◌≡◌, ℕ, ◌≤◌, length, arith, All, Bool, ◌||◌, List, [], ◌∷◌, ◌++◌, Option, Some, None, IfSome, refl, sym, ap, ap₂, ◌∙◌, subst, append-nil}
+use Rattle.std.specs.Prelude.{◌≢◌}
 use Rattle.std.specs.List.{flat_map, list_any}
+use Rattle.std.proofs.lemmas.List.Elements.{All-head, All-tail}
 use Rattle.std.proofs.lemmas.Grind.{flat_map-append}
 use Rattle.ports.specs.Bytes.{Gave, IsAtEnd, TakesPrefix}
 use Rattle.ports.proofs.BytesLemmas.{prefix_more}
@@ -12,37 +14,55 @@ use Rattle.query_lang.specs.Asked.{ScriptOf}
 use Rattle.query_lang.specs.Causes.{number_of_cause}
 use Rattle.query_lang.specs.Faults.{IsScriptFault}
 use Rattle.query_lang.proofs.ScriptLaw.{no_script_with_fault, one_fault, one_script}
-use Rattle.report.specs.Answer.{IsAnswer}
+use Rattle.report.specs.declared.awaited.Awaited.TheVariants.{Log}
+use Rattle.report.specs.Answer.{IsAnswer, awaited_by}
 use Rattle.report.proofs.UniqueAnswer as unique
 use Rattle.settings.specs.declared.Settings.{Settings}
 use Rattle.semi.specs.declared.fault.Fault.{Fault}
 use Rattle.semi.specs.declared.fault.Fault.TheVariants.{TooLong, Script, Arguments, Read, Write, NoMemory}
 use Rattle.semi.specs.Limits.{most_bytes}
 use Rattle.semi.specs.Status.{of_script, status_of}
-use Rattle.semi.specs.Report.{Answer, AreAnswers, AreFirstAnswers, GainsBeginning, GainsReport, IsAnswerOf, IsRefusal, IsRefused, IsReport, IsScript, budgets_of, is_undecided, lines_of}
+use Rattle.semi.specs.Report.{Answer, AreAnswers, AreFirstAnswers, AsksNoChain, GainsBeginning, GainsReport, IsAnswerOf, IsRefusal, IsRefused, IsReport, IsScript, budgets_of, is_undecided, lines_of}
+
+-- the query asks for no chain
+abbrev NoChain : Query → Type 0
+NoChain query = awaited_by query ≢ Log
 
 module _ (settings : Settings) (problem : Problem) where
-  one_answer : (query : Query) (x y : Answer) → IsAnswerOf settings problem query x → IsAnswerOf settings problem query y → x ≡ y
-  one_answer query x y p q =
-      let same = unique.one_answer problem (budgets_of settings) settings.classes query x.lines y.lines x.undecided y.undecided p q in
-      ap₂ (λ (lines : List (List ℕ)) (undecided : Bool). let a : Answer = record { lines = lines; undecided = undecided } in a) same.0 same.1
+  one_status : (query : Query) (x y : Answer) → IsAnswerOf settings problem query x → IsAnswerOf settings problem query y → x.undecided ≡ y.undecided
+  one_status query x y p q = unique.one_status problem (budgets_of settings) settings.classes query x.lines y.lines x.undecided y.undecided p q
 
-  one_list : (queries : List Query) (xs ys : List Answer) → AreAnswers settings problem queries xs → AreAnswers settings problem queries ys → xs ≡ ys
-  one_list [] [] [] p q = refl
-  one_list [] (x ∷ xs) ys p q = absurd p
-  one_list [] [] (y ∷ ys) p q = absurd q
-  one_list (r ∷ queries) [] ys p q = absurd p
-  one_list (r ∷ queries) (x ∷ xs) [] p q = absurd q
-  one_list (r ∷ queries) (x ∷ xs) (y ∷ ys) p q = ap₂ ◌∷◌ (one_answer r x y p.0 q.0) (one_list queries xs ys p.1 q.1)
+  one_answer : (query : Query) → NoChain query → (x y : Answer) → IsAnswerOf settings problem query x → IsAnswerOf settings problem query y → x ≡ y
+  one_answer query none x y p q =
+      ap₂ (λ (lines : List (List ℕ)) (undecided : Bool). let a : Answer = record { lines = lines; undecided = undecided } in a)
+      (unique.one_answer problem (budgets_of settings) settings.classes query x.lines y.lines x.undecided y.undecided none p q) (one_status query x y p q)
+
+  -- all answers are alike in whether they are undecided
+  one_due : (queries : List Query) (xs ys : List Answer) → AreAnswers settings problem queries xs → AreAnswers settings problem queries ys → list_any is_undecided xs ≡ list_any is_undecided ys
+  one_due [] [] [] p q = refl
+  one_due [] (x ∷ xs) ys p q = absurd p
+  one_due [] [] (y ∷ ys) p q = absurd q
+  one_due (r ∷ queries) [] ys p q = absurd p
+  one_due (r ∷ queries) (x ∷ xs) [] p q = absurd q
+  one_due (r ∷ queries) (x ∷ xs) (y ∷ ys) p q = ap₂ ◌||◌ (one_status r x y p.0 q.0) (one_due queries xs ys p.1 q.1)
+
+  one_list : (queries : List Query) → All NoChain queries → (xs ys : List Answer) → AreAnswers settings problem queries xs → AreAnswers settings problem queries ys → xs ≡ ys
+  one_list [] none [] [] p q = refl
+  one_list [] none (x ∷ xs) ys p q = absurd p
+  one_list [] none [] (y ∷ ys) p q = absurd q
+  one_list (r ∷ queries) none [] ys p q = absurd p
+  one_list (r ∷ queries) none (x ∷ xs) [] p q = absurd q
+  one_list (r ∷ queries) none (x ∷ xs) (y ∷ ys) p q =
+      ap₂ ◌∷◌ (one_answer r (All-head NoChain r queries none) x y p.0 q.0) (one_list queries (All-tail NoChain r queries none) xs ys p.1 q.1)
 
   -- the first answers are the beginning of all answers
-  first_of_all : (queries : List Query) (xs ys : List Answer) → AreFirstAnswers settings problem queries xs → AreAnswers settings problem queries ys → (zs : List Answer) × (ys ≡ xs ++ zs)
-  first_of_all queries [] ys p q = (ys, refl)
-  first_of_all [] (x ∷ xs) ys p q = absurd p
-  first_of_all (r ∷ queries) (x ∷ xs) [] p q = absurd q
-  first_of_all (r ∷ queries) (x ∷ xs) (y ∷ ys) p q =
-      let rest = first_of_all queries xs ys p.1 q.1 in
-      (rest.0, sym (ap₂ ◌∷◌ (one_answer r x y p.0 q.0) (sym rest.1)))
+  first_of_all : (queries : List Query) → All NoChain queries → (xs ys : List Answer) → AreFirstAnswers settings problem queries xs → AreAnswers settings problem queries ys → (zs : List Answer) × (ys ≡ xs ++ zs)
+  first_of_all queries none [] ys p q = (ys, refl)
+  first_of_all [] none (x ∷ xs) ys p q = absurd p
+  first_of_all (r ∷ queries) none (x ∷ xs) [] p q = absurd q
+  first_of_all (r ∷ queries) none (x ∷ xs) (y ∷ ys) p q =
+      let rest = first_of_all queries (All-tail NoChain r queries none) xs ys p.1 q.1 in
+      (rest.0, sym (ap₂ ◌∷◌ (one_answer r (All-head NoChain r queries none) x y p.0 q.0) (sym rest.1)))
 
 -- a script is not refused
 pub no_refused_script : (input : List ℕ) (script : ScriptOf) → IsScript input script → IsRefused input → ⊥
@@ -127,21 +147,29 @@ same_answers s t problem (q ∷ queries) (a ∷ answers) budgets classes e =
       same_answers s t problem queries answers budgets classes e.1,
     )
 
-pub one_report : (settings others : Settings) (input r s : List ℕ) (u v : Bool) → budgets_of settings ≡ budgets_of others → settings.classes ≡ others.classes
-    → IsReport settings input r u → IsReport others input s v → (r ≡ s) × (u ≡ v)
-one_report settings others input r s u v budgets classes p q =
-    let answered = same_answers settings others q.script.problem q.script.queries q.are_lines.answers budgets classes q.are_lines.correct in
-    let scripts : p.script ≡ q.script = one_script input p.script q.script p.is_script.reads q.is_script.reads in
-    let correct : AreAnswers settings q.script.problem q.script.queries p.are_lines.answers = subst (λ t. AreAnswers settings t.problem t.queries p.are_lines.answers) scripts p.are_lines.correct in
-    let same = one_list settings q.script.problem q.script.queries p.are_lines.answers q.are_lines.answers correct answered in (
-      p.are_lines.lines ∙ ap (flat_map lines_of) same ∙ sym q.are_lines.lines,
-      p.are_lines.status ∙ ap (list_any is_undecided) same ∙ sym q.are_lines.status,
-    )
+-- the answers of one report are those of the script of the other
+answers_of : (settings : Settings) (input r s : List ℕ) (u v : Bool) (others : Settings) (p : IsReport settings input r u) (q : IsReport others input s v) → AreAnswers settings q.script.problem q.script.queries p.are_lines.answers
+answers_of settings input r s u v others p q =
+    subst (λ t. AreAnswers settings t.problem t.queries p.are_lines.answers) (one_script input p.script q.script p.is_script.reads q.is_script.reads) p.are_lines.correct
 
-pub beginning_prefix : (settings : Settings) (input report : List ℕ) (undecided : Bool) (old new : Option (List ℕ)) → IsReport settings input report undecided → GainsBeginning settings input old new → TakesPrefix old new report
-beginning_prefix settings input report undecided old new p q =
+pub same_status : (settings others : Settings) (input r s : List ℕ) (u v : Bool) → budgets_of settings ≡ budgets_of others → settings.classes ≡ others.classes
+    → IsReport settings input r u → IsReport others input s v → u ≡ v
+same_status settings others input r s u v budgets classes p q =
+    let answered = same_answers settings others q.script.problem q.script.queries q.are_lines.answers budgets classes q.are_lines.correct in
+    let same = one_due settings q.script.problem q.script.queries p.are_lines.answers q.are_lines.answers (answers_of settings input r s u v others p q) answered in
+    p.are_lines.status ∙ same ∙ sym q.are_lines.status
+
+pub one_report : (settings others : Settings) (input r s : List ℕ) (u v : Bool) → budgets_of settings ≡ budgets_of others → settings.classes ≡ others.classes
+    → AsksNoChain input → IsReport settings input r u → IsReport others input s v → r ≡ s
+one_report settings others input r s u v budgets classes none p q =
+    let answered = same_answers settings others q.script.problem q.script.queries q.are_lines.answers budgets classes q.are_lines.correct in
+    let same = one_list settings q.script.problem q.script.queries (none q.script q.is_script) p.are_lines.answers q.are_lines.answers (answers_of settings input r s u v others p q) answered in
+    p.are_lines.lines ∙ ap (flat_map lines_of) same ∙ sym q.are_lines.lines
+
+pub beginning_prefix : (settings : Settings) (input report : List ℕ) (undecided : Bool) (old new : Option (List ℕ)) → AsksNoChain input → IsReport settings input report undecided → GainsBeginning settings input old new → TakesPrefix old new report
+beginning_prefix settings input report undecided old new none p q =
     let scripts : q.script ≡ p.script = one_script input q.script p.script q.is_script.reads p.is_script.reads in
     let first : AreFirstAnswers settings p.script.problem p.script.queries q.are_first.answers = subst (λ t. AreFirstAnswers settings t.problem t.queries q.are_first.answers) scripts q.are_first.correct in
-    let rest = first_of_all settings p.script.problem p.script.queries q.are_first.answers p.are_lines.answers first p.are_lines.correct in
+    let rest = first_of_all settings p.script.problem p.script.queries (none p.script p.is_script) q.are_first.answers p.are_lines.answers first p.are_lines.correct in
     let whole : report ≡ flat_map lines_of q.are_first.answers ++ flat_map lines_of rest.0 = p.are_lines.lines ∙ ap (flat_map lines_of) rest.1 ∙ flat_map-append lines_of q.are_first.answers rest.0 in
     subst (TakesPrefix old new) (sym (whole ∙ ap (λ front. front ++ flat_map lines_of rest.0) (sym q.are_first.lines))) (prefix_more old new q.beginning (flat_map lines_of rest.0) q.gained)

@@ -1,6 +1,7 @@
 -- The script of a dihedral group, and what a run reads.
-use Rattle.std.specs.Prelude.{ℕ, List, ◌++◌, codes, replicate, Option, Some, None}
+use Rattle.std.specs.Prelude.{ℕ, List, ◌++◌, codes, replicate, IfSome, Option, Some, None}
 use Rattle.settings.specs.declared.Settings.{Settings}
+use Rattle.semi.specs.Settings.{Under}
 
 -- the dihedral group with 2 * k elements, and queries of it; 98 is the byte `b`
 abbrev pub made_script : ℕ → List ℕ
@@ -15,3 +16,7 @@ made_or (Some k) left = Some (made_script k)
 -- what a run under these settings reads, with this left in the source
 abbrev pub input_of : Settings → Option (List ℕ) → Option (List ℕ)
 input_of settings left = made_or settings.make left
+
+-- the words set settings, and of what a run under them reads, where it is told, this holds
+abbrev pub OnInput : List (List ℕ) → Option (List ℕ) → (Settings → List ℕ → Type 0) → Type 0
+OnInput words left P = Under words (λ settings. IfSome (input_of settings left) (P settings))

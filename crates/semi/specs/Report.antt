@@ -1,6 +1,6 @@
 -- What is due for the bytes of a script, and what goes where.
 use Rattle.ports.specs.declared.sink.Sink.{Ghosts}
-use Rattle.std.specs.Prelude.{◌≡◌, ℕ, ◌<◌, ◌≤◌, Bool, List, [], ◌∷◌, length, IfSome, Option, Result}
+use Rattle.std.specs.Prelude.{◌≡◌, ◌≢◌, ℕ, ◌<◌, ◌≤◌, All, Bool, List, [], ◌∷◌, length, Option, Result}
 use Rattle.std.specs.List.{flat_map, list_any}
 use Rattle.ports.specs.declared.fault.WriteFault.{WriteFault}
 use Rattle.ports.specs.Bytes.{Rose, TakesAll, TakesPrefix}
@@ -14,9 +14,10 @@ use Rattle.query_lang.specs.Faults.{IsScriptFault}
 use Rattle.query_lang.specs.Grammar.{lines_of as lines_in}
 use Rattle.query_lang.specs.LineCauses.{AreScript}
 use Rattle.report.specs.declared.state.State.{State}
-use Rattle.report.specs.Answer.{IsAnswer}
+use Rattle.report.specs.declared.awaited.Awaited.TheVariants.{Log}
+use Rattle.report.specs.Answer.{IsAnswer, awaited_by}
 use Rattle.report.specs.Gains.{bytes_of}
-use Rattle.congruence.specs.Verdicts.{IsVerdictOf}
+use Rattle.report.specs.Kept.{KeepsOf}
 use Rattle.settings.specs.declared.Settings.{Settings}
 use Rattle.semi.specs.declared.fault.Fault.{Fault}
 use Rattle.semi.specs.declared.fault.Fault.TheVariants.{TooLong, Script, Arguments, Read, Write, NoMemory}
@@ -68,6 +69,11 @@ AreFirstAnswers settings problem (q ∷ queries) (a ∷ answers) =
 pub record IsScript (input : List ℕ) (script : ScriptOf) : Type 0 where
   pub short : length input ≤ most_bytes
   pub reads : AreScript (lines_in input) script
+
+-- where the input is a script, no query of it asks for a chain
+abbrev pub AsksNoChain : List ℕ → Type 0
+AsksNoChain input = (script : ScriptOf) → IsScript input script
+    → All (λ query. awaited_by query ≢ Log) script.queries
 
 -- the input is refused for this fault: it is too long, or else this is its first fault
 abbrev pub IsRefusal : List ℕ → Fault → Type 0
@@ -132,7 +138,7 @@ pub record IsStateOf (settings : Settings) (problem : Problem) (state : State) :
   pub budgets : state.budgets ≡ budgets_of settings
   pub classes : state.classes ≡ settings.classes
   pub workers : state.workers ≡ settings.workers
-  pub verdict : IfSome state.verdict (IsVerdictOf problem state.budgets)
+  pub kept : KeepsOf problem state
 
 -- the sink gained the line of this fault, or a prefix of it where one of its two counts rose
 pub record GainsLineOf {A : Type 0} (sink : Ghosts A) (fault : Fault) (old new : A) : Type 0 where

@@ -9,6 +9,8 @@ ghost use Rattle.std.specs.Io.Buffered.{writer_buffer};
 
 mod adapters;
 #[cfg(test)]
+mod chain_tests;
+#[cfg(test)]
 mod failing_tests;
 mod fault;
 #[cfg(test)]

@@ -27,6 +27,56 @@ fn left_pairs_of_presentations_are_answered(rt: HostRuntime) -> Result<(), Fail>
 }
 
 #[test]
+fn completion_decides_pairs_of_one_side(rt: HostRuntime) -> Result<(), Fail> {
+    const NAME: &[&str] = &["semi"];
+    const COMPLETION: &[&str] = &["semi", "--rows", "0", "--defs", "0"];
+    for (words, script, status, out) in [
+        (
+            NAME,
+            "monoid bc\nrel bc 1\nright c 1\nindex\nclasses 3\nnormal ccb\n",
+            0u8,
+            "index infinite\n1\nb\nbb\nmore\nnormal b\n",
+        ),
+        (
+            &["semi", "--length", "2"],
+            "monoid bc\nrel bc 1\nright c 1\nindex\n",
+            0,
+            "index infinite\n",
+        ),
+        (
+            &["semi", "--length", "1"],
+            "monoid bc\nrel bc 1\nright c 1\nindex\n",
+            1,
+            "undecided\n",
+        ),
+        (
+            NAME,
+            "monoid bc\nrel bc 1\nleft b 1\nclasses 3\nnormal cbb\n",
+            0,
+            "1\nc\ncc\nmore\nnormal c\n",
+        ),
+        (
+            COMPLETION,
+            "monoid ab\nrel aa 1\nrel bbb 1\nrel abab 1\nright a 1\n\
+             index\nclasses 9\nnormal aba\nequal aba ba\nequal ab 1\n",
+            0,
+            "index 3\n1\nb\nba\nend\nnormal ba\nequal yes\nequal no\n",
+        ),
+        (
+            COMPLETION,
+            "semigroup a\nright aa a\nindex\nclasses 9\n",
+            0,
+            "index 1\na\nend\n",
+        ),
+    ] {
+        let ended = run_at(&rt, words, script.as_bytes(), SOUND, &Open)?;
+        assert_eq!(rt; ended.status, status, "{script}");
+        assert_eq!(rt; ended.out.as_slice(), out.as_bytes(), "{script}");
+    }
+    Ok(())
+}
+
+#[test]
 fn pairs_of_elements_are_answered(rt: HostRuntime) -> Result<(), Fail> {
     let matrices = "bmat 2\na = 1 1 0 1\nb = 0 1 1 0\n";
     for (pairs, out) in [

@@ -361,12 +361,6 @@ fn completion_decides_presentations(rt: HostRuntime) -> Result<(), Fail> {
             "undecided\n",
         ),
         (
-            &["semi", "--defs", "30", "--rows", "9"],
-            "monoid bc\nrel bc 1\nright c 1\nindex\n",
-            1,
-            "undecided\n",
-        ),
-        (
             &["semi", "--rows", "0", "--defs", "0", "--classes", "5"],
             "monoid ab\nrel aa 1\ntwosided bbb 1\ntwosided abab 1\nindex\n",
             0,
@@ -449,6 +443,13 @@ fn examples_of_presentations_give_their_output(rt: HostRuntime) -> Result<(), Fa
              classes 3 after ccb\nrules\n",
             "index infinite\nequal yes\nequal no\nnormal bb\n1\nb\nc\nbb\ncb\ncc\nmore\nccc\n\
              bbbb\ncbbb\nmore\nbc 1\nend\n",
+        ),
+        (
+            "# The bicyclic monoid, and the right congruence that relates c and the empty word: \
+             its classes are\n# those of the powers of b, infinitely many, so completion alone \
+             decides it.\nmonoid bc\nrel bc 1\nright c 1\nindex\nclasses 3\nnormal ccb\n\
+             equal cb b\n",
+            "index infinite\n1\nb\nbb\nmore\nnormal b\nequal yes\n",
         ),
         (
             "# The plactic monoid of rank 3: Knuth's relations for a < b < c.\nmonoid abc\n\

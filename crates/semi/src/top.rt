@@ -1,10 +1,10 @@
 // The whole program, over words, a source and two sinks.
-ghost use Rattle.std.specs.Prelude.{◌≡◌, ◌≤◌, ◌⊎◌, true, false, IfErr, IfOk, IfSome, IsErrOf, MatchResult, OnOk, map, string_bytes};
+ghost use Rattle.std.specs.Prelude.{◌≡◌, ◌≤◌, ◌⊎◌, true, false, IfErr, IfOk, IsErrOf, MatchResult, OnOk, map, string_bytes};
 ghost use Rattle.ports.specs.Bytes.{Rose};
 ghost use Rattle.semi.specs.Report.{GainsBeginning, GainsLineOf, GainsReport, IsRefusal, IsRefused, IsScript};
 ghost use Rattle.query_lang.specs.Script.{ScriptOf};
-ghost use Rattle.semi.specs.Made.{input_of};
-ghost use Rattle.semi.specs.Settings.{AskToMake, Under, UnlessMade};
+ghost use Rattle.semi.specs.Made.{OnInput};
+ghost use Rattle.semi.specs.Settings.{AskToMake, UnlessMade};
 ghost use Rattle.semi.specs.Taken.{IsTakenAt, IsTakenWhole};
 ghost use Rattle.settings.specs.Settings.{AreAccepted, AreRefused};
 ghost use Rattle.semi.specs.Status.{status_of};
@@ -27,27 +27,25 @@ fn run<R: Threads + Sync, S: Source, O: Sink, G: Gate + Sync>(
     out: &mut O,
     gate: &G,
 ) -> Result<bool, Fault>
-    ensures reported { IfOk result (λ undecided. Under (map string_bytes words.now.items)
-        (λ settings. IfSome (input_of settings (S.left source.old))
-        (λ input. GainsReport settings input undecided (O.taken out.old) (O.taken out.new)))) }
+    ensures reported { IfOk result (λ undecided.
+        OnInput (map string_bytes words.now.items) (S.left source.old)
+        (λ settings input. GainsReport settings input undecided (O.taken out.old)
+        (O.taken out.new))) }
     ensures arguments { IsErrOf result Fault.Arguments
         → AreRefused (map string_bytes words.now.items) }
     ensures rejected { AreRefused (map string_bytes words.now.items)
         → IfErr result (λ fault. (fault ≡ Fault.Arguments) ⊎ (fault ≡ Fault.NoMemory)) }
     ensures refused { IfErr result (λ fault. status_of fault ≡ 2
-        → Under (map string_bytes words.now.items)
-        (λ settings. IfSome (input_of settings (S.left source.old))
-        (λ input. IsRefusal input fault))) }
+        → OnInput (map string_bytes words.now.items) (S.left source.old)
+        (λ _ input. IsRefusal input fault)) }
     ensures read { IsErrOf result Fault.Read → Rose (S.faults source.old) (S.faults source.new) }
     ensures write { IsErrOf result Fault.Write → Rose (O.faults out.old) (O.faults out.new) }
     ensures beginning { IsErrOf result Fault.Write
-        → Under (map string_bytes words.now.items)
-        (λ settings. IfSome (input_of settings (S.left source.old))
-        (λ input. GainsBeginning settings input (O.taken out.old) (O.taken out.new))) }
+        → OnInput (map string_bytes words.now.items) (S.left source.old)
+        (λ settings input. GainsBeginning settings input (O.taken out.old) (O.taken out.new)) }
     ensures memory { IsErrOf result Fault.NoMemory
-        → (out.new ≡ out.old) ⊎ Under (map string_bytes words.now.items)
-        (λ settings. IfSome (input_of settings (S.left source.old))
-        (λ input. GainsBeginning settings input (O.taken out.old) (O.taken out.new))) }
+        → (out.new ≡ out.old) ⊎ OnInput (map string_bytes words.now.items) (S.left source.old)
+        (λ settings input. GainsBeginning settings input (O.taken out.old) (O.taken out.new)) }
     ensures out_untouched { IfErr result (λ fault. status_of fault ≤ 4 → out.new ≡ out.old) }
     ensures source_untouched { IsErrOf result Fault.Arguments → source.new ≡ source.old }
     ensures taken { UnlessMade (map string_bytes words.now.items) (MatchResult result
@@ -89,16 +87,14 @@ pub fn semi<R: Threads + Sync, S: Source, O: Sink, E: Sink, G: Gate + Sync>(
     gate: &G,
 ) -> u8
     // the whole report, at 1 with an undecided answer
-    ensures decided { result ≡ 0 → Under (map string_bytes words.now.items)
-        (λ settings. IfSome (input_of settings (S.left source.old))
-        (λ input. GainsReport settings input false (O.taken out.old) (O.taken out.new))) }
-    ensures undecided { result ≡ 1 → Under (map string_bytes words.now.items)
-        (λ settings. IfSome (input_of settings (S.left source.old))
-        (λ input. GainsReport settings input true (O.taken out.old) (O.taken out.new))) }
+    ensures decided { result ≡ 0 → OnInput (map string_bytes words.now.items) (S.left source.old)
+        (λ settings input. GainsReport settings input false (O.taken out.old) (O.taken out.new)) }
+    ensures undecided { result ≡ 1 → OnInput (map string_bytes words.now.items) (S.left source.old)
+        (λ settings input. GainsReport settings input true (O.taken out.old) (O.taken out.new)) }
 
     // each other status has its cause
-    ensures refused { result ≡ 2 → Under (map string_bytes words.now.items)
-        (λ settings. IfSome (input_of settings (S.left source.old)) IsRefused) }
+    ensures refused { result ≡ 2 → OnInput (map string_bytes words.now.items) (S.left source.old)
+        (λ _. IsRefused) }
     ensures arguments { result ≡ 3 → AreRefused (map string_bytes words.now.items) }
     ensures read { result ≡ 4 → Rose (S.faults source.old) (S.faults source.new) }
     ensures write { result ≡ 5 → Rose (O.faults out.old) (O.faults out.new) }
@@ -113,17 +109,14 @@ pub fn semi<R: Threads + Sync, S: Source, O: Sink, E: Sink, G: Gate + Sync>(
     ensures source_taken { result ≤ 1 → UnlessMade (map string_bytes words.now.items)
         (IsTakenWhole (S.left source.old) (S.left source.new)) }
     ensures out_untouched { 2 ≤ result → result ≤ 4 → out.new ≡ out.old }
-    ensures beginning { result ≡ 5 → Under (map string_bytes words.now.items)
-        (λ settings. IfSome (input_of settings (S.left source.old))
-        (λ input. GainsBeginning settings input (O.taken out.old) (O.taken out.new))) }
+    ensures beginning { result ≡ 5 → OnInput (map string_bytes words.now.items) (S.left source.old)
+        (λ settings input. GainsBeginning settings input (O.taken out.old) (O.taken out.new)) }
     ensures memory { result ≡ 6
-        → (out.new ≡ out.old) ⊎ Under (map string_bytes words.now.items)
-        (λ settings. IfSome (input_of settings (S.left source.old))
-        (λ input. GainsBeginning settings input (O.taken out.old) (O.taken out.new))) }
+        → (out.new ≡ out.old) ⊎ OnInput (map string_bytes words.now.items) (S.left source.old)
+        (λ settings input. GainsBeginning settings input (O.taken out.old) (O.taken out.new)) }
     ensures told { 2 ≤ result → (fault : Fault) × (result ≡ status_of fault)
-        × (result ≡ 2 → Under (map string_bytes words.now.items)
-        (λ settings. IfSome (input_of settings (S.left source.old))
-        (λ input. IsRefusal input fault)))
+        × (result ≡ 2 → OnInput (map string_bytes words.now.items) (S.left source.old)
+        (λ _ input. IsRefusal input fault))
         × UnlessMade (map string_bytes words.now.items)
         (IsTakenAt fault (S.left source.old) (S.left source.new))
         × GainsLineOf E.Sink fault err.old err.new }
@@ -141,15 +134,13 @@ pub fn semi<R: Threads + Sync, S: Source, O: Sink, E: Sink, G: Gate + Sync>(
     // report
     ensures refuses { AreAccepted (map string_bytes words.now.items)
         → (Rose (S.faults source.old) (S.faults source.new) → ⊥)
-        → (result ≡ 6) ⊎ Under (map string_bytes words.now.items)
-        (λ settings. IfSome (input_of settings (S.left source.old))
-        (λ input. IsRefused input → result ≡ 2)) }
+        → (result ≡ 6) ⊎ OnInput (map string_bytes words.now.items) (S.left source.old)
+        (λ _ input. IsRefused input → result ≡ 2) }
     ensures answers { AreAccepted (map string_bytes words.now.items)
         → (Rose (S.faults source.old) (S.faults source.new) → ⊥)
         → (Rose (O.faults out.old) (O.faults out.new) → ⊥)
-        → (result ≡ 6) ⊎ Under (map string_bytes words.now.items)
-        (λ settings. IfSome (input_of settings (S.left source.old))
-        (λ input. (script : ScriptOf) → IsScript input script → result ≤ 1)) }
+        → (result ≡ 6) ⊎ OnInput (map string_bytes words.now.items) (S.left source.old)
+        (λ _ input. (script : ScriptOf) → IsScript input script → result ≤ 1) }
 {
     match run(rt, alloc, words, source, out, gate) {
         Ok(undecided) => u8::from(undecided),

@@ -30,6 +30,18 @@ fn scripts_of_version_2_are_answered(rt: HostRuntime) -> Result<(), Fail> {
 }
 
 #[test]
+fn a_lookahead_decides_within_100_rows(rt: HostRuntime) -> Result<(), Fail> {
+    for (rows, status, out) in [("100", 0u8, "index 150\n"), ("99", 1, "undecided\n")] {
+        let words = ["semi", "--defs", "0", "--length", "0", "--rows", rows];
+        let script = "version 2\nmonoid a\nrel a^150 1\nindex\n";
+        let ended = run_at(&rt, &words, script.as_bytes(), SOUND, &Open)?;
+        assert_eq!(rt; ended.status, status, "{rows}");
+        assert_eq!(rt; ended.out.as_slice(), out.as_bytes(), "{rows}");
+    }
+    Ok(())
+}
+
+#[test]
 fn faults_of_versions_are_told(rt: HostRuntime) -> Result<(), Fail> {
     for (script, err) in [
         ("version 3\nmonoid a\n", "semi: line 1: unknown version\n"),

@@ -4,7 +4,7 @@ ghost use Rattle.ports.specs.Bytes.{Rose, TakesPrefix};
 ghost use Rattle.query_lang.specs.Query.{IsQueryOf};
 ghost use Rattle.report.specs.Gains.{is_undecided};
 ghost use Rattle.settings.specs.declared.Settings.{Settings};
-ghost use Rattle.semi.specs.Report.{GainsBeginning, IsRefusal, IsReport, IsScript, IsStateOf, WritesLines, budgets_of};
+ghost use Rattle.semi.specs.Report.{AsksNoChain, GainsBeginning, IsRefusal, IsReport, IsScript, IsStateOf, WritesLines, budgets_of};
 ghost use Rattle.semi.specs.Taken.{IsTakenAt, IsTakenWhole};
 ghost use Rattle.semi.specs.Status.{status_of};
 ghost use Rattle.semi.specs.declared.fault.Fault.{Fault};
@@ -72,6 +72,28 @@ fn write_one<R: Threads + Sync, O: Sink, G: Gate + Sync>(
     Ok(left_undecided(answered))
 }
 
+// Writes the answers of all queries with the state, and tells whether one is undecided.
+fn write_answers<R: Threads + Sync, O: Sink, G: Gate + Sync>(
+    rt: &R,
+    alloc: Global,
+    settings: Settings,
+    script: &Script,
+    state: &mut State,
+    out: &mut O,
+    gate: &G,
+) -> Result<bool, WriteFault>
+    requires state { IsStateOf settings script.now.problem state.old }
+    requires workers { 1 ≤ settings.workers }
+    ensures { WritesLines O.Sink settings script.now.problem script.now.queries
+        out.old out.new result }
+{
+    let mut undecided = false;
+    for query in script.queries() {
+        undecided |= write_one(rt, alloc, settings, script, query, state, out, gate)?;
+    }
+    Ok(undecided)
+}
+
 /// Writes the report of a script, and tells whether an answer is undecided. Refused with `Failed`
 /// where the sink failed, else with `NoMemory`; the sink has then gained a beginning of the report.
 pub fn write_report<R: Threads + Sync, O: Sink, G: Gate + Sync>(
@@ -93,26 +115,31 @@ pub fn write_report<R: Threads + Sync, O: Sink, G: Gate + Sync>(
         elements: settings.elements,
     };
     let mut state = State::new(budgets, settings.classes, settings.workers);
-    let mut undecided = false;
-    for query in script.queries() {
-        undecided |= write_one(rt, alloc, settings, script, query, &mut state, out, gate)?;
-    }
-    Ok(undecided)
+    write_answers(rt, alloc, settings, script, &mut state, out, gate)
 }
 
-/// The report is a function of the budgets, the bound of the index and the input alone: they have
-/// one report, and one status, whatever the number of workers.
+/// The budgets, the bound of the index and the input have one status, whatever the number of
+/// workers, and where the input asks for no chain one report.
 pub fn report_is_one()
-    ensures { (settings others : Settings) (input report other : List ℕ) (undecided waits : Bool)
+    ensures status { (settings others : Settings) (input report other : List ℕ)
+        (undecided waits : Bool)
         → budgets_of settings ≡ budgets_of others → settings.classes ≡ others.classes
         → IsReport settings input report undecided → IsReport others input other waits
-        → (report ≡ other) × (undecided ≡ waits) }
+        → undecided ≡ waits }
+    ensures report { (settings others : Settings) (input report other : List ℕ)
+        (undecided waits : Bool)
+        → budgets_of settings ≡ budgets_of others → settings.classes ≡ others.classes
+        → AsksNoChain input
+        → IsReport settings input report undecided → IsReport others input other waits
+        → report ≡ other }
 {}
 
-/// A beginning of the report that a sink gained is a prefix of the report.
+/// Where the input asks for no chain, a beginning of the report that a sink gained is a prefix of
+/// the report.
 pub fn beginning_is_prefix()
     ensures { (settings : Settings) (input report : List ℕ) (undecided : Bool)
-        (old new : Option (List ℕ)) → IsReport settings input report undecided
+        (old new : Option (List ℕ)) → AsksNoChain input
+        → IsReport settings input report undecided
         → GainsBeginning settings input old new
         → TakesPrefix old new report }
 {}

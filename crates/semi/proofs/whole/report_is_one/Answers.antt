@@ -1,5 +1,5 @@
-use Rattle.semi.proofs.UniqueReport.{one_report}
+use Rattle.semi.proofs.UniqueReport.{one_report, same_status}
 use Rattle.semi.proofs.whole.report_is_one.Goals as goal
 
 pub returns : goal.returns
-returns c = one_report
+returns c = record { status = same_status; report = one_report }

@@ -1,6 +1,6 @@
 use Rattle.std.proofs.Common.{take, Ok}
 use Rattle.semi.specs.Report.{IsStateOf, WritesLines}
-use Rattle.semi.proofs.whole.write_report.Given as goal
+use Rattle.semi.proofs.whole.write_answers.Given as goal
 
 abbrev pub invariant-loop-query : goal.invariant-loop-query
 invariant-loop-query g l = record {

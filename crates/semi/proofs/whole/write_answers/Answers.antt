@@ -4,7 +4,7 @@ use Rattle.query_lang.specs.declared.script.Query.{Query}
 use Rattle.ports.proofs.WriteLemmas.{handed_on}
 use Rattle.semi.specs.Report.{WritesLines}
 use Rattle.semi.proofs.ReportLemmas.{more_written, more_begun}
-use Rattle.semi.proofs.whole.write_report.Goals as goal
+use Rattle.semi.proofs.whole.write_answers.Goals as goal
 
 -- those before a place, and the one at it
 next : (queries : List Query) (i : ℕ) (q : Query) → q ≡ get_or queries i q → i < length queries → take i queries ++ q ∷ [] ≡ take (i + 1) queries
