@@ -41,6 +41,14 @@ front_front k t u f = record {
 pub times_more : (k m n : ℕ) → m ≤ n → k * m ≤ k * n
 times_more k m n h = mul-le-mul_left k h
 
+-- a place where a target is wanting
+pub place_small : (k s place : ℕ) → k ≤ 53 → s ≤ 17 → place < k * s → place < 901
+place_small k s place few seen h = omega (arith, h, times_more k s 17 seen, few)
+
+-- the rows of the nodes seen are not full
+pub wanting_here : (k letters nodes place : ℕ) (t : List ℕ) → letters ≡ k → nodes ≡ seen t → place ≡ length t → place < letters * nodes → length t < k * seen t
+wanting_here k letters nodes place t e f l h = subst (λ z. length t < z * seen t) e (subst (λ z. length t < letters * z) f (subst (λ z. z < letters * nodes) l h))
+
 pub front_push : (k : ℕ) (t : List ℕ) (n : ℕ) → IsFront k t → length t < k * seen t → n ≤ seen t → IsFront k (t ++ n ∷ [])
 front_push k t n f wants low = record {
   numbered = numbered_append 0 t (n ∷ []) f.numbered (low, tt);

@@ -2,18 +2,11 @@ use Rattle.std.proofs.Common.{◌≡◌, ◌*◌, ◌<◌, ◌≤◌, ◌++◌, 
 use Rattle.sims_one.specs.Targets.{seen, least_target, IsWithin}
 use Rattle.sims_one.specs.Asked.{asked}
 use Rattle.sims_one.specs.Fronts.{lists_in, IsOpen, AddsLonger}
-use Rattle.sims_one.proofs.FrontLaws.{before_both, times_more, few_seen}
+use Rattle.sims_one.proofs.FrontLaws.{before_both, times_more, place_small, wanting_here, few_seen}
 use Rattle.sims_one.proofs.KnownLaws.{target_beyond}
 use Rattle.sims_one.proofs.BranchLaws.{popped}
 use Rattle.sims_one.proofs.CutLaws.{adds, adds_none, has_split_from, has_split_on, split_end, open_more}
 use Rattle.sims_one.proofs.cut.+grow.Goals as goal
-
--- a place where a target is wanting
-place_small : (k s place : ℕ) → k ≤ 53 → s ≤ 17 → place < k * s → place < 901
-place_small k s place few seen h = omega (arith, h, times_more k s 17 seen, few)
-
-wants_here : (k letters nodes place : ℕ) (t : List ℕ) → letters ≡ k → nodes ≡ seen t → place ≡ length t → place < letters * nodes → length t < k * seen t
-wants_here k letters nodes place t e f l h = subst (λ z. length t < z * seen t) e (subst (λ z. length t < letters * z) f (subst (λ z. z < letters * nodes) l h))
 
 pub grow-returns-then-eq-clause-fronts : goal.grow-returns-then-eq-clause-fronts
 grow-returns-then-eq-clause-fronts t c =
@@ -72,7 +65,7 @@ grow-grow_with-requires t c =
     let ts : List ℕ = c.args.branch.now.targets.items in
     let m : ℕ = c.loop-target.target in
     let known = c.known-known.ensures a.presentation a.classes c.requires.branch in
-    let wants = wants_here a.presentation.letters c.letters.result c.known-known.result.now.nodes c.len-place.result ts c.letters.ensures.letters known.nodes (omega (arith, c.len-place.ensures, c.args.branch.now.targets.ok.0)) c.if-letters-known.false in
+    let wants = wanting_here a.presentation.letters c.letters.result c.known-known.result.now.nodes c.len-place.result ts c.letters.ensures.letters known.nodes (omega (arith, c.len-place.ensures, c.args.branch.now.targets.ok.0)) c.if-letters-known.false in
     let less : m < c.candidate_limit-limit.result = c.loop-target-test.true in
     let opened : IsOpen a (ts ++ m ∷ []) = open_more a ts m (record { front = c.requires.branch.front; allowed = c.requires.branch.allowed }) wants
     (omega (arith, less, c.candidate_limit-limit.ensures.numbered, known.nodes))
@@ -108,7 +101,7 @@ grow-returns-clause-fronts t c =
     let ts : List ℕ = c.args.branch.now.targets.items in
     let known = c.known-known.ensures a.presentation a.classes c.requires.branch in
     let here : length ts ≡ c.len-place.result = omega (arith, c.len-place.ensures, c.args.branch.now.targets.ok.0) in
-    let wants = wants_here a.presentation.letters c.letters.result c.known-known.result.now.nodes c.len-place.result ts c.letters.ensures.letters known.nodes (omega (arith, here)) c.if-letters-known.false in
+    let wants = wanting_here a.presentation.letters c.letters.result c.known-known.result.now.nodes c.len-place.result ts c.letters.ensures.letters known.nodes (omega (arith, here)) c.if-letters-known.false in
     let split = c.loop-target.invariant.split in
     adds a ts (lists_in c.args.fronts.now.items) (lists_in c.loop-target.fronts.items) split.longer split.added
     (split_end a ts c.loop-target.target c.candidate_limit-limit.result split.longer split.split c.loop-target-test.false wants

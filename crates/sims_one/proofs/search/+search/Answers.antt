@@ -4,7 +4,7 @@ use Rattle.theory.specs.Congruence.{Presentation}
 use Rattle.sims_one.specs.Targets.{seen, least_target, most_nodes, IsFront, AreAllowed, IsSound}
 use Rattle.sims_one.specs.Search.{IsLeastWithin, NoneWithin, IsLeastBeyond, NoneBeyond}
 use Rattle.sims_one.proofs.EdgeLaws.{on_ok}
-use Rattle.sims_one.proofs.FrontLaws.{times_more, front_push, front_wants, allowed_push, few_seen}
+use Rattle.sims_one.proofs.FrontLaws.{times_more, place_small, wanting_here, front_push, front_wants, allowed_push, few_seen}
 use Rattle.sims_one.proofs.KnownLaws.{target_beyond}
 use Rattle.sims_one.proofs.BranchLaws.{popped}
 use Rattle.sims_one.proofs.SearchLaws.{none_broken, full_least, none_wanting, least_wanting, between_least, between_more, between_end, between_found}
@@ -12,14 +12,6 @@ use Rattle.sims_one.proofs.search.+search.Goals as goal
 
 broken_here : (p : Presentation) (n : ℕ) (t u : List ℕ) → u ≡ t → (IsTrue false ↔ IsSound p u) → NoneWithin p n t
 broken_here p n t u e h = none_broken p n t (λ sound. let k : false ≡ true = h.1 (subst (λ (xs : List ℕ). IsSound p xs) (sym e) sound) in cc)
-
--- a place where a target is wanting
-place_small : (k s place : ℕ) → k ≤ 53 → s ≤ 17 → place < k * s → place < 901
-place_small k s place few seen h = omega (arith, h, times_more k s 17 seen, few)
-
--- the rows of the nodes seen are not full
-wanting_here : (k letters nodes place : ℕ) (t : List ℕ) → letters ≡ k → nodes ≡ seen t → place ≡ length t → place < letters * nodes → length t < k * seen t
-wanting_here k letters nodes place t e f l h = subst (λ z. length t < z * seen t) e (subst (λ z. length t < letters * z) f (subst (λ z. z < letters * nodes) l h))
 
 pub search-overflow_mul-letters : goal.search-overflow_mul-letters
 search-overflow_mul-letters t c =
