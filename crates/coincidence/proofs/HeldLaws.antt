@@ -247,6 +247,20 @@ marked_whole c links live marked o pending node w on = record {
   order = kept_marked c.presentation.letters links.graph marked o node (omega (arith, on_inside links.graph live node w.lives on, w.shape)) w.order;
 }
 
+-- other entries, but for which all is closed too
+pub pending_whole : (c : Congruence) (links : Links) (live marked : List Bool) (o : Order) (pending other : List Pending) → IsWhole c links live marked o pending
+    → IsClosedBut c.presentation.relations links.graph live other → IsWhole c links live marked o other
+pending_whole c links live marked o pending other w closed = record {
+  congruence = w.congruence;
+  graph = w.graph;
+  lives = w.lives;
+  shape = w.shape;
+  marks = w.marks;
+  sources = w.sources;
+  closed = closed;
+  order = w.order;
+}
+
 -- an edge more, which is pending
 module _ (c : Congruence) (links links' : Links) (live marked : List Bool) (o : Order) (pending : List Pending) (node letter to : ℕ) (w : IsWhole c links live marked o pending)
     (hn : IsOn live node) (ht : IsOn live to) (less : letter < c.presentation.letters) (none : target links.graph node letter ≡ None) where

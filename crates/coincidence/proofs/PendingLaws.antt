@@ -9,6 +9,7 @@ use Rattle.word_graph.proofs.WalkLaws.{some_same}
 use Rattle.coincidence.specs.Live.{IsOn, IsLiveGraph}
 use Rattle.coincidence.specs.Closing.{IsEdged}
 use Rattle.coincidence.specs.Drawing.{IsLast}
+use Rattle.coincidence.proofs.MarkLaws.{on_within}
 use Rattle.coincidence.specs.Pending.{IsAmong, IsSettled, IsClosedBut, Crosses, IsClosedThrough, IsRenewed}
 use Rattle.coincidence.specs.declared.pending.Pending.{Pending}
 use Rattle.coincidence.specs.declared.pending.Pending.TheVariants.{NewNode, NewEdge}
@@ -66,6 +67,19 @@ closed_renewed pairs old new was is before after live renewed closed node r s a 
     let here : IsOn was node = elim (renewed.nodes node on) [ inl fresh ↦ absurd (old_node fresh) | inr h ↦ h ] in
     renewed.kept j a m (path_live new is live node j s on second) (path_live new is live node m r on first)
     (closed node r s a m j here (λ k. old_node (renewed.pending (NewNode node) k)) sides r'.0 s'.0 r'.1 s'.1)
+
+-- with one node more at the end, so many nodes are among the entries
+pub nodes_push : (pending : List Pending) (n : ℕ) → ((node : ℕ) → node < n → IsAmong (NewNode node) pending)
+    → (node : ℕ) → node < n + 1 → IsAmong (NewNode node) (pending ++ NewNode n ∷ [])
+nodes_push pending n all node less = elim (cases_eq node n) [
+  | inl e ↦ subst (λ z. IsAmong (NewNode z) (pending ++ NewNode n ∷ [])) (sym e) (among_last (NewNode n) pending)
+  | inr d ↦ among_before (NewNode node) (NewNode n) pending (all node (omega (arith, less, d)))
+]
+
+-- nothing is asked of nodes that are all new
+pub closed_nodes : (pairs : List (Word × Word)) (g : Graph) (live : List Bool) (pending : List Pending)
+    → ((node : ℕ) → node < length live → IsAmong (NewNode node) pending) → IsClosedBut pairs g live pending
+closed_nodes pairs g live pending all node r s a m j on old_node = absurd (old_node (all node (on_within live node on)))
 
 -- a table with the root alone, which is new
 pub closed_root : (pairs : List (Word × Word)) (g : Graph) (live : List Bool) → ((node : ℕ) → IsOn live node → node ≡ 0) → IsClosedBut pairs g live (NewNode 0 ∷ [])

@@ -1,11 +1,18 @@
 // What is new in a graph and not read yet.
-ghost use Rattle.std.specs.Prelude.{◌≡◌, List, [], ◌∷◌, ◌++◌, Option, Some, None, OnOk, OnErr};
+ghost use Rattle.std.specs.Prelude.{◌≡◌, ℕ, ◌<◌, List, [], ◌∷◌, ◌++◌, Bool, Option, Some, None, length, OnOk, OnErr};
+ghost use Rattle.theory.specs.Graph.{Graph};
+ghost use Rattle.theory.specs.Word.{Word as Letters};
 ghost use Rattle.coincidence.specs.Drawing.{IsLast};
+ghost use Rattle.coincidence.specs.Pending.{IsAmong, IsClosedBut};
+ghost use Rattle.coincidence.specs.declared.pending.Pending.TheVariants.{NewNode as Node};
 
 use ports::NoMemory;
 use std::alloc::Global;
 use std::marker::Model;
 use words::Letter;
+
+// All nodes are read where more than one entry is pending for so many nodes.
+const NODES_READ: usize = 8;
 
 // A node or an edge that is new.
 #[derive(Clone, Copy)]
@@ -67,5 +74,30 @@ impl Worklist {
             → self.new ≡ front }
     {
         self.entries.pop();
+    }
+
+    // Each of so many nodes is pending, and nothing else.
+    fn take_nodes(&mut self, count: usize) -> Result<(), NoMemory>
+        ensures { OnOk result ((node : ℕ) → node < count → IsAmong (Node node) self.new) }
+    {
+        self.entries.clear();
+        for node in 0..count {
+            self.entries.push(Pending::NewNode(node))?;
+        }
+        Ok(())
+    }
+
+    /// Where much is pending for so many nodes, each of them is pending in its place: relations are
+    /// then read once at each node, and not at each of their places across each edge. Only want of
+    /// memory refuses it.
+    pub fn gather(&mut self, count: usize) -> Result<(), NoMemory>
+        ensures { OnOk result ((pairs : List (Letters × Letters)) (graph : Graph)
+            (live : List Bool) → length live ≡ count → IsClosedBut pairs graph live self.old
+            → IsClosedBut pairs graph live self.new) }
+    {
+        if count / NODES_READ < self.entries.len() {
+            self.take_nodes(count)?;
+        }
+        Ok(())
     }
 }

@@ -294,6 +294,23 @@ impl Table {
         self.close(Some(node))
     }
 
+    // All nodes are pending, where much is.
+    fn gather(&mut self) -> Result<(), NoMemory>
+        ensures same { OnOk result (self.new ≡ self.old) }
+        ensures err { OnErr result (self.new.failed ≡ true) }
+        ensures failed { self.old.failed ≡ true → IsErr result }
+        ensures congruence { self.new.congruence ≡ self.old.congruence }
+        ensures table { IsTable self.new }
+    {
+        if self.failed {
+            return Err(NoMemory);
+        }
+        match self.pending.gather(self.live.len()) {
+            Ok(()) => Ok(()),
+            Err(NoMemory) => Err(fail(&mut self.failed)),
+        }
+    }
+
     /// Draws all that follows from the relations, read at each word that has a path, and from the
     /// pairs, read at the empty word, until nothing new follows: the paths then relate what they
     /// related before, and what follows from it. Marks go with their words, as at `identify`.
@@ -310,6 +327,7 @@ impl Table {
         ensures congruence { self.new.congruence ≡ self.old.congruence }
         ensures table { IsTable self.new }
     {
+        self.gather()?;
         self.close(None)
     }
 
