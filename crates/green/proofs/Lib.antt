@@ -8,6 +8,7 @@ pub mod StepLaws
 pub mod NameLaws
 pub mod GroupLaws
 pub mod PairLaws
+pub mod FiniteLaws
 pub mod RelationLaws
 pub mod IdempotentLaws
 pub mod ToldLaws

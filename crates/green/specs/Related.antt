@@ -15,6 +15,11 @@ AreRelated H t = λ i j. AreConnected (IsEdge (length t.letters) (edge t.right))
     × AreConnected (IsEdge (length t.letters) (edge t.left)) i j
 AreRelated J t = AreConnected (IsEdgeOfEither (length t.letters) (edge t.right) (edge t.left))
 
+-- a letter on the left and one on the right may be multiplied in either order
+abbrev pub DoCommute : CayleyTables → Type 0
+DoCommute t = (i a b : ℕ) → i < length t.words → a < length t.letters → b < length t.letters
+    → edge t.left (edge t.right i a) b ≡ edge t.right (edge t.left i b) a
+
 -- the words are words of the letters
 abbrev pub AreOfLetters : CayleyTables → Type 0
 AreOfLetters t = (i : ℕ) → i < length t.words → IsOver (length t.letters) (word_at t i)

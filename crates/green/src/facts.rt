@@ -7,18 +7,32 @@ ghost use Rattle.elements.specs.Generators.{HaveOneShape, value_by};
 ghost use Rattle.froidure_pin.specs.declared.tables.CayleyTables.{CayleyTables};
 ghost use Rattle.cayley.specs.Tables.{FitTogether, number_in};
 ghost use Rattle.cayley.specs.Whole.{AreTablesOf};
-ghost use Rattle.green.specs.Related.{AreOfLetters, AreRelated, IsIdempotentAt};
+ghost use Rattle.green.specs.Related.{AreOfLetters, AreRelated, DoCommute, IsIdempotentAt};
 ghost use Rattle.green.specs.Told.{IsGreen, StandTogether};
 ghost use Rattle.theory.specs.declared.Relation.{Relation};
+ghost use Rattle.theory.specs.declared.Relation.TheVariants.{R, L, J};
 
 use theory::values::Values;
 
-/// The tables of generators fit together, and their words are words of the letters.
+/// The tables of generators fit together, their words are words of the letters, and a letter on the
+/// left and one on the right may be multiplied in either order.
 pub fn tables_serve<V: Values>()
     ensures fit { (generators : List V) (unused : V) (tables : CayleyTables)
         → AreTablesOf V.product V.eq generators unused tables → FitTogether tables }
     ensures words { (generators : List V) (unused : V) (tables : CayleyTables)
         → AreTablesOf V.product V.eq generators unused tables → AreOfLetters tables }
+    ensures commute { (generators : List V) (unused : V) → HaveOneShape V.shape generators
+        → (tables : CayleyTables) → AreTablesOf V.product V.eq generators unused tables
+        → DoCommute tables }
+{}
+
+/// In a finite semigroup two elements are related by J exactly where some element is related to the
+/// one by R and to the other by L (Howie 1995, proposition 2.1.4).
+pub fn j_by_r_and_l()
+    ensures { (t : CayleyTables) → FitTogether t → DoCommute t → (i j : ℕ)
+        → i < length t.words → j < length t.words
+        → AreRelated J t i j
+        ↔ (m : ℕ) × (m < length t.words) × AreRelated R t i m × AreRelated L t m j }
 {}
 
 /// Two elements are related by one of Green's relations exactly where the numbers of words with
