@@ -8,6 +8,7 @@ pub mod StepLaws
 pub mod NameLaws
 pub mod GroupLaws
 pub mod PairLaws
+pub mod JoinLaws
 pub mod FiniteLaws
 pub mod RelationLaws
 pub mod IdempotentLaws

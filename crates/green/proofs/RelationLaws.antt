@@ -1,64 +1,24 @@
 -- Names and classes under Green's relations.
-use Rattle.std.proofs.Common.{◌≡◌, ℕ, ◌+◌, ◌-◌, ◌<◌, ◌↔◌, List, length, sym, ◌∙◌, ap, subst, arith, inl, inr}
-use Rattle.std.proofs.lemmas.Bool.{cases_lt}
-use Rattle.theory.specs.Green.{Reaches, here, further, IsEdge, IsEdgeOfEither, AreConnected, AreClasses}
+use Rattle.std.proofs.Common.{◌≡◌, ℕ, ◌<◌, ◌≤◌, List, length, slice_index, sym, ◌∙◌, subst, arith, Result, IfOk}
+use Rattle.theory.specs.Green.{here, IsEdgeOfEither, AreClasses}
 use Rattle.froidure_pin.specs.declared.tables.CayleyTables.{CayleyTables}
 use Rattle.cayley.specs.Tables.{edge, FitTogether}
-use Rattle.green.specs.EdgeRows.{next}
-use Rattle.green.specs.Grouping.{HaveOneName}
+use Rattle.green.specs.Grouping.{AreSmall, HaveOneName}
+use Rattle.green.specs.Joining.{AreJoinedNames}
 use Rattle.green.specs.Naming.{AreNames}
 use Rattle.green.specs.Pairing.{AreNamesOfPairs}
-use Rattle.green.specs.declared.edges.Edges.TheVariants.{Either}
-use Rattle.green.proofs.EdgeLaws.{either_right, either_left, next_within}
+use Rattle.green.specs.Related.{AreRelated, DoCommute}
+use Rattle.theory.specs.declared.Relation.{Relation}
+use Rattle.theory.specs.declared.Relation.TheVariants.{R, L, J}
+use Rattle.green.proofs.TourLaws.{reaches_on}
+use Rattle.green.proofs.FiniteLaws.{j_is_d}
 use Rattle.green.proofs.GroupLaws.{classes_same}
-
-module _ (t : CayleyTables) (fit : FitTogether t) where
-  to_both : {i j : ℕ} → Reaches (IsEdge (length t.letters + length t.letters) (next Either t)) i j → i < length t.words
-      → Reaches (IsEdgeOfEither (length t.letters) (edge t.right) (edge t.left)) i j
-  to_both here l = here
-  to_both (further {i} {j} e r) l =
-      let inside : j < length t.words = subst (λ k. k < length t.words) e.2 (next_within Either t fit i e.0 l e.1) in
-      let step : IsEdgeOfEither (length t.letters) (edge t.right) (edge t.left) i j = elim (cases_lt e.0 (length t.letters)) [
-        | inl less ↦ inl (e.0, less, sym (either_right t fit i e.0 l less) ∙ e.2)
-        | inr most ↦ inr (e.0 - length t.letters, omega (arith, most, e.1), sym (either_left t fit i e.0 l most) ∙ e.2)
-      ] in
-      further step (to_both r inside)
-
-  from_both : {i j : ℕ} → Reaches (IsEdgeOfEither (length t.letters) (edge t.right) (edge t.left)) i j → i < length t.words
-      → Reaches (IsEdge (length t.letters + length t.letters) (next Either t)) i j
-  from_both here l = here
-  from_both (further {i} {j} (inl e) r) l =
-      let inside : j < length t.words = subst (λ k. k < length t.words) e.2 (fit.right.within i e.0 l e.1) in
-      further (e.0, omega (arith, e.1), either_right t fit i e.0 l e.1 ∙ e.2) (from_both r inside)
-  from_both (further {i} {j} (inr e) r) l =
-      let inside : j < length t.words = subst (λ k. k < length t.words) e.2 (fit.left.within i e.0 l e.1) in
-      let place : length t.letters + e.0 - length t.letters ≡ e.0 = omega arith in
-      further (
-        length t.letters + e.0,
-        omega (arith, e.1),
-        either_left t fit i (length t.letters + e.0) l (omega arith) ∙ ap (edge t.left i) place ∙ e.2,
-      ) (from_both r inside)
-
-  both_connected : (i j : ℕ) → i < length t.words → j < length t.words
-      → AreConnected (IsEdge (length t.letters + length t.letters) (next Either t)) i j
-      ↔ AreConnected (IsEdgeOfEither (length t.letters) (edge t.right) (edge t.left)) i j
-  both_connected i j l m = (λ h. (to_both h.0 l, to_both h.1 m), λ h. (from_both h.0 l, from_both h.1 m))
-
-  pub names_of_either : (names : List ℕ) → AreNames (length t.words) (AreConnected (IsEdge (length t.letters + length t.letters) (next Either t))) names
-      → AreNames (length t.words) (AreConnected (IsEdgeOfEither (length t.letters) (edge t.right) (edge t.left))) names
-  names_of_either names h = record {
-    count = h.count;
-    within = h.within;
-    same = λ i j l m.
-        let by = h.same i j l m in
-        let alike = both_connected i j l m in
-        (λ e. alike.0 (by.0 e), λ r. by.1 (alike.1 r));
-  }
+use Rattle.green.proofs.Results.{if_ok}
 
 -- names of pairs are names of both relations at once
-pub names_of_both : (n : ℕ) (R S : ℕ → ℕ → Type 0) (first second names : List ℕ) → AreNames n R first → AreNames n S second → AreNamesOfPairs first second names
-    → AreNames n (λ i j. R i j × S i j) names
-names_of_both n R S first second names one two h = record {
+pub names_of_both : (n : ℕ) (One Other : ℕ → ℕ → Type 0) (first second names : List ℕ) → AreNames n One first → AreNames n Other second → AreNamesOfPairs first second names
+    → AreNames n (λ i j. One i j × Other i j) names
+names_of_both n One Other first second names one two h = record {
   count = h.count ∙ one.count;
   within = λ i l. let low = h.within i (omega (arith, l, one.count)) in omega (arith, low, one.count);
   same = λ i j l m.
@@ -69,7 +29,64 @@ names_of_both n R S first second names one two h = record {
 }
 
 -- the classes of names are those of the relation
-pub classes_by_names : (n : ℕ) (R : ℕ → ℕ → Type 0) (names : List ℕ) (classes : List (List ℕ)) → AreNames n R names
-    → AreClasses (length names) (HaveOneName names) classes → AreClasses n R classes
-classes_by_names n R names classes h c =
-    classes_same n (HaveOneName names) R h.same classes (subst (λ m. AreClasses m (HaveOneName names) classes) h.count c)
+pub classes_by_names : (n : ℕ) (One : ℕ → ℕ → Type 0) (names : List ℕ) (classes : List (List ℕ)) → AreNames n One names
+    → AreClasses (length names) (HaveOneName names) classes → AreClasses n One classes
+classes_by_names n One names classes h c =
+    classes_same n (HaveOneName names) One h.same classes (subst (λ m. AreClasses m (HaveOneName names) classes) h.count c)
+
+-- names are less than how many numbers there are
+pub small_names : (n : ℕ) (Rel : ℕ → ℕ → Type 0) (names : List ℕ) → AreNames n Rel names → AreSmall names
+small_names n Rel names h i l = let low = h.within i (omega (arith, l, h.count)) in omega (arith, low, h.count)
+
+-- what is grouped by names of a relation
+pub grouped_by_names : {X E : Type 0} (lists : X → List (List ℕ)) (r : Result X E) (t : CayleyTables) (relation given : Relation) (names : List ℕ) → given ≡ relation
+    → AreNames (length t.words) (AreRelated relation t) names → IfOk r (λ x. AreClasses (length names) (HaveOneName names) (lists x))
+    → IfOk r (λ x. AreClasses (length t.words) (AreRelated given t) (lists x))
+grouped_by_names {X} {E} lists r t relation given names e h grouped =
+    subst (λ (any : Relation). IfOk r (λ x. AreClasses (length t.words) (AreRelated any t) (lists x))) (sym e)
+    (if_ok r _ _ grouped (λ x. classes_by_names (length t.words) (AreRelated relation t) names (lists x) h))
+
+-- names of classes that meet are names of J
+module _ (t : CayleyTables) (fit : FitTogether t) (commute : DoCommute t) (first second names : List ℕ) (one : AreNames (length t.words) (AreRelated R t) first)
+    (two : AreNames (length t.words) (AreRelated L t) second) (h : AreJoinedNames first second names) where
+  j_from_l : (i j : ℕ) → i < length t.words → j < length t.words → AreRelated L t i j → AreRelated J t i j
+  j_from_l i j l m r = (j_is_d t fit commute i j l m).1 (i, l, (here, here), r)
+
+  j_on : (i m j : ℕ) → AreRelated J t i m → AreRelated J t m j → AreRelated J t i j
+  j_on i m j p q = (
+    reaches_on (IsEdgeOfEither (length t.letters) (edge t.right) (edge t.left)) p.0 q.0,
+    reaches_on (IsEdgeOfEither (length t.letters) (edge t.right) (edge t.left)) q.1 p.1,
+  )
+
+  no_greater : (i j : ℕ) → i < length t.words → j < length t.words → AreRelated J t i j → slice_index names j ≤ slice_index names i
+  no_greater i j l m r =
+      let meets = (h.at i (omega (arith, l, one.count))).meets in
+      let low : meets.0 < length t.words = omega (arith, meets.1, one.count) in
+      let joined = j_on meets.0 i j (j_from_l meets.0 i low l ((two.same meets.0 i low l).0 meets.2)) r in
+      let by = (j_is_d t fit commute meets.0 j low m).0 joined in
+      let same = (one.same meets.0 by.0 low by.1).1 by.2 in
+      let least = (h.at j (omega (arith, m, one.count))).least by.0 (omega (arith, by.1, one.count)) ((two.same by.0 j by.1 m).1 by.3) in
+      omega (arith, least, same, meets.3)
+
+  pub names_of_joined : AreNames (length t.words) (AreRelated J t) names
+  names_of_joined = record {
+    count = h.count ∙ one.count;
+    within = λ i l.
+        let meets = (h.at i (omega (arith, l, one.count))).meets in
+        let low = one.within meets.0 (omega (arith, meets.1, one.count)) in
+        omega (arith, low, meets.3);
+    same = λ i j l m. (
+      λ e.
+          let left = (h.at i (omega (arith, l, one.count))).meets in
+          let right = (h.at j (omega (arith, m, one.count))).meets in
+          let low : left.0 < length t.words = omega (arith, left.1, one.count) in
+          let high : right.0 < length t.words = omega (arith, right.1, one.count) in
+          let same = (one.same left.0 right.0 low high).0 (left.3 ∙ e ∙ sym right.3) in
+          j_on i left.0 j (j_from_l i left.0 l low ((two.same i left.0 l low).0 (sym left.2)))
+          ((j_is_d t fit commute left.0 j low m).1 (right.0, high, same, (two.same right.0 j high m).0 right.2)),
+      λ r.
+          let down = no_greater i j l m r in
+          let up = no_greater j i m l (r.1, r.0) in
+          omega (arith, down, up),
+    );
+  }

@@ -1,5 +1,7 @@
 pub mod EdgeRows
 pub mod Grouping
+pub mod Joining
+pub mod Known
 pub mod Naming
 pub mod Pairing
 pub mod Related

@@ -3,11 +3,11 @@
 // known to be connected. An edge back to the path joins all components from there on.
 ghost use Rattle.std.specs.Prelude.{◌≡◌, ◌≢◌, ℕ, ◌<◌, ◌-◌, ◌≤◌, [], length, slice_index, take, IfOk, OnOk};
 ghost use Rattle.cayley.specs.Tables.{FitTogether};
-ghost use Rattle.green.specs.EdgeRows.{width, next};
+ghost use Rattle.green.specs.EdgeRows.{next};
 ghost use Rattle.green.specs.Touring.{ArePlaced, HasClosed, HaveJoined, IsAtEdge, IsOnTop, IsTour, IsTourBut, KeepsSeen, entered, left_over, start_at, state_at, without_start};
 ghost use Rattle.green.specs.declared.depth_first.State.TheVariants.{Unseen, Done};
 
-use crate::edges::{Edges, target, width_of};
+use crate::edges::{Edges, target};
 use froidure_pin::CayleyTables;
 use ports::NoMemory;
 use std::alloc::Global;
@@ -150,15 +150,15 @@ impl DepthFirst {
     // is done.
     fn follow(&mut self, edges: Edges, tables: &CayleyTables, frame: Frame) -> Result<(), NoMemory>
         requires fit { FitTogether tables.now }
-        requires edge { frame.edge < width edges tables.now }
-        requires tour { IsTourBut (length tables.now.words) (width edges tables.now)
+        requires edge { frame.edge < length tables.now.letters }
+        requires tour { IsTourBut (length tables.now.words) (length tables.now.letters)
             (next edges tables.now) (IsAtEdge frame) self.old }
         requires top { IsOnTop self.old frame.number }
-        ensures tour { OnOk result (IsTour (length tables.now.words) (width edges tables.now)
+        ensures tour { OnOk result (IsTour (length tables.now.words) (length tables.now.letters)
             (next edges tables.now) self.new) }
         ensures seen { OnOk result (KeepsSeen self.old self.new) }
-        ensures left { OnOk result (left_over (width edges tables.now) self.new
-            ≤ left_over (width edges tables.now) self.old) }
+        ensures left { OnOk result (left_over (length tables.now.letters) self.new
+            ≤ left_over (length tables.now.letters) self.old) }
     {
         let next = target(edges, tables, frame.number, frame.edge);
         match self.state(next) {
@@ -175,14 +175,14 @@ impl DepthFirst {
     // component where no number has one left.
     fn step(&mut self, edges: Edges, tables: &CayleyTables) -> Result<(), NoMemory>
         requires fit { FitTogether tables.now }
-        requires tour { IsTour (length tables.now.words) (width edges tables.now)
+        requires tour { IsTour (length tables.now.words) (length tables.now.letters)
             (next edges tables.now) self.old }
         requires some { 0 < length self.old.starts }
-        ensures tour { OnOk result (IsTour (length tables.now.words) (width edges tables.now)
+        ensures tour { OnOk result (IsTour (length tables.now.words) (length tables.now.letters)
             (next edges tables.now) self.new) }
         ensures seen { OnOk result (KeepsSeen self.old self.new) }
-        ensures falls { OnOk result (left_over (width edges tables.now) self.new
-            < left_over (width edges tables.now) self.old) }
+        ensures falls { OnOk result (left_over (length tables.now.letters) self.new
+            < left_over (length tables.now.letters) self.old) }
     {
         let start = self.top();
         if self.frames.len() == start.frame {
@@ -193,7 +193,7 @@ impl DepthFirst {
         let Some(frame) = self.frames.pop() else {
             return Ok(());
         };
-        if frame.edge == width_of(edges, tables) {
+        if frame.edge == tables.letters.as_slice().len() {
             return Ok(());
         }
         self.frames.push(Frame {
@@ -211,11 +211,11 @@ impl DepthFirst {
         number: usize,
     ) -> Result<(), NoMemory>
         requires fit { FitTogether tables.now }
-        requires tour { IsTour (length tables.now.words) (width edges tables.now)
+        requires tour { IsTour (length tables.now.words) (length tables.now.letters)
             (next edges tables.now) self.old }
         requires rest { self.old.starts ≡ [] }
         requires number { number < length tables.now.words }
-        ensures tour { OnOk result (IsTour (length tables.now.words) (width edges tables.now)
+        ensures tour { OnOk result (IsTour (length tables.now.words) (length tables.now.letters)
             (next edges tables.now) self.new) }
         ensures rest { OnOk result (self.new.starts ≡ []) }
         ensures kept { OnOk result (KeepsSeen self.old self.new) }

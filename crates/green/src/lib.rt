@@ -7,12 +7,13 @@ mod edges;
 pub mod facts;
 mod grouping;
 mod idempotent;
+mod joining;
 mod naming;
 mod pairing;
 mod relations;
 
 pub use idempotent::idempotents;
-pub use relations::classes;
+pub use relations::ClassNames;
 pub use theory::Relation;
 
 #[cfg(test)]

@@ -2,7 +2,7 @@
 ghost use Rattle.std.specs.Prelude.{◌≡◌, ◌<◌, [], length, IfOk};
 ghost use Rattle.theory.specs.Green.{AreConnected, IsEdge};
 ghost use Rattle.cayley.specs.Tables.{FitTogether};
-ghost use Rattle.green.specs.EdgeRows.{width, next};
+ghost use Rattle.green.specs.EdgeRows.{next};
 ghost use Rattle.green.specs.Naming.{AreNames};
 ghost use Rattle.green.specs.Touring.{IsTour, state_at};
 
@@ -20,7 +20,7 @@ pub(crate) fn component_names(
 ) -> Result<Vec<usize>, NoMemory>
     requires { FitTogether tables.now }
     ensures { IfOk result (λ names. AreNames (length tables.now.words)
-        (AreConnected (IsEdge (width edges tables.now) (next edges tables.now))) names.items) }
+        (AreConnected (IsEdge (length tables.now.letters) (next edges tables.now))) names.items) }
 {
     let count = tables.words.len();
     let mut search = DepthFirst::new(alloc, count)?;

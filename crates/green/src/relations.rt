@@ -1,49 +1,135 @@
 // Classes of elements under Green's relations.
-ghost use Rattle.std.specs.Prelude.{length, map, IfOk};
-ghost use Rattle.theory.specs.Green.{AreClasses};
+ghost use Rattle.std.specs.Prelude.{◌≡◌, length, map, option_map, IfOk, IfSome, OnOk, None, Some};
+ghost use Rattle.std.specs.Option.{IsSome};
+ghost use Rattle.theory.specs.Green.{AreClasses, AreConnected, IsEdge};
 ghost use Rattle.cayley.specs.Tables.{FitTogether};
+ghost use Rattle.green.specs.EdgeRows.{next};
+ghost use Rattle.green.specs.Known.{AreNamesIn, names_along};
 ghost use Rattle.green.specs.Naming.{AreNames};
-ghost use Rattle.green.specs.Related.{AreRelated};
+ghost use Rattle.green.specs.Related.{AreRelated, DoCommute};
+ghost use Rattle.green.specs.declared.edges.Edges.{Edges};
 
 use crate::edges::Edges;
 use crate::grouping::grouped;
+use crate::joining::joined_names;
 use crate::naming::component_names;
 use crate::pairing::names_of_pairs;
 use froidure_pin::CayleyTables;
 use ports::NoMemory;
 use std::alloc::Global;
+use std::marker::Model;
 use theory::Relation;
 
-// For each number the name of its class.
-fn names(alloc: Global, tables: &CayleyTables, relation: Relation) -> Result<Vec<usize>, NoMemory>
-    requires { FitTogether tables.now }
-    ensures { IfOk result (λ names. AreNames (length tables.now.words)
-        (AreRelated relation tables.now) names.items) }
-{
-    match relation {
-        Relation::R => component_names(alloc, Edges::Right, tables),
-        Relation::L => component_names(alloc, Edges::Left, tables),
-        Relation::J => component_names(alloc, Edges::Either, tables),
-        Relation::H => {
-            let right = component_names(alloc, Edges::Right, tables)?;
-            let left = component_names(alloc, Edges::Left, tables)?;
-            names_of_pairs(alloc, &right, &left)
-        }
-    }
+/// The names of the R- and of the L-classes of the elements of one semigroup, as far as they were
+/// found. A class goes by one of its numbers. The classes of H and J are found from the names of
+/// both, and so each Cayley graph is searched once.
+#[derive(Drop)]
+pub struct ClassNames {
+    right: Option<Vec<usize>>,
+    left: Option<Vec<usize>>,
 }
 
-/// The classes of the elements of a semigroup under one of Green's relations: the numbers of each
-/// class ascending, and the classes by their least numbers. The tables are those of a whole run, or
-/// at least fit together. Linear in the size of the tables. Refused only for want of memory.
-pub fn classes(
+impl Model for ClassNames {
+    ghost use Rattle.std.specs.Prelude.{option_map};
+    ghost use Rattle.green.specs.Known.{KnownNames};
+
+    ghost Value = { KnownNames };
+
+    ghost view = { λ c. record {
+      right = option_map (λ v. v.items) c.right;
+      left = option_map (λ v. v.items) c.left;
+    } };
+}
+
+// Finds the names of the components along these edges, unless they are known.
+fn find(
     alloc: Global,
+    edges: Edges,
     tables: &CayleyTables,
-    relation: Relation,
-) -> Result<Vec<Vec<usize>>, NoMemory>
-    requires { FitTogether tables.now }
-    ensures { IfOk result (λ found. AreClasses (length tables.now.words)
-        (AreRelated relation tables.now) (map (λ c. c.items) found.items)) }
+    known: &mut Option<Vec<usize>>,
+) -> Result<(), NoMemory>
+    requires fit { FitTogether tables.now }
+    requires known { IfSome (option_map (λ v. v.items) known.old) (AreNames (length tables.now.words)
+        (AreConnected (IsEdge (length tables.now.letters) (next edges tables.now)))) }
+    ensures known { IfSome (option_map (λ v. v.items) known.new) (AreNames (length tables.now.words)
+        (AreConnected (IsEdge (length tables.now.letters) (next edges tables.now)))) }
+    ensures some { OnOk result (IsSome (option_map (λ v. v.items) known.new)) }
 {
-    let names = names(alloc, tables, relation)?;
-    grouped(alloc, &names)
+    if known.is_none() {
+        *known = Some(component_names(alloc, edges, tables)?);
+    }
+    Ok(())
+}
+
+// The names that are known.
+fn names(known: &Option<Vec<usize>>) -> &[usize]
+    requires { IsSome (option_map (λ v. v.items) known.now) }
+    ensures { option_map (λ v. v.items) known.now ≡ Some result.now }
+{
+    known.as_ref().unwrap().as_slice()
+}
+
+impl ClassNames {
+    /// Nothing is found yet.
+    pub fn new() -> ClassNames
+        ensures right { result.right ≡ None }
+        ensures left { result.left ≡ None }
+    {
+        ClassNames {
+            right: None,
+            left: None,
+        }
+    }
+
+    // Finds the names of the classes of R and L.
+    fn find_both(&mut self, alloc: Global, tables: &CayleyTables) -> Result<(), NoMemory>
+        requires fit { FitTogether tables.now }
+        requires known { AreNamesIn tables.now self.old }
+        ensures known { AreNamesIn tables.now self.new }
+        ensures right { OnOk result (IsSome self.new.right) }
+        ensures left { OnOk result (IsSome self.new.left) }
+    {
+        find(alloc, Edges::Right, tables, &mut self.right)?;
+        find(alloc, Edges::Left, tables, &mut self.left)
+    }
+
+    /// The classes of the elements of a semigroup under one of Green's relations: the numbers of
+    /// each class ascending, and the classes by their least numbers. The tables are those of a
+    /// whole run, or at least fit together, and their edges commute. They are those of earlier
+    /// calls, or others with the same names. Linear in the size of the tables. Refused only for
+    /// want of memory; what was found is kept.
+    pub fn classes(
+        &mut self,
+        alloc: Global,
+        tables: &CayleyTables,
+        relation: Relation,
+    ) -> Result<Vec<Vec<usize>>, NoMemory>
+        requires fit { FitTogether tables.now }
+        requires commute { DoCommute tables.now }
+        requires known { AreNamesIn tables.now self.old }
+        ensures known { AreNamesIn tables.now self.new }
+        ensures classes { IfOk result (λ found. AreClasses (length tables.now.words)
+            (AreRelated relation tables.now) (map (λ c. c.items) found.items)) }
+    {
+        match relation {
+            Relation::R => {
+                find(alloc, Edges::Right, tables, &mut self.right)?;
+                grouped(alloc, names(&self.right))
+            }
+            Relation::L => {
+                find(alloc, Edges::Left, tables, &mut self.left)?;
+                grouped(alloc, names(&self.left))
+            }
+            Relation::H => {
+                self.find_both(alloc, tables)?;
+                let pairs = names_of_pairs(alloc, names(&self.right), names(&self.left))?;
+                grouped(alloc, &pairs)
+            }
+            Relation::J => {
+                self.find_both(alloc, tables)?;
+                let joined = joined_names(alloc, names(&self.right), names(&self.left))?;
+                grouped(alloc, &joined)
+            }
+        }
+    }
 }
