@@ -1,15 +1,13 @@
 -- Numbers stand in one class exactly where their words' values are related, and are listed exactly
 -- where these are idempotent.
-use Rattle.std.proofs.Common.{◌≡◌, ℕ, zero, suc, ◌+◌, ◌<◌, ◌↔◌, Bool, false, List, [], ◌∷◌, ◌++◌, length, slice_index_or, refl, sym, subst, arith, inl, inr, ◌⊎◌, Option, Some, None, Contains}
+use Rattle.std.proofs.Common.{◌≡◌, ℕ, zero, suc, ◌+◌, ◌<◌, ◌↔◌, Bool, false, List, [], ◌∷◌, length, slice_index_or, refl, sym, subst, arith, inl, inr, ◌⊎◌, Option, Some, None, Contains}
 use Rattle.std.proofs.lemmas.Bool.{cases_eq, cases_lt}
 use Rattle.theory.specs.Word.{Word, IsElement, IsOver}
 use Rattle.theory.specs.Listing.{IsListOf, IsAfter}
-use Rattle.theory.specs.Value.{IsProduct, SameValue}
+use Rattle.theory.specs.Value.{IsProduct}
 use Rattle.theory.specs.Green.{here, IsEdge, IsEdgeOfEither, AreConnected, IsFirst, IsInClassOf, AreClassesAt, AreClasses, IsIdempotent}
 use Rattle.theory.proofs.ClassListLaws.{one_class_related, related_one_class}
 use Rattle.theory.proofs.Counting.{IsIn, in_from_contains, contains_from_in}
-use Rattle.theory.proofs.GeneratedLaws.{same_symm, same_trans}
-use Rattle.theory.proofs.ValueLaws.{value_kept_left, value_kept_right}
 use Rattle.theory.proofs.GreenLaws.{green_r, green_l, green_h, green_j, idempotent_follows}
 use Rattle.elements.specs.Generators.{HaveOneShape, value_by}
 use Rattle.froidure_pin.specs.declared.tables.CayleyTables.{CayleyTables}
@@ -19,6 +17,7 @@ use Rattle.green.specs.Related.{AreOfLetters, AreRelated, DoCommute, IsIdempoten
 use Rattle.green.specs.Told.{IsGreen, StandTogether}
 use Rattle.theory.specs.declared.Relation.{Relation}
 use Rattle.theory.specs.declared.Relation.TheVariants.{R, L, H, J}
+use Rattle.green.proofs.CommuteLaws.{edges_commute}
 use Rattle.green.proofs.TourLaws.{reaches_on}
 
 -- what is listed has the property, and what has it is listed
@@ -129,32 +128,11 @@ module _ {V : Type 0} (shape : V → ℕ × ℕ) (product : V → V → V) (equa
   shaped a h = one_shape a 0 unused h (omega (arith, h))
 
   -- a letter on the left and one on the right
-  pub edges_commute : DoCommute t
-  edges_commute i a b l less low =
-      let letter : a < length generators = omega (arith, less, tables.letters) in
-      let other : b < length generators = omega (arith, low, tables.letters) in
-      let behind = tables.numbered.on_right i a l letter in
-      let before = tables.numbered.on_left i b l other in
-      let then_before = tables.numbered.on_left (edge t.right i a) b behind.0 other in
-      let then_behind = tables.numbered.on_right (edge t.left i b) a before.0 letter in
-      tables.numbered.distinct (edge t.left (edge t.right i a) b) (edge t.right (edge t.left i b) a) then_before.0 then_behind.0
-      (trans_at (word_at t (edge t.left (edge t.right i a) b)) (b ∷ (word_at t i ++ a ∷ [])) (word_at t (edge t.right (edge t.left i b) a))
-      (symm_at (b ∷ (word_at t i ++ a ∷ [])) (word_at t (edge t.left (edge t.right i a) b))
-      (trans_at (b ∷ (word_at t i ++ a ∷ [])) (b ∷ word_at t (edge t.right i a)) (word_at t (edge t.left (edge t.right i a) b))
-      (value_kept_left (λ x. shape x ≡ shape (slice_index_or generators 0 unused)) product equal (products (shape (slice_index_or generators 0 unused))) (length generators)
-      (λ c. slice_index_or generators c unused) unused shaped (b ∷ []) (word_at t i ++ a ∷ []) (word_at t (edge t.right i a)) behind.1 (other, tt)) then_before.1))
-      (trans_at (b ∷ (word_at t i ++ a ∷ [])) (word_at t (edge t.left i b) ++ a ∷ []) (word_at t (edge t.right (edge t.left i b) a))
-      (value_kept_right (λ x. shape x ≡ shape (slice_index_or generators 0 unused)) product equal (products (shape (slice_index_or generators 0 unused))) (length generators)
-      (λ c. slice_index_or generators c unused) unused shaped (b ∷ word_at t i) (word_at t (edge t.left i b)) (a ∷ []) before.1 (letter, tt)) then_behind.1))
-    where
-      symm_at : (u v : Word) → SameValue (length generators) equal (value_by product generators unused) u v → SameValue (length generators) equal (value_by product generators unused) v u
-      symm_at = same_symm (λ x. shape x ≡ shape (slice_index_or generators 0 unused)) product equal (products (shape (slice_index_or generators 0 unused))) (length generators)
-          (λ c. slice_index_or generators c unused) unused shaped
-
-      trans_at : (u v w : Word) → SameValue (length generators) equal (value_by product generators unused) u v
-          → SameValue (length generators) equal (value_by product generators unused) v w → SameValue (length generators) equal (value_by product generators unused) u w
-      trans_at = same_trans (λ x. shape x ≡ shape (slice_index_or generators 0 unused)) product equal (products (shape (slice_index_or generators 0 unused))) (length generators)
-          (λ c. slice_index_or generators c unused) unused shaped
+  pub tables_commute : DoCommute t
+  tables_commute i a b l less low =
+      edges_commute (λ x. shape x ≡ shape (slice_index_or generators 0 unused)) product equal (products (shape (slice_index_or generators 0 unused))) (length generators)
+      (λ c. slice_index_or generators c unused) unused shaped (length t.words) (word_at t) (edge t.right) (edge t.left) tables.numbered i a b l
+      (omega (arith, less, tables.letters)) (omega (arith, low, tables.letters))
 
   module _ (u v : Word) (e : IsElement false (length generators) u) (f : IsElement false (length generators) v) where
     by_relation : (relation : Relation) → IsGreen relation product equal (length generators) (value_by product generators unused)

@@ -1,4 +1,4 @@
-use Rattle.green.proofs.ToldLaws.{of_letters, edges_commute}
+use Rattle.green.proofs.ToldLaws.{of_letters, tables_commute}
 use Rattle.green.proofs.facts.tables_serve.Goals as goal
 
 pub returns-clause-words : goal.returns-clause-words
@@ -6,4 +6,4 @@ returns-clause-words g c = of_letters g.V.Values.product g.V.PartialEq.eq
 
 pub returns-clause-commute : goal.returns-clause-commute
 returns-clause-commute g c generators unused one tables are =
-    edges_commute g.V.Values.shape g.V.Values.product g.V.PartialEq.eq g.met.V.Values.products generators unused one tables are
+    tables_commute g.V.Values.shape g.V.Values.product g.V.PartialEq.eq g.met.V.Values.products generators unused one tables are
