@@ -1,7 +1,6 @@
 -- Idempotents are found in order.
-use Rattle.std.proofs.Common.{◌≡◌, ℕ, ◌+◌, ◌<◌, ◌++◌, List, [], ◌∷◌, length, reverse, subst, arith, inl, inr, None}
+use Rattle.std.proofs.Common.{◌≡◌, ℕ, ◌+◌, ◌<◌, ◌++◌, List, [], ◌∷◌, length, subst, arith, inl, inr, None}
 use Rattle.std.proofs.lemmas.Bool.{cases_eq}
-use Rattle.std.proofs.lemmas.List.{reverse-append}
 use Rattle.theory.specs.Listing.{IsListOf}
 use Rattle.theory.proofs.Listings.{list_same}
 use Rattle.froidure_pin.specs.declared.tables.CayleyTables.{CayleyTables}
@@ -42,7 +41,3 @@ module _ (t : CayleyTables) (m : ℕ) (found : List ℕ) (h : IsListOf (IsFoundB
 
 pub found_none : (t : CayleyTables) → IsListOf (IsFoundBefore t 0) ◌<◌ None []
 found_none t y f a = let low = f.before in omega (arith, low)
-
--- the last letter comes first
-pub reverse_push : (xs : List ℕ) (x : ℕ) → reverse (xs ++ x ∷ []) ≡ x ∷ reverse xs
-reverse_push xs x = reverse-append xs (x ∷ [])

@@ -12,5 +12,5 @@ pub mod JoinLaws
 pub mod FiniteLaws
 pub mod RelationLaws
 pub mod IdempotentLaws
-pub mod CommuteLaws
+pub mod NumberedLaws
 pub mod ToldLaws

@@ -8,7 +8,7 @@ use Rattle.theory.specs.Value.{IsProduct}
 use Rattle.theory.specs.Green.{here, IsEdge, IsEdgeOfEither, AreConnected, IsFirst, IsInClassOf, AreClassesAt, AreClasses, IsIdempotent}
 use Rattle.theory.proofs.ClassListLaws.{one_class_related, related_one_class}
 use Rattle.theory.proofs.Counting.{IsIn, in_from_contains, contains_from_in}
-use Rattle.theory.proofs.GreenLaws.{green_r, green_l, green_h, green_j, idempotent_follows}
+use Rattle.theory.proofs.GreenLaws.{green_r, green_l, green_h, green_j}
 use Rattle.elements.specs.Generators.{HaveOneShape, value_by}
 use Rattle.froidure_pin.specs.declared.tables.CayleyTables.{CayleyTables}
 use Rattle.cayley.specs.Tables.{edge, word_at, number_in}
@@ -17,7 +17,7 @@ use Rattle.green.specs.Related.{AreOfLetters, AreRelated, DoCommute, IsIdempoten
 use Rattle.green.specs.Told.{IsGreen, StandTogether}
 use Rattle.theory.specs.declared.Relation.{Relation}
 use Rattle.theory.specs.declared.Relation.TheVariants.{R, L, H, J}
-use Rattle.green.proofs.CommuteLaws.{edges_commute}
+use Rattle.green.proofs.NumberedLaws.{edges_commute, idempotent_leads}
 use Rattle.green.proofs.TourLaws.{reaches_on}
 
 -- what is listed has the property, and what has it is listed
@@ -175,7 +175,7 @@ module _ {V : Type 0} (shape : V → ℕ × ℕ) (product : V → V → V) (equa
   pub told_by_numbers : (found : List ℕ) → IsListOf (IsIdempotentAt t) ◌<◌ None found → (u : Word) → IsElement false (length generators) u
       → IsIdempotent product equal (value_by product generators unused u) ↔ Contains found (number_in t u)
   told_by_numbers found l u e =
-      let by = idempotent_follows (λ x. shape x ≡ shape (slice_index_or generators 0 unused)) product equal (products (shape (slice_index_or generators 0 unused))) (length generators)
+      let by = idempotent_leads (λ x. shape x ≡ shape (slice_index_or generators 0 unused)) product equal (products (shape (slice_index_or generators 0 unused))) (length generators)
       (λ a. slice_index_or generators a unused) unused shaped (length t.words) (word_at t) (edge t.right) (edge t.left) tables.numbered u (number_in t u) (tables.every u e) in (
         λ g. contains_from_in (number_in t u) found (has_listed (IsIdempotentAt t) None found l (number_in t u) (record { below = (tables.every u e).0; back = by.0 g }) tt),
         λ m. by.1 (listed_has (IsIdempotentAt t) None found l (number_in t u) (in_from_contains (number_in t u) found m)).back,

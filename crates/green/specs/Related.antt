@@ -1,5 +1,5 @@
 -- Green's relations on the numbers of elements (Howie 1995, ch. 2).
-use Rattle.std.specs.Prelude.{◌≡◌, ℕ, ◌<◌, length}
+use Rattle.std.specs.Prelude.{◌≡◌, ℕ, ◌<◌, length, reverse}
 use Rattle.theory.specs.Word.{IsOver}
 use Rattle.theory.specs.Green.{AreConnected, IsEdge, IsEdgeOfEither, follow}
 use Rattle.froidure_pin.specs.declared.tables.CayleyTables.{CayleyTables}
@@ -24,7 +24,7 @@ DoCommute t = (i a b : ℕ) → i < length t.words → a < length t.letters → 
 abbrev pub AreOfLetters : CayleyTables → Type 0
 AreOfLetters t = (i : ℕ) → i < length t.words → IsOver (length t.letters) (word_at t i)
 
--- the number's own word leads in the right Cayley graph from it back to it
+-- the number's own word, its last letter first, leads in the left Cayley graph from it back to it
 pub record IsIdempotentAt (t : CayleyTables) (i : ℕ) : Type 0 where
   pub below : i < length t.words
-  pub back : follow (edge t.right) i (word_at t i) ≡ i
+  pub back : follow (edge t.left) i (reverse (word_at t i)) ≡ i
