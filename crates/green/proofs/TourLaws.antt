@@ -1,8 +1,7 @@
 -- The search for strongly connected components: what its steps keep.
-use Rattle.std.proofs.Common.{◌≡◌, ◌≢◌, ℕ, zero, suc, ◌+◌, ◌-◌, ◌<◌, ◌≤◌, ◌↔◌, List, [], ◌∷◌, ◌++◌, length, get_or, slice_index, take, set, refl, sym, ◌∙◌, ap, subst, arith, inl, inr, ◌⊎◌, length-set}
-use Rattle.std.proofs.Math.ListN.{get_or-append}
+use Rattle.std.proofs.Common.{◌≡◌, ◌≢◌, ℕ, zero, suc, ◌+◌, ◌-◌, ◌<◌, ◌≤◌, ◌↔◌, List, [], ◌∷◌, length, get_or, slice_index, take, set, refl, sym, ◌∙◌, ap, subst, arith, inl, inr, ◌⊎◌, length-set}
 use Rattle.std.proofs.lemmas.Bool.{cases_eq, cases_lt}
-use Rattle.std.proofs.lemmas.List.{get_or_push, get_or-set_same, get_or-set_other, get_or-take, length_push}
+use Rattle.std.proofs.lemmas.List.{get_or-set_same, get_or-set_other, get_or-take}
 use Rattle.std.proofs.lemmas.List.Sums.{sum_by-set}
 use Rattle.theory.specs.Green.{Reaches, here, further, IsEdge}
 use Rattle.green.specs.Touring.{Tour, state_at, start_at, ArePlaced, IsCut, IsTourBut, IsTour, IsOnTop, HaveJoined, HasClosed, weight}
@@ -47,43 +46,6 @@ seen_below states i seen = elim (cases_lt i (length states)) [ inl l ↦ l | inr
 pub reaches_on : (Edge : ℕ → ℕ → Type 0) {i j l : ℕ} → Reaches Edge i j → Reaches Edge j l → Reaches Edge i l
 reaches_on Edge here y = y
 reaches_on Edge (further e x) y = further e (reaches_on Edge x y)
-
--- no number is seen
-pub began : (n w : ℕ) (next : ℕ → ℕ → ℕ) (states : List State) → length states ≡ n → ((i : ℕ) → state_at states i ≡ Unseen)
-    → IsTour n w next (record { states = states; path = []; frames = []; starts = [] })
-began n w next states count unseen = record {
-  count = count;
-  placed = record { placed = λ i p e. absurd (unseen_or_on p (state_at states i) (unseen i) e); on_path = λ p h. absurd (omega arith) };
-  starts = record {
-    ascending = λ j k l h. absurd (omega arith);
-    places = λ k h. absurd (omega arith);
-    within = λ k h. absurd (omega arith);
-    first = λ h. absurd (omega arith);
-    some = λ h. absurd (omega arith);
-  };
-  done = record {
-    named = λ i c e. absurd (unseen_or_done c (state_at states i) (unseen i) e);
-    closed = λ i c a e h. absurd (unseen_or_done c (state_at states i) (unseen i) e);
-  };
-  upward = λ p q l h. absurd (omega arith);
-  downward = λ p q l h. absurd (omega arith);
-  edges = λ q a h l. absurd (omega arith);
-  frames = λ f h. absurd (omega arith);
-}
-
--- All are unseen, so far.
-pub all_unseen : (states more : List State) (count : ℕ) → length states ≡ count → ((i : ℕ) → state_at states i ≡ Unseen) → more ≡ states ++ Unseen ∷ []
-    → (length more ≡ count + 1) × ((i : ℕ) → state_at more i ≡ Unseen)
-all_unseen states more count long unseen is = (
-  ap length is ∙ length_push states Unseen ∙ ap (λ n. n + 1) long,
-  λ i. ap (λ (xs : List State). state_at xs i) is ∙ elim (cases_lt i (length states)) [
-    | inl l ↦ get_or-append states (Unseen ∷ []) Unseen i l ∙ unseen i
-    | inr m ↦ elim (cases_eq i (length states)) [
-      | inl e ↦ get_or_push states Unseen Unseen i (sym e)
-      | inr d ↦ past (states ++ Unseen ∷ []) i Unseen (omega (arith, m, d, length_push states Unseen))
-    ]
-  ],
-)
 
 -- Starts are dropped from the end.
 pub record AreJoining (place : ℕ) (starts now : List Start) : Type 0 where

@@ -3,19 +3,12 @@ use Rattle.std.specs.Prelude.{ℕ, List, length, Option, IfSome}
 use Rattle.froidure_pin.specs.declared.tables.CayleyTables.{CayleyTables}
 use Rattle.green.specs.Naming.{AreNames}
 use Rattle.green.specs.Related.{AreRelated}
-use Rattle.green.specs.declared.edges.Edges.{Edges}
-use Rattle.green.specs.declared.edges.Edges.TheVariants.{Right, Left}
 use Rattle.theory.specs.declared.Relation.TheVariants.{R, L}
 
 -- the names of the R- and of the L-classes
 pub record KnownNames : Type 0 where
   pub right : Option (List ℕ)
   pub left : Option (List ℕ)
-
--- those that are known of the components along these edges
-abbrev pub names_along : Edges → KnownNames → Option (List ℕ)
-names_along Right known = known.right
-names_along Left known = known.left
 
 -- what is known of the names of R- and L-classes is right
 pub record AreNamesIn (t : CayleyTables) (known : KnownNames) : Type 0 where

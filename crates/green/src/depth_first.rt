@@ -65,12 +65,8 @@ impl DepthFirst {
         ensures tour { IfOk result (λ new. (w : ℕ) (next : ℕ → ℕ → ℕ) → IsTour count w next new) }
         ensures rest { IfOk result (λ new. new.starts ≡ []) }
     {
-        let mut states = Vec::new(alloc);
-        for _ in 0..count {
-            states.push(State::Unseen)?;
-        }
         Ok(DepthFirst {
-            states,
+            states: vec![in alloc; State::Unseen; count]?,
             path: Vec::new(alloc),
             frames: Vec::new(alloc),
             starts: Vec::new(alloc),
@@ -247,7 +243,7 @@ impl DepthFirst {
         ensures at { IfOk result (λ names. (i name : ℕ) → i < length self.now.states
             → state_at self.now.states i ≡ Done name → slice_index names.items i ≡ name) }
     {
-        let mut names = Vec::new(alloc);
+        let mut names = Vec::with_capacity(alloc, self.states.len())?;
         for number in 0..self.states.len() {
             names.push(self.name(number))?;
         }

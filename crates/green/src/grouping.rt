@@ -49,10 +49,7 @@ pub(crate) fn grouped(alloc: Global, names: &[usize]) -> Result<Vec<Vec<usize>>,
     ensures { IfOk result (λ classes. AreClasses (length names.now) (HaveOneName names.now)
         (map (λ v. v.items) classes.items)) }
 {
-    let mut places: Vec<Option<usize>> = Vec::new(alloc);
-    for _ in 0..names.len() {
-        places.push(None)?;
-    }
+    let mut places: Vec<Option<usize>> = vec![in alloc; None; names.len()]?;
     let mut classes = Vec::new(alloc);
     for number in 0..names.len() {
         add(alloc, names, number, &mut places, &mut classes)?;

@@ -1,9 +1,8 @@
 // A name for each strongly connected component.
 ghost use Rattle.std.specs.Prelude.{◌≡◌, ◌<◌, [], length, IfOk};
-ghost use Rattle.theory.specs.Green.{AreConnected, IsEdge};
 ghost use Rattle.cayley.specs.Tables.{FitTogether};
 ghost use Rattle.green.specs.EdgeRows.{next};
-ghost use Rattle.green.specs.Naming.{AreNames};
+ghost use Rattle.green.specs.Naming.{AreNamesAlong};
 ghost use Rattle.green.specs.Touring.{IsTour, state_at};
 
 use crate::depth_first::DepthFirst;
@@ -19,8 +18,7 @@ pub(crate) fn component_names(
     tables: &CayleyTables,
 ) -> Result<Vec<usize>, NoMemory>
     requires { FitTogether tables.now }
-    ensures { IfOk result (λ names. AreNames (length tables.now.words)
-        (AreConnected (IsEdge (length tables.now.letters) (next edges tables.now))) names.items) }
+    ensures { IfOk result (λ names. AreNamesAlong edges tables.now names.items) }
 {
     let count = tables.words.len();
     let mut search = DepthFirst::new(alloc, count)?;

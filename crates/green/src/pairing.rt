@@ -16,7 +16,7 @@ pub(crate) fn names_of_pairs(
     ensures { IfOk result (λ names. AreNamesOfPairs first.now second.now names.items) }
 {
     let mut pairs: IndexSet<(usize, usize)> = IndexSet::new(alloc);
-    let mut names = Vec::new(alloc);
+    let mut names = Vec::with_capacity(alloc, first.len())?;
     for number in 0..first.len() {
         let (place, _) = pairs.insert_full((first[number], second[number]))?;
         names.push(place)?;

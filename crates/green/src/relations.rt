@@ -1,13 +1,12 @@
 // Classes of elements under Green's relations.
 ghost use Rattle.std.specs.Prelude.{◌≡◌, length, map, option_map, IfOk, IfSome, OnOk, None, Some};
 ghost use Rattle.std.specs.Option.{IsSome};
-ghost use Rattle.theory.specs.Green.{AreClasses, AreConnected, IsEdge};
+ghost use Rattle.theory.specs.Green.{AreClasses};
+ghost use Rattle.froidure_pin.specs.declared.tables.CayleyTables.{CayleyTables};
 ghost use Rattle.cayley.specs.Tables.{FitTogether};
-ghost use Rattle.green.specs.EdgeRows.{next};
-ghost use Rattle.green.specs.Known.{AreNamesIn, names_along};
-ghost use Rattle.green.specs.Naming.{AreNames};
+ghost use Rattle.green.specs.Known.{AreNamesIn};
+ghost use Rattle.green.specs.Naming.{AreNamesAlong};
 ghost use Rattle.green.specs.Related.{AreRelated, DoCommute};
-ghost use Rattle.green.specs.declared.edges.Edges.{Edges};
 
 use crate::edges::Edges;
 use crate::grouping::grouped;
@@ -49,10 +48,10 @@ fn find(
     known: &mut Option<Vec<usize>>,
 ) -> Result<(), NoMemory>
     requires fit { FitTogether tables.now }
-    requires known { IfSome (option_map (λ v. v.items) known.old) (AreNames (length tables.now.words)
-        (AreConnected (IsEdge (length tables.now.letters) (next edges tables.now)))) }
-    ensures known { IfSome (option_map (λ v. v.items) known.new) (AreNames (length tables.now.words)
-        (AreConnected (IsEdge (length tables.now.letters) (next edges tables.now)))) }
+    requires known { IfSome (option_map (λ v. v.items) known.old)
+        (AreNamesAlong edges tables.now) }
+    ensures known { IfSome (option_map (λ v. v.items) known.new)
+        (AreNamesAlong edges tables.now) }
     ensures some { OnOk result (IsSome (option_map (λ v. v.items) known.new)) }
 {
     if known.is_none() {
@@ -72,8 +71,8 @@ fn names(known: &Option<Vec<usize>>) -> &[usize]
 impl ClassNames {
     /// Nothing is found yet.
     pub fn new() -> ClassNames
-        ensures right { result.right ≡ None }
-        ensures left { result.left ≡ None }
+        ensures nothing { result ≡ record { right = None; left = None } }
+        ensures known { (t : CayleyTables) → AreNamesIn t result }
     {
         ClassNames {
             right: None,
@@ -95,9 +94,9 @@ impl ClassNames {
 
     /// The classes of the elements of a semigroup under one of Green's relations: the numbers of
     /// each class ascending, and the classes by their least numbers. The tables are those of a
-    /// whole run, or at least fit together, and their edges commute. They are those of earlier
-    /// calls, or others with the same names. Linear in the size of the tables. Refused only for
-    /// want of memory; what was found is kept.
+    /// whole run, or at least fit together and have edges that commute, and those of each call on
+    /// these names. Linear in the size of the tables; a graph that was searched before is not
+    /// searched again. Refused only for want of memory, and then what was found is kept.
     pub fn classes(
         &mut self,
         alloc: Global,

@@ -1,7 +1,8 @@
 ghost use Rattle.std.specs.Prelude.{◌≡◌, ◌<◌, ◌≤◌, length, IfOk};
 ghost use Rattle.elements.specs.Generators.{HaveOneShape};
 ghost use Rattle.cayley.specs.Tables.{FitTogether};
-ghost use Rattle.green.specs.Related.{AreOfLetters};
+ghost use Rattle.green.specs.Known.{AreNamesIn};
+ghost use Rattle.green.specs.Related.{AreOfLetters, DoCommute};
 
 use super::*;
 use elements::{Field, Transf};
@@ -52,7 +53,9 @@ fn run<L: Ledger>(alloc: Global, blank: Blank, maps: &Vec<Transf>) -> Result<Cay
     requires shape { HaveOneShape (λ m. (length m, 0)) maps.now.items }
     ensures fit { IfOk result FitTogether }
     ensures words { IfOk result AreOfLetters }
+    ensures commute { IfOk result DoCommute }
 {
+    facts::tables_serve::<Transf>();
     let mut steps = Steps::<L>::open(blank);
     match FroidurePin::run(alloc, maps, 100, &mut steps)? {
         Run::Whole(table) => Ok(table.tables()?),
@@ -64,19 +67,26 @@ fn run<L: Ledger>(alloc: Global, blank: Blank, maps: &Vec<Transf>) -> Result<Cay
 fn tables_of(alloc: Global, table: &[&[u32]]) -> Result<CayleyTables, NoMemory>
     ensures fit { IfOk result FitTogether }
     ensures words { IfOk result AreOfLetters }
+    ensures commute { IfOk result DoCommute }
 {
     let maps = maps_of(alloc, table)?;
     run::<Brand>(alloc, Blank::new(1), &maps)
 }
 
 // For each number the place of its class.
-fn places(alloc: Global, table: &[&[u32]], relation: Relation) -> Result<Vec<usize>, NoMemory> {
-    let tables = tables_of(alloc, table)?;
-    let found = classes(alloc, &tables, relation)?;
-    let mut places = Vec::new(alloc);
-    for _ in 0..tables.words.len() {
-        places.push(found.len())?;
-    }
+fn places(
+    alloc: Global,
+    tables: &CayleyTables,
+    names: &mut ClassNames,
+    relation: Relation,
+) -> Result<Vec<usize>, NoMemory>
+    requires fit { FitTogether tables.now }
+    requires commute { DoCommute tables.now }
+    requires known { AreNamesIn tables.now names.old }
+    ensures known { AreNamesIn tables.now names.new }
+{
+    let found = names.classes(alloc, tables, relation)?;
+    let mut places = vec![in alloc; found.len(); tables.words.len()]?;
     for (place, class) in found.iter().enumerate() {
         for number in class {
             if *number < places.len() {
@@ -87,11 +97,32 @@ fn places(alloc: Global, table: &[&[u32]], relation: Relation) -> Result<Vec<usi
     Ok(places)
 }
 
+// The places where nothing was asked before.
+fn alone(alloc: Global, table: &[&[u32]], relation: Relation) -> Result<Vec<usize>, NoMemory> {
+    let tables = tables_of(alloc, table)?;
+    places(alloc, &tables, &mut ClassNames::new(), relation)
+}
+
+// The places under these relations, one after another by the same names.
+fn in_turn(
+    alloc: Global,
+    table: &[&[u32]],
+    relations: &[Relation],
+) -> Result<Vec<Vec<usize>>, NoMemory> {
+    let tables = tables_of(alloc, table)?;
+    let mut names = ClassNames::new();
+    let mut found = Vec::new(alloc);
+    for relation in relations {
+        found.push(places(alloc, &tables, &mut names, *relation)?)?;
+    }
+    Ok(found)
+}
+
 // How many numbers each class has.
 fn sizes(alloc: Global, table: &[&[u32]], relation: Relation) -> Result<Vec<usize>, NoMemory> {
     let tables = tables_of(alloc, table)?;
     let mut sizes = Vec::new(alloc);
-    for class in &classes(alloc, &tables, relation)? {
+    for class in &ClassNames::new().classes(alloc, &tables, relation)? {
         sizes.push(class.len())?;
     }
     Ok(sizes)
@@ -114,7 +145,7 @@ fn brandt(rt: HostRuntime) -> Result<(), Fail> {
         (Relation::H, [0, 1, 2, 3, 4]),
         (Relation::J, [0, 0, 1, 0, 0]),
     ] {
-        let found = places(rt.alloc(), &BRANDT, relation)?;
+        let found = alone(rt.alloc(), &BRANDT, relation)?;
         assert_eq!(rt; found.as_slice(), want.as_slice());
     }
     Ok(())
@@ -131,9 +162,24 @@ fn band(rt: HostRuntime) -> Result<(), Fail> {
         (Relation::H, [0, 1, 2, 3, 4, 5]),
         (Relation::J, [0, 1, 2, 2, 2, 2]),
     ] {
-        let found = places(rt.alloc(), &BAND, relation)?;
+        let found = alone(rt.alloc(), &BAND, relation)?;
         assert_eq!(rt; found.as_slice(), want.as_slice());
     }
+    Ok(())
+}
+
+// What is known of a semigroup changes nothing.
+#[test]
+fn classes_in_either_order(rt: HostRuntime) -> Result<(), Fail> {
+    let order = [Relation::R, Relation::L, Relation::H, Relation::J];
+    let forth = in_turn(rt.alloc(), &BAND, &order)?;
+    let mut back = in_turn(
+        rt.alloc(),
+        &BAND,
+        &[Relation::J, Relation::H, Relation::L, Relation::R],
+    )?;
+    back.reverse();
+    assert!(rt; forth == back);
     Ok(())
 }
 

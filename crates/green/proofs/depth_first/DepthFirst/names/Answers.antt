@@ -4,7 +4,7 @@ use Rattle.green.proofs.NameLaws.{names_more}
 use Rattle.green.proofs.depth_first.DepthFirst.names.Goals as goal
 
 pub loop-number-init : goal.loop-number-init
-loop-number-init c = record { count = ap length c.new-names.ensures.items; at = λ i c l e. absurd (omega arith) }
+loop-number-init c = record { count = ap length c.in_ok-names.ensures.items; at = λ i c l e. absurd (omega arith) }
 
 pub loop-number-preserved : goal.loop-number-preserved
 loop-number-preserved c =
