@@ -20,8 +20,9 @@ use std::marker::Model;
 use theory::Relation;
 
 /// The names of the R- and of the L-classes of the elements of one semigroup, as far as they were
-/// found. A class goes by one of its numbers. The classes of H and J are found from the names of
-/// both, and so each Cayley graph is searched once.
+/// found. A class goes by one of its numbers, and classes are found by these names: those of H by
+/// the pairs of both, and those of J by the least R-class that meets an L-class, since in a finite
+/// semigroup J is D (Howie 1995, proposition 2.1.4).
 #[derive(Drop)]
 pub struct ClassNames {
     right: Option<Vec<usize>>,
@@ -94,9 +95,9 @@ impl ClassNames {
 
     /// The classes of the elements of a semigroup under one of Green's relations: the numbers of
     /// each class ascending, and the classes by their least numbers. The tables are those of a
-    /// whole run, or at least fit together and have edges that commute, and those of each call on
-    /// these names. Linear in the size of the tables; a graph that was searched before is not
-    /// searched again. Refused only for want of memory, and then what was found is kept.
+    /// whole run, or at least fit together and have edges that commute, and the same ones at each
+    /// call. Linear in the size of the tables; no graph is searched twice. Refused only for want of
+    /// memory, and then what was found is kept.
     pub fn classes(
         &mut self,
         alloc: Global,
