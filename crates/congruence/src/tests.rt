@@ -1,8 +1,8 @@
 // Congruences on the symmetric group of degree three, on a semilattice, on a cyclic group and on
 // the bicyclic monoid.
-ghost use Rattle.std.specs.Prelude.{◌≡◌, true, length, IfOk, IfSome};
+ghost use Rattle.std.specs.Prelude.{◌≡◌, true, [], length, IfOk, IfSome};
 ghost use Rattle.theory.specs.Word.{IsOver};
-ghost use Rattle.problem.specs.Problem.{allows_rules, count_of, has_empty_word};
+ghost use Rattle.problem.specs.Problem.{IsPosable, allows_rules, count_of, has_empty_word};
 
 use super::*;
 use crate::solving::decide;
@@ -65,6 +65,25 @@ fn budgets(defs: usize, rows: usize, length: usize) -> Budgets {
     }
 }
 
+// The congruence without pairs.
+fn without_pairs(alloc: Global, presentation: Presentation) -> Congruence
+    ensures kind { result.congruence.kind ≡ Kind.TwoSided }
+    ensures pairs { result.congruence.pairs ≡ [] }
+{
+    Congruence::new(presentation, Kind::TwoSided, Pairs::new(alloc))
+}
+
+// The problem of the congruence, which is small.
+fn posed(rt: &impl Abort, congruence: Congruence) -> Result<Problem, Fail>
+    ensures posable { IfOk result IsPosable }
+    ensures problem { IfOk result (λ p. p ≡ Problem.Presented congruence) }
+{
+    assert!(rt; congruence.presentation().relations().len() < 10);
+    assert!(rt; congruence.pairs().len() < 10);
+    assert!(rt; !congruence.presentation().alphabet().has_marker());
+    Ok(Problem::Presented(congruence))
+}
+
 // What is known of the congruence, if the budgets suffice.
 fn known<R: Abort + Threads + Sync>(
     rt: &R,
@@ -75,10 +94,7 @@ fn known<R: Abort + Threads + Sync>(
     ensures { IfOk result (λ known. IfSome known (λ s.
         s.problem ≡ Problem.Presented congruence)) }
 {
-    assert!(rt; congruence.presentation().relations().len() < 10);
-    assert!(rt; congruence.pairs().len() < 10);
-    assert!(rt; !congruence.presentation().alphabet().has_marker());
-    let problem = Problem::Presented(congruence);
+    let problem = posed(rt, congruence)?;
     match solve(rt, alloc, &problem, budgets, 2, &Open)? {
         Verdict::Known(solved) => Ok(Some(solved)),
         Verdict::Undecided(_) => Ok(None),
@@ -234,7 +250,7 @@ fn the_empty_word_is_no_class_of_a_semigroup(rt: HostRuntime) -> Result<(), Fail
     let alloc = rt.alloc();
     let relations = [("aa", "a"), ("bb", "b"), ("ab", "ba")];
     let presentation = presented(alloc, "ab", false, &relations)?;
-    let congruence = Congruence::new(presentation, Kind::TwoSided, Pairs::new(alloc));
+    let congruence = without_pairs(alloc, presentation);
     check_known(
         &rt,
         alloc,
@@ -251,7 +267,7 @@ fn suffice<R: Abort + Threads + Sync>(
     budgets: &Budgets,
 ) -> Result<bool, Fail> {
     let presentation = presented(alloc, "a", true, &[("aaa", "")])?;
-    let congruence = Congruence::new(presentation, Kind::TwoSided, Pairs::new(alloc));
+    let congruence = without_pairs(alloc, presentation);
     let known = known(rt, alloc, congruence, budgets)?;
     Ok(known.is_some())
 }
@@ -280,7 +296,7 @@ fn decided<R: Abort + Threads + Sync>(
 ) -> Result<Option<Solved>, Fail>
     ensures { IfOk result (λ known. IfSome known (λ s. allows_rules s.problem ≡ true)) }
 {
-    let congruence = Congruence::new(presentation, Kind::TwoSided, Pairs::new(alloc));
+    let congruence = without_pairs(alloc, presentation);
     known(rt, alloc, congruence, budgets)
 }
 
@@ -356,11 +372,8 @@ fn answers_do_not_tell_which_lane_won(rt: HostRuntime) -> Result<(), Fail> {
 // The turns of the schedule decide the symmetric group.
 fn check_schedule(rt: &impl Abort, alloc: Global, schedule: &[usize]) -> Result<(), Fail> {
     let presentation = presented(alloc, "ab", true, &RELATIONS)?;
-    let congruence = Congruence::new(presentation, Kind::TwoSided, Pairs::new(alloc));
-    assert!(rt; congruence.presentation().relations().len() < 10);
-    assert!(rt; !congruence.presentation().alphabet().has_marker());
+    let problem = posed(rt, without_pairs(alloc, presentation))?;
     let turns = schedule.to_vec(alloc)?;
-    let problem = Problem::Presented(congruence);
     match decide(alloc, &problem, &budgets(10_000, 1_000, 12), &turns)? {
         Verdict::Known(mut solved) => check_symmetric(rt, alloc, &mut solved),
         Verdict::Undecided(_) => panic!(rt; "undecided"),
@@ -447,6 +460,35 @@ fn check_powers(
     check_after(rt, alloc, solved, texts.1, texts.2)
 }
 
+// Completion alone, of the bicyclic monoid with the pair of a letter and the empty word, tells
+// these powers.
+fn check_marked<R: Abort + Threads + Sync>(
+    rt: &R,
+    alloc: Global,
+    kind: Kind,
+    letter: &str,
+    texts: (&str, &str, &str),
+) -> Result<(), Fail> {
+    let congruence = with_pair(rt, alloc, &[("ab", "")], kind, letter)?;
+    match known(rt, alloc, congruence, &budgets(0, 0, 2))? {
+        Some(mut solved) => check_powers(rt, alloc, &mut solved, texts),
+        None => panic!(rt; "undecided"),
+    }
+}
+
+// Whether the budgets suffice for the bicyclic monoid with that pair.
+fn suffice_for_pair<R: Abort + Threads + Sync>(
+    rt: &R,
+    alloc: Global,
+    kind: Kind,
+    letter: &str,
+    budgets: &Budgets,
+) -> Result<bool, Fail> {
+    let congruence = with_pair(rt, alloc, &[("ab", "")], kind, letter)?;
+    let known = known(rt, alloc, congruence, budgets)?;
+    Ok(known.is_some())
+}
+
 #[test]
 fn one_sided_pairs_are_completed_with_a_marker(rt: HostRuntime) -> Result<(), Fail> {
     let alloc = rt.alloc();
@@ -454,13 +496,8 @@ fn one_sided_pairs_are_completed_with_a_marker(rt: HostRuntime) -> Result<(), Fa
         (Kind::Right, "b", ("bba", "a", "aa")),
         (Kind::Left, "a", ("baa", "b", "bb")),
     ] {
-        let congruence = with_pair(&rt, alloc, &[("ab", "")], kind, letter)?;
-        match known(&rt, alloc, congruence, &budgets(0, 0, 2))? {
-            Some(mut solved) => check_powers(&rt, alloc, &mut solved, texts)?,
-            None => panic!(rt; "undecided"),
-        }
-        let congruence = with_pair(&rt, alloc, &[("ab", "")], kind, letter)?;
-        assert!(rt; known(&rt, alloc, congruence, &budgets(9, 9, 1))?.is_none());
+        check_marked(&rt, alloc, kind, letter, texts)?;
+        assert!(rt; !suffice_for_pair(&rt, alloc, kind, letter, &budgets(9, 9, 1))?);
     }
     Ok(())
 }
@@ -488,17 +525,8 @@ fn cyclic_race<R: Abort + Threads + Sync>(
     budgets: &Budgets,
 ) -> Result<(LaneState, LaneState, LaneState), Fail> {
     let presentation = presented(alloc, "a", true, &[("aaa", "")])?;
-    let congruence = Congruence::new(presentation, Kind::TwoSided, Pairs::new(alloc));
-    assert!(rt; congruence.presentation().relations().len() < 10);
-    assert!(rt; !congruence.presentation().alphabet().has_marker());
-    match solve(
-        rt,
-        alloc,
-        &Problem::Presented(congruence),
-        budgets,
-        1,
-        &Open,
-    )? {
+    let problem = posed(rt, without_pairs(alloc, presentation))?;
+    match solve(rt, alloc, &problem, budgets, 1, &Open)? {
         Verdict::Known(solved) => states(rt, solved.lanes()),
         Verdict::Undecided(ended) => states(rt, &ended),
     }
