@@ -17,7 +17,7 @@ use Rattle.theory.proofs.Counting.{IsIn}
 use Rattle.theory.proofs.Words.{shortlex_induction}
 use Rattle.theory.proofs.Listings.{IsStrictOrder}
 use Rattle.theory.proofs.ClassLaws.{IsPartialEquivalence, shortlex_strict}
-use Rattle.theory.proofs.GreenLaws.{green_r, green_l, green_h, green_j, idempotent_follows}
+use Rattle.theory.proofs.GreenLaws.{green_r, green_l, green_h, green_j}
 use Rattle.elements.specs.Generators.{HaveOneShape, value_by}
 use Rattle.elements.specs.Transf.{composed}
 use Rattle.elements.specs.TransfLaws.{composed_products}
@@ -34,8 +34,9 @@ use Rattle.problem.specs.declared.kinds.Problem.{Problem}
 use Rattle.problem.specs.declared.kinds.Problem.TheVariants.{Presented, Transf, PPerm, BMat, MaxPlus}
 use Rattle.problem.specs.Problem.{HasOneShape, SameValueOf, no_matrix, no_truncated_matrix}
 use Rattle.congruence.specs.CayleyGraphs.{AreCayleyGraphs, AreTablesFor}
-use Rattle.green.specs.Related.{AreOfLetters, AreRelated, IsIdempotentAt}
+use Rattle.green.specs.Related.{AreOfLetters, AreRelated, DoCommute, IsIdempotentAt}
 use Rattle.green.specs.Told.{IsGreen}
+use Rattle.green.proofs.NumberedLaws.{edges_commute, idempotent_leads}
 use Rattle.report.specs.Greens.{AreGreenAt, IsIdempotentOf}
 use Rattle.report.proofs.Elements.{listed_least, value_over}
 use Rattle.report.proofs.OneNumber.{one_number}
@@ -107,6 +108,11 @@ module _ {V : Type 0} (shape : V → ℕ × ℕ) (product : V → V → V) (equa
     on_left = graphs.on_left;
   }
 
+  pub commute_at : DoCommute t
+  commute_at i a b l less low =
+      edges_commute (λ x. shape x ≡ shape (slice_index_or generators 0 unused)) product equal laws (length generators) (λ a. slice_index_or generators a unused) unused shaped
+      (length t.words) (word_at t) (edge t.right) (edge t.left) numbered i a b l (omega (arith, less, letters)) (omega (arith, low, letters))
+
   own : (i : ℕ) → i < length t.words → IsNumberOf (length generators) equal (value_by product generators unused) (length t.words) (word_at t) i (word_at t i)
   own i l = (l, same_at (word_at t i) (element_at i l))
 
@@ -140,7 +146,7 @@ module _ {V : Type 0} (shape : V → ℕ × ℕ) (product : V → V → V) (equa
 
   pub back_idempotent : (i : ℕ) → i < length t.words → IsIdempotentAt t i ↔ IsIdempotent product equal (value_by product generators unused (slice_index_or t.words i []))
   back_idempotent i l =
-      let by = idempotent_follows (λ x. shape x ≡ shape (slice_index_or generators 0 unused)) product equal laws (length generators) (λ a. slice_index_or generators a unused) unused shaped
+      let by = idempotent_leads (λ x. shape x ≡ shape (slice_index_or generators 0 unused)) product equal laws (length generators) (λ a. slice_index_or generators a unused) unused shaped
       (length t.words) (word_at t) (edge t.right) (edge t.left) numbered (word_at t i) i (own i l) in
       (λ h. by.1 h.back, λ g. record { below = l; back = by.0 g })
 
@@ -169,6 +175,14 @@ idempotents_alike (BMat p) t one tables i l =
     back_idempotent (λ x. (x.dimension, 0)) boolean_product boolean_matrix_eq boolean_products p.generators no_matrix one t tables.letters tables.graphs i l
 idempotents_alike (MaxPlus p) t one tables i l =
     back_idempotent (λ x. (x.dimension, x.bound)) truncated_product truncated_matrix_eq truncated_products p.generators no_truncated_matrix one t tables.letters tables.graphs i l
+
+-- a letter on the left and one on the right may be multiplied in either order
+pub commutes : (p : Problem) (t : CayleyTables) → HasOneShape p → AreTablesFor p t → DoCommute t
+commutes (Presented p) t one tables = absurd one
+commutes (Transf p) t one tables = commute_at (λ x. (length x, 0)) composed (pointwise ◌==◌) composed_products p.generators [] one t tables.letters tables.graphs
+commutes (PPerm p) t one tables = commute_at (λ x. (length x, 0)) partially_composed (pointwise (option_eq ◌==◌)) partial_products p.generators [] one t tables.letters tables.graphs
+commutes (BMat p) t one tables = commute_at (λ x. (x.dimension, 0)) boolean_product boolean_matrix_eq boolean_products p.generators no_matrix one t tables.letters tables.graphs
+commutes (MaxPlus p) t one tables = commute_at (λ x. (x.dimension, x.bound)) truncated_product truncated_matrix_eq truncated_products p.generators no_truncated_matrix one t tables.letters tables.graphs
 
 -- the words are words of the letters
 pub of_letters : (p : Problem) (t : CayleyTables) → AreTablesFor p t → AreOfLetters t

@@ -15,3 +15,4 @@ pub mod TableAnswers
 pub mod GreenTables
 pub mod GreenLists
 pub mod TextLaws
+pub mod SameTables

@@ -90,7 +90,7 @@ module _ {V : Type 0} {product : V → V → V} {equal : V → V → Bool} (gene
         transitive = λ u v w h g. record { left = h.left; right = g.right; related = chains.transitive u v w h.related g.related };
       }
 
-problem_equivalence : (p : Problem) → IsPartialEquivalence (SameClassOf p)
+pub problem_equivalence : (p : Problem) → IsPartialEquivalence (SameClassOf p)
 problem_equivalence (problem.Presented p) = same_class_equivalence p.congruence
 problem_equivalence (problem.Transf p) = element_equivalence p.generators [] (composed_products (0, 0)) p.kind p.pairs
 problem_equivalence (problem.PPerm p) = element_equivalence p.generators [] (partial_products (0, 0)) p.kind p.pairs

@@ -3,12 +3,15 @@ use Rattle.std.specs.Prelude.{◌≡◌, IfSome}
 use Rattle.problem.specs.declared.kinds.Problem.{Problem}
 use Rattle.congruence.specs.Verdicts.{IsVerdictOf}
 use Rattle.report.specs.Chains.{IsLogOf}
+use Rattle.report.specs.Known.{AreKnownOf}
 use Rattle.report.specs.declared.state.State.{State}
 
--- the verdict is of the problem, and so is the completion, which logs and is at its end
+-- the verdict is of the problem, and so are the completion, which logs and is at its end, and what
+-- is known of elements
 pub record KeepsOf (p : Problem) (state : State) : Type 0 where
   pub verdict : IfSome state.verdict (IsVerdictOf p state.budgets)
   pub completion : IfSome state.completion (IsLogOf p state.budgets.length)
+  pub elements : AreKnownOf p state.elements
 
 -- the state differs at most in what it keeps of the problem
 pub record KeepsSettings (old new : State) : Type 0 where

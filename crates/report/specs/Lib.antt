@@ -5,4 +5,5 @@ pub mod Greens
 pub mod Chains
 pub mod Answer
 pub mod Gains
+pub mod Known
 pub mod Kept

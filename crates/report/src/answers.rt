@@ -40,16 +40,19 @@ fn write_decided<O: Sink>(
     sink: &mut O,
 ) -> Result<Answered, WriteFault>
     requires query { IsQueryOf problem.now query.now }
-    requires kept { MatchOption state.old.verdict ⊥ (IsVerdictOf problem.now state.old.budgets) }
+    requires kept { KeepsOf problem.now state.old }
+    requires found { MatchOption state.old.verdict ⊥ (IsVerdictOf problem.now state.old.budgets) }
     requires waits { awaited_by query.now ≡ Awaited.Decision }
-    ensures kept { state.new ≡ state.old }
+    ensures kept { KeepsOf problem.now state.new }
+    ensures settings { KeepsSettings state.old state.new }
     ensures written { Writes O.Sink (AreAnswerBytes problem.now state.old.budgets state.old.classes
         query.now) sink.old sink.new result }
 {
     let bound = state.classes();
     match &mut state.verdict {
         Some(Verdict::Known(solved)) => {
-            write_solved(alloc, problem, solved, query, bound, sink)?;
+            let elements = &mut state.elements;
+            write_solved(alloc, problem, solved, elements, query, bound, sink)?;
             Ok(Answered::Defined)
         }
         Some(Verdict::Undecided(_)) => {

@@ -7,13 +7,15 @@ ghost use Rattle.problem.specs.Problem.{HasOneShape, letters_of, pairs_of};
 ghost use Rattle.report.specs.Gains.{AreBytesOf, bytes_of};
 ghost use Rattle.report.specs.Greens.{AreGreenLines, AreIdempotentLines};
 ghost use Rattle.report.specs.Lines.{class_line, class_text, end_line, word_line};
+ghost use Rattle.report.specs.Known.{AreKnownOf};
 ghost use Rattle.report.specs.Texts.{AreTexts};
 
+use crate::known::KnownElements;
 use crate::line::Line;
 use crate::listings::{write_end, write_word};
 use crate::texts::Texts;
 use froidure_pin::CayleyTables;
-use green::{Relation, classes, idempotents};
+use green::{Relation, idempotents};
 use ports::{NoMemory, Sink, WriteFault};
 use problem::Problem;
 use std::alloc::Global;
@@ -89,23 +91,26 @@ fn write_words<O: Sink>(
 }
 
 /// Writes a line for each class of elements under one of Green's relations, by the least words of
-/// its elements, and the end of the list.
+/// its elements, and the end of the list. What is found on the way is known afterwards.
 pub fn write_green<O: Sink>(
     alloc: Global,
     problem: &Problem,
     tables: &CayleyTables,
+    elements: &mut KnownElements,
     relation: Relation,
     sink: &mut O,
 ) -> Result<(), WriteFault>
     requires tables { AreTablesFor problem.now tables.now }
     requires shape { HasOneShape problem.now }
     requires unpaired { pairs_of problem.now ≡ [] }
-    ensures { Writes O.Sink (λ _. AreBytesOf (AreGreenLines relation problem.now))
+    requires known { AreKnownOf problem.now elements.old }
+    ensures known { AreKnownOf problem.now elements.new }
+    ensures written { Writes O.Sink (λ _. AreBytesOf (AreGreenLines relation problem.now))
         sink.old sink.new result }
 {
-    let found = classes(alloc, tables, relation)?;
-    let texts = Texts::new(alloc, problem.alphabet(), &tables.words)?;
-    write_lines(alloc, &texts, &found, sink)
+    let found = elements.classes(alloc, problem, tables, relation)?;
+    elements.find_texts(alloc, problem, tables)?;
+    write_lines(alloc, elements.texts(), &found, sink)
 }
 
 /// Writes the least words of the idempotents, and the end of the list.

@@ -11,6 +11,7 @@ mod graphs;
 #[cfg(test)]
 mod green_tests;
 mod greens;
+mod known;
 #[cfg(test)]
 mod lattice_tests;
 mod line;

@@ -8,12 +8,14 @@ ghost use Rattle.problem.specs.Problem.{SameClassOf, count_of, letters_of};
 ghost use Rattle.query_lang.specs.Query.{IsQueryOf};
 ghost use Rattle.report.specs.Answer.{AreLines, awaited_by};
 ghost use Rattle.report.specs.Gains.{AreBytesOf};
+ghost use Rattle.report.specs.Known.{AreKnownOf};
 ghost use Rattle.report.specs.Lines.{word_line};
 ghost use Rattle.report.specs.Pages.{ArePageLines};
 
 use crate::awaited::Awaited;
 use crate::graphs::write_cayley;
 use crate::greens::{write_green, write_idempotents};
+use crate::known::KnownElements;
 use crate::listings::{write_end, write_rules, write_word};
 use crate::single::{write_count, write_equal, write_infinite, write_normal_form, write_over};
 use congruence::{Index, Solved};
@@ -65,19 +67,22 @@ fn write_classes<O: Sink>(
 }
 
 /// Writes the answer of a query that waits for the problem's decision, from what is known of it,
-/// which stays the same.
+/// which stays the same, and of its elements, of which more may be known afterwards.
 pub fn write_solved<O: Sink>(
     alloc: Global,
     problem: &Problem,
     solved: &mut Solved,
+    elements: &mut KnownElements,
     query: &Query,
     bound: usize,
     sink: &mut O,
 ) -> Result<(), WriteFault>
     requires solved { solved.old.problem ≡ problem.now }
+    requires known { AreKnownOf problem.now elements.old }
     requires query { IsQueryOf problem.now query.now }
     requires waits { awaited_by query.now ≡ Awaited.Decision }
     ensures kept { solved.new ≡ solved.old }
+    ensures known { AreKnownOf problem.now elements.new }
     ensures written { Writes O.Sink (λ _. AreBytesOf (AreLines problem.now bound query.now))
         sink.old sink.new result }
 {
@@ -101,7 +106,10 @@ pub fn write_solved<O: Sink>(
             write_rules(alloc, alphabet, &rules, sink)
         }
         Query::Cayley => write_cayley(alloc, problem, solved.tables(), sink),
-        Query::Green(relation) => { write_green(alloc, problem, solved.tables(), *relation, sink) }
+        Query::Green(relation) => {
+            let tables = solved.tables();
+            write_green(alloc, problem, tables, elements, *relation, sink)
+        }
         Query::Idempotents => write_idempotents(alloc, problem, solved.tables(), sink),
         Query::ElementOf(_)
         | Query::LowIndex { .. }

@@ -1,9 +1,11 @@
 // What is known while the queries of a script are answered.
 ghost use Rattle.std.specs.Prelude.{◌≡◌, ◌<◌, true, None, Some, OnOk, MatchOption};
+ghost use Rattle.problem.specs.declared.kinds.Problem.{Problem as Posed};
 ghost use Rattle.problem.specs.Problem.{IsPosable, is_presented};
 ghost use Rattle.report.specs.Kept.{KeepsOf, KeepsSettings};
 
 use crate::completing::logged_completion;
+use crate::known::KnownElements;
 use congruence::{Verdict, solve};
 use knuth_bendix::Completion;
 use ports::{Gate, NoMemory};
@@ -13,7 +15,7 @@ use std::thread::Threads;
 
 /// What the queries of one script are answered with: its budgets, the bound up to which an index is
 /// written out, how many workers may be at it, and what was found of the problem so far: a verdict,
-/// and a completion that logs, at its end.
+/// a completion that logs, at its end, and what is known of elements.
 #[derive(Drop)]
 pub struct State {
     budgets: Budgets,
@@ -22,6 +24,7 @@ pub struct State {
     // What was found of the problem, if it was looked for.
     pub(crate) verdict: Option<Verdict>,
     completion: Option<Completion>,
+    pub(crate) elements: KnownElements,
 }
 
 impl State {
@@ -30,8 +33,7 @@ impl State {
         ensures budgets { result.budgets ≡ budgets }
         ensures classes { result.classes ≡ classes }
         ensures workers { result.workers ≡ workers }
-        ensures verdict { result.verdict ≡ None }
-        ensures completion { result.completion ≡ None }
+        ensures kept { (problem : Posed) → KeepsOf problem result }
     {
         State {
             budgets,
@@ -39,6 +41,7 @@ impl State {
             workers,
             verdict: None,
             completion: None,
+            elements: KnownElements::new(),
         }
     }
 

@@ -50,7 +50,8 @@ fn repeat(bytes: &mut Vec<u8>, ends: &[usize], number: Option<usize>) -> Result<
 }
 
 impl Texts {
-    /// The texts of all the words, which are words over the alphabet. Only want of memory refuses it.
+    /// The texts of all the words, which are words over the alphabet. Only want of memory refuses
+    /// it.
     pub fn new(alloc: Global, alphabet: &Alphabet, words: &Words) -> Result<Texts, NoMemory>
         requires { (i : ℕ) → i < length words.now
             → IsOver (length alphabet.now) (slice_index_or words.now i []) }

@@ -17,25 +17,25 @@ kept_verdict p b found v w e is h = subst (IsVerdictOf p b) is (subst (λ o. Mat
 
 pub write_solved-requires-clause-solved : goal.write_solved-requires-clause-solved
 write_solved-requires-clause-solved g c =
-    (kept_verdict c.args.problem.now c.args.state.now.budgets c.args.state.now.verdict c.in-Some-Known.field-0 (Known c.in-Some-Known.solved) c.in-Some-Known.is c.in-Some-Known.field-0-is c.requires.kept).1
+    (kept_verdict c.args.problem.now c.args.state.now.budgets c.args.state.now.verdict c.in-Some-Known.field-0 (Known c.in-Some-Known.solved) c.in-Some-Known.is c.in-Some-Known.field-0-is c.requires.found).1
 
 pub returns-in_err-write_solved-in-Some-Known-clause-written : goal.returns-in_err-write_solved-in-Some-Known-clause-written
 returns-in_err-write_solved-in-Some-Known-clause-written g c =
-    let kept = kept_verdict c.args.problem.now c.args.state.now.budgets c.args.state.now.verdict c.in-Some-Known.field-0 (Known c.in-Some-Known.solved) c.in-Some-Known.is c.in-Some-Known.field-0-is c.requires.kept in
+    let kept = kept_verdict c.args.problem.now c.args.state.now.budgets c.args.state.now.verdict c.in-Some-Known.field-0 (Known c.in-Some-Known.solved) c.in-Some-Known.is c.in-Some-Known.field-0-is c.requires.found in
     handed_on g.O.Sink _ _ _ _ c.from_residual.ensures.1 (defined_begun g.O.Sink _ _ _ _ _ _ (comes_about c.args.problem.now c.args.state.now.budgets c.args.query.now Decision c.requires.waits kept.0) _ c.classes-bound.ensures _ c.in_err-write_solved-in-Some-Known.ensures.written)
 
 pub returns-in_ok-write_solved-in-Some-Known-clause-written : goal.returns-in_ok-write_solved-in-Some-Known-clause-written
 returns-in_ok-write_solved-in-Some-Known-clause-written g c =
-    let kept = kept_verdict c.args.problem.now c.args.state.now.budgets c.args.state.now.verdict c.in-Some-Known.field-0 (Known c.in-Some-Known.solved) c.in-Some-Known.is c.in-Some-Known.field-0-is c.requires.kept in
+    let kept = kept_verdict c.args.problem.now c.args.state.now.budgets c.args.state.now.verdict c.in-Some-Known.field-0 (Known c.in-Some-Known.solved) c.in-Some-Known.is c.in-Some-Known.field-0-is c.requires.found in
     defined_told g.O.Sink _ _ _ _ _ _ (comes_about c.args.problem.now c.args.state.now.budgets c.args.query.now Decision c.requires.waits kept.0) _ c.classes-bound.ensures _ c.in_ok-write_solved-in-Some-Known.ensures.written
 
 pub returns-in_err-write_all-in-Some-Undecided-clause-written : goal.returns-in_err-write_all-in-Some-Undecided-clause-written
 returns-in_err-write_all-in-Some-Undecided-clause-written g c =
-    let kept = kept_verdict c.args.problem.now c.args.state.now.budgets c.args.state.now.verdict c.in-Some-Undecided.field-0 (Undecided c.in-Some-Undecided.field-0-0) c.in-Some-Undecided.is c.in-Some-Undecided.field-0-is c.requires.kept in
+    let kept = kept_verdict c.args.problem.now c.args.state.now.budgets c.args.state.now.verdict c.in-Some-Undecided.field-0 (Undecided c.in-Some-Undecided.field-0-0) c.in-Some-Undecided.is c.in-Some-Undecided.field-0-is c.requires.found in
     handed_on g.O.Sink _ _ _ _ c.from_residual-in_err-write_all-in-Some-Undecided.ensures.1
     (line_begun g.O.Sink _ _ _ _ _ _ answered.Undecided undecided_line (left_undecided c.args.problem.now c.args.state.now.budgets c.args.state.now.classes c.args.query.now Decision c.requires.waits kept.0) _ c.in_err-write_all-in-Some-Undecided.ensures.bytes)
 
 pub returns-in_ok-write_all-in-Some-Undecided-clause-written : goal.returns-in_ok-write_all-in-Some-Undecided-clause-written
 returns-in_ok-write_all-in-Some-Undecided-clause-written g c =
-    let kept = kept_verdict c.args.problem.now c.args.state.now.budgets c.args.state.now.verdict c.in-Some-Undecided.field-0 (Undecided c.in-Some-Undecided.field-0-0) c.in-Some-Undecided.is c.in-Some-Undecided.field-0-is c.requires.kept in
+    let kept = kept_verdict c.args.problem.now c.args.state.now.budgets c.args.state.now.verdict c.in-Some-Undecided.field-0 (Undecided c.in-Some-Undecided.field-0-0) c.in-Some-Undecided.is c.in-Some-Undecided.field-0-is c.requires.found in
     line_told g.O.Sink _ _ _ _ _ _ answered.Undecided undecided_line (left_undecided c.args.problem.now c.args.state.now.budgets c.args.state.now.classes c.args.query.now Decision c.requires.waits kept.0) _ c.in_ok-write_all-in-Some-Undecided.ensures.bytes

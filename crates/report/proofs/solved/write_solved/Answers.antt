@@ -100,7 +100,7 @@ pub write_green-requires-clause-unpaired : goal.write_green-requires-clause-unpa
 write_green-requires-clause-unpaired g c = solved_unpaired c.args.problem.now c.args.query.now (query.Green c.in-Green.relation) c.in-Green.is refl c.requires.query
 
 pub returns-in-Green-clause-written : goal.returns-in-Green-clause-written
-returns-in-Green-clause-written g c = lines_told g.O.Sink c.args.problem.now c.args.bound c.args.query.now (query.Green c.in-Green.relation) c.in-Green.is _ _ _ c.write_green.ensures
+returns-in-Green-clause-written g c = lines_told g.O.Sink c.args.problem.now c.args.bound c.args.query.now (query.Green c.in-Green.relation) c.in-Green.is _ _ _ c.write_green.ensures.written
 
 pub write_idempotents-requires-clause-shape : goal.write_idempotents-requires-clause-shape
 write_idempotents-requires-clause-shape g c =

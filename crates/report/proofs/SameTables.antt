@@ -1,0 +1,94 @@
+-- The tables of a problem say the same of its elements, whichever they are.
+use Rattle.std.proofs.Common.{◌≡◌, ℕ, ◌<◌, List, [], ◌∷◌, ◌++◌, length, slice_index_or, Option, None, Some, IfSome, sym, ap, subst, ◌∙◌, arith}
+use Rattle.theory.specs.Word.{Word}
+use Rattle.theory.specs.Green.{Reaches, here, further, IsEdge, AreConnected}
+use Rattle.theory.proofs.ClassLaws.{IsPartialEquivalence}
+use Rattle.froidure_pin.specs.declared.tables.CayleyTables.{CayleyTables}
+use Rattle.cayley.specs.Tables.{edge}
+use Rattle.problem.specs.declared.kinds.Problem.{Problem}
+use Rattle.problem.specs.Problem.{HasOneShape, SameValueOf, count_of, letters_of, pairs_of}
+use Rattle.problem.proofs.RelatedByValue.{related_by_value}
+use Rattle.congruence.specs.CayleyGraphs.{AreTablesFor, IsNumbered}
+use Rattle.green.specs.Known.{AreNamesIn, KnownNames}
+use Rattle.green.specs.Naming.{AreNames}
+use Rattle.report.specs.Known.{AreTextsOf}
+use Rattle.report.specs.Texts.{AreTexts, JoinedTexts}
+use Rattle.report.proofs.OneNumber.{one_list, one_number}
+use Rattle.report.proofs.UniqueAnswer.{problem_equivalence}
+
+if_some : {A : Type 0} (x : Option A) (P Q : A → Type 0) → ((a : A) → P a → Q a) → IfSome x P → IfSome x Q
+if_some None P Q f h = tt
+if_some (Some a) P Q f h = f a h
+
+-- Walks along edges that are the same.
+module _ (k n : ℕ) (next other : ℕ → ℕ → ℕ) (within : (i a : ℕ) → i < n → a < k → next i a < n) (same : (i a : ℕ) → i < n → a < k → next i a ≡ other i a) where
+  reaches_alike : {i j : ℕ} → i < n → Reaches (IsEdge k next) i j → Reaches (IsEdge k other) i j
+  reaches_alike l here = here
+  reaches_alike l (further {i} {j} e r) =
+      further (e.0, e.1, sym (same i e.0 l e.1) ∙ e.2) (reaches_alike (subst (λ m. m < n) e.2 (within i e.0 l e.1)) r)
+
+  reaches_back : {i j : ℕ} → i < n → Reaches (IsEdge k other) i j → Reaches (IsEdge k next) i j
+  reaches_back l here = here
+  reaches_back l (further {i} {j} e r) =
+      further (e.0, e.1, same i e.0 l e.1 ∙ e.2) (reaches_back (subst (λ m. m < n) (same i e.0 l e.1 ∙ e.2) (within i e.0 l e.1)) r)
+
+  names_alike : (names : List ℕ) → AreNames n (AreConnected (IsEdge k next)) names → AreNames n (AreConnected (IsEdge k other)) names
+  names_alike names h = record {
+    count = h.count;
+    within = h.within;
+    same = λ i j l m.
+        let by = h.same i j l m in
+        (λ e. let c = by.0 e in (reaches_alike l c.0, reaches_alike m c.1), λ c. by.1 (reaches_back l c.0, reaches_back m c.1));
+  }
+
+module _ (p : Problem) (one : HasOneShape p) (unpaired : pairs_of p ≡ []) (t s : CayleyTables) (first : AreTablesFor p t) (second : AreTablesFor p s) where
+  known : IsPartialEquivalence (SameValueOf p)
+  known =
+      let alike = related_by_value p one unpaired in
+      let classes = problem_equivalence p in
+      record {
+        symmetric = λ u v h. (alike v u).0 (classes.symmetric u v ((alike u v).1 h));
+        transitive = λ u v w h g. (alike u w).0 (classes.transitive u v w ((alike u v).1 h) ((alike v w).1 g));
+      }
+
+  pub words_alike : t.words ≡ s.words
+  words_alike = one_list (SameValueOf p) t.words s.words first.graphs.listed second.graphs.listed
+
+  -- a number of the words of the one is one of those of the other
+  moved : (i : ℕ) (u : Word) → IsNumbered (SameValueOf p) s.words i u → IsNumbered (SameValueOf p) t.words i u
+  moved i u h = subst (λ words. IsNumbered (SameValueOf p) words i u) (sym words_alike) h
+
+  right_alike : (i a : ℕ) → i < length t.words → a < count_of p → edge t.right i a ≡ edge s.right i a
+  right_alike i a l m =
+      let u : Word = slice_index_or t.words i [] ++ a ∷ [] in
+      let below : i < length s.words = subst (λ (ws : List Word). i < length ws) words_alike l in
+      one_number (SameValueOf p) known t.words first.graphs.listed (edge t.right i a) (edge s.right i a) u (first.graphs.on_right i a l m)
+      (moved (edge s.right i a) u (subst (λ (ws : List Word). IsNumbered (SameValueOf p) s.words (edge s.right i a) (slice_index_or ws i [] ++ a ∷ [])) (sym words_alike) (second.graphs.on_right i a below m)))
+
+  left_alike : (i a : ℕ) → i < length t.words → a < count_of p → edge t.left i a ≡ edge s.left i a
+  left_alike i a l m =
+      let u : Word = a ∷ slice_index_or t.words i [] in
+      let below : i < length s.words = subst (λ (ws : List Word). i < length ws) words_alike l in
+      one_number (SameValueOf p) known t.words first.graphs.listed (edge t.left i a) (edge s.left i a) u (first.graphs.on_left i a l m)
+      (moved (edge s.left i a) u (subst (λ (ws : List Word). IsNumbered (SameValueOf p) s.words (edge s.left i a) (a ∷ slice_index_or ws i [])) (sym words_alike) (second.graphs.on_left i a below m)))
+
+  letters_alike : length t.letters ≡ length s.letters
+  letters_alike = first.letters ∙ sym second.letters
+
+  -- names along these edges of the one are names along those of the other
+  names_moved : (next other : ℕ → ℕ → ℕ) → ((i a : ℕ) → i < length t.words → a < length t.letters → next i a < length t.words)
+      → ((i a : ℕ) → i < length t.words → a < count_of p → next i a ≡ other i a) → (names : List ℕ)
+      → AreNames (length t.words) (AreConnected (IsEdge (length t.letters) next)) names → AreNames (length s.words) (AreConnected (IsEdge (length s.letters) other)) names
+  names_moved next other within same names h =
+      subst (λ n. AreNames n (AreConnected (IsEdge (length s.letters) other)) names) (ap length words_alike)
+      (subst (λ k. AreNames (length t.words) (AreConnected (IsEdge k other)) names) letters_alike
+      (names_alike (length t.letters) (length t.words) next other within (λ i a l m. same i a l (omega (arith, m, first.letters))) names h))
+
+  pub known_alike : (names : KnownNames) → AreNamesIn t names → AreNamesIn s names
+  known_alike names h = record {
+    right = if_some names.right _ _ (names_moved (edge t.right) (edge s.right) first.fit.right.within right_alike) h.right;
+    left = if_some names.left _ _ (names_moved (edge t.left) (edge s.left) first.fit.left.within left_alike) h.left;
+  }
+
+  pub texts_alike : (texts : JoinedTexts) → AreTextsOf p t texts → AreTextsOf p s texts
+  texts_alike texts h = subst (λ (words : List Word). (length texts.ends ≡ length words) × AreTexts (letters_of p) words texts) words_alike h

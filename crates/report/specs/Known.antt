@@ -1,0 +1,18 @@
+-- What is known of the elements of a problem.
+use Rattle.std.specs.Prelude.{◌≡◌, length, IfSome}
+use Rattle.froidure_pin.specs.declared.tables.CayleyTables.{CayleyTables}
+use Rattle.problem.specs.declared.kinds.Problem.{Problem}
+use Rattle.problem.specs.Problem.{letters_of}
+use Rattle.congruence.specs.CayleyGraphs.{AreTablesFor}
+use Rattle.green.specs.Known.{AreNamesIn}
+use Rattle.report.specs.Texts.{AreTexts, JoinedTexts}
+use Rattle.report.specs.declared.known.KnownElements.{KnownElements}
+
+-- the texts are those of all words of the tables
+abbrev pub AreTextsOf : Problem → CayleyTables → JoinedTexts → Type 0
+AreTextsOf p t texts = (length texts.ends ≡ length t.words) × AreTexts (letters_of p) t.words texts
+
+-- names of classes, and texts, are right, whatever tables the problem has
+pub record AreKnownOf (p : Problem) (known : KnownElements) : Type 0 where
+  pub names : (t : CayleyTables) → AreTablesFor p t → AreNamesIn t known.names
+  pub texts : (t : CayleyTables) → AreTablesFor p t → IfSome known.texts (AreTextsOf p t)

@@ -1,0 +1,86 @@
+// What is known of the elements of a problem while its queries are answered.
+ghost use Rattle.std.specs.Prelude.{◌≡◌, [], length, map, IfOk, OnOk, Some};
+ghost use Rattle.std.specs.Option.{IsSome};
+ghost use Rattle.theory.specs.Green.{AreClasses};
+ghost use Rattle.problem.specs.declared.kinds.Problem.{Problem as Posed};
+ghost use Rattle.problem.specs.Problem.{HasOneShape, pairs_of};
+ghost use Rattle.congruence.specs.CayleyGraphs.{AreTablesFor};
+ghost use Rattle.green.specs.Related.{AreRelated};
+ghost use Rattle.report.specs.Known.{AreKnownOf};
+
+use crate::texts::Texts;
+use froidure_pin::CayleyTables;
+use green::{ClassNames, Relation};
+use ports::NoMemory;
+use problem::Problem;
+use std::alloc::Global;
+
+/// What was found of the elements of one problem that is given by generators: the names of their
+/// classes under Green's relations, and the texts of their least words.
+#[derive(Drop)]
+pub struct KnownElements {
+    names: ClassNames,
+    texts: Option<Texts>,
+}
+
+impl KnownElements {
+    /// Nothing is found yet.
+    pub fn new() -> KnownElements
+        ensures { (problem : Posed) → AreKnownOf problem result }
+    {
+        KnownElements {
+            names: ClassNames::new(),
+            texts: None,
+        }
+    }
+
+    /// The classes of the elements under one of Green's relations, by the numbers of the tables.
+    /// Only want of memory refuses it.
+    pub fn classes(
+        &mut self,
+        alloc: Global,
+        problem: &Problem,
+        tables: &CayleyTables,
+        relation: Relation,
+    ) -> Result<Vec<Vec<usize>>, NoMemory>
+        requires tables { AreTablesFor problem.now tables.now }
+        requires shape { HasOneShape problem.now }
+        requires unpaired { pairs_of problem.now ≡ [] }
+        requires known { AreKnownOf problem.now self.old }
+        ensures known { AreKnownOf problem.now self.new }
+        ensures classes { IfOk result (λ found. AreClasses (length tables.now.words)
+            (AreRelated relation tables.now) (map (λ c. c.items) found.items)) }
+    {
+        let _problem = problem;
+        self.names.classes(alloc, tables, relation)
+    }
+
+    /// Finds the texts of the words of the tables, unless they are known. Only want of memory
+    /// refuses it.
+    pub fn find_texts(
+        &mut self,
+        alloc: Global,
+        problem: &Problem,
+        tables: &CayleyTables,
+    ) -> Result<(), NoMemory>
+        requires tables { AreTablesFor problem.now tables.now }
+        requires shape { HasOneShape problem.now }
+        requires unpaired { pairs_of problem.now ≡ [] }
+        requires known { AreKnownOf problem.now self.old }
+        ensures known { AreKnownOf problem.now self.new }
+        ensures some { OnOk result (IsSome self.new.texts) }
+    {
+        if self.texts.is_none() {
+            self.texts = Some(Texts::new(alloc, problem.alphabet(), &tables.words)?);
+        }
+        Ok(())
+    }
+
+    /// The texts, which are known.
+    pub fn texts(&self) -> &Texts
+        requires { IsSome self.now.texts }
+        ensures { self.now.texts ≡ Some result.now }
+    {
+        self.texts.as_ref().unwrap()
+    }
+}
