@@ -89,7 +89,7 @@ module _ (n : ℕ) (f g : ℕ → ℕ) (f_within : (i : ℕ) → i < n → f i <
       )
 
 -- words that are followed
-follow_append : (next : ℕ → ℕ → ℕ) (u v : Word) (i : ℕ) → follow next i (u ++ v) ≡ follow next (follow next i u) v
+pub follow_append : (next : ℕ → ℕ → ℕ) (u v : Word) (i : ℕ) → follow next i (u ++ v) ≡ follow next (follow next i u) v
 follow_append next [] v i = refl
 follow_append next (a ∷ u) v i = follow_append next u v (next i a)
 

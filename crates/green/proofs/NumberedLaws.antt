@@ -1,18 +1,15 @@
 -- Edges of numbered values: a letter on the left and one on the right may be multiplied in either
 -- order, and an element is idempotent exactly where its own word, its last letter first, leads in
 -- the left Cayley graph from its number back to it.
-use Rattle.std.proofs.Common.{◌≡◌, ℕ, ◌<◌, ◌↔◌, Bool, false, List, [], ◌∷◌, ◌++◌, reverse, refl, sym, ap, subst, ◌∙◌, IsTrue}
+use Rattle.std.proofs.Common.{◌≡◌, ℕ, ◌<◌, ◌↔◌, Bool, [], ◌∷◌, ◌++◌, reverse, sym, ap, subst, ◌∙◌, IsTrue}
 use Rattle.std.proofs.lemmas.List.{reverse-append}
-use Rattle.theory.specs.Word.{Word, IsElement, IsOver}
+use Rattle.theory.specs.Word.{Word, IsOver}
 use Rattle.theory.specs.Value.{IsProduct, SameValue, value}
 use Rattle.theory.specs.Generated.{AreNumbered, IsNumberOf}
 use Rattle.theory.specs.Green.{IsIdempotent, follow}
 use Rattle.theory.proofs.GeneratedLaws.{same_symm, same_trans}
 use Rattle.theory.proofs.ValueLaws.{value_append, value_kept_left, value_kept_right}
-
-pub follow_push : (next : ℕ → ℕ → ℕ) (i : ℕ) (x : Word) (a : ℕ) → follow next i (x ++ a ∷ []) ≡ next (follow next i x) a
-follow_push next i [] a = refl
-follow_push next i (b ∷ x) a = follow_push next (next i b) x a
+use Rattle.green.proofs.FiniteLaws.{follow_append}
 
 module _ {V : Type 0} (HasShape : V → Type 0) (product : V → V → V) (equal : V → V → Bool) (laws : IsProduct HasShape product equal)
     (k : ℕ) (generator : ℕ → V) (unused : V) (shaped : (a : ℕ) → a < k → HasShape (generator a))
@@ -57,7 +54,7 @@ module _ {V : Type 0} (HasShape : V → Type 0) (product : V → V → V) (equal
         edge.0,
         trans_at (a ∷ (x ++ u)) (a ∷ word j) (word (left j a)) (value_kept_left HasShape product equal laws k generator unused shaped (a ∷ []) (x ++ u) (word j) rest.1 (over.0, tt)) edge.1,
       ) in
-      subst (λ m. StandsFor m (a ∷ (x ++ u))) (sym (ap (follow left i) (reverse-append (a ∷ []) x) ∙ follow_push left i (reverse x) a)) stands
+      subst (λ m. StandsFor m (a ∷ (x ++ u))) (sym (ap (follow left i) (reverse-append (a ∷ []) x) ∙ follow_append left (reverse x) (a ∷ []) i)) stands
 
   pub idempotent_leads : (u : Word) (i : ℕ) → IsNumberOf k equal (value product generator unused) n word i u
       → IsIdempotent product equal (value product generator unused u) ↔ (follow left i (reverse (word i)) ≡ i)

@@ -1,5 +1,5 @@
 -- What is known of the names of classes.
-use Rattle.std.specs.Prelude.{ℕ, List, length, Option, IfSome}
+use Rattle.std.specs.Prelude.{◌≡◌, ℕ, List, length, Option, Some, IfSome}
 use Rattle.froidure_pin.specs.declared.tables.CayleyTables.{CayleyTables}
 use Rattle.green.specs.Naming.{AreNames}
 use Rattle.green.specs.Related.{AreRelated}
@@ -14,3 +14,11 @@ pub record KnownNames : Type 0 where
 pub record AreNamesIn (t : CayleyTables) (known : KnownNames) : Type 0 where
   pub right : IfSome known.right (AreNames (length t.words) (AreRelated R t))
   pub left : IfSome known.left (AreNames (length t.words) (AreRelated L t))
+
+-- names that were known stay
+abbrev pub StaysKnown : Option (List ℕ) → Option (List ℕ) → Type 0
+StaysKnown old new = IfSome old (λ names. new ≡ Some names)
+
+pub record KeepsNames (old new : KnownNames) : Type 0 where
+  pub right : StaysKnown old.right new.right
+  pub left : StaysKnown old.left new.left

@@ -4,7 +4,7 @@ ghost use Rattle.std.specs.Option.{IsSome};
 ghost use Rattle.theory.specs.Green.{AreClasses};
 ghost use Rattle.froidure_pin.specs.declared.tables.CayleyTables.{CayleyTables};
 ghost use Rattle.cayley.specs.Tables.{FitTogether};
-ghost use Rattle.green.specs.Known.{AreNamesIn};
+ghost use Rattle.green.specs.Known.{AreNamesIn, KeepsNames, StaysKnown};
 ghost use Rattle.green.specs.Naming.{AreNamesAlong};
 ghost use Rattle.green.specs.Related.{AreRelated, DoCommute};
 
@@ -53,6 +53,8 @@ fn find(
         (AreNamesAlong edges tables.now) }
     ensures known { IfSome (option_map (λ v. v.items) known.new)
         (AreNamesAlong edges tables.now) }
+    ensures kept { StaysKnown (option_map (λ v. v.items) known.old)
+        (option_map (λ v. v.items) known.new) }
     ensures some { OnOk result (IsSome (option_map (λ v. v.items) known.new)) }
 {
     if known.is_none() {
@@ -86,6 +88,7 @@ impl ClassNames {
         requires fit { FitTogether tables.now }
         requires known { AreNamesIn tables.now self.old }
         ensures known { AreNamesIn tables.now self.new }
+        ensures kept { KeepsNames self.old self.new }
         ensures right { OnOk result (IsSome self.new.right) }
         ensures left { OnOk result (IsSome self.new.left) }
     {
@@ -108,6 +111,7 @@ impl ClassNames {
         requires commute { DoCommute tables.now }
         requires known { AreNamesIn tables.now self.old }
         ensures known { AreNamesIn tables.now self.new }
+        ensures kept { KeepsNames self.old self.new }
         ensures classes { IfOk result (λ found. AreClasses (length tables.now.words)
             (AreRelated relation tables.now) (map (λ c. c.items) found.items)) }
     {

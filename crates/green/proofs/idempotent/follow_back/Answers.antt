@@ -1,4 +1,4 @@
-use Rattle.std.proofs.Common.{◌≡◌, ◌<◌, ◌++◌, ◌∷◌, [], ℕ, length, IfSome, Option, Some, subst, sym, arith}
+use Rattle.std.proofs.Common.{◌<◌, ◌++◌, ◌∷◌, [], ℕ, length, IfSome, Option, subst, arith}
 use Rattle.theory.specs.Word.{IsOver, Word}
 use Rattle.theory.proofs.Words.{over_right}
 use Rattle.froidure_pin.specs.Found.{word_or_none}

@@ -1,4 +1,4 @@
-use Rattle.std.proofs.Common.{◌≡◌, ◌+◌, ◌<◌, ◌∙◌, List, ℕ, None, ap, sym, subst, arith, length}
+use Rattle.std.proofs.Common.{◌+◌, ◌<◌, ◌∙◌, List, ℕ, None, ap, sym, subst, arith, length}
 use Rattle.theory.specs.Listing.{IsListOf}
 use Rattle.green.proofs.IdempotentLaws.{IsFoundBefore, found_more, found_same, found_all}
 use Rattle.green.proofs.idempotent.idempotents.Goals as goal
