@@ -29,9 +29,9 @@ abbrev CameBefore : (ℕ → ℕ) → ℕ → Type 0
 CameBefore at q = (p : ℕ) × (p < q) × (at p ≡ at q)
 
 -- what lies below n comes back
-repeats : (n : ℕ) (at : ℕ → ℕ) → ((p : ℕ) → at p < n) → (q : ℕ) × (p : ℕ) × (p < q) × (at p ≡ at q)
+repeats : (n : ℕ) (at : ℕ → ℕ) → ((p : ℕ) → at p < n) → (q : ℕ) × (q < n + 1) × (p : ℕ) × (p < q) × (at p ≡ at q)
 repeats n at within = elim (search_below (CameBefore at) before (n + 1)) [
-  | inl found ↦ (found.0, found.2.0, found.2.1, found.2.2)
+  | inl found ↦ (found.0, found.1, found.2.0, found.2.1, found.2.2)
   | inr none ↦ absurd (omega (arith, no_more_numbers (λ p w. (p < n + 1) × (at p ≡ w)) (n + 1) n (apart none) (λ p l. (at p, within p, (l, refl)))))
 ]
   where
@@ -50,7 +50,7 @@ repeats n at within = elim (search_below (CameBefore at) before (n + 1)) [
       ]
     ]
 
-abbrev times : (ℕ → ℕ) → ℕ → ℕ → ℕ
+abbrev pub times : (ℕ → ℕ) → ℕ → ℕ → ℕ
 times f zero i = i
 times f (suc p) i = times f p (f i)
 
@@ -76,16 +76,17 @@ module _ (n : ℕ) (f g : ℕ → ℕ) (f_within : (i : ℕ) → i < n → f i <
   taken_back (suc p) i l e =
       ap (times f p) (past_times p (g i) (g_within i l) ∙ ap (times g p) e) ∙ taken_back p i l e
 
-  round : (i : ℕ) → i < n → f (g i) ≡ i → (p : ℕ) × (times f p (f i) ≡ i)
+  pub round : (i : ℕ) → i < n → f (g i) ≡ i → (p : ℕ) × (p < n) × (times f p (f i) ≡ i)
   round i l e =
       let twice = repeats n (λ p. times g p i) (λ p. times_within p i l) in
       let q = twice.0 in
-      let p = twice.1 in
-      let more : q ≡ p + suc (q - p - 1) = omega (arith, twice.2) in (
+      let p = twice.2 in
+      let more : q ≡ p + suc (q - p - 1) = omega (arith, twice.3) in (
         q - p - 1,
+        omega (arith, twice.1, twice.3),
         sym (ap (times f (suc (q - p - 1))) (taken_back p i l e))
             ∙ sym (times_add f p (suc (q - p - 1)) (times g p i))
-            ∙ ap (λ m. times f m (times g p i)) (sym more) ∙ ap (times f q) twice.3 ∙ taken_back q i l e,
+            ∙ ap (λ m. times f m (times g p i)) (sym more) ∙ ap (times f q) twice.4 ∙ taken_back q i l e,
       )
 
 -- words that are followed
@@ -94,11 +95,11 @@ follow_append next [] v i = refl
 follow_append next (a ∷ u) v i = follow_append next u v (next i a)
 
 module _ (n k : ℕ) (next : ℕ → ℕ → ℕ) (within : (i a : ℕ) → i < n → a < k → next i a < n) where
-  follow_within : (u : Word) (i : ℕ) → IsOver k u → i < n → follow next i u < n
+  pub follow_within : (u : Word) (i : ℕ) → IsOver k u → i < n → follow next i u < n
   follow_within [] i over l = l
   follow_within (a ∷ u) i over l = follow_within u (next i a) over.1 (within i a l over.0)
 
-  follow_reaches : (u : Word) (i : ℕ) → IsOver k u → Reaches (IsEdge k next) i (follow next i u)
+  pub follow_reaches : (u : Word) (i : ℕ) → IsOver k u → Reaches (IsEdge k next) i (follow next i u)
   follow_reaches [] i over = here
   follow_reaches (a ∷ u) i over = further (a, over.0, refl) (follow_reaches u (next i a) over.1)
 
@@ -107,11 +108,11 @@ module _ (n k : ℕ) (next : ℕ → ℕ → ℕ) (within : (i a : ℕ) → i < 
   times_reaches u over (suc p) i = reaches_on (IsEdge k next) (follow_reaches u i over) (times_reaches u over p (follow next i u))
 
   -- a round by two words leads back from between them
-  round_reaches : (u v : Word) (i : ℕ) → IsOver k u → IsOver k v → (p : ℕ) × (times (λ m. follow next m (u ++ v)) p (follow next i (u ++ v)) ≡ i)
+  round_reaches : (u v : Word) (i : ℕ) → IsOver k u → IsOver k v → (p : ℕ) × (p < n) × (times (λ m. follow next m (u ++ v)) p (follow next i (u ++ v)) ≡ i)
       → AreConnected (IsEdge k next) i (follow next i u)
   round_reaches u v i over also cycle = (
     follow_reaches u i over,
-    subst (Reaches (IsEdge k next) (follow next i u)) cycle.1 (reaches_on (IsEdge k next)
+    subst (Reaches (IsEdge k next) (follow next i u)) cycle.2 (reaches_on (IsEdge k next)
         (subst (Reaches (IsEdge k next) (follow next i u)) (sym (follow_append next u v i)) (follow_reaches v (follow next i u) also))
         (times_reaches (u ++ v) (over_append k u v over also) cycle.0 (follow next i (u ++ v)))),
   )
@@ -123,7 +124,7 @@ module _ (n k : ℕ) (right left : ℕ → ℕ → ℕ) (in_right : (i a : ℕ) 
   letter_past a (b ∷ v) i m over l =
       ap (λ j. follow left j v) (commute i a b l m over.0) ∙ letter_past a v (left i b) m over.1 (in_left i b l over.0)
 
-  word_past : (u v : Word) (i : ℕ) → IsOver k u → IsOver k v → i < n → follow left (follow right i u) v ≡ follow right (follow left i v) u
+  pub word_past : (u v : Word) (i : ℕ) → IsOver k u → IsOver k v → i < n → follow left (follow right i u) v ≡ follow right (follow left i v) u
   word_past [] v i over also l = refl
   word_past (a ∷ u) v i over also l =
       word_past u v (right i a) over.1 also (in_right i a l over.0)

@@ -47,8 +47,8 @@ module _ (n w : ℕ) (next : ℕ → ℕ → ℕ) (t : Tour) (h : IsTour n w nex
     pub frame_top : IsOnTop t frame.number
     frame_top = (its.0, subst (λ (f : Frame). state_at t.states f.number ≡ OnPath its.0) last_is its.1, place_low)
 
-    -- Its number has no edge left.
-    pub dropped_tour : w ≤ frame.edge → IsTour n w next (record { states = t.states; path = t.path; frames = frames; starts = t.starts })
+    -- Its number has no edge left behind its edge.
+    pub dropped_tour : w ≤ frame.edge + 1 → IsTourBut n w next (IsAtEdge frame) (record { states = t.states; path = t.path; frames = frames; starts = t.starts })
     dropped_tour full = record {
       count = h.count;
       placed = h.placed;
@@ -74,8 +74,9 @@ module _ (n w : ℕ) (next : ℕ → ℕ → ℕ) (t : Tour) (h : IsTour n w nex
           ))
           | inr most ↦
               let same : f.0 ≡ length frames = omega (arith, most, f.1, count) in
-              let low : frame.edge ≤ a = subst (λ (g : Frame). g.edge ≤ a) (ap (frame_at t.frames) same ∙ last_is) f.3 in
-              absurd (omega (arith, low, full, m))
+              let is : frame_at t.frames f.0 ≡ frame = ap (frame_at t.frames) same ∙ last_is in
+              let low : frame.edge ≤ a = subst (λ (g : Frame). g.edge ≤ a) is f.3 in
+              inl (sym f.2 ∙ ap (λ (g : Frame). g.number) is, omega (arith, low, full, m))
         ]
       ];
       frames = λ f l.
@@ -87,12 +88,11 @@ module _ (n w : ℕ) (next : ℕ → ℕ → ℕ) (t : Tour) (h : IsTour n w nex
           );
     }
 
-    pub dropped_left : w ≤ frame.edge
-        → left_over w (record { states = t.states; path = t.path; frames = frames; starts = t.starts }) < left_over w t
-    dropped_left full =
+    pub dropped_left : left_over w (record { states = t.states; path = t.path; frames = frames; starts = t.starts }) < left_over w t
+    dropped_left =
         let sums : sum_by (edges_left w) t.frames ≡ sum_by (edges_left w) frames + (w + 1 - frame.edge) =
         ap (λ (fs : List Frame). sum_by (edges_left w) fs) are ∙ sum_by_push (edges_left w) frames frame in
-        omega (arith, sums, frame_edge, full)
+        omega (arith, sums, frame_edge)
 
     -- One of its edges is to be followed.
     module _ (less : frame.edge < w) where

@@ -10,6 +10,7 @@ pub mod GroupLaws
 pub mod PairLaws
 pub mod JoinLaws
 pub mod FiniteLaws
+pub mod PowerLaws
 pub mod RelationLaws
 pub mod IdempotentLaws
 pub mod NumberedLaws

@@ -1,13 +1,13 @@
 -- Edges of numbered values: a letter on the left and one on the right may be multiplied in either
--- order, and an element is idempotent exactly where its own word, its last letter first, leads in
--- the left Cayley graph from its number back to it.
-use Rattle.std.proofs.Common.{◌≡◌, ℕ, ◌<◌, ◌↔◌, Bool, [], ◌∷◌, ◌++◌, reverse, sym, ap, subst, ◌∙◌, IsTrue}
+-- order, words lead to the same product in either graph, and an element is idempotent exactly where
+-- its own word, its last letter first, leads in the left Cayley graph from its number back to it.
+use Rattle.std.proofs.Common.{◌≡◌, ℕ, ◌<◌, ◌↔◌, Bool, [], ◌∷◌, ◌++◌, reverse, sym, ap, subst, ◌∙◌, IsTrue, append-nil, append_assoc}
 use Rattle.std.proofs.lemmas.List.{reverse-append}
 use Rattle.theory.specs.Word.{Word, IsOver}
 use Rattle.theory.specs.Value.{IsProduct, SameValue, value}
 use Rattle.theory.specs.Generated.{AreNumbered, IsNumberOf}
 use Rattle.theory.specs.Green.{IsIdempotent, follow}
-use Rattle.theory.proofs.GeneratedLaws.{same_symm, same_trans}
+use Rattle.theory.proofs.GeneratedLaws.{same_refl, same_symm, same_trans}
 use Rattle.theory.proofs.ValueLaws.{value_append, value_kept_left, value_kept_right}
 use Rattle.green.proofs.FiniteLaws.{follow_append}
 
@@ -55,6 +55,27 @@ module _ {V : Type 0} (HasShape : V → Type 0) (product : V → V → V) (equal
         trans_at (a ∷ (x ++ u)) (a ∷ word j) (word (left j a)) (value_kept_left HasShape product equal laws k generator unused shaped (a ∷ []) (x ++ u) (word j) rest.1 (over.0, tt)) edge.1,
       ) in
       subst (λ m. StandsFor m (a ∷ (x ++ u))) (sym (ap (follow left i) (reverse-append (a ∷ []) x) ∙ follow_append left (reverse x) (a ∷ []) i)) stands
+
+  behind_stands : (x : Word) (i : ℕ) (u : Word) → IsOver k x → StandsFor i u → StandsFor (follow right i x) (u ++ x)
+  behind_stands [] i u over p = subst (StandsFor i) (sym (append-nil u)) p
+  behind_stands (a ∷ x) i u over p =
+      let edge = numbered.on_right i a p.0 over.0 in
+      let next : StandsFor (right i a) (u ++ a ∷ []) = (
+        edge.0,
+        trans_at (u ++ a ∷ []) (word i ++ a ∷ []) (word (right i a)) (value_kept_right HasShape product equal laws k generator unused shaped u (word i) (a ∷ []) p.1 (over.0, tt)) edge.1,
+      ) in
+      subst (StandsFor (follow right (right i a) x)) (append_assoc u (a ∷ []) x) (behind_stands x (right i a) (u ++ a ∷ []) over.1 next)
+
+  own : (i : ℕ) → i < n → StandsFor i (word i)
+  own i l = (l, same_refl HasShape product equal laws k generator unused shaped (word i) (numbered.elements i l))
+
+  pub products_agree : (i j : ℕ) → i < n → j < n → follow left j (reverse (word i)) ≡ follow right i (word j)
+  products_agree i j l m =
+      let both : Word = word i ++ word j in
+      let before = before_stands (word i) j (word j) (numbered.elements i l).1 (own j m) in
+      let behind = behind_stands (word j) i (word i) (numbered.elements j m).1 (own i l) in
+      numbered.distinct (follow left j (reverse (word i))) (follow right i (word j)) before.0 behind.0
+      (trans_at (word (follow left j (reverse (word i)))) both (word (follow right i (word j))) (symm_at both (word (follow left j (reverse (word i)))) before.1) behind.1)
 
   pub idempotent_leads : (u : Word) (i : ℕ) → IsNumberOf k equal (value product generator unused) n word i u
       → IsIdempotent product equal (value product generator unused u) ↔ (follow left i (reverse (word i)) ≡ i)

@@ -1,7 +1,8 @@
 -- The steps of the search for strongly connected components.
-use Rattle.std.proofs.Common.{◌≡◌, ◌≢◌, ℕ, ◌+◌, ◌-◌, ◌<◌, ◌≤◌, List, [], ◌∷◌, ◌++◌, length, slice_index, take, sym, ◌∙◌, ap, subst, arith}
+use Rattle.std.proofs.Common.{◌≡◌, ◌≢◌, ℕ, ◌+◌, ◌-◌, ◌<◌, ◌≤◌, List, [], ◌∷◌, ◌++◌, length, slice_index, take, if◌then◌else◌, inl, inr, append-nil, sym, ◌∙◌, ap, subst, arith}
+use Rattle.std.proofs.lemmas.Bool.{cases_lt, le-ltb, lt-ltb}
 use Rattle.theory.specs.Green.{Reaches, here, further, IsEdge}
-use Rattle.green.specs.Touring.{Tour, state_at, start_at, IsTourBut, IsTour, IsAtEdge, IsOnTop, entered, without_start, HaveJoined, HasClosed, KeepsSeen, left_over}
+use Rattle.green.specs.Touring.{Tour, rest_of, with_rest, state_at, start_at, IsTourBut, IsTour, IsAtEdge, IsOnTop, entered, without_start, HaveJoined, HasClosed, KeepsSeen, left_over}
 use Rattle.green.specs.declared.depth_first.State.{State}
 use Rattle.green.specs.declared.depth_first.State.TheVariants.{Unseen, OnPath, Done}
 use Rattle.green.specs.declared.depth_first.Frame.{Frame}
@@ -57,6 +58,13 @@ module _ (n w : ℕ) (next : ℕ → ℕ → ℕ) (t : Tour) (frame : Frame) (h 
   pub done_followed : (d : ℕ) → state_at t.states v ≡ Done d → IsTour n w next t
   done_followed d at = passed_tour n w next (IsAtEdge frame) t h (λ q a l m s. (d, ap (state_at t.states) (the_edge q a s) ∙ at))
 
+-- the edges behind an edge
+pub rest_some : (w : ℕ) (frame : Frame) → frame.edge + 1 < w → rest_of w frame ≡ record { number = frame.number; edge = frame.edge + 1 } ∷ []
+rest_some w frame more = ap (λ b. if b then record { number = frame.number; edge = frame.edge + 1 } ∷ [] else []) (lt-ltb (frame.edge + 1) w more)
+
+pub rest_none : (w : ℕ) (frame : Frame) → w ≤ frame.edge + 1 → rest_of w frame ≡ []
+rest_none w frame none = ap (λ b. if b then record { number = frame.number; edge = frame.edge + 1 } ∷ [] else []) (le-ltb (frame.edge + 1) w none)
+
 -- The last component ends.
 module _ (n w : ℕ) (next : ℕ → ℕ → ℕ) (t : Tour) (h : IsTour n w next t) (some : 0 < length t.starts) where
   pub ended : (start : Start) → start ≡ start_at t.starts (length t.starts - 1) → length t.frames ≡ start.frame
@@ -86,8 +94,9 @@ module _ (n w : ℕ) (next : ℕ → ℕ → ℕ) (t : Tour) (h : IsTour n w nex
     pub dropped : frame.edge ≡ w → IsTour n w next (record { states = t.states; path = t.path; frames = frames; starts = t.starts })
         × (left_over w (record { states = t.states; path = t.path; frames = frames; starts = t.starts }) < left_over w t)
     dropped full = (
-      dropped_tour n w next t h frames frame are some not_last (omega (arith, full)),
-      dropped_left n w next t h frames frame are some not_last (omega (arith, full)),
+      passed_tour n w next (IsAtEdge frame) (record { states = t.states; path = t.path; frames = frames; starts = t.starts })
+          (dropped_tour n w next t h frames frame are some not_last (omega (arith, full))) (λ q a l m s. absurd (omega (arith, full, m, s.1))),
+      dropped_left n w next t h frames frame are some not_last,
     )
 
     pub its_edge : frame.edge ≢ w → frame.edge < w
@@ -96,16 +105,26 @@ module _ (n w : ℕ) (next : ℕ → ℕ → ℕ) (t : Tour) (h : IsTour n w nex
         edge_most : frame.edge ≤ w
         edge_most = frame_edge n w next t h frames frame are some not_last
 
-    pub advanced : (now : List Frame) → now ≡ frames ++ record { number = frame.number; edge = frame.edge + 1 } ∷ [] → frame.edge ≢ w
-        → IsTourBut n w next (IsAtEdge frame) (record { states = t.states; path = t.path; frames = now; starts = t.starts })
-        × (left_over w (record { states = t.states; path = t.path; frames = now; starts = t.starts }) < left_over w t)
-    advanced now e d =
-        let less = its_edge d in
-        subst (λ (f : List Frame). IsTourBut n w next (IsAtEdge frame) (record { states = t.states; path = t.path; frames = f; starts = t.starts })
-        × (left_over w (record { states = t.states; path = t.path; frames = f; starts = t.starts }) < left_over w t)) (sym e) (
-          advanced_tour n w next t h frames frame are some not_last less,
-          advanced_left n w next t h frames frame are some not_last less,
-        )
+    pub advanced : (now : Tour) → now ≡ with_rest w frame (record { states = t.states; path = t.path; frames = frames; starts = t.starts }) → frame.edge ≢ w
+        → IsTourBut n w next (IsAtEdge frame) now × (left_over w now < left_over w t) × IsOnTop now frame.number
+    advanced now e d = subst Advanced (sym e) (elim (cases_lt (frame.edge + 1) w) [
+      | inl more ↦ subst (λ rest. Advanced (with_frames (frames ++ rest))) (sym (rest_some w frame more)) (
+        advanced_tour n w next t h frames frame are some not_last (its_edge d),
+        advanced_left n w next t h frames frame are some not_last (its_edge d),
+        its_top,
+      )
+      | inr none ↦ subst (λ (f : List Frame). Advanced (with_frames f)) (sym (ap (λ rest. frames ++ rest) (rest_none w frame none) ∙ append-nil frames)) (
+        dropped_tour n w next t h frames frame are some not_last none,
+        dropped_left n w next t h frames frame are some not_last,
+        its_top,
+      )
+    ])
+      where
+        with_frames : List Frame → Tour
+        with_frames f = record { states = t.states; path = t.path; frames = f; starts = t.starts }
+
+        Advanced : Tour → Type 0
+        Advanced u = IsTourBut n w next (IsAtEdge frame) u × (left_over w u < left_over w t) × IsOnTop u frame.number
 
 -- A search begins at a number.
 module _ (n w : ℕ) (next : ℕ → ℕ → ℕ) (t : Tour) (h : IsTour n w next t) (rest : t.starts ≡ []) where

@@ -13,11 +13,11 @@ use Rattle.elements.specs.Generators.{HaveOneShape, value_by}
 use Rattle.froidure_pin.specs.declared.tables.CayleyTables.{CayleyTables}
 use Rattle.cayley.specs.Tables.{edge, word_at, number_in}
 use Rattle.cayley.specs.Whole.{AreTablesOf}
-use Rattle.green.specs.Related.{AreOfLetters, AreRelated, DoCommute, IsIdempotentAt}
+use Rattle.green.specs.Related.{AreOfLetters, AreRelated, DoAgree, DoCommute, IsIdempotentAt}
 use Rattle.green.specs.Told.{IsGreen, StandTogether}
 use Rattle.theory.specs.declared.Relation.{Relation}
 use Rattle.theory.specs.declared.Relation.TheVariants.{R, L, H, J}
-use Rattle.green.proofs.NumberedLaws.{edges_commute, idempotent_leads}
+use Rattle.green.proofs.NumberedLaws.{edges_commute, idempotent_leads, products_agree}
 use Rattle.green.proofs.TourLaws.{reaches_on}
 
 -- what is listed has the property, and what has it is listed
@@ -133,6 +133,12 @@ module _ {V : Type 0} (shape : V → ℕ × ℕ) (product : V → V → V) (equa
       edges_commute (λ x. shape x ≡ shape (slice_index_or generators 0 unused)) product equal (products (shape (slice_index_or generators 0 unused))) (length generators)
       (λ c. slice_index_or generators c unused) unused shaped (length t.words) (word_at t) (edge t.right) (edge t.left) tables.numbered i a b l
       (omega (arith, less, tables.letters)) (omega (arith, low, tables.letters))
+
+  -- the words of two numbers in either graph
+  pub tables_agree : DoAgree t
+  tables_agree =
+      products_agree (λ x. shape x ≡ shape (slice_index_or generators 0 unused)) product equal (products (shape (slice_index_or generators 0 unused))) (length generators)
+      (λ c. slice_index_or generators c unused) unused shaped (length t.words) (word_at t) (edge t.right) (edge t.left) tables.numbered
 
   module _ (u v : Word) (e : IsElement false (length generators) u) (f : IsElement false (length generators) v) where
     by_relation : (relation : Relation) → IsGreen relation product equal (length generators) (value_by product generators unused)

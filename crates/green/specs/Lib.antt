@@ -1,5 +1,6 @@
 pub mod EdgeRows
 pub mod Grouping
+pub mod Idempotents
 pub mod Joining
 pub mod Known
 pub mod Naming

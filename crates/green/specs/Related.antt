@@ -24,7 +24,17 @@ DoCommute t = (i a b : ℕ) → i < length t.words → a < length t.letters → 
 abbrev pub AreOfLetters : CayleyTables → Type 0
 AreOfLetters t = (i : ℕ) → i < length t.words → IsOver (length t.letters) (word_at t i)
 
--- the number's own word, its last letter first, leads in the left Cayley graph from it back to it
+-- the product of two numbers: where the word of the first, its last letter first, leads in the left
+-- Cayley graph from the second
+abbrev pub product_in : CayleyTables → ℕ → ℕ → ℕ
+product_in t i j = follow (edge t.left) j (reverse (word_at t i))
+
+-- the word of the second leads there too, in the right Cayley graph from the first
+abbrev pub DoAgree : CayleyTables → Type 0
+DoAgree t = (i j : ℕ) → i < length t.words → j < length t.words
+    → product_in t i j ≡ follow (edge t.right) i (word_at t j)
+
+-- the number is its own square
 pub record IsIdempotentAt (t : CayleyTables) (i : ℕ) : Type 0 where
   pub below : i < length t.words
-  pub back : follow (edge t.left) i (reverse (word_at t i)) ≡ i
+  pub back : product_in t i i ≡ i

@@ -1,5 +1,5 @@
 -- The search for strongly connected components (Purdom and Munro 1970; Gabow 2000).
-use Rattle.std.specs.Prelude.{◌≡◌, ◌≢◌, ℕ, ◌+◌, ◌-◌, ◌<◌, ◌≤◌, ◌↔◌, ◌⊎◌, List, [], ◌∷◌, ◌++◌, length, slice_index, slice_index_or, slice_set, take}
+use Rattle.std.specs.Prelude.{◌≡◌, ◌≢◌, ℕ, ◌+◌, ◌-◌, ◌<◌, ◌≤◌, ◌↔◌, ◌⊎◌, List, [], ◌∷◌, ◌++◌, length, slice_index, slice_index_or, slice_set, take, nat_lt, if◌then◌else◌}
 use Rattle.std.specs.List.{sum_by}
 use Rattle.theory.specs.Green.{Reaches, IsEdge, AreConnected}
 use Rattle.green.specs.declared.depth_first.State.{State}
@@ -107,6 +107,20 @@ entered t v = record {
   path = t.path ++ v ∷ [];
   frames = t.frames ++ record { number = v; edge = 0 } ∷ [];
   starts = t.starts ++ record { place = length t.path; frame = length t.frames } ∷ [];
+}
+
+-- the edges of a number behind one of them are kept, if there are any
+abbrev pub rest_of : ℕ → Frame → List Frame
+rest_of w frame =
+    if nat_lt (frame.edge + 1) w then record { number = frame.number; edge = frame.edge + 1 } ∷ []
+    else []
+
+abbrev pub with_rest : ℕ → Frame → Tour → Tour
+with_rest w frame t = record {
+  states = t.states;
+  path = t.path;
+  frames = t.frames ++ rest_of w frame;
+  starts = t.starts;
 }
 
 -- the last component has no start of its own

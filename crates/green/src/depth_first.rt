@@ -4,7 +4,7 @@
 ghost use Rattle.std.specs.Prelude.{◌≡◌, ◌≢◌, ℕ, ◌<◌, ◌-◌, ◌≤◌, [], length, slice_index, take, IfOk, OnOk};
 ghost use Rattle.cayley.specs.Tables.{FitTogether};
 ghost use Rattle.green.specs.EdgeRows.{next};
-ghost use Rattle.green.specs.Touring.{ArePlaced, HasClosed, HaveJoined, IsAtEdge, IsOnTop, IsTour, IsTourBut, KeepsSeen, entered, left_over, start_at, state_at, without_start};
+ghost use Rattle.green.specs.Touring.{ArePlaced, HasClosed, HaveJoined, IsAtEdge, IsOnTop, IsTour, IsTourBut, KeepsSeen, entered, left_over, start_at, state_at, with_rest, without_start};
 ghost use Rattle.green.specs.declared.depth_first.State.TheVariants.{Unseen, Done};
 
 use crate::edges::{Edges, target};
@@ -14,12 +14,13 @@ use std::alloc::Global;
 use std::marker::Model;
 
 // Where a number stands: not seen yet, at a place of the path, or in a component that is done, and
-// goes by one of its numbers.
+// goes by one of its numbers. Places and numbers have four bytes, since most of the time goes into
+// reading states here and there.
 #[derive(Clone, Copy)]
 pub enum State {
     Unseen,
-    OnPath(usize),
-    Done(usize),
+    OnPath(u32),
+    Done(u32),
 }
 
 // A number on the path, and the first of its edges that has not been followed.
@@ -41,7 +42,7 @@ pub struct Start {
 #[derive(Drop)]
 pub struct DepthFirst {
     states: Vec<State>,
-    path: Vec<usize>,
+    path: Vec<u32>,
     frames: Vec<Frame>,
     starts: Vec<Start>,
 }
@@ -57,6 +58,13 @@ impl Model for DepthFirst {
       frames = d.frames.items;
       starts = d.starts.items;
     } };
+}
+
+// A number in four bytes. One that does not fit in them is refused: there is no memory for so many.
+fn in_four_bytes(number: usize) -> Result<u32, NoMemory>
+    ensures { IfOk result (λ packed. packed ≡ number) }
+{
+    u32::try_from(number).map_err(|_| NoMemory)
 }
 
 impl DepthFirst {
@@ -94,12 +102,13 @@ impl DepthFirst {
         requires { number < length self.old.states }
         ensures { OnOk result (self.new ≡ entered self.old number) }
     {
-        self.states[number] = State::OnPath(self.path.len());
+        let place = self.path.len();
+        self.states[number] = State::OnPath(in_four_bytes(place)?);
         self.starts.push(Start {
-            place: self.path.len(),
+            place,
             frame: self.frames.len(),
         })?;
-        self.path.push(number)?;
+        self.path.push(in_four_bytes(number)?)?;
         self.frames.push(Frame { number, edge: 0 })?;
         Ok(())
     }
@@ -137,7 +146,7 @@ impl DepthFirst {
     {
         let name = self.path[place];
         for later in place..self.path.len() {
-            self.states[self.path[later]] = State::Done(name);
+            self.states[self.path[later] as usize] = State::Done(name);
         }
         self.path.truncate(place);
     }
@@ -160,15 +169,28 @@ impl DepthFirst {
         match self.state(next) {
             State::Unseen => self.enter(next),
             State::OnPath(place) => {
-                self.join(place);
+                self.join(place as usize);
                 Ok(())
             }
             State::Done(_) => Ok(()),
         }
     }
 
-    // Follows an edge of the last component, drops a number that has none left, or ends the
-    // component where no number has one left.
+    // Keeps the edges of a number behind one of them, if there are any.
+    fn keep_rest(&mut self, frame: Frame, letters: usize) -> Result<(), NoMemory>
+        requires { frame.edge < letters }
+        ensures { OnOk result (self.new ≡ with_rest letters frame self.old) }
+    {
+        if frame.edge + 1 < letters {
+            self.frames.push(Frame {
+                number: frame.number,
+                edge: frame.edge + 1,
+            })?;
+        }
+        Ok(())
+    }
+
+    // Follows an edge of the last component, or ends the component where no number has one left.
     fn step(&mut self, edges: Edges, tables: &CayleyTables) -> Result<(), NoMemory>
         requires fit { FitTogether tables.now }
         requires tour { IsTour (length tables.now.words) (length tables.now.letters)
@@ -189,13 +211,11 @@ impl DepthFirst {
         let Some(frame) = self.frames.pop() else {
             return Ok(());
         };
-        if frame.edge == tables.letters.as_slice().len() {
+        let letters = tables.letters.as_slice().len();
+        if frame.edge == letters {
             return Ok(());
         }
-        self.frames.push(Frame {
-            number: frame.number,
-            edge: frame.edge + 1,
-        })?;
+        self.keep_rest(frame, letters)?;
         self.follow(edges, tables, frame)
     }
 
@@ -232,7 +252,7 @@ impl DepthFirst {
         ensures { (name : ℕ) → state_at self.now.states number ≡ Done name → result ≡ name }
     {
         match self.state(number) {
-            State::Done(name) => name,
+            State::Done(name) => name as usize,
             _ => number,
         }
     }

@@ -7,15 +7,16 @@ ghost use Rattle.elements.specs.Generators.{HaveOneShape, value_by};
 ghost use Rattle.froidure_pin.specs.declared.tables.CayleyTables.{CayleyTables};
 ghost use Rattle.cayley.specs.Tables.{FitTogether, number_in};
 ghost use Rattle.cayley.specs.Whole.{AreTablesOf};
-ghost use Rattle.green.specs.Related.{AreOfLetters, AreRelated, DoCommute, IsIdempotentAt};
+ghost use Rattle.green.specs.Related.{AreOfLetters, AreRelated, DoAgree, DoCommute, IsIdempotentAt};
 ghost use Rattle.green.specs.Told.{IsGreen, StandTogether};
 ghost use Rattle.theory.specs.declared.Relation.{Relation};
 ghost use Rattle.theory.specs.declared.Relation.TheVariants.{R, L, J};
 
 use theory::values::Values;
 
-/// The tables of generators fit together, their words are words of the letters, and a letter on the
-/// left and one on the right may be multiplied in either order.
+/// The tables of generators fit together, their words are words of the letters, a letter on the
+/// left and one on the right may be multiplied in either order, and words lead to the product of
+/// two numbers in either graph.
 pub fn tables_serve<V: Values>()
     ensures fit { (generators : List V) (unused : V) (tables : CayleyTables)
         → AreTablesOf V.product V.eq generators unused tables → FitTogether tables }
@@ -24,6 +25,9 @@ pub fn tables_serve<V: Values>()
     ensures commute { (generators : List V) (unused : V) → HaveOneShape V.shape generators
         → (tables : CayleyTables) → AreTablesOf V.product V.eq generators unused tables
         → DoCommute tables }
+    ensures agree { (generators : List V) (unused : V) → HaveOneShape V.shape generators
+        → (tables : CayleyTables) → AreTablesOf V.product V.eq generators unused tables
+        → DoAgree tables }
 {}
 
 /// In a finite semigroup two elements are related by J exactly where some element is related to the

@@ -12,7 +12,6 @@ mod naming;
 mod pairing;
 mod relations;
 
-pub use idempotent::idempotents;
 pub use relations::ClassNames;
 pub use theory::Relation;
 

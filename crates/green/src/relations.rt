@@ -1,15 +1,17 @@
-// Classes of elements under Green's relations.
-ghost use Rattle.std.specs.Prelude.{◌≡◌, length, map, option_map, IfOk, IfSome, OnOk, None, Some};
+// Classes of elements under Green's relations, and idempotents.
+ghost use Rattle.std.specs.Prelude.{◌≡◌, ◌<◌, length, map, option_map, IfOk, IfSome, OnOk, None, Some};
 ghost use Rattle.std.specs.Option.{IsSome};
 ghost use Rattle.theory.specs.Green.{AreClasses};
+ghost use Rattle.theory.specs.Listing.{IsListOf};
 ghost use Rattle.froidure_pin.specs.declared.tables.CayleyTables.{CayleyTables};
 ghost use Rattle.cayley.specs.Tables.{FitTogether};
 ghost use Rattle.green.specs.Known.{AreNamesIn, KeepsNames, StaysKnown};
 ghost use Rattle.green.specs.Naming.{AreNamesAlong};
-ghost use Rattle.green.specs.Related.{AreRelated, DoCommute};
+ghost use Rattle.green.specs.Related.{AreOfLetters, AreRelated, DoAgree, DoCommute, IsIdempotentAt};
 
 use crate::edges::Edges;
 use crate::grouping::grouped;
+use crate::idempotent::idempotents;
 use crate::joining::joined_names;
 use crate::naming::component_names;
 use crate::pairing::names_of_pairs;
@@ -19,14 +21,15 @@ use std::alloc::Global;
 use std::marker::Model;
 use theory::Relation;
 
-/// The names of the R- and of the L-classes of the elements of one semigroup, as far as they were
-/// found. A class goes by one of its numbers, and classes are found by these names: those of H by
-/// the pairs of both, and those of J by the least R-class that meets an L-class, since in a finite
-/// semigroup J is D (Howie 1995, proposition 2.1.4).
+/// The names of the R-, L- and H-classes of the elements of one semigroup, as far as they were
+/// found. An R- or L-class goes by one of its numbers, and an H-class by the place of the pair of
+/// both among those that there are; the classes of J are found by the least R-class that meets an
+/// L-class, since in a finite semigroup J is D (Howie 1995, proposition 2.1.4).
 #[derive(Drop)]
 pub struct ClassNames {
     right: Option<Vec<usize>>,
     left: Option<Vec<usize>>,
+    both: Option<Vec<usize>>,
 }
 
 impl Model for ClassNames {
@@ -38,6 +41,7 @@ impl Model for ClassNames {
     ghost view = { λ c. record {
       right = option_map (λ v. v.items) c.right;
       left = option_map (λ v. v.items) c.left;
+      both = option_map (λ v. v.items) c.both;
     } };
 }
 
@@ -74,12 +78,13 @@ fn names(known: &Option<Vec<usize>>) -> &[usize]
 impl ClassNames {
     /// Nothing is found yet.
     pub fn new() -> ClassNames
-        ensures nothing { result ≡ record { right = None; left = None } }
+        ensures nothing { result ≡ record { right = None; left = None; both = None } }
         ensures known { (t : CayleyTables) → AreNamesIn t result }
     {
         ClassNames {
             right: None,
             left: None,
+            both: None,
         }
     }
 
@@ -94,6 +99,23 @@ impl ClassNames {
     {
         find(alloc, Edges::Right, tables, &mut self.right)?;
         find(alloc, Edges::Left, tables, &mut self.left)
+    }
+
+    // Finds the names of the classes of R, L and H.
+    fn find_all(&mut self, alloc: Global, tables: &CayleyTables) -> Result<(), NoMemory>
+        requires fit { FitTogether tables.now }
+        requires known { AreNamesIn tables.now self.old }
+        ensures known { AreNamesIn tables.now self.new }
+        ensures kept { KeepsNames self.old self.new }
+        ensures left { OnOk result (IsSome self.new.left) }
+        ensures both { OnOk result (IsSome self.new.both) }
+    {
+        self.find_both(alloc, tables)?;
+        if self.both.is_none() {
+            let pairs = names_of_pairs(alloc, names(&self.right), names(&self.left))?;
+            self.both = Some(pairs);
+        }
+        Ok(())
     }
 
     /// The classes of the elements of a semigroup under one of Green's relations: the numbers of
@@ -125,9 +147,8 @@ impl ClassNames {
                 grouped(alloc, names(&self.left))
             }
             Relation::H => {
-                self.find_both(alloc, tables)?;
-                let pairs = names_of_pairs(alloc, names(&self.right), names(&self.left))?;
-                grouped(alloc, &pairs)
+                self.find_all(alloc, tables)?;
+                grouped(alloc, names(&self.both))
             }
             Relation::J => {
                 self.find_both(alloc, tables)?;
@@ -135,5 +156,31 @@ impl ClassNames {
                 grouped(alloc, &joined)
             }
         }
+    }
+
+    /// The numbers of the idempotents of a semigroup, ascending (libsemigroups,
+    /// `FroidurePin::idempotents`). The tables are those of a whole run, or at least fit together,
+    /// have words of their letters, edges that commute, and words that lead to one product in
+    /// either graph, and the same ones at each call. By Green's theorem (Howie 1995, theorem 2.2.5)
+    /// an H-class with an idempotent is a group, so only one number of each H-class is multiplied,
+    /// and its powers are followed only where they stay in the class. Refused only for want of
+    /// memory, and then what was found is kept.
+    pub fn idempotents(
+        &mut self,
+        alloc: Global,
+        tables: &CayleyTables,
+    ) -> Result<Vec<usize>, NoMemory>
+        requires fit { FitTogether tables.now }
+        requires commute { DoCommute tables.now }
+        requires words { AreOfLetters tables.now }
+        requires agree { DoAgree tables.now }
+        requires known { AreNamesIn tables.now self.old }
+        ensures known { AreNamesIn tables.now self.new }
+        ensures kept { KeepsNames self.old self.new }
+        ensures idempotents { IfOk result (λ found.
+            IsListOf (IsIdempotentAt tables.now) ◌<◌ None found.items) }
+    {
+        self.find_all(alloc, tables)?;
+        idempotents(alloc, tables, names(&self.left), names(&self.both))
     }
 }

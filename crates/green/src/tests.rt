@@ -2,7 +2,7 @@ ghost use Rattle.std.specs.Prelude.{◌≡◌, ◌<◌, ◌≤◌, length, IfOk}
 ghost use Rattle.elements.specs.Generators.{HaveOneShape};
 ghost use Rattle.cayley.specs.Tables.{FitTogether};
 ghost use Rattle.green.specs.Known.{AreNamesIn};
-ghost use Rattle.green.specs.Related.{AreOfLetters, DoCommute};
+ghost use Rattle.green.specs.Related.{AreOfLetters, DoAgree, DoCommute};
 
 use super::*;
 use elements::{Field, Transf};
@@ -54,6 +54,7 @@ fn run<L: Ledger>(alloc: Global, blank: Blank, maps: &Vec<Transf>) -> Result<Cay
     ensures fit { IfOk result FitTogether }
     ensures words { IfOk result AreOfLetters }
     ensures commute { IfOk result DoCommute }
+    ensures agree { IfOk result DoAgree }
 {
     facts::tables_serve::<Transf>();
     let mut steps = Steps::<L>::open(blank);
@@ -68,6 +69,7 @@ fn tables_of(alloc: Global, table: &[&[u32]]) -> Result<CayleyTables, NoMemory>
     ensures fit { IfOk result FitTogether }
     ensures words { IfOk result AreOfLetters }
     ensures commute { IfOk result DoCommute }
+    ensures agree { IfOk result DoAgree }
 {
     let maps = maps_of(alloc, table)?;
     run::<Brand>(alloc, Blank::new(1), &maps)
@@ -131,7 +133,7 @@ fn sizes(alloc: Global, table: &[&[u32]], relation: Relation) -> Result<Vec<usiz
 // The numbers of the idempotents.
 fn squares(alloc: Global, table: &[&[u32]]) -> Result<Vec<usize>, NoMemory> {
     let tables = tables_of(alloc, table)?;
-    idempotents(alloc, &tables)
+    ClassNames::new().idempotents(alloc, &tables)
 }
 
 // The Brandt semigroup with the elements a, b, zero, ab and ba.

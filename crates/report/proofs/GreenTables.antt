@@ -34,9 +34,9 @@ use Rattle.problem.specs.declared.kinds.Problem.{Problem}
 use Rattle.problem.specs.declared.kinds.Problem.TheVariants.{Presented, Transf, PPerm, BMat, MaxPlus}
 use Rattle.problem.specs.Problem.{HasOneShape, SameValueOf, no_matrix, no_truncated_matrix}
 use Rattle.congruence.specs.CayleyGraphs.{AreCayleyGraphs, AreTablesFor}
-use Rattle.green.specs.Related.{AreOfLetters, AreRelated, DoCommute, IsIdempotentAt}
+use Rattle.green.specs.Related.{AreOfLetters, AreRelated, DoAgree, DoCommute, IsIdempotentAt}
 use Rattle.green.specs.Told.{IsGreen}
-use Rattle.green.proofs.NumberedLaws.{edges_commute, idempotent_leads}
+use Rattle.green.proofs.NumberedLaws.{edges_commute, idempotent_leads, products_agree}
 use Rattle.report.specs.Greens.{AreGreenAt, IsIdempotentOf}
 use Rattle.report.proofs.Elements.{listed_least, value_over}
 use Rattle.report.proofs.OneNumber.{one_number}
@@ -113,6 +113,11 @@ module _ {V : Type 0} (shape : V → ℕ × ℕ) (product : V → V → V) (equa
       edges_commute (λ x. shape x ≡ shape (slice_index_or generators 0 unused)) product equal laws (length generators) (λ a. slice_index_or generators a unused) unused shaped
       (length t.words) (word_at t) (edge t.right) (edge t.left) numbered i a b l (omega (arith, less, letters)) (omega (arith, low, letters))
 
+  pub agree_at : DoAgree t
+  agree_at =
+      products_agree (λ x. shape x ≡ shape (slice_index_or generators 0 unused)) product equal laws (length generators) (λ a. slice_index_or generators a unused) unused shaped
+      (length t.words) (word_at t) (edge t.right) (edge t.left) numbered
+
   own : (i : ℕ) → i < length t.words → IsNumberOf (length generators) equal (value_by product generators unused) (length t.words) (word_at t) i (word_at t i)
   own i l = (l, same_at (word_at t i) (element_at i l))
 
@@ -183,6 +188,14 @@ commutes (Transf p) t one tables = commute_at (λ x. (length x, 0)) composed (po
 commutes (PPerm p) t one tables = commute_at (λ x. (length x, 0)) partially_composed (pointwise (option_eq ◌==◌)) partial_products p.generators [] one t tables.letters tables.graphs
 commutes (BMat p) t one tables = commute_at (λ x. (x.dimension, 0)) boolean_product boolean_matrix_eq boolean_products p.generators no_matrix one t tables.letters tables.graphs
 commutes (MaxPlus p) t one tables = commute_at (λ x. (x.dimension, x.bound)) truncated_product truncated_matrix_eq truncated_products p.generators no_truncated_matrix one t tables.letters tables.graphs
+
+-- the words of two numbers lead to their product in either graph
+pub agrees : (p : Problem) (t : CayleyTables) → HasOneShape p → AreTablesFor p t → DoAgree t
+agrees (Presented p) t one tables = absurd one
+agrees (Transf p) t one tables = agree_at (λ x. (length x, 0)) composed (pointwise ◌==◌) composed_products p.generators [] one t tables.letters tables.graphs
+agrees (PPerm p) t one tables = agree_at (λ x. (length x, 0)) partially_composed (pointwise (option_eq ◌==◌)) partial_products p.generators [] one t tables.letters tables.graphs
+agrees (BMat p) t one tables = agree_at (λ x. (x.dimension, 0)) boolean_product boolean_matrix_eq boolean_products p.generators no_matrix one t tables.letters tables.graphs
+agrees (MaxPlus p) t one tables = agree_at (λ x. (x.dimension, x.bound)) truncated_product truncated_matrix_eq truncated_products p.generators no_truncated_matrix one t tables.letters tables.graphs
 
 -- the words are words of the letters
 pub of_letters : (p : Problem) (t : CayleyTables) → AreTablesFor p t → AreOfLetters t

@@ -1,5 +1,5 @@
 -- The tables of a problem say the same of its elements, whichever they are.
-use Rattle.std.proofs.Common.{◌≡◌, ℕ, ◌<◌, List, [], ◌∷◌, ◌++◌, length, slice_index_or, Option, None, Some, IfSome, sym, ap, subst, ◌∙◌, arith}
+use Rattle.std.proofs.Common.{◌≡◌, ℕ, ◌<◌, List, [], ◌∷◌, ◌++◌, ◌↔◌, length, slice_index_or, Option, None, Some, IfSome, sym, ap, subst, ◌∙◌, arith}
 use Rattle.theory.specs.Word.{Word}
 use Rattle.theory.specs.Green.{Reaches, here, further, IsEdge, AreConnected}
 use Rattle.theory.proofs.ClassLaws.{IsPartialEquivalence}
@@ -11,6 +11,8 @@ use Rattle.problem.proofs.RelatedByValue.{related_by_value}
 use Rattle.congruence.specs.CayleyGraphs.{AreTablesFor, IsNumbered}
 use Rattle.green.specs.Known.{AreNamesIn, KnownNames}
 use Rattle.green.specs.Naming.{AreNames}
+use Rattle.green.specs.Related.{AreRelated}
+use Rattle.theory.specs.declared.Relation.TheVariants.{R, L, H}
 use Rattle.report.specs.Known.{AreTextsOf}
 use Rattle.report.specs.Texts.{AreTexts, JoinedTexts}
 use Rattle.report.proofs.OneNumber.{one_list, one_number}
@@ -32,14 +34,8 @@ module _ (k n : ℕ) (next other : ℕ → ℕ → ℕ) (within : (i a : ℕ) �
   reaches_back l (further {i} {j} e r) =
       further (e.0, e.1, same i e.0 l e.1 ∙ e.2) (reaches_back (subst (λ m. m < n) (same i e.0 l e.1 ∙ e.2) (within i e.0 l e.1)) r)
 
-  names_alike : (names : List ℕ) → AreNames n (AreConnected (IsEdge k next)) names → AreNames n (AreConnected (IsEdge k other)) names
-  names_alike names h = record {
-    count = h.count;
-    within = h.within;
-    same = λ i j l m.
-        let by = h.same i j l m in
-        (λ e. let c = by.0 e in (reaches_alike l c.0, reaches_alike m c.1), λ c. by.1 (reaches_back l c.0, reaches_back m c.1));
-  }
+  connected_alike : (i j : ℕ) → i < n → j < n → AreConnected (IsEdge k next) i j ↔ AreConnected (IsEdge k other) i j
+  connected_alike i j l m = (λ c. (reaches_alike l c.0, reaches_alike m c.1), λ c. (reaches_back l c.0, reaches_back m c.1))
 
 module _ (p : Problem) (one : HasOneShape p) (unpaired : pairs_of p ≡ []) (t s : CayleyTables) (first : AreTablesFor p t) (second : AreTablesFor p s) where
   known : IsPartialEquivalence (SameValueOf p)
@@ -75,19 +71,42 @@ module _ (p : Problem) (one : HasOneShape p) (unpaired : pairs_of p ≡ []) (t s
   letters_alike : length t.letters ≡ length s.letters
   letters_alike = first.letters ∙ sym second.letters
 
-  -- names along these edges of the one are names along those of the other
-  names_moved : (next other : ℕ → ℕ → ℕ) → ((i a : ℕ) → i < length t.words → a < length t.letters → next i a < length t.words)
-      → ((i a : ℕ) → i < length t.words → a < count_of p → next i a ≡ other i a) → (names : List ℕ)
-      → AreNames (length t.words) (AreConnected (IsEdge (length t.letters) next)) names → AreNames (length s.words) (AreConnected (IsEdge (length s.letters) other)) names
-  names_moved next other within same names h =
-      subst (λ n. AreNames n (AreConnected (IsEdge (length s.letters) other)) names) (ap length words_alike)
-      (subst (λ k. AreNames (length t.words) (AreConnected (IsEdge k other)) names) letters_alike
-      (names_alike (length t.letters) (length t.words) next other within (λ i a l m. same i a l (omega (arith, m, first.letters))) names h))
+  along_alike : (next other : ℕ → ℕ → ℕ) → ((i a : ℕ) → i < length t.words → a < length t.letters → next i a < length t.words)
+      → ((i a : ℕ) → i < length t.words → a < count_of p → next i a ≡ other i a) → (i j : ℕ) → i < length t.words → j < length t.words
+      → AreConnected (IsEdge (length t.letters) next) i j ↔ AreConnected (IsEdge (length s.letters) other) i j
+  along_alike next other within same i j l m =
+      subst (λ k. AreConnected (IsEdge (length t.letters) next) i j ↔ AreConnected (IsEdge k other) i j) letters_alike
+      (connected_alike (length t.letters) (length t.words) next other within (λ x a b c. same x a b (omega (arith, c, first.letters))) i j l m)
+
+  right_related : (i j : ℕ) → i < length t.words → j < length t.words → AreRelated R t i j ↔ AreRelated R s i j
+  right_related = along_alike (edge t.right) (edge s.right) first.fit.right.within right_alike
+
+  left_related : (i j : ℕ) → i < length t.words → j < length t.words → AreRelated L t i j ↔ AreRelated L s i j
+  left_related = along_alike (edge t.left) (edge s.left) first.fit.left.within left_alike
+
+  both_related : (i j : ℕ) → i < length t.words → j < length t.words → AreRelated H t i j ↔ AreRelated H s i j
+  both_related i j l m =
+      let right = right_related i j l m in
+      let left = left_related i j l m in
+      (λ h. (right.0 h.0, left.0 h.1), λ h. (right.1 h.0, left.1 h.1))
+
+  -- names of a relation of the one are names of that of the other
+  names_moved : (One Other : ℕ → ℕ → Type 0) → ((i j : ℕ) → i < length t.words → j < length t.words → One i j ↔ Other i j) → (names : List ℕ)
+      → AreNames (length t.words) One names → AreNames (length s.words) Other names
+  names_moved One Other same names h = subst (λ n. AreNames n Other names) (ap length words_alike) (record {
+    count = h.count;
+    within = h.within;
+    same = λ i j l m.
+        let by = h.same i j l m in
+        let moved_on = same i j l m in
+        (λ e. moved_on.0 (by.0 e), λ r. by.1 (moved_on.1 r));
+  })
 
   pub known_alike : (names : KnownNames) → AreNamesIn t names → AreNamesIn s names
   known_alike names h = record {
-    right = if_some names.right _ _ (names_moved (edge t.right) (edge s.right) first.fit.right.within right_alike) h.right;
-    left = if_some names.left _ _ (names_moved (edge t.left) (edge s.left) first.fit.left.within left_alike) h.left;
+    right = if_some names.right _ _ (names_moved (AreRelated R t) (AreRelated R s) right_related) h.right;
+    left = if_some names.left _ _ (names_moved (AreRelated L t) (AreRelated L s) left_related) h.left;
+    both = if_some names.both _ _ (names_moved (AreRelated H t) (AreRelated H s) both_related) h.both;
   }
 
   pub texts_alike : (texts : JoinedTexts) → AreTextsOf p t texts → AreTextsOf p s texts

@@ -15,7 +15,7 @@ use crate::line::Line;
 use crate::listings::{write_end, write_word};
 use crate::texts::Texts;
 use froidure_pin::CayleyTables;
-use green::{Relation, idempotents};
+use green::Relation;
 use ports::{NoMemory, Sink, WriteFault};
 use problem::Problem;
 use std::alloc::Global;
@@ -31,23 +31,24 @@ fn put_word(texts: &Texts, class: &[usize], place: usize, line: &mut Line) -> Re
         → line.new ≡ class_text letters words (take (place + 1) class.now)) }
 {
     if 0 < place {
-        line.text(b" ")?;
+        line.text(texts.behind_space(class[place]))
+    } else {
+        line.text(texts.text(class[place]))
     }
-    line.text(texts.text(class[place]))
 }
 
-// The line of a class, without its end.
-fn line_of(alloc: Global, texts: &Texts, class: &[usize]) -> Result<Line, NoMemory>
+// Puts the words of a class into an empty line.
+fn put_class(texts: &Texts, class: &[usize], line: &mut Line) -> Result<(), NoMemory>
     requires texts { (letters : List ℕ) × (words : List Word) × AreTexts letters words texts.now }
     requires numbers { All (λ i. i < length texts.now.ends) class.now }
-    ensures { IfOk result (λ line. (letters : List ℕ) (words : List Word)
-        → AreTexts letters words texts.now → line ≡ class_text letters words class.now) }
+    requires empty { line.old ≡ [] }
+    ensures { OnOk result ((letters : List ℕ) (words : List Word)
+        → AreTexts letters words texts.now → line.new ≡ class_text letters words class.now) }
 {
-    let mut line = Line::starting(alloc, b"")?;
     for place in 0..class.len() {
-        put_word(texts, class, place, &mut line)?;
+        put_word(texts, class, place, line)?;
     }
-    Ok(line)
+    Ok(())
 }
 
 // Writes a line for each class, and the end of the list.
@@ -63,8 +64,10 @@ fn write_lines<O: Sink>(
         → WritesBytes O.Sink (bytes_of (map (λ class. class_line letters words class.items)
         found.now ++ end_line false ∷ [])) sink.old sink.new result }
 {
+    let mut line = Line::starting(alloc, b"")?;
     for class in found {
-        line_of(alloc, texts, class)?.write(sink)?;
+        put_class(texts, class, &mut line)?;
+        line.write_out(sink)?;
     }
     write_end(false, sink)
 }
@@ -113,19 +116,23 @@ pub fn write_green<O: Sink>(
     write_lines(alloc, elements.texts(), &found, sink)
 }
 
-/// Writes the least words of the idempotents, and the end of the list.
+/// Writes the least words of the idempotents, and the end of the list. What is found on the way is
+/// known afterwards.
 pub fn write_idempotents<O: Sink>(
     alloc: Global,
     problem: &Problem,
     tables: &CayleyTables,
+    elements: &mut KnownElements,
     sink: &mut O,
 ) -> Result<(), WriteFault>
     requires tables { AreTablesFor problem.now tables.now }
     requires shape { HasOneShape problem.now }
     requires unpaired { pairs_of problem.now ≡ [] }
-    ensures { Writes O.Sink (λ _. AreBytesOf (AreIdempotentLines problem.now))
+    requires known { AreKnownOf problem.now elements.old }
+    ensures known { AreKnownOf problem.now elements.new }
+    ensures written { Writes O.Sink (λ _. AreBytesOf (AreIdempotentLines problem.now))
         sink.old sink.new result }
 {
-    let found = idempotents(alloc, tables)?;
+    let found = elements.idempotents(alloc, problem, tables)?;
     write_words(alloc, problem, tables, &found, sink)
 }

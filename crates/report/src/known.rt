@@ -1,11 +1,12 @@
 // What is known of the elements of a problem while its queries are answered.
-ghost use Rattle.std.specs.Prelude.{◌≡◌, [], length, map, IfOk, OnOk, Some};
+ghost use Rattle.std.specs.Prelude.{◌≡◌, ◌<◌, [], length, map, IfOk, OnOk, None, Some};
 ghost use Rattle.std.specs.Option.{IsSome};
 ghost use Rattle.theory.specs.Green.{AreClasses};
+ghost use Rattle.theory.specs.Listing.{IsListOf};
 ghost use Rattle.problem.specs.declared.kinds.Problem.{Problem as Posed};
 ghost use Rattle.problem.specs.Problem.{HasOneShape, pairs_of};
 ghost use Rattle.congruence.specs.CayleyGraphs.{AreTablesFor};
-ghost use Rattle.green.specs.Related.{AreRelated};
+ghost use Rattle.green.specs.Related.{AreRelated, IsIdempotentAt};
 ghost use Rattle.report.specs.Known.{AreKnownOf};
 
 use crate::texts::Texts;
@@ -53,6 +54,25 @@ impl KnownElements {
     {
         let _problem = problem;
         self.names.classes(alloc, tables, relation)
+    }
+
+    /// The idempotents, by the numbers of the tables, ascending. Only want of memory refuses it.
+    pub fn idempotents(
+        &mut self,
+        alloc: Global,
+        problem: &Problem,
+        tables: &CayleyTables,
+    ) -> Result<Vec<usize>, NoMemory>
+        requires tables { AreTablesFor problem.now tables.now }
+        requires shape { HasOneShape problem.now }
+        requires unpaired { pairs_of problem.now ≡ [] }
+        requires known { AreKnownOf problem.now self.old }
+        ensures known { AreKnownOf problem.now self.new }
+        ensures idempotents { IfOk result (λ found.
+            IsListOf (IsIdempotentAt tables.now) ◌<◌ None found.items) }
+    {
+        let _problem = problem;
+        self.names.idempotents(alloc, tables)
     }
 
     /// Finds the texts of the words of the tables, unless they are known. Only want of memory

@@ -1,5 +1,5 @@
 // Lines that are put together.
-ghost use Rattle.std.specs.Prelude.{◌≡◌, ◌++◌, length, decimal, codes, OnOk, IfOk};
+ghost use Rattle.std.specs.Prelude.{◌≡◌, ◌++◌, [], length, decimal, codes, OnOk, IfOk};
 ghost use Rattle.theory.specs.Word.{IsOver};
 ghost use Rattle.words.specs.WordText.{text_of};
 ghost use Rattle.word_graph.specs.TableText.{table_text};
@@ -83,12 +83,24 @@ impl Line {
         self.text(table.print_table(alloc)?.as_slice())
     }
 
-    /// Ends the line with a line feed, and writes it. `Failed` comes only where the sink failed;
-    /// after a refusal the sink has gained a prefix of the line.
+    /// Ends the line with a line feed, writes it, and leaves it empty for the next one, with its
+    /// memory. `Failed` comes only where the sink failed; after a refusal the sink has gained a
+    /// prefix of the line.
+    pub fn write_out<O: Sink>(&mut self, sink: &mut O) -> Result<(), WriteFault>
+        ensures written { WritesBytes O.Sink (self.old ++ codes "\n") sink.old sink.new result }
+        ensures empty { OnOk result (self.new ≡ []) }
+    {
+        self.text(b"\n")?;
+        write_all(sink, self.bytes.as_slice())?;
+        self.bytes.clear();
+        Ok(())
+    }
+
+    /// Ends the line with a line feed, and writes it for the last time. Refusals are those of
+    /// `write_out`.
     pub fn write<O: Sink>(mut self, sink: &mut O) -> Result<(), WriteFault>
         ensures { WritesBytes O.Sink (self ++ codes "\n") sink.old sink.new result }
     {
-        self.text(b"\n")?;
-        write_all(sink, self.bytes.as_slice())
+        self.write_out(sink)
     }
 }

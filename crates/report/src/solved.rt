@@ -110,7 +110,7 @@ pub fn write_solved<O: Sink>(
             let tables = solved.tables();
             write_green(alloc, problem, tables, elements, *relation, sink)
         }
-        Query::Idempotents => write_idempotents(alloc, problem, solved.tables(), sink),
+        Query::Idempotents => { write_idempotents(alloc, problem, solved.tables(), elements, sink) }
         Query::ElementOf(_)
         | Query::LowIndex { .. }
         | Query::Meet(..)

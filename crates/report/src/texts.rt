@@ -1,5 +1,5 @@
 // The texts of the words of elements.
-ghost use Rattle.std.specs.Prelude.{◌≡◌, ◌<◌, ◌≤◌, ◌++◌, ◌+◌, ℕ, List, [], length, slice_index, slice_index_or, OnOk, IfOk, IfSome, MatchOption};
+ghost use Rattle.std.specs.Prelude.{◌≡◌, ◌<◌, ◌≤◌, ◌++◌, ◌+◌, ℕ, List, [], length, slice_index, slice_index_or, codes, OnOk, IfOk, IfSome, MatchOption};
 ghost use Rattle.std.specs.List.{slice_range};
 ghost use Rattle.theory.specs.Word.{Word as Letters, IsOver};
 ghost use Rattle.words.specs.WordText.{text_of};
@@ -11,7 +11,7 @@ use std::alloc::Global;
 use std::marker::Model;
 use words::Alphabet;
 
-/// The texts of the words of elements, one behind the other, and where each ends.
+/// The texts of the words of elements, each behind a space, and where each ends.
 #[derive(Drop)]
 pub struct Texts {
     bytes: Vec<u8>,
@@ -26,7 +26,7 @@ impl Model for Texts {
     ghost view = { λ t. record { bytes = t.bytes.items; ends = t.ends.items } };
 }
 
-// Where the text of a number starts.
+// Where the space before the text of a number stands.
 fn start_of(ends: &[usize], number: usize) -> usize
     requires { number ≤ length ends.now }
     ensures { result ≡ start_of ends.now number }
@@ -34,17 +34,17 @@ fn start_of(ends: &[usize], number: usize) -> usize
     if number == 0 { 0 } else { ends[number - 1] }
 }
 
-// Puts the text of a number, if there is one, at the end once more.
+// Puts the text of a number, if there is one, at the end once more, without its space.
 fn repeat(bytes: &mut Vec<u8>, ends: &[usize], number: Option<usize>) -> Result<(), NoMemory>
     requires { IfSome number (λ i. (i < length ends.now)
-        × (start_of ends.now i ≤ slice_index ends.now i)
+        × (start_of ends.now i < slice_index ends.now i)
         × (slice_index ends.now i ≤ length bytes.old.items)) }
     ensures { OnOk result (MatchOption number (bytes.new.items ≡ bytes.old.items)
         (λ i. bytes.new.items ≡ bytes.old.items
-        ++ slice_range bytes.old.items (start_of ends.now i) (slice_index ends.now i))) }
+        ++ slice_range bytes.old.items (start_of ends.now i + 1) (slice_index ends.now i))) }
 {
     if let Some(number) = number {
-        bytes.extend_from_within(start_of(ends, number)..ends[number])?;
+        bytes.extend_from_within(start_of(ends, number) + 1..ends[number])?;
     }
     Ok(())
 }
@@ -79,6 +79,7 @@ impl Texts {
         ensures texts { OnOk result (AreTexts alphabet.now words.now self.new) }
     {
         let (prefix, last) = words.factors(self.ends.len());
+        self.bytes.push(b' ')?;
         repeat(&mut self.bytes, &self.ends, prefix)?;
         self.bytes.push(alphabet.byte(last))?;
         self.ends.push(self.bytes.len())?;
@@ -93,6 +94,18 @@ impl Texts {
         ensures { (alphabet : List ℕ) (words : List Letters)
             → AreTexts alphabet words self.now
             → result.now ≡ text_of alphabet (slice_index_or words number []) }
+    {
+        &self.bytes[start_of(&self.ends, number) + 1..self.ends[number]]
+    }
+
+    /// The text of the word of this number behind a space.
+    pub fn behind_space(&self, number: usize) -> &[u8]
+        requires number { number < length self.now.ends }
+        requires texts { (alphabet : List ℕ) × (words : List Letters)
+            × AreTexts alphabet words self.now }
+        ensures { (alphabet : List ℕ) (words : List Letters)
+            → AreTexts alphabet words self.now
+            → result.now ≡ codes " " ++ text_of alphabet (slice_index_or words number []) }
     {
         &self.bytes[start_of(&self.ends, number)..self.ends[number]]
     }

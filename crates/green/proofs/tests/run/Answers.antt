@@ -25,3 +25,11 @@ returns-in-Whole-clause-commute g c =
     (read_tables _ _ c.args.maps.now.items [] c.in-Whole.table c.in_ok-tables-in-Whole.field-0 (c.in_ok-table.ensures.table c.in-Whole.table whole [])
     (c.in_ok-table.ensures.numbers c.in-Whole.table whole [])
     (record { words = c.in_ok-tables-in-Whole.ensures.words; right = c.in_ok-tables-in-Whole.ensures.right; left = c.in_ok-tables-in-Whole.ensures.left; letters = c.in_ok-tables-in-Whole.ensures.letters }))
+
+pub returns-in-Whole-clause-agree : goal.returns-in-Whole-clause-agree
+returns-in-Whole-clause-agree g c =
+    let whole = ap Ok c.in-Whole.is in
+    c.tables_serve.ensures.agree c.args.maps.now.items [] c.requires.shape c.in_ok-tables-in-Whole.field-0
+    (read_tables _ _ c.args.maps.now.items [] c.in-Whole.table c.in_ok-tables-in-Whole.field-0 (c.in_ok-table.ensures.table c.in-Whole.table whole [])
+    (c.in_ok-table.ensures.numbers c.in-Whole.table whole [])
+    (record { words = c.in_ok-tables-in-Whole.ensures.words; right = c.in_ok-tables-in-Whole.ensures.right; left = c.in_ok-tables-in-Whole.ensures.left; letters = c.in_ok-tables-in-Whole.ensures.letters }))

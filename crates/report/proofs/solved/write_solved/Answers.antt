@@ -110,4 +110,4 @@ pub write_idempotents-requires-clause-unpaired : goal.write_idempotents-requires
 write_idempotents-requires-clause-unpaired g c = solved_unpaired c.args.problem.now c.args.query.now query.Idempotents c.in-Idempotents.is refl c.requires.query
 
 pub returns-in-Idempotents-clause-written : goal.returns-in-Idempotents-clause-written
-returns-in-Idempotents-clause-written g c = lines_told g.O.Sink c.args.problem.now c.args.bound c.args.query.now query.Idempotents c.in-Idempotents.is _ _ _ c.write_idempotents.ensures
+returns-in-Idempotents-clause-written g c = lines_told g.O.Sink c.args.problem.now c.args.bound c.args.query.now query.Idempotents c.in-Idempotents.is _ _ _ c.write_idempotents.ensures.written

@@ -4,7 +4,7 @@ use Rattle.green.specs.Naming.{AreNames}
 use Rattle.green.specs.Related.{AreRelated}
 use Rattle.theory.specs.declared.Relation.TheVariants.{R, L, H, J}
 use Rattle.green.proofs.Results.{in_some}
-use Rattle.green.proofs.RelationLaws.{small_names, grouped_by_names, names_of_both, names_of_joined}
+use Rattle.green.proofs.RelationLaws.{small_names, grouped_by_names, names_of_joined}
 use Rattle.green.proofs.relations.ClassNames.classes.Goals as goal
 
 pub returns-in_ok-find-in-R-clause-classes : goal.returns-in_ok-find-in-R-clause-classes
@@ -18,32 +18,29 @@ returns-in_ok-find-in-L-clause-classes c =
     c.in-L.is (in_some (AreNames (length c.args.tables.now.words) (AreRelated L c.args.tables.now)) _ c.names-in-L.result.now c.find-in-L.ensures.known c.names-in-L.ensures)
     c.grouped-in-L.ensures
 
-pub returns-in_ok-pairs-in-H-clause-classes : goal.returns-in_ok-pairs-in-H-clause-classes
-returns-in_ok-pairs-in-H-clause-classes c =
-    let known = subst (AreNamesIn c.args.tables.now) (sym c.self-in-H.view_is) c.find_both.ensures.known in
-    let right = in_some (AreNames (length c.args.tables.now.words) (AreRelated R c.args.tables.now)) _ c.names-in-H.result.now known.right c.names-in-H.ensures in
-    let left = in_some (AreNames (length c.args.tables.now.words) (AreRelated L c.args.tables.now)) _ c.names-in-H-2.result.now known.left c.names-in-H-2.ensures in
-    let pairs = names_of_both (length c.args.tables.now.words) (AreRelated R c.args.tables.now) (AreRelated L c.args.tables.now) c.names-in-H.result.now c.names-in-H-2.result.now
-    c.in_ok-pairs-in-H.pairs.items right left c.in_ok-pairs-in-H.ensures in
-    grouped_by_names (λ (x : Vec (Vec ℕ Global) Global). map (λ (v : Vec ℕ Global). v.items) x.items) c.grouped-in-H.result c.args.tables.now H c.args.relation c.deref.result.now c.in-H.is
-    (subst (AreNames (length c.args.tables.now.words) (AreRelated H c.args.tables.now)) (sym c.deref.ensures.value) pairs) c.grouped-in-H.ensures
+pub returns-in_ok-find_all-in-H-clause-classes : goal.returns-in_ok-find_all-in-H-clause-classes
+returns-in_ok-find_all-in-H-clause-classes c =
+    let known = subst (AreNamesIn c.args.tables.now) (sym c.self-in-H.view_is) c.find_all.ensures.known in
+    let both = in_some (AreNames (length c.args.tables.now.words) (AreRelated H c.args.tables.now)) _ c.names-in-H.result.now known.both c.names-in-H.ensures in
+    grouped_by_names (λ (x : Vec (Vec ℕ Global) Global). map (λ (v : Vec ℕ Global). v.items) x.items) c.grouped-in-H.result c.args.tables.now H c.args.relation c.names-in-H.result.now c.in-H.is
+    both c.grouped-in-H.ensures
 
 pub grouped-requires-in-J : goal.grouped-requires-in-J
 grouped-requires-in-J c =
-    let known = subst (AreNamesIn c.args.tables.now) (sym c.self-in-J.view_is) c.find_both-in-J.ensures.known in
+    let known = subst (AreNamesIn c.args.tables.now) (sym c.self-in-J.view_is) c.find_both.ensures.known in
     let right = in_some (AreNames (length c.args.tables.now.words) (AreRelated R c.args.tables.now)) _ c.names-in-J.result.now known.right c.names-in-J.ensures in
     let left = in_some (AreNames (length c.args.tables.now.words) (AreRelated L c.args.tables.now)) _ c.names-in-J-2.result.now known.left c.names-in-J-2.ensures in
     let joined = names_of_joined c.args.tables.now c.requires.fit c.requires.commute c.names-in-J.result.now c.names-in-J-2.result.now c.in_ok-joined-in-J.joined.items right left
     c.in_ok-joined-in-J.ensures in
-    small_names (length c.args.tables.now.words) (AreRelated J c.args.tables.now) c.deref-in-J.result.now
-    (subst (AreNames (length c.args.tables.now.words) (AreRelated J c.args.tables.now)) (sym c.deref-in-J.ensures.value) joined)
+    small_names (length c.args.tables.now.words) (AreRelated J c.args.tables.now) c.deref.result.now
+    (subst (AreNames (length c.args.tables.now.words) (AreRelated J c.args.tables.now)) (sym c.deref.ensures.value) joined)
 
 pub returns-in_ok-joined-in-J-clause-classes : goal.returns-in_ok-joined-in-J-clause-classes
 returns-in_ok-joined-in-J-clause-classes c =
-    let known = subst (AreNamesIn c.args.tables.now) (sym c.self-in-J.view_is) c.find_both-in-J.ensures.known in
+    let known = subst (AreNamesIn c.args.tables.now) (sym c.self-in-J.view_is) c.find_both.ensures.known in
     let right = in_some (AreNames (length c.args.tables.now.words) (AreRelated R c.args.tables.now)) _ c.names-in-J.result.now known.right c.names-in-J.ensures in
     let left = in_some (AreNames (length c.args.tables.now.words) (AreRelated L c.args.tables.now)) _ c.names-in-J-2.result.now known.left c.names-in-J-2.ensures in
     let joined = names_of_joined c.args.tables.now c.requires.fit c.requires.commute c.names-in-J.result.now c.names-in-J-2.result.now c.in_ok-joined-in-J.joined.items right left
     c.in_ok-joined-in-J.ensures in
-    grouped_by_names (λ (x : Vec (Vec ℕ Global) Global). map (λ (v : Vec ℕ Global). v.items) x.items) c.grouped-in-J.result c.args.tables.now J c.args.relation c.deref-in-J.result.now
-    c.in-J.is (subst (AreNames (length c.args.tables.now.words) (AreRelated J c.args.tables.now)) (sym c.deref-in-J.ensures.value) joined) c.grouped-in-J.ensures
+    grouped_by_names (λ (x : Vec (Vec ℕ Global) Global). map (λ (v : Vec ℕ Global). v.items) x.items) c.grouped-in-J.result c.args.tables.now J c.args.relation c.deref.result.now
+    c.in-J.is (subst (AreNames (length c.args.tables.now.words) (AreRelated J c.args.tables.now)) (sym c.deref.ensures.value) joined) c.grouped-in-J.ensures

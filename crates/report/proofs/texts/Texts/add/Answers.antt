@@ -1,4 +1,4 @@
-use Rattle.std.proofs.Common.{◌≡◌, ◌<◌, ◌++◌, ◌∷◌, [], ℕ, List, length, slice_index, slice_index_or, slice_range, IfSome, MatchOption, sym, ap, subst, subst₂, arith}
+use Rattle.std.proofs.Common.{◌≡◌, ◌<◌, ◌++◌, ◌+◌, ◌∷◌, [], ℕ, List, length, slice_index, slice_index_or, slice_range, IfSome, MatchOption, sym, ap, subst, subst₂, arith}
 use Rattle.std.proofs.lemmas.Option.{get_or_from_slice_get}
 use Rattle.theory.specs.Word.{Word, IsOver}
 use Rattle.theory.proofs.Words.{over_right}
@@ -28,9 +28,11 @@ returns-clause-texts c =
     let word : slice_index_or words (length ends) [] ≡ word_or_none words c.factors-prefix.result.0 ++ c.factors-prefix.result.1 ∷ [] =
     subst (λ n. slice_index_or words n [] ≡ word_or_none words c.factors-prefix.result.0 ++ c.factors-prefix.result.1 ∷ []) here c.factors-prefix.ensures.word in
     let now : List ℕ = c.repeat.new.bytes.items in
-    let front = subst (λ (es : List ℕ). MatchOption c.factors-prefix.result.0 (now ≡ bytes) (λ i. now ≡ bytes ++ slice_range bytes (start_of es i) (slice_index es i)))
+    let before : List ℕ = c.push.new.self.items in
+    let told = subst (λ (es : List ℕ). MatchOption c.factors-prefix.result.0 (now ≡ before) (λ i. now ≡ before ++ slice_range before (start_of es i + 1) (slice_index es i)))
     c.deref.ensures.value c.in_ok-repeat.ensures in
-    let end : c.len-2.result ≡ length (now ++ c.byte.result ∷ []) = omega (arith, c.len-2.ensures, c.push.new.self.ok.0, ap length c.in_ok-push.ensures.items) in
-    subst₂ (λ (xs es : List ℕ). AreTexts alphabet words (both xs es)) (sym c.in_ok-push.ensures.items) (sym c.in_ok-push-2.ensures.items)
+    let front = subst (λ (xs : List ℕ). MatchOption c.factors-prefix.result.0 (now ≡ xs) (λ i. now ≡ xs ++ slice_range xs (start_of ends i + 1) (slice_index ends i))) c.in_ok-push.ensures.items told in
+    let end : c.len-2.result ≡ length (now ++ c.byte.result ∷ []) = omega (arith, c.len-2.ensures, c.push-2.new.self.ok.0, ap length c.in_ok-push-2.ensures.items) in
+    subst₂ (λ (xs es : List ℕ). AreTexts alphabet words (both xs es)) (sym c.in_ok-push-2.ensures.items) (sym c.in_ok-push-3.ensures.items)
     (texts_more alphabet words bytes ends texts c.factors-prefix.result.0 now c.factors-prefix.result.1 c.byte.result c.len-2.result earlier word front
     (sym (get_or_from_slice_get alphabet c.factors-prefix.result.1 c.byte.result 0 c.byte.ensures)) end)
