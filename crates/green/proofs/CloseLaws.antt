@@ -1,11 +1,11 @@
--- The last component has no frame left, and becomes done.
+-- Nothing stands ahead of the last component, and it becomes done.
 use Rattle.std.proofs.Common.{◌≡◌, ◌≢◌, ℕ, ◌-◌, ◌<◌, ◌≤◌, ◌↔◌, List, length, slice_index, take, sym, ◌∙◌, ap, subst, arith, inl, inr, ◌⊎◌}
 use Rattle.std.proofs.lemmas.Bool.{cases_eq, cases_lt}
 use Rattle.std.proofs.lemmas.List.{get_or-take}
 use Rattle.theory.specs.Green.{Reaches, here, further, IsEdge, AreConnected}
-use Rattle.green.specs.Touring.{Tour, state_at, frame_at, start_at, AreStarts, AreDone, IsPending, IsBehind, IsTour, HasClosed, left_over}
-use Rattle.green.specs.declared.depth_first.State.{State}
-use Rattle.green.specs.declared.depth_first.State.TheVariants.{Unseen, OnPath, Done}
+use Rattle.green.specs.Touring.{Tour, state_at, start_at, AreStarts, AreDone, BelongTogether, IsBehind, IsTour, HasClosed, left_over}
+use Rattle.green.specs.declared.states.State.{State}
+use Rattle.green.specs.declared.states.State.TheVariants.{Unseen, OnPath, Done}
 use Rattle.green.specs.declared.depth_first.Start.{Start}
 use Rattle.green.proofs.TourLaws.{unseen_or_done, on_or_done, one_place, one_name, taken, rising}
 
@@ -13,8 +13,8 @@ module _ (n w : ℕ) (next : ℕ → ℕ → ℕ) (t : Tour) (h : IsTour n w nex
   below_top : (k : ℕ) → k < length t.starts → (start_at t.starts k).place ≤ (start_at t.starts (length t.starts - 1)).place
   below_top k l = rising n w next (λ i a. ⊥) t h k (length t.starts - 1) (omega (arith, l)) (omega (arith, l))
 
-  -- The last component has no frame left, and becomes done.
-  module _ (some : 0 < length t.starts) (all : (start_at t.starts (length t.starts - 1)).frame ≡ length t.frames) (now : List State)
+  -- Nothing stands ahead of the last component, and it becomes done.
+  module _ (some : 0 < length t.starts) (all : (start_at t.starts (length t.starts - 1)).ahead ≡ length t.ahead) (now : List State)
       (closed : HasClosed (start_at t.starts (length t.starts - 1)).place (length t.path)
       (slice_index t.path (start_at t.starts (length t.starts - 1)).place) t.states now) where
     abbrev base : ℕ
@@ -88,12 +88,7 @@ module _ (n w : ℕ) (next : ℕ → ℕ → ℕ) (t : Tour) (h : IsTour n w nex
     edge_of p a l m less = elim (h.edges p a m less) [
       | inl bad ↦ absurd bad
       | inr (inr b) ↦ b
-      | inr (inl f) ↦
-          let its = h.frames f.0 f.1 in
-          let same : its.0 ≡ p = one_place its.0 p (state_at t.states (slice_index t.path p))
-          (subst (λ m. state_at t.states m ≡ OnPath its.0) f.2 its.1) (h.placed.on_path p m) in
-          let late = (its.3 (length t.starts - 1) (omega (arith, some))).0 (omega (arith, same, l)) in
-          absurd (omega (arith, late, all, f.1))
+      | inr (inl f) ↦ let late = (f.3 (length t.starts - 1) (omega (arith, some))).0 l in absurd (omega (arith, late, all, f.1))
     ]
 
     closed_done : AreDone w next now
@@ -134,14 +129,14 @@ module _ (n w : ℕ) (next : ℕ → ℕ → ℕ) (t : Tour) (h : IsTour n w nex
     starts_long = taken (length t.starts - 1) t.starts (omega arith)
 
     start_is : (k : ℕ) → k < length t.starts - 1 → start_at (take (length t.starts - 1) t.starts) k ≡ start_at t.starts k
-    start_is k l = get_or-take (length t.starts - 1) t.starts k (record { place = 0; frame = 0 }) l
+    start_is k l = get_or-take (length t.starts - 1) t.starts k (record { place = 0; ahead = 0 }) l
 
     -- what holds of the earlier starts
     earlier : (P : Start → Type 0) → ((k : ℕ) → k < length t.starts - 1 → P (start_at t.starts k)) → (k : ℕ)
         → k < length (take (length t.starts - 1) t.starts) → P (start_at (take (length t.starts - 1) t.starts) k)
     earlier P old k l = let less : k < length t.starts - 1 = omega (arith, l, starts_long) in subst P (sym (start_is k less)) (old k less)
 
-    closed_starts : AreStarts (take base t.path) t.frames (take (length t.starts - 1) t.starts)
+    closed_starts : AreStarts (take base t.path) t.ahead (take (length t.starts - 1) t.starts)
     closed_starts = record {
       ascending = λ j k l m.
           let less : k < length t.starts - 1 = omega (arith, m, starts_long) in
@@ -151,7 +146,7 @@ module _ (n w : ℕ) (next : ℕ → ℕ → ℕ) (t : Tour) (h : IsTour n w nex
           omega (arith, one, two, up);
       places = earlier (λ s. s.place < length (take base t.path)) (λ k l.
           let up = h.starts.ascending k (length t.starts - 1) l (omega (arith, some)) in omega (arith, up, path_long));
-      within = earlier (λ s. s.frame ≤ length t.frames) (λ k l. h.starts.within k (omega (arith, l)));
+      within = earlier (λ s. s.ahead ≤ length t.ahead) (λ k l. h.starts.within k (omega (arith, l)));
       first = λ l. ap (λ (s : Start). s.place) (start_is 0 (omega (arith, l, starts_long))) ∙ h.starts.first some;
       some = λ l. elim (cases_lt 0 (length t.starts - 1)) [
         | inl more ↦ omega (arith, more, starts_long)
@@ -161,6 +156,9 @@ module _ (n w : ℕ) (next : ℕ → ℕ → ℕ) (t : Tour) (h : IsTour n w nex
             absurd (omega (arith, l, path_long, low))
       ];
     }
+
+    belong_closed : (q f : ℕ) → BelongTogether t.starts q f → BelongTogether (take (length t.starts - 1) t.starts) q f
+    belong_closed q f old = earlier (λ s. (s.place ≤ q) ↔ (s.ahead ≤ f)) (λ k m. old k (omega (arith, m)))
 
     behind_closed : (q j : ℕ) → q < base → IsBehind t.states t.starts q j → IsBehind now (take (length t.starts - 1) t.starts) q j
     behind_closed q j l (inl d) = inl (d.0, now_done j d.0 d.1)
@@ -172,7 +170,7 @@ module _ (n w : ℕ) (next : ℕ → ℕ → ℕ) (t : Tour) (h : IsTour n w nex
     pub closed_tour : IsTour n w next (record {
       states = now;
       path = take (start_at t.starts (length t.starts - 1)).place t.path;
-      frames = t.frames;
+      ahead = t.ahead;
       starts = take (length t.starts - 1) t.starts;
     })
     closed_tour = record {
@@ -210,27 +208,28 @@ module _ (n w : ℕ) (next : ℕ → ℕ → ℕ) (t : Tour) (h : IsTour n w nex
           ];
       edges = λ q a m l.
           let less : q < base = omega (arith, m, path_long) in
-          subst (λ i. ⊥ ⊎ (IsPending t.frames i a ⊎ IsBehind now (take (length t.starts - 1) t.starts) q (next i a))) (sym (path_is q less))
+          subst (λ i. ⊥ ⊎ (((f : ℕ) × (f < length t.ahead) × (slice_index t.ahead f ≡ next i a) × BelongTogether (take (length t.starts - 1) t.starts) q f)
+          ⊎ IsBehind now (take (length t.starts - 1) t.starts) q (next i a))) (sym (path_is q less))
           (elim (h.edges q a (omega (arith, less, on_there)) l) [
             | inl bad ↦ absurd bad
-            | inr (inl f) ↦ inr (inl f)
+            | inr (inl f) ↦ inr (inl (f.0, f.1, f.2, belong_closed q f.0 f.3))
             | inr (inr b) ↦ inr (inr (behind_closed q (next (slice_index t.path q) a) less b))
           ]);
-      frames = λ f l.
-          let old = h.frames f l in
+      ahead = λ f l.
+          let old = h.ahead f l in
           let last = (old.3 (length t.starts - 1) (omega (arith, some))).0 in
           let low : old.0 < base = elim (cases_lt old.0 base) [ inl less ↦ less | inr most ↦ let bad = last most in absurd (omega (arith, bad, all, l)) ] in (
             old.0,
-            now_below (frame_at t.frames f).number old.0 old.1 low,
-            old.2,
-            earlier (λ s. (s.place ≤ old.0) ↔ (s.frame ≤ f)) (λ k m. old.3 k (omega (arith, m))),
+            omega (arith, low, path_long),
+            subst (λ i. IsEdge w next i (slice_index t.ahead f)) (sym (path_is old.0 low)) old.2,
+            belong_closed old.0 f old.3,
           );
     }
 
     pub closed_left : left_over w (record {
       states = now;
       path = take (start_at t.starts (length t.starts - 1)).place t.path;
-      frames = t.frames;
+      ahead = t.ahead;
       starts = take (length t.starts - 1) t.starts;
     }) < left_over w t
     closed_left = let same = closed.left w in omega (arith, same, starts_long, some)

@@ -3,11 +3,10 @@ use Rattle.std.proofs.Common.{◌≡◌, ◌≢◌, ℕ, ◌+◌, ◌<◌, ◌�
 use Rattle.std.proofs.Math.ListN.{get_or-append}
 use Rattle.std.proofs.lemmas.Bool.{cases_eq, cases_lt}
 use Rattle.std.proofs.lemmas.List.{get_or_push, get_or-set_same, get_or-set_other, length_push}
-use Rattle.std.proofs.lemmas.List.Sums.{sum_by-set, sum_by_push}
+use Rattle.std.proofs.lemmas.List.Sums.{sum_by-set}
 use Rattle.theory.specs.Green.{Reaches, here, IsEdge}
-use Rattle.green.specs.Touring.{Tour, state_at, frame_at, start_at, ArePlaced, AreStarts, AreDone, IsCut, IsPending, IsBehind, IsFrame, IsTourBut, IsTour, entered, weight, edges_left, left_over, KeepsSeen}
-use Rattle.green.specs.declared.depth_first.State.TheVariants.{Unseen, OnPath, Done}
-use Rattle.green.specs.declared.depth_first.Frame.{Frame}
+use Rattle.green.specs.Touring.{Tour, state_at, start_at, ArePlaced, AreStarts, AreDone, BelongTogether, IsAhead, IsBehind, IsCut, IsEdgeFrom, IsOnTop, IsPending, IsTourBut, entered, weight, left_over, KeepsSeen}
+use Rattle.green.specs.declared.states.State.TheVariants.{Unseen, OnPath, Done}
 use Rattle.green.specs.declared.depth_first.Start.{Start}
 use Rattle.green.proofs.TourLaws.{unseen_or_on, unseen_or_done, on_or_done, one_place}
 
@@ -48,27 +47,18 @@ module _ (n w : ℕ) (next : ℕ → ℕ → ℕ) (Skip : ℕ → ℕ → Type 0
     longer : length (entered t v).path ≡ length t.path + 1
     longer = length_push t.path v
 
-    more_frames : length (entered t v).frames ≡ length t.frames + 1
-    more_frames = length_push t.frames (record { number = v; edge = 0 })
-
     more_starts : length (entered t v).starts ≡ length t.starts + 1
-    more_starts = length_push t.starts (record { place = length t.path; frame = length t.frames })
+    more_starts = length_push t.starts (record { place = length t.path; ahead = length t.ahead })
 
     old_start : (k : ℕ) → k < length t.starts → start_at (entered t v).starts k ≡ start_at t.starts k
-    old_start k l = get_or-append t.starts (record { place = length t.path; frame = length t.frames } ∷ []) (record { place = 0; frame = 0 }) k l
+    old_start k l = get_or-append t.starts (record { place = length t.path; ahead = length t.ahead } ∷ []) (record { place = 0; ahead = 0 }) k l
 
-    last_start : (k : ℕ) → length t.starts ≡ k → start_at (entered t v).starts k ≡ record { place = length t.path; frame = length t.frames }
-    last_start k e = get_or_push t.starts (record { place = length t.path; frame = length t.frames }) (record { place = 0; frame = 0 }) k e
-
-    old_frame : (f : ℕ) → f < length t.frames → frame_at (entered t v).frames f ≡ frame_at t.frames f
-    old_frame f l = get_or-append t.frames (record { number = v; edge = 0 } ∷ []) (record { number = 0; edge = 0 }) f l
-
-    last_frame : (f : ℕ) → length t.frames ≡ f → frame_at (entered t v).frames f ≡ record { number = v; edge = 0 }
-    last_frame f e = get_or_push t.frames (record { number = v; edge = 0 }) (record { number = 0; edge = 0 }) f e
+    last_start : (k : ℕ) → length t.starts ≡ k → start_at (entered t v).starts k ≡ record { place = length t.path; ahead = length t.ahead }
+    last_start k e = get_or_push t.starts (record { place = length t.path; ahead = length t.ahead }) (record { place = 0; ahead = 0 }) k e
 
     -- a start is an old one, or the last
     start_cases : (P : Start → Type 0) → ((k : ℕ) → k < length t.starts → P (start_at t.starts k))
-        → P (record { place = length t.path; frame = length t.frames })
+        → P (record { place = length t.path; ahead = length t.ahead })
         → (k : ℕ) → k < length (entered t v).starts → P (start_at (entered t v).starts k)
     start_cases P old last k l = elim (cases_lt k (length t.starts)) [
       | inl less ↦ subst P (sym (old_start k less)) (old k less)
@@ -93,7 +83,7 @@ module _ (n w : ℕ) (next : ℕ → ℕ → ℕ) (Skip : ℕ → ℕ → Type 0
       ];
     }
 
-    entered_starts : AreStarts (entered t v).path (entered t v).frames (entered t v).starts
+    entered_starts : AreStarts (entered t v).path (entered t v).ahead (entered t v).starts
     entered_starts = record {
       ascending = λ j k l m.
           let less : j < length t.starts = omega (arith, l, m, more_starts) in
@@ -102,7 +92,7 @@ module _ (n w : ℕ) (next : ℕ → ℕ → ℕ) (Skip : ℕ → ℕ → Type 0
             | inr high ↦ subst (λ (s : Start). (start_at t.starts j).place < s.place) (sym (last_start k (omega (arith, high, m, more_starts)))) (h.starts.places j less)
           ]);
       places = start_cases (λ s. s.place < length (entered t v).path) (λ k l. let old = h.starts.places k l in omega (arith, old, longer)) (omega (arith, longer));
-      within = start_cases (λ s. s.frame ≤ length (entered t v).frames) (λ k l. let old = h.starts.within k l in omega (arith, old, more_frames)) (omega (arith, more_frames));
+      within = start_cases (λ s. s.ahead ≤ length t.ahead) h.starts.within (omega arith);
       first = λ some. elim (cases_lt 0 (length t.starts)) [
         | inl less ↦ ap (λ (s : Start). s.place) (old_start 0 less) ∙ h.starts.first less
         | inr none ↦ elim (cases_lt 0 (length t.path)) [
@@ -167,58 +157,42 @@ module _ (n w : ℕ) (next : ℕ → ℕ → ℕ) (Skip : ℕ → ℕ → Type 0
     behind_old q j less (inr b) =
         inr (b.0, kept_on j b.0 b.1, start_cases (λ s. s.place ≤ q → s.place ≤ b.0) (λ k l. b.2 k l) (λ bad. absurd (omega (arith, bad, less))))
 
+    -- nothing that stands ahead belongs to the new component
+    belong_kept : (q f : ℕ) → q < length t.path → f < length t.ahead → BelongTogether t.starts q f → BelongTogether (entered t v).starts q f
+    belong_kept q f l m old =
+        start_cases (λ s. (s.place ≤ q) ↔ (s.ahead ≤ f)) old (λ bad. absurd (omega (arith, bad, l)), λ bad. absurd (omega (arith, bad, m)))
+
+    all_before : (k : ℕ) → k < length (entered t v).starts → (start_at (entered t v).starts k).place ≤ length t.path
+    all_before = start_cases (λ s. s.place ≤ length t.path) (λ k l. let old = h.starts.places k l in omega (arith, old)) (omega arith)
+
     entered_edges : (q a : ℕ) → q < length (entered t v).path → a < w
-        → ⊥ ⊎ (IsPending (entered t v).frames (slice_index (entered t v).path q) a
+        → IsEdgeFrom v 0 (slice_index (entered t v).path q) a ⊎ (IsPending next (entered t v) q a
         ⊎ IsBehind (entered t v).states (entered t v).starts q (next (slice_index (entered t v).path q) a))
     entered_edges q a m l = elim (cases_lt q (length t.path)) [
       | inl less ↦
-          subst (λ i. ⊥ ⊎ (IsPending (entered t v).frames i a ⊎ IsBehind (entered t v).states (entered t v).starts q (next i a))) (sym (old_number q less))
+          subst (λ i. IsEdgeFrom v 0 i a ⊎ (((f : ℕ) × (f < length t.ahead) × (slice_index t.ahead f ≡ next i a) × BelongTogether (entered t v).starts q f)
+          ⊎ IsBehind (entered t v).states (entered t v).starts q (next i a))) (sym (old_number q less))
           (elim (h.edges q a less l) [
-            | inl s ↦ inr (inr (inr (
-              length t.path,
-              ap (state_at (entered t v).states) (skip q a less l s) ∙ at_v,
-              λ k m. λ _. start_cases (λ s. s.place ≤ length t.path) (λ k l. let old = h.starts.places k l in omega (arith, old)) (omega arith) k m,
-            )))
-            | inr (inl f) ↦ inr (inl (
-              f.0,
-              omega (arith, f.1, more_frames),
-              ap (λ (g : Frame). g.number) (old_frame f.0 f.1) ∙ f.2,
-              subst (λ (g : Frame). g.edge ≤ a) (sym (old_frame f.0 f.1)) f.3,
-            ))
+            | inl s ↦ inr (inr (inr (length t.path, ap (state_at (entered t v).states) (skip q a less l s) ∙ at_v, λ k m. λ _. all_before k m)))
+            | inr (inl f) ↦ inr (inl (f.0, f.1, f.2, belong_kept q f.0 less f.1 f.3))
             | inr (inr b) ↦ inr (inr (behind_old q (next (slice_index t.path q) a) less b))
           ])
-      | inr most ↦
-          let last : length t.path ≡ q = omega (arith, most, m, longer) in
-          inr (inl (
-            length t.frames,
-            omega (arith, more_frames),
-            ap (λ (g : Frame). g.number) (last_frame (length t.frames) refl) ∙ sym (last_number q last),
-            subst (λ (g : Frame). g.edge ≤ a) (sym (last_frame (length t.frames) refl)) (omega arith),
-          ))
+      | inr most ↦ inl (last_number q (omega (arith, most, m, longer)), omega arith)
     ]
 
-    entered_frames : (f : ℕ) → f < length (entered t v).frames → IsFrame w (entered t v) f
-    entered_frames f m = elim (cases_lt f (length t.frames)) [
-      | inl less ↦
-          let old = h.frames f less in
-          let place = (h.placed.placed (frame_at t.frames f).number old.0 old.1).0 in (
-            old.0,
-            ap (λ (g : Frame). state_at (entered t v).states g.number) (old_frame f less) ∙ kept_on (frame_at t.frames f).number old.0 old.1,
-            subst (λ (g : Frame). g.edge ≤ w) (sym (old_frame f less)) old.2,
-            start_cases (λ s. (s.place ≤ old.0) ↔ (s.frame ≤ f)) old.3 (λ bad. absurd (omega (arith, bad, place)), λ bad. absurd (omega (arith, bad, less))),
-          )
-      | inr most ↦
-          let last : length t.frames ≡ f = omega (arith, most, m, more_frames) in (
-            length t.path,
-            ap (λ (g : Frame). state_at (entered t v).states g.number) (last_frame f last) ∙ at_v,
-            subst (λ (g : Frame). g.edge ≤ w) (sym (last_frame f last)) (omega arith),
-            start_cases (λ s. (s.place ≤ length t.path) ↔ (s.frame ≤ f))
-                (λ k l. let place = h.starts.places k l in let frame = h.starts.within k l in (λ _. omega (arith, frame, last), λ _. omega (arith, place)))
-                (λ _. omega (arith, last), λ _. omega arith),
-          )
-    ]
+    entered_ahead : (f : ℕ) → f < length t.ahead → IsAhead w next (entered t v) f
+    entered_ahead f l =
+        let old = h.ahead f l in (
+          old.0,
+          omega (arith, old.1, longer),
+          subst (λ i. IsEdge w next i (slice_index t.ahead f)) (sym (old_number old.0 old.1)) old.2,
+          belong_kept old.0 f old.1 l old.3,
+        )
 
-    pub entered_tour : IsTour n w next (entered t v)
+    pub entered_top : IsOnTop (entered t v) v
+    entered_top = (length t.path, at_v, all_before)
+
+    pub entered_tour : IsTourBut n w next (IsEdgeFrom v 0) (entered t v)
     entered_tour = record {
       count = length-set t.states v (OnPath (length t.path)) ∙ h.count;
       placed = entered_placed;
@@ -227,15 +201,14 @@ module _ (n w : ℕ) (next : ℕ → ℕ → ℕ) (Skip : ℕ → ℕ → Type 0
       upward = entered_upward;
       downward = entered_downward;
       edges = entered_edges;
-      frames = entered_frames;
+      ahead = entered_ahead;
     }
 
-    pub entered_left : left_over w (entered t v) ≡ left_over w t
+    pub entered_left : left_over w (entered t v) + w ≡ left_over w t
     entered_left =
         let states = sum_by-set (weight w) t.states v (OnPath (length t.path)) Unseen (subst (λ m. v < m) (sym h.count) small) in
-        let frames = sum_by_push (edges_left w) t.frames (record { number = v; edge = 0 }) in
-        let was : weight w (state_at t.states v) ≡ w + 2 = ap (weight w) new in
-        omega (arith, states, frames, was, more_starts)
+        let was : weight w (state_at t.states v) ≡ w + 1 = ap (weight w) new in
+        omega (arith, states, was, more_starts)
 
     pub entered_seen : KeepsSeen t (entered t v)
     entered_seen i seen = elim (cases_eq i v) [

@@ -2,7 +2,7 @@ pub mod Results
 pub mod EdgeLaws
 pub mod TourLaws
 pub mod EnterLaws
-pub mod FrameLaws
+pub mod AheadLaws
 pub mod CloseLaws
 pub mod StepLaws
 pub mod NameLaws

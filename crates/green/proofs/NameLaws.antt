@@ -6,8 +6,8 @@ use Rattle.std.proofs.lemmas.List.{get_or_push, length_push}
 use Rattle.theory.specs.Green.{Reaches, here, further, IsEdge, AreConnected}
 use Rattle.green.specs.Naming.{AreNames}
 use Rattle.green.specs.Touring.{Tour, state_at, IsTour, KeepsSeen}
-use Rattle.green.specs.declared.depth_first.State.{State}
-use Rattle.green.specs.declared.depth_first.State.TheVariants.{Unseen, Done}
+use Rattle.green.specs.declared.states.State.{State}
+use Rattle.green.specs.declared.states.State.TheVariants.{Unseen, Done}
 use Rattle.green.proofs.TourLaws.{state_cases, seen_below, unseen_or_done, reaches_on}
 
 -- one number more is seen

@@ -4,9 +4,9 @@ use Rattle.std.proofs.lemmas.Bool.{cases_eq, cases_lt}
 use Rattle.std.proofs.lemmas.List.{get_or-set_same, get_or-set_other, get_or-take}
 use Rattle.std.proofs.lemmas.List.Sums.{sum_by-set}
 use Rattle.theory.specs.Green.{Reaches, here, further, IsEdge}
-use Rattle.green.specs.Touring.{Tour, state_at, start_at, ArePlaced, IsCut, IsTourBut, IsTour, IsOnTop, HaveJoined, HasClosed, weight}
-use Rattle.green.specs.declared.depth_first.State.{State}
-use Rattle.green.specs.declared.depth_first.State.TheVariants.{Unseen, OnPath, Done}
+use Rattle.green.specs.Touring.{Tour, state_at, start_at, ArePlaced, BelongTogether, IsCut, IsTourBut, IsOnTop, HaveJoined, HasClosed, weight}
+use Rattle.green.specs.declared.states.State.{State}
+use Rattle.green.specs.declared.states.State.TheVariants.{Unseen, OnPath, Done}
 use Rattle.green.specs.declared.depth_first.Start.{Start}
 
 pub state_cases : (s : State) → (s ≡ Unseen) ⊎ (((p : ℕ) × (s ≡ OnPath p)) ⊎ ((c : ℕ) × (s ≡ Done c)))
@@ -73,7 +73,7 @@ joining_step place starts now first h above =
       fewer = omega (arith, long, h.fewer);
       kept = λ k l.
           let less : k < length now - 1 = omega (arith, l, long) in
-          get_or-take (length now - 1) now k (record { place = 0; frame = 0 }) less ∙ h.kept k (omega (arith, less));
+          get_or-take (length now - 1) now k (record { place = 0; ahead = 0 }) less ∙ h.kept k (omega (arith, less));
       high = λ k l m. elim (cases_eq k (length now - 1)) [
         | inl e ↦ subst (λ j. place < (start_at starts j).place) (sym e) (subst (λ (s : Start). place < s.place) (h.kept (length now - 1) last) above)
         | inr d ↦ h.high k (omega (arith, l, long, d)) m
@@ -148,8 +148,8 @@ module _ (n w : ℕ) (next : ℕ → ℕ → ℕ) (Skip : ℕ → ℕ → Type 0
       ])
 
   -- An edge from the last component leads back to a place of the path.
-  module _ (x : ℕ) (top : IsOnTop t x) (v place : ℕ) (at : state_at t.states v ≡ OnPath place) (edge : IsEdge w next x v)
-      (skip : (q a : ℕ) → q < length t.path → a < w → Skip (slice_index t.path q) a → next (slice_index t.path q) a ≡ v)
+  module _ (Rest : ℕ → ℕ → Type 0) (x : ℕ) (top : IsOnTop t x) (v place : ℕ) (at : state_at t.states v ≡ OnPath place) (edge : IsEdge w next x v)
+      (skip : (q a : ℕ) → q < length t.path → a < w → Skip (slice_index t.path q) a → Rest (slice_index t.path q) a ⊎ (next (slice_index t.path q) a ≡ v))
       (now : List Start) (joined : HaveJoined place t.starts now) where
     all_low : (k : ℕ) → k < length now → (start_at now k).place ≤ place
     all_low k l =
@@ -192,7 +192,18 @@ module _ (n w : ℕ) (next : ℕ → ℕ → ℕ) (Skip : ℕ → ℕ → Type 0
       ]
     ]
 
-    pub joined_tour : IsTour n w next (record { states = t.states; path = t.path; frames = t.frames; starts = now })
+    begun_joined : (q f : ℕ) → BelongTogether t.starts q f → BelongTogether now q f
+    begun_joined q f old k k_in =
+        subst (λ (s : Start). (s.place ≤ q) ↔ (s.ahead ≤ f)) (sym (joined.kept k k_in)) (old k (omega (arith, k_in, joined.fewer)))
+
+    pub joined_top : (y : ℕ) → IsOnTop t y → IsOnTop (record { states = t.states; path = t.path; ahead = t.ahead; starts = now }) y
+    joined_top y on = (
+      on.0,
+      on.1,
+      λ k k_in. subst (λ (s : Start). s.place ≤ on.0) (sym (joined.kept k k_in)) (on.2 k (omega (arith, k_in, joined.fewer))),
+    )
+
+    pub joined_tour : IsTourBut n w next Rest (record { states = t.states; path = t.path; ahead = t.ahead; starts = now })
     joined_tour = record {
       count = h.count;
       placed = h.placed;
@@ -204,7 +215,7 @@ module _ (n w : ℕ) (next : ℕ → ℕ → ℕ) (Skip : ℕ → ℕ → Type 0
             let up = h.starts.ascending j k l (omega (arith, m, joined.fewer)) in
             omega (arith, one, two, up);
         places = λ k l. subst (λ (s : Start). s.place < length t.path) (sym (joined.kept k l)) (h.starts.places k (omega (arith, l, joined.fewer)));
-        within = λ k l. subst (λ (s : Start). s.frame ≤ length t.frames) (sym (joined.kept k l)) (h.starts.within k (omega (arith, l, joined.fewer)));
+        within = λ k l. subst (λ (s : Start). s.ahead ≤ length t.ahead) (sym (joined.kept k l)) (h.starts.within k (omega (arith, l, joined.fewer)));
         first = λ l. ap (λ (s : Start). s.place) (joined.kept 0 l) ∙ h.starts.first (omega (arith, l, joined.fewer));
         some = λ l. joined.some;
       };
@@ -212,8 +223,11 @@ module _ (n w : ℕ) (next : ℕ → ℕ → ℕ) (Skip : ℕ → ℕ → Type 0
       upward = h.upward;
       downward = joined_downward;
       edges = λ q a l m. elim (h.edges q a l m) [
-        | inl s ↦ inr (inr (inr (place, ap (state_at t.states) (skip q a l m s) ∙ at, λ k k_in. λ _. all_low k k_in)))
-        | inr (inl f) ↦ inr (inl f)
+        | inl s ↦ elim (skip q a l m s) [
+          | inl r ↦ inl r
+          | inr e ↦ inr (inr (inr (place, ap (state_at t.states) e ∙ at, λ k k_in. λ _. all_low k k_in)))
+        ]
+        | inr (inl f) ↦ inr (inl (f.0, f.1, f.2, begun_joined q f.0 f.3))
         | inr (inr (inl d)) ↦ inr (inr (inl d))
         | inr (inr (inr b)) ↦ inr (inr (inr (
           b.0,
@@ -222,24 +236,22 @@ module _ (n w : ℕ) (next : ℕ → ℕ → ℕ) (Skip : ℕ → ℕ → Type 0
               subst (λ (s : Start). s.place ≤ q → s.place ≤ b.0) (sym (joined.kept k k_in)) (b.2 k (omega (arith, k_in, joined.fewer))),
         )))
       ];
-      frames = λ f l. let old = h.frames f l in (
-        old.0,
-        old.1,
-        old.2,
-        λ k k_in. subst (λ (s : Start). (s.place ≤ old.0) ↔ (s.frame ≤ f)) (sym (joined.kept k k_in)) (old.3 k (omega (arith, k_in, joined.fewer))),
-      );
+      ahead = λ f l. let old = h.ahead f l in (old.0, old.1, old.2, begun_joined old.0 f old.3);
     }
 
   -- An edge leads to what is done.
-  pub passed_tour : ((q a : ℕ) → q < length t.path → a < w → Skip (slice_index t.path q) a
-      → (d : ℕ) × (state_at t.states (next (slice_index t.path q) a) ≡ Done d)) → IsTour n w next t
-  passed_tour skip = record {
+  pub passed_tour : (Rest : ℕ → ℕ → Type 0) → ((q a : ℕ) → q < length t.path → a < w → Skip (slice_index t.path q) a
+      → Rest (slice_index t.path q) a ⊎ ((d : ℕ) × (state_at t.states (next (slice_index t.path q) a) ≡ Done d))) → IsTourBut n w next Rest t
+  passed_tour Rest skip = record {
     count = h.count;
     placed = h.placed;
     starts = h.starts;
     done = h.done;
     upward = h.upward;
     downward = h.downward;
-    edges = λ q a l m. elim (h.edges q a l m) [ inl s ↦ inr (inr (inl (skip q a l m s))) | inr r ↦ inr r ];
-    frames = h.frames;
+    edges = λ q a l m. elim (h.edges q a l m) [
+      | inl s ↦ elim (skip q a l m s) [ inl r ↦ inl r | inr d ↦ inr (inr (inl d)) ]
+      | inr r ↦ inr r
+    ];
+    ahead = h.ahead;
   }

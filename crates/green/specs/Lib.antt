@@ -7,4 +7,5 @@ pub mod Naming
 pub mod Pairing
 pub mod Related
 pub mod Touring
+pub mod States
 pub mod Told

@@ -1,49 +1,33 @@
 // Strongly connected components by one search in depth, without recursion (Purdom and Munro 1970;
 // Gabow 2000). The path from the first number is a stack of numbers, cut into components that are
-// known to be connected. An edge back to the path joins all components from there on.
-ghost use Rattle.std.specs.Prelude.{◌≡◌, ◌≢◌, ℕ, ◌<◌, ◌-◌, ◌≤◌, [], length, slice_index, take, IfOk, OnOk};
-ghost use Rattle.cayley.specs.Tables.{FitTogether};
-ghost use Rattle.green.specs.EdgeRows.{next};
-ghost use Rattle.green.specs.Touring.{ArePlaced, HasClosed, HaveJoined, IsAtEdge, IsOnTop, IsTour, IsTourBut, KeepsSeen, entered, left_over, start_at, state_at, with_rest, without_start};
-ghost use Rattle.green.specs.declared.depth_first.State.TheVariants.{Unseen, Done};
+// known to be connected. An edge back to the path joins all components from there on; numbers that
+// are new stand ahead, on a stack of their own, until it is their turn.
+ghost use Rattle.std.specs.Prelude.{◌≡◌, ◌≢◌, ℕ, ◌+◌, ◌<◌, ◌-◌, ◌≤◌, [], length, slice_index, take, IfOk, OnOk};
+ghost use Rattle.cayley.specs.Tables.{AreEdges, edge};
+ghost use Rattle.green.specs.Touring.{ArePlaced, DoesLeadTo, HasClosed, HaveJoined, IsEdgeFrom, IsEdgeTo, IsLedTo, IsOnTop, IsTour, IsTourBut, KeepsSeen, entered, left_over, start_at, state_at, with_ahead, without_start};
+ghost use Rattle.green.specs.declared.states.State.TheVariants.{Unseen, Done};
 
-use crate::edges::{Edges, target};
-use froidure_pin::CayleyTables;
+use crate::states::{Packed, State, in_four_bytes};
+use froidure_pin::Rows;
 use ports::NoMemory;
 use std::alloc::Global;
 use std::marker::Model;
 
-// Where a number stands: not seen yet, at a place of the path, or in a component that is done, and
-// goes by one of its numbers. Places and numbers have four bytes, since most of the time goes into
-// reading states here and there.
-#[derive(Clone, Copy)]
-pub enum State {
-    Unseen,
-    OnPath(u32),
-    Done(u32),
-}
-
-// A number on the path, and the first of its edges that has not been followed.
-#[derive(Clone, Copy)]
-pub struct Frame {
-    pub number: usize,
-    pub edge: usize,
-}
-
-// Where a component begins: in the path, and among the frames.
+// Where a component begins: in the path, and among the numbers ahead.
 #[derive(Clone, Copy)]
 pub struct Start {
     pub place: usize,
-    pub frame: usize,
+    pub ahead: usize,
 }
 
-// The state of each number, the path, the frames of its numbers that have edges left, and where its
-// components start.
+// The state of each number, the path, the numbers that are yet to be visited since an edge of the
+// path leads to them, and where the components of the path start. Each row is read once, when its
+// number is entered, and only numbers that are new then stand ahead.
 #[derive(Drop)]
 pub struct DepthFirst {
-    states: Vec<State>,
+    states: Vec<Packed>,
     path: Vec<u32>,
-    frames: Vec<Frame>,
+    ahead: Vec<u32>,
     starts: Vec<Start>,
 }
 
@@ -55,16 +39,9 @@ impl Model for DepthFirst {
     ghost view = { λ d. record {
       states = d.states.items;
       path = d.path.items;
-      frames = d.frames.items;
+      ahead = d.ahead.items;
       starts = d.starts.items;
     } };
-}
-
-// A number in four bytes. One that does not fit in them is refused: there is no memory for so many.
-fn in_four_bytes(number: usize) -> Result<u32, NoMemory>
-    ensures { IfOk result (λ packed. packed ≡ number) }
-{
-    u32::try_from(number).map_err(|_| NoMemory)
 }
 
 impl DepthFirst {
@@ -74,9 +51,9 @@ impl DepthFirst {
         ensures rest { IfOk result (λ new. new.starts ≡ []) }
     {
         Ok(DepthFirst {
-            states: vec![in alloc; State::Unseen; count]?,
+            states: vec![in alloc; Packed::new(State::Unseen)?; count]?,
             path: Vec::new(alloc),
-            frames: Vec::new(alloc),
+            ahead: Vec::new(alloc),
             starts: Vec::new(alloc),
         })
     }
@@ -86,7 +63,7 @@ impl DepthFirst {
         requires { number < length self.now.states }
         ensures { result ≡ state_at self.now.states number }
     {
-        self.states[number]
+        self.states[number].state()
     }
 
     // The start of the last component.
@@ -98,18 +75,26 @@ impl DepthFirst {
     }
 
     // A number that is new becomes the last component of the path.
-    fn enter(&mut self, number: usize) -> Result<(), NoMemory>
+    fn begin(&mut self, number: usize) -> Result<(), NoMemory>
         requires { number < length self.old.states }
         ensures { OnOk result (self.new ≡ entered self.old number) }
     {
         let place = self.path.len();
-        self.states[number] = State::OnPath(in_four_bytes(place)?);
+        self.states[number] = Packed::new(State::OnPath(place))?;
         self.starts.push(Start {
             place,
-            frame: self.frames.len(),
+            ahead: self.ahead.len(),
         })?;
         self.path.push(in_four_bytes(number)?)?;
-        self.frames.push(Frame { number, edge: 0 })?;
+        Ok(())
+    }
+
+    // A number is yet to be visited.
+    fn put_ahead(&mut self, number: usize) -> Result<(), NoMemory>
+        ensures ok { OnOk result (self.new ≡ with_ahead self.old number) }
+        ensures states { self.new.states ≡ self.old.states }
+    {
+        self.ahead.push(in_four_bytes(number)?)?;
         Ok(())
     }
 
@@ -127,7 +112,7 @@ impl DepthFirst {
         ensures joined { HaveJoined place self.old.starts self.new.starts }
         ensures states { self.new.states ≡ self.old.states }
         ensures path { self.new.path ≡ self.old.path }
-        ensures frames { self.new.frames ≡ self.old.frames }
+        ensures ahead { self.new.ahead ≡ self.old.ahead }
     {
         while place < self.top().place {
             self.drop_start();
@@ -135,113 +120,140 @@ impl DepthFirst {
     }
 
     // The numbers of the path from a place on are done, in a component that goes by the first.
-    fn finish(&mut self, place: usize)
+    fn finish(&mut self, place: usize) -> Result<(), NoMemory>
         requires placed { ArePlaced self.old.states self.old.path }
         requires place { place < length self.old.path }
-        ensures closed { HasClosed place (length self.old.path) (slice_index self.old.path place)
-            self.old.states self.new.states }
-        ensures path { self.new.path ≡ take place self.old.path }
-        ensures frames { self.new.frames ≡ self.old.frames }
+        ensures closed { OnOk result (HasClosed place (length self.old.path)
+            (slice_index self.old.path place) self.old.states self.new.states) }
+        ensures path { OnOk result (self.new.path ≡ take place self.old.path) }
+        ensures ahead { self.new.ahead ≡ self.old.ahead }
         ensures starts { self.new.starts ≡ self.old.starts }
     {
-        let name = self.path[place];
+        let name = self.path[place] as usize;
         for later in place..self.path.len() {
-            self.states[self.path[later] as usize] = State::Done(name);
+            self.states[self.path[later] as usize] = Packed::new(State::Done(name))?;
         }
         self.path.truncate(place);
+        Ok(())
     }
 
-    // Follows an edge of the last component: to a number that is new, back to the path, or to what
-    // is done.
-    fn follow(&mut self, edges: Edges, tables: &CayleyTables, frame: Frame) -> Result<(), NoMemory>
-        requires fit { FitTogether tables.now }
-        requires edge { frame.edge < length tables.now.letters }
-        requires tour { IsTourBut (length tables.now.words) (length tables.now.letters)
-            (next edges tables.now) (IsAtEdge frame) self.old }
-        requires top { IsOnTop self.old frame.number }
-        ensures tour { OnOk result (IsTour (length tables.now.words) (length tables.now.letters)
-            (next edges tables.now) self.new) }
-        ensures seen { OnOk result (KeepsSeen self.old self.new) }
-        ensures left { OnOk result (left_over (length tables.now.letters) self.new
-            ≤ left_over (length tables.now.letters) self.old) }
+    // Looks where an edge of the last component leads: to a number that is new, and stands ahead
+    // from now on, back to the path, or to what is done.
+    fn look(
+        &mut self,
+        rows: &Rows,
+        letters: usize,
+        number: usize,
+        letter: usize,
+    ) -> Result<(), NoMemory>
+        requires edges { AreEdges letters (length rows.now) rows.now }
+        requires letter { letter < letters }
+        requires tour { IsTourBut (length rows.now) letters (edge rows.now)
+            (IsEdgeFrom number letter) self.old }
+        requires top { IsOnTop self.old number }
+        ensures tour { OnOk result (IsTourBut (length rows.now) letters (edge rows.now)
+            (IsEdgeFrom number (letter + 1)) self.new) }
+        ensures top { OnOk result (IsOnTop self.new number) }
+        ensures states { self.new.states ≡ self.old.states }
+        ensures left { OnOk result (left_over letters self.new
+            ≤ left_over letters self.old + 1) }
     {
-        let next = target(edges, tables, frame.number, frame.edge);
+        let next = rows.at(number, letter);
         match self.state(next) {
-            State::Unseen => self.enter(next),
-            State::OnPath(place) => {
-                self.join(place as usize);
+            State::Unseen => self.put_ahead(next),
+            State::OnPath(back) => {
+                self.join(back);
                 Ok(())
             }
             State::Done(_) => Ok(()),
         }
     }
 
-    // Keeps the edges of a number behind one of them, if there are any.
-    fn keep_rest(&mut self, frame: Frame, letters: usize) -> Result<(), NoMemory>
-        requires { frame.edge < letters }
-        ensures { OnOk result (self.new ≡ with_rest letters frame self.old) }
+    // Enters a number that is new, and looks along all its edges.
+    fn enter(&mut self, rows: &Rows, letters: usize, number: usize) -> Result<(), NoMemory>
+        requires edges { AreEdges letters (length rows.now) rows.now }
+        requires tour { IsTourBut (length rows.now) letters (edge rows.now)
+            (IsEdgeTo (edge rows.now) number) self.old }
+        requires number { number < length rows.now }
+        requires unseen { state_at self.old.states number ≡ Unseen }
+        requires led { DoesLeadTo letters (edge rows.now) self.old number }
+        ensures tour { OnOk result (IsTour (length rows.now) letters (edge rows.now) self.new) }
+        ensures kept { OnOk result (KeepsSeen self.old self.new) }
+        ensures seen { OnOk result (state_at self.new.states number ≢ Unseen) }
+        ensures left { OnOk result (left_over letters self.new
+            ≤ left_over letters self.old) }
     {
-        if frame.edge + 1 < letters {
-            self.frames.push(Frame {
-                number: frame.number,
-                edge: frame.edge + 1,
-            })?;
+        self.begin(number)?;
+        for letter in 0..letters {
+            self.look(rows, letters, number, letter)?;
         }
         Ok(())
     }
 
-    // Follows an edge of the last component, or ends the component where no number has one left.
-    fn step(&mut self, edges: Edges, tables: &CayleyTables) -> Result<(), NoMemory>
-        requires fit { FitTogether tables.now }
-        requires tour { IsTour (length tables.now.words) (length tables.now.letters)
-            (next edges tables.now) self.old }
+    // Comes to a number where edges of the last component lead: enters it, if it is new.
+    fn arrive(&mut self, rows: &Rows, letters: usize, number: usize) -> Result<(), NoMemory>
+        requires edges { AreEdges letters (length rows.now) rows.now }
+        requires tour { IsTourBut (length rows.now) letters (edge rows.now)
+            (IsEdgeTo (edge rows.now) number) self.old }
+        requires led { IsLedTo letters (edge rows.now) self.old number }
+        ensures tour { OnOk result (IsTour (length rows.now) letters (edge rows.now) self.new) }
+        ensures kept { OnOk result (KeepsSeen self.old self.new) }
+        ensures left { OnOk result (left_over letters self.new
+            ≤ left_over letters self.old) }
+    {
+        match self.state(number) {
+            State::Unseen => self.enter(rows, letters, number),
+            State::OnPath(place) => {
+                self.join(place);
+                Ok(())
+            }
+            State::Done(_) => Ok(()),
+        }
+    }
+
+    // Comes to the last number ahead of the last component, or ends the component where none is.
+    fn step(&mut self, rows: &Rows, letters: usize) -> Result<(), NoMemory>
+        requires edges { AreEdges letters (length rows.now) rows.now }
+        requires tour { IsTour (length rows.now) letters (edge rows.now) self.old }
         requires some { 0 < length self.old.starts }
-        ensures tour { OnOk result (IsTour (length tables.now.words) (length tables.now.letters)
-            (next edges tables.now) self.new) }
-        ensures seen { OnOk result (KeepsSeen self.old self.new) }
-        ensures falls { OnOk result (left_over (length tables.now.letters) self.new
-            < left_over (length tables.now.letters) self.old) }
+        ensures tour { OnOk result (IsTour (length rows.now) letters (edge rows.now) self.new) }
+        ensures kept { OnOk result (KeepsSeen self.old self.new) }
+        ensures falls { OnOk result (left_over letters self.new
+            < left_over letters self.old) }
     {
         let start = self.top();
-        if self.frames.len() == start.frame {
-            self.finish(start.place);
+        if self.ahead.len() == start.ahead {
+            self.finish(start.place)?;
             self.drop_start();
             return Ok(());
         }
-        let Some(frame) = self.frames.pop() else {
+        let Some(number) = self.ahead.pop() else {
             return Ok(());
         };
-        let letters = tables.letters.as_slice().len();
-        if frame.edge == letters {
-            return Ok(());
-        }
-        self.keep_rest(frame, letters)?;
-        self.follow(edges, tables, frame)
+        self.arrive(rows, letters, number as usize)
     }
 
-    // Goes along all edges from a number on, unless it is seen already.
+    // Visits all that is reached from a number, unless it is seen already.
     pub(crate) fn visit(
         &mut self,
-        edges: Edges,
-        tables: &CayleyTables,
+        rows: &Rows,
+        letters: usize,
         number: usize,
     ) -> Result<(), NoMemory>
-        requires fit { FitTogether tables.now }
-        requires tour { IsTour (length tables.now.words) (length tables.now.letters)
-            (next edges tables.now) self.old }
+        requires edges { AreEdges letters (length rows.now) rows.now }
+        requires tour { IsTour (length rows.now) letters (edge rows.now) self.old }
         requires rest { self.old.starts ≡ [] }
-        requires number { number < length tables.now.words }
-        ensures tour { OnOk result (IsTour (length tables.now.words) (length tables.now.letters)
-            (next edges tables.now) self.new) }
+        requires number { number < length rows.now }
+        ensures tour { OnOk result (IsTour (length rows.now) letters (edge rows.now) self.new) }
         ensures rest { OnOk result (self.new.starts ≡ []) }
         ensures kept { OnOk result (KeepsSeen self.old self.new) }
         ensures seen { OnOk result (state_at self.new.states number ≢ Unseen) }
     {
         if let State::Unseen = self.state(number) {
-            self.enter(number)?;
+            self.enter(rows, letters, number)?;
         }
         while !self.starts.is_empty() {
-            self.step(edges, tables)?;
+            self.step(rows, letters)?;
         }
         Ok(())
     }
@@ -252,7 +264,7 @@ impl DepthFirst {
         ensures { (name : ℕ) → state_at self.now.states number ≡ Done name → result ≡ name }
     {
         match self.state(number) {
-            State::Done(name) => name as usize,
+            State::Done(name) => name,
             _ => number,
         }
     }

@@ -1,9 +1,8 @@
 // Edges of Cayley graphs.
-ghost use Rattle.std.specs.Prelude.{◌≡◌, ◌<◌, length};
-ghost use Rattle.cayley.specs.Tables.{FitTogether};
-ghost use Rattle.green.specs.EdgeRows.{next};
+ghost use Rattle.std.specs.Prelude.{◌≡◌};
+ghost use Rattle.green.specs.EdgeRows.{rows_along};
 
-use froidure_pin::CayleyTables;
+use froidure_pin::{CayleyTables, Rows};
 
 // Which edges are followed: those of the right Cayley graph, or of the left one.
 #[derive(Clone, Copy)]
@@ -12,15 +11,12 @@ pub enum Edges {
     Left,
 }
 
-// To which number the edge of a letter leads from a number.
-pub(crate) fn target(edges: Edges, tables: &CayleyTables, number: usize, letter: usize) -> usize
-    requires fit { FitTogether tables.now }
-    requires number { number < length tables.now.words }
-    requires letter { letter < length tables.now.letters }
-    ensures { result ≡ next edges tables.now number letter }
+// The rows of these edges.
+pub(crate) fn rows_along(edges: Edges, tables: &CayleyTables) -> &Rows
+    ensures { result.now ≡ rows_along edges tables.now }
 {
     match edges {
-        Edges::Right => tables.right.at(number, letter),
-        Edges::Left => tables.left.at(number, letter),
+        Edges::Right => &tables.right,
+        Edges::Left => &tables.left,
     }
 }

@@ -3,6 +3,7 @@ ghost use Rattle.std.specs.Prelude.{◌≡◌, ◌+◌, ◌<◌, ◌∷◌, ◌+
 ghost use Rattle.theory.specs.Green.{AreClasses};
 ghost use Rattle.green.specs.Grouping.{AreGrouped, AreSmall, HaveOneName, class_at};
 
+use crate::states::in_four_bytes;
 use ports::NoMemory;
 use std::alloc::Global;
 
@@ -22,7 +23,7 @@ fn add(
     alloc: Global,
     names: &[usize],
     number: usize,
-    places: &mut Vec<Option<usize>>,
+    places: &mut Vec<Option<u32>>,
     classes: &mut Vec<Vec<usize>>,
 ) -> Result<(), NoMemory>
     requires number { number < length names.now }
@@ -34,9 +35,9 @@ fn add(
 {
     let name = names[number];
     if let Some(place) = places[name] {
-        return put(classes, place, number);
+        return put(classes, place as usize, number);
     }
-    places[name] = Some(classes.len());
+    places[name] = Some(in_four_bytes(classes.len())?);
     let mut class = Vec::new(alloc);
     class.push(number)?;
     classes.push(class)?;
@@ -49,7 +50,7 @@ pub(crate) fn grouped(alloc: Global, names: &[usize]) -> Result<Vec<Vec<usize>>,
     ensures { IfOk result (λ classes. AreClasses (length names.now) (HaveOneName names.now)
         (map (λ v. v.items) classes.items)) }
 {
-    let mut places: Vec<Option<usize>> = vec![in alloc; None; names.len()]?;
+    let mut places: Vec<Option<u32>> = vec![in alloc; None; names.len()]?;
     let mut classes = Vec::new(alloc);
     for number in 0..names.len() {
         add(alloc, names, number, &mut places, &mut classes)?;

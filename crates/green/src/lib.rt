@@ -11,6 +11,7 @@ mod joining;
 mod naming;
 mod pairing;
 mod relations;
+mod states;
 
 pub use relations::ClassNames;
 pub use theory::Relation;

@@ -38,4 +38,4 @@ returns c =
     ap (map (λ (v : Vec ℕ Global). v.items)) c.in_ok-push-2.ensures.items ∙ map-append (λ (v : Vec ℕ Global). v.items) c.args.classes.now.items (c.push.new.self ∷ [])
     ∙ ap (λ (xs : List ℕ). map (λ (v : Vec ℕ Global). v.items) c.args.classes.now.items ++ xs ∷ []) one in
     grouped_new c.args.names.now c.args.number c.args.places.now.items (map (λ (v : Vec ℕ Global). v.items) c.args.classes.now.items) c.requires.grouped at small
-    _ (ap (λ (n : ℕ). set c.args.places.now.items (slice_index c.args.names.now c.args.number) (Some n)) long) _ more
+    _ (ap (λ (n : ℕ). set c.args.places.now.items (slice_index c.args.names.now c.args.number) (Some n)) (c.in_ok-in_four_bytes.ensures ∙ long)) _ more

@@ -1,17 +1,17 @@
 use Rattle.std.proofs.Common.{◌≡◌, ◌+◌, ◌<◌, ◌∙◌, ℕ, ap, subst, sym, length, List, slice_index, take, get_or, set, arith}
 use Rattle.std.proofs.lemmas.List.{get_or_default}
 use Rattle.green.specs.Touring.{Tour, ArePlaced, HasClosed, state_at}
-use Rattle.green.specs.declared.depth_first.State.{State}
-use Rattle.green.specs.declared.depth_first.State.TheVariants.{Done}
+use Rattle.green.specs.declared.states.State.{State}
+use Rattle.green.specs.declared.states.State.TheVariants.{Done}
 use Rattle.green.proofs.TourLaws.{closed_none, closed_more, seen_below, unseen_or_on}
 use Rattle.green.proofs.depth_first.DepthFirst.finish.Goals as goal
 
 pub loop-later-init : goal.loop-later-init
 loop-later-init c = record {
-  closed = subst (λ (t : Tour). HasClosed c.args.place c.args.place c.index-name.result.now t.states c.self.inside.states.items) c.self.view_is
-      (closed_none c.args.place c.index-name.result.now c.self.inside.states.items);
+  closed = subst (λ (t : Tour). HasClosed c.args.place c.args.place c.index.result.now t.states c.self.inside.states.items) c.self.view_is
+      (closed_none c.args.place c.index.result.now c.self.inside.states.items);
   path = ap (λ (t : Tour). t.path) c.self.view_is;
-  frames = ap (λ (t : Tour). t.frames) c.self.view_is;
+  ahead = ap (λ (t : Tour). t.ahead) c.self.view_is;
   starts = ap (λ (t : Tour). t.starts) c.self.view_is;
 }
 
@@ -27,8 +27,8 @@ number_small states now path place later name number placed closed less e =
     let seen = seen_below states (slice_index path later) (λ d. unseen_or_on later (state_at states (slice_index path later)) d on) in
     omega (arith, seen, e, closed.count)
 
-pub index-requires : goal.index-requires
-index-requires c =
+pub index-requires-in-loop-later : goal.index-requires-in-loop-later
+index-requires-in-loop-later c =
     let long : c.len-later-end.result ≡ length c.args.self.now.path = omega (arith, c.len-later-end.ensures, ap (λ (t : Tour). length t.path) c.self.view_is) in
     omega (arith, long, c.loop-later-test.true, ap length c.loop-later.invariant.path)
 
@@ -36,9 +36,9 @@ pub index_mut-requires : goal.index_mut-requires
 index_mut-requires c =
     let inside : c.loop-later.later < length c.args.self.now.path =
     omega (arith, c.loop-later-test.true, c.len-later-end.ensures, ap (λ (t : Tour). length t.path) c.self.view_is) in
-    let small = number_small c.args.self.now.states c.loop-later.self-inside.states.items c.args.self.now.path c.args.place c.loop-later.later c.index-name.result.now c.index.result.now
+    let small = number_small c.args.self.now.states c.loop-later.self-inside.states.items c.args.self.now.path c.args.place c.loop-later.later c.index.result.now c.index-in-loop-later.result.now
     c.requires.placed c.loop-later.invariant.closed inside
-    (number_is c.args.self.now.path c.loop-later.self-inside.path.items c.loop-later.later c.index.result.now c.loop-later.invariant.path inside c.index.ensures) in
+    (number_is c.args.self.now.path c.loop-later.self-inside.path.items c.loop-later.later c.index-in-loop-later.result.now c.loop-later.invariant.path inside c.index-in-loop-later.ensures) in
     omega (arith, small)
 
 pub loop-later-preserved : goal.loop-later-preserved
@@ -46,12 +46,14 @@ loop-later-preserved c =
     let inside : c.loop-later.later < length c.args.self.now.path =
     omega (arith, c.loop-later-test.true, c.len-later-end.ensures, ap (λ (t : Tour). length t.path) c.self.view_is) in
     record {
-      closed = subst (λ i. HasClosed c.args.place (c.loop-later.later + 1) c.index-name.result.now c.args.self.now.states (set c.loop-later.self-inside.states.items i (Done c.index-name.result.now)))
-          (sym (number_is c.args.self.now.path c.loop-later.self-inside.path.items c.loop-later.later c.index.result.now c.loop-later.invariant.path inside c.index.ensures))
-          (closed_more c.args.place c.loop-later.later c.index-name.result.now c.args.self.now.states c.args.self.now.path c.loop-later.self-inside.states.items
-          c.requires.placed c.loop-later.auto.later inside c.loop-later.invariant.closed);
+      closed = subst (λ done. HasClosed c.args.place (c.loop-later.later + 1) c.index.result.now c.args.self.now.states (set c.loop-later.self-inside.states.items c.index-in-loop-later.result.now done))
+          (sym c.in_ok-self-inside.ensures)
+          (subst (λ i. HasClosed c.args.place (c.loop-later.later + 1) c.index.result.now c.args.self.now.states (set c.loop-later.self-inside.states.items i (Done c.index.result.now)))
+          (sym (number_is c.args.self.now.path c.loop-later.self-inside.path.items c.loop-later.later c.index-in-loop-later.result.now c.loop-later.invariant.path inside c.index-in-loop-later.ensures))
+          (closed_more c.args.place c.loop-later.later c.index.result.now c.args.self.now.states c.args.self.now.path c.loop-later.self-inside.states.items
+          c.requires.placed c.loop-later.auto.later inside c.loop-later.invariant.closed));
       path = c.loop-later.invariant.path;
-      frames = c.loop-later.invariant.frames;
+      ahead = c.loop-later.invariant.ahead;
       starts = c.loop-later.invariant.starts;
     }
 
@@ -60,8 +62,8 @@ returns-clause-closed c =
     let long : c.len-later-end.result ≡ length c.args.self.now.path = omega (arith, c.len-later-end.ensures, ap (λ (t : Tour). length t.path) c.self.view_is) in
     let end : c.loop-later.later ≡ length c.args.self.now.path = omega (arith, long, c.loop-later-test.false, c.loop-later.auto.later-end, c.requires.place) in
     let inner : c.args.place < length c.self.inside.path.items = omega (arith, c.requires.place, ap (λ (t : Tour). length t.path) c.self.view_is) in
-    let name : c.index-name.result.now ≡ slice_index c.args.self.now.path c.args.place =
-    c.index-name.ensures ∙ get_or_default c.self.inside.path.items c.args.place c.index-name.result.now 0 inner
+    let name : c.index.result.now ≡ slice_index c.args.self.now.path c.args.place =
+    c.index.ensures ∙ get_or_default c.self.inside.path.items c.args.place c.index.result.now 0 inner
     ∙ ap (λ (t : Tour). slice_index t.path c.args.place) c.self.view_is in
     subst (λ m. HasClosed c.args.place m (slice_index c.args.self.now.path c.args.place) c.args.self.now.states c.loop-later.self-inside.states.items) end
     (subst (λ m. HasClosed c.args.place c.loop-later.later m c.args.self.now.states c.loop-later.self-inside.states.items) name c.loop-later.invariant.closed)

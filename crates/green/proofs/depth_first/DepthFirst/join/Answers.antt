@@ -5,7 +5,7 @@ use Rattle.green.proofs.TourLaws.{AreJoining, joining_start, joining_step, joini
 use Rattle.green.proofs.depth_first.DepthFirst.join.Goals as goal
 
 pub loop-self-init : goal.loop-self-init
-loop-self-init c = record { joining = joining_start c.args.place c.args.self.now.starts c.requires.some; states = refl; path = refl; frames = refl }
+loop-self-init c = record { joining = joining_start c.args.place c.args.self.now.starts c.requires.some; states = refl; path = refl; ahead = refl }
 
 pub top-requires : goal.top-requires
 top-requires c = c.loop-self.invariant.joining.some
@@ -27,7 +27,7 @@ loop-self-preserved c = record {
       (joining_step c.args.place c.args.self.now.starts c.loop-self.self.starts c.requires.first c.loop-self.invariant.joining (above c));
   states = ap (λ (t : Tour). t.states) c.drop_start.ensures ∙ c.loop-self.invariant.states;
   path = ap (λ (t : Tour). t.path) c.drop_start.ensures ∙ c.loop-self.invariant.path;
-  frames = ap (λ (t : Tour). t.frames) c.drop_start.ensures ∙ c.loop-self.invariant.frames;
+  ahead = ap (λ (t : Tour). t.ahead) c.drop_start.ensures ∙ c.loop-self.invariant.ahead;
 }
 
 pub returns-clause-joined : goal.returns-clause-joined

@@ -7,7 +7,7 @@ invariant-loop-self l = record {
   joining : AreJoining l.place l.fn.self.starts l.self.starts;
   states : l.self.states ≡ l.fn.self.states;
   path : l.self.path ≡ l.fn.self.path;
-  frames : l.self.frames ≡ l.fn.self.frames;
+  ahead : l.self.ahead ≡ l.fn.self.ahead;
 }
 
 abbrev pub decreases-loop-self : goal.decreases-loop-self

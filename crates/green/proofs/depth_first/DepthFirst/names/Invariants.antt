@@ -1,6 +1,6 @@
 use Rattle.std.proofs.Common.{◌≡◌, ℕ, ◌<◌, length, slice_index}
 use Rattle.green.specs.Touring.{state_at}
-use Rattle.green.specs.declared.depth_first.State.TheVariants.{Done}
+use Rattle.green.specs.declared.states.State.TheVariants.{Done}
 use Rattle.green.proofs.depth_first.DepthFirst.names.Given as goal
 
 abbrev pub invariant-loop-number : goal.invariant-loop-number

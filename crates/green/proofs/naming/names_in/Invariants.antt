@@ -1,12 +1,12 @@
 use Rattle.std.proofs.Common.{◌≡◌, ◌≢◌, ℕ, ◌<◌, [], length}
-use Rattle.green.specs.EdgeRows.{next}
+use Rattle.cayley.specs.Tables.{edge}
 use Rattle.green.specs.Touring.{IsTour, state_at}
-use Rattle.green.specs.declared.depth_first.State.TheVariants.{Unseen}
-use Rattle.green.proofs.naming.component_names.Given as goal
+use Rattle.green.specs.declared.states.State.TheVariants.{Unseen}
+use Rattle.green.proofs.naming.names_in.Given as goal
 
 abbrev pub invariant-loop-number : goal.invariant-loop-number
 invariant-loop-number l = record {
-  tour : IsTour (length l.tables.words) (length l.tables.letters) (next l.edges l.tables) l.search;
+  tour : IsTour (length l.rows) l.letters (edge l.rows) l.search;
   rest : l.search.starts ≡ [];
   seen : (i : ℕ) → i < l.number → state_at l.search.states i ≢ Unseen;
 }
