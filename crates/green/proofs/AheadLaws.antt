@@ -6,7 +6,6 @@ use Rattle.std.proofs.lemmas.Bool.{cases_eq, cases_lt}
 use Rattle.std.proofs.lemmas.List.{get_or_push, length_push}
 use Rattle.theory.specs.Green.{IsEdge}
 use Rattle.green.specs.Touring.{Tour, state_at, start_at, BelongTogether, IsAhead, IsEdgeFrom, IsEdgeTo, IsLedTo, IsTourBut, IsTour, IsOnTop, with_ahead}
-use Rattle.green.specs.declared.states.State.TheVariants.{OnPath}
 use Rattle.green.proofs.TourLaws.{one_place, rising}
 
 -- One more stands ahead, where an edge of the last component leads.

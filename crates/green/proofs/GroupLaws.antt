@@ -1,12 +1,12 @@
 -- Numbers are put into classes, one after another.
-use Rattle.std.proofs.Common.{◌≡◌, ◌≢◌, ℕ, zero, suc, ◌+◌, ◌<◌, ◌↔◌, List, [], ◌∷◌, ◌++◌, length, slice_index, slice_index_or, set, map, refl, sym, ◌∙◌, ap, subst, arith, inl, inr, ◌⊎◌, Option, Some, None, length-set}
+use Rattle.std.proofs.Common.{◌≡◌, ◌≢◌, ℕ, zero, suc, ◌+◌, ◌<◌, ◌≤◌, ◌↔◌, List, [], ◌∷◌, ◌++◌, length, replicate, slice_index, slice_index_or, set, map, refl, sym, ◌∙◌, ap, subst, arith, inl, inr, ◌⊎◌, Option, Some, None, length-set}
 use Rattle.std.proofs.Math.ListN.{get_or-append}
-use Rattle.std.proofs.lemmas.Bool.{cases_eq}
-use Rattle.std.proofs.lemmas.List.{get_or_push, get_or-set_same, get_or-set_other, length_push, map-set, get_or-map}
+use Rattle.std.proofs.lemmas.Bool.{cases_eq, cases_lt}
+use Rattle.std.proofs.lemmas.List.{get_or_push, get_or-set_same, get_or-set_other, get_or-replicate, get_or_past, length_push, length-replicate, map-set, get_or-map}
 use Rattle.theory.specs.Listing.{IsListOf, IsAfter}
 use Rattle.theory.specs.Green.{IsFirst, IsInClassOf, AreClassesAt, AreClasses}
 use Rattle.theory.proofs.Listings.{list_same}
-use Rattle.green.specs.Grouping.{HaveOneName, class_at, place_at, AreGrouped}
+use Rattle.green.specs.Grouping.{HaveOneName, class_at, place_at, AreGrouped, AreCollected}
 
 -- a number above all that have a property gets it too
 pub listed_more : (P Q : ℕ → Type 0) (m : ℕ) (cursor : Option ℕ) (xs : List ℕ) → IsListOf P ◌<◌ cursor xs → ((y : ℕ) → P y → y < m) → ((y : ℕ) → P y → Q y)
@@ -271,6 +271,41 @@ module _ (n : ℕ) (R S : ℕ → ℕ → Type 0) (same : (i j : ℕ) → i < n 
     all = list_same (IsFirst n R) (IsFirst n S) ◌<◌ first_same None h.firsts h.all;
     classes_at = classes_at_same None h.firsts cs h.all h.classes_at;
   }
+
+-- what is held stays held with a number more
+module _ (names : List ℕ) (m : ℕ) (places : List (Option ℕ)) (count : ℕ) (Held Holds : List (List ℕ) → Type 0) (h : AreCollected names m places count Held) where
+  pub collected_old : (p : ℕ) → place_at places (slice_index names m) ≡ Some p
+      → ((cs : List (List ℕ)) → Held cs → Holds (set cs p (class_at cs p ++ m ∷ []))) → AreCollected names (m + 1) places count Holds
+  collected_old p at step = record {
+    classes = set h.classes p (class_at h.classes p ++ m ∷ []);
+    grouped = grouped_old names m places h.classes h.grouped p at (set h.classes p (class_at h.classes p ++ m ∷ [])) refl;
+    counted = length-set h.classes p (class_at h.classes p ++ m ∷ []) ∙ h.counted;
+    held = step h.classes h.held;
+  }
+
+  pub collected_new : place_at places (slice_index names m) ≡ None → slice_index names m < length names → (now : List (Option ℕ)) → now ≡ set places (slice_index names m) (Some count)
+      → (more : ℕ) → more ≡ count + 1 → ((cs : List (List ℕ)) → Held cs → Holds (cs ++ (m ∷ []) ∷ [])) → AreCollected names (m + 1) now more Holds
+  collected_new at small now is more next step = record {
+    classes = h.classes ++ (m ∷ []) ∷ [];
+    grouped = grouped_new names m places h.classes h.grouped at small now (is ∙ ap (λ (n : ℕ). set places (slice_index names m) (Some n)) (sym h.counted)) (h.classes ++ (m ∷ []) ∷ []) refl;
+    counted = length_push h.classes (m ∷ []) ∙ omega (arith, h.counted, next);
+    held = step h.classes h.held;
+  }
+
+pub collected_none : (names : List ℕ) (places : List (Option ℕ)) (Holds : List (List ℕ) → Type 0) → places ≡ replicate (length names) None → Holds [] → AreCollected names 0 places 0 Holds
+collected_none names places Holds are empty = record {
+  classes = [];
+  grouped = subst (λ (ps : List (Option ℕ)). AreGrouped names 0 ps []) (sym are)
+      (grouped_none names (replicate (length names) None) (length-replicate (length names) None) (λ name. none_at (length names) name));
+  counted = refl;
+  held = empty;
+}
+  where
+    none_at : (n name : ℕ) → place_at (replicate n None) name ≡ None
+    none_at n name = elim (cases_lt name n) [
+      | inl l ↦ get_or-replicate n name None None l
+      | inr past ↦ get_or_past (replicate n None) name None (subst (λ k. k ≤ name) (sym (length-replicate n None)) past)
+    ]
 
 -- a number is put at the end of a class
 pub put_is : {X : Type 0} (f : X → List ℕ) (xs : List X) (p n : ℕ) (old new : X) → p < length xs → old ≡ slice_index_or xs p old → f new ≡ f old ++ n ∷ []

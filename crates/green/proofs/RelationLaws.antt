@@ -1,5 +1,5 @@
 -- Names and classes under Green's relations.
-use Rattle.std.proofs.Common.{◌≡◌, ℕ, ◌<◌, ◌≤◌, List, length, slice_index, sym, ◌∙◌, subst, arith, Result, IfOk}
+use Rattle.std.proofs.Common.{◌≡◌, ℕ, ◌<◌, ◌≤◌, List, length, slice_index, sym, ◌∙◌, subst, arith, Result, OnOk}
 use Rattle.theory.specs.Green.{here, IsEdgeOfEither, AreClasses}
 use Rattle.froidure_pin.specs.declared.tables.CayleyTables.{CayleyTables}
 use Rattle.cayley.specs.Tables.{edge, FitTogether}
@@ -13,7 +13,7 @@ use Rattle.theory.specs.declared.Relation.TheVariants.{R, L, J}
 use Rattle.green.proofs.TourLaws.{reaches_on}
 use Rattle.green.proofs.FiniteLaws.{j_is_d}
 use Rattle.green.proofs.GroupLaws.{classes_same}
-use Rattle.green.proofs.Results.{if_ok}
+use Rattle.green.proofs.Results.{on_ok}
 
 -- names of pairs are names of both relations at once
 pub names_of_both : (n : ℕ) (One Other : ℕ → ℕ → Type 0) (first second names : List ℕ) → AreNames n One first → AreNames n Other second → AreNamesOfPairs first second names
@@ -38,13 +38,13 @@ classes_by_names n One names classes h c =
 pub small_names : (n : ℕ) (Rel : ℕ → ℕ → Type 0) (names : List ℕ) → AreNames n Rel names → AreSmall names
 small_names n Rel names h i l = let low = h.within i (omega (arith, l, h.count)) in omega (arith, low, h.count)
 
--- what is grouped by names of a relation
-pub grouped_by_names : {X E : Type 0} (lists : X → List (List ℕ)) (r : Result X E) (t : CayleyTables) (relation given : Relation) (names : List ℕ) → given ≡ relation
-    → AreNames (length t.words) (AreRelated relation t) names → IfOk r (λ x. AreClasses (length names) (HaveOneName names) (lists x))
-    → IfOk r (λ x. AreClasses (length t.words) (AreRelated given t) (lists x))
-grouped_by_names {X} {E} lists r t relation given names e h grouped =
-    subst (λ (any : Relation). IfOk r (λ x. AreClasses (length t.words) (AreRelated any t) (lists x))) (sym e)
-    (if_ok r _ _ grouped (λ x. classes_by_names (length t.words) (AreRelated relation t) names (lists x) h))
+-- what is collected by names of a relation
+pub collected_by_names : {X E : Type 0} (r : Result X E) (t : CayleyTables) (relation given : Relation) (names : List ℕ) (Holds : List (List ℕ) → Type 0) → given ≡ relation
+    → AreNames (length t.words) (AreRelated relation t) names → OnOk r ((cs : List (List ℕ)) × AreClasses (length names) (HaveOneName names) cs × Holds cs)
+    → OnOk r ((cs : List (List ℕ)) × AreClasses (length t.words) (AreRelated given t) cs × Holds cs)
+collected_by_names r t relation given names Holds e h collected =
+    on_ok r _ _ collected (λ found.
+    (found.0, subst (λ (any : Relation). AreClasses (length t.words) (AreRelated any t) found.0) (sym e) (classes_by_names (length t.words) (AreRelated relation t) names found.0 h found.1), found.2))
 
 -- names of classes that meet are names of J
 module _ (t : CayleyTables) (fit : FitTogether t) (commute : DoCommute t) (first second names : List ℕ) (one : AreNames (length t.words) (AreRelated R t) first)

@@ -1,8 +1,8 @@
 -- The steps of the search for strongly connected components.
-use Rattle.std.proofs.Common.{◌≡◌, ◌≢◌, ℕ, ◌+◌, ◌-◌, ◌<◌, ◌≤◌, ◌⊎◌, List, [], ◌∷◌, ◌++◌, length, slice_index, take, inl, inr, refl, sym, ◌∙◌, ap, subst, arith}
+use Rattle.std.proofs.Common.{◌≡◌, ◌≢◌, ℕ, ◌+◌, ◌-◌, ◌<◌, ◌≤◌, ◌⊎◌, List, [], ◌∷◌, ◌++◌, length, slice_index, take, inl, inr, sym, ◌∙◌, ap, subst, arith}
 use Rattle.std.proofs.lemmas.Bool.{cases_eq}
 use Rattle.std.proofs.lemmas.List.{length_push}
-use Rattle.theory.specs.Green.{Reaches, here, further, IsEdge}
+use Rattle.theory.specs.Green.{here, further, IsEdge}
 use Rattle.green.specs.Touring.{Tour, state_at, start_at, DoesLeadTo, IsEdgeFrom, IsEdgeTo, IsLedTo, IsTourBut, IsTour, IsOnTop, entered, with_ahead, without_start, HaveJoined, HasClosed, KeepsSeen, left_over}
 use Rattle.green.specs.declared.states.State.{State}
 use Rattle.green.specs.declared.states.State.TheVariants.{Unseen, OnPath, Done}

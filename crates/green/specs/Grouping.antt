@@ -23,3 +23,11 @@ pub record AreGrouped (names : List ℕ) (m : ℕ) (places : List (Option ℕ))
   pub placed : (name p : ℕ) → place_at places name ≡ Some p
       → (p < length classes) × (slice_index names (slice_index classes_are.firsts p) ≡ name)
   pub seen : (i : ℕ) → i < m → (p : ℕ) × (place_at places (slice_index names i) ≡ Some p)
+
+-- the numbers below m are grouped into so many classes, which are held
+pub record AreCollected (names : List ℕ) (m : ℕ) (places : List (Option ℕ)) (count : ℕ)
+    (Holds : List (List ℕ) → Type 0) : Type 0 where
+  pub classes : List (List ℕ)
+  pub grouped : AreGrouped names m places classes
+  pub counted : length classes ≡ count
+  pub held : Holds classes

@@ -2,6 +2,7 @@
 //! *Fundamentals of semigroup theory*, 1995, chapter 2; libsemigroups, `FroidurePin`).
 #![tactic(auto)]
 
+mod collector;
 mod depth_first;
 mod edges;
 pub mod facts;
@@ -13,6 +14,7 @@ mod pairing;
 mod relations;
 mod states;
 
+pub use collector::Collector;
 pub use relations::ClassNames;
 pub use theory::Relation;
 

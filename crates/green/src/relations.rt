@@ -1,5 +1,5 @@
 // Classes of elements under Green's relations, and idempotents.
-ghost use Rattle.std.specs.Prelude.{◌≡◌, ◌<◌, length, map, option_map, IfOk, IfSome, OnOk, None, Some};
+ghost use Rattle.std.specs.Prelude.{◌≡◌, ◌<◌, ◌≤◌, [], List, ℕ, length, map, option_map, IfOk, IfSome, OnOk, None, Some};
 ghost use Rattle.std.specs.Option.{IsSome};
 ghost use Rattle.theory.specs.Green.{AreClasses};
 ghost use Rattle.theory.specs.Listing.{IsListOf};
@@ -9,8 +9,9 @@ ghost use Rattle.green.specs.Known.{AreNamesIn, KeepsNames, StaysKnown};
 ghost use Rattle.green.specs.Naming.{AreNamesAlong};
 ghost use Rattle.green.specs.Related.{AreOfLetters, AreRelated, DoAgree, DoCommute, IsIdempotentAt};
 
+use crate::collector::{Collector, Lists};
 use crate::edges::Edges;
-use crate::grouping::grouped;
+use crate::grouping::collect;
 use crate::idempotent::idempotents;
 use crate::joining::joined_names;
 use crate::naming::component_names;
@@ -118,11 +119,53 @@ impl ClassNames {
         Ok(())
     }
 
-    /// The classes of the elements of a semigroup under one of Green's relations: the numbers of
-    /// each class ascending, and the classes by their least numbers. The tables are those of a
-    /// whole run, or at least fit together and have edges that commute, and the same ones at each
-    /// call. Linear in the size of the tables; no graph is searched twice. Refused only for want of
-    /// memory, and then what was found is kept.
+    /// Collects the classes of the elements of a semigroup under one of Green's relations: numbers
+    /// come in ascending order, so the numbers of each class ascend, and the classes stand by their
+    /// least numbers. The tables are those of a whole run, or at least fit together and have edges
+    /// that commute, and the same ones at each call. Linear in the size of the tables; no graph is
+    /// searched twice. Refused only for want of memory, and then what was found is kept.
+    pub fn collect<C: Collector>(
+        &mut self,
+        alloc: Global,
+        tables: &CayleyTables,
+        relation: Relation,
+        collector: &mut C,
+    ) -> Result<(), NoMemory>
+        requires fit { FitTogether tables.now }
+        requires commute { DoCommute tables.now }
+        requires known { AreNamesIn tables.now self.old }
+        requires bound { length tables.now.words ≤ C.bound (C.source collector.old) }
+        requires empty { C.holds collector.old [] }
+        ensures known { AreNamesIn tables.now self.new }
+        ensures kept { KeepsNames self.old self.new }
+        ensures source { OnOk result (C.source collector.new ≡ C.source collector.old) }
+        ensures collected { OnOk result ((classes : List (List ℕ))
+            × AreClasses (length tables.now.words) (AreRelated relation tables.now) classes
+            × C.holds collector.new classes) }
+    {
+        match relation {
+            Relation::R => {
+                find(alloc, Edges::Right, tables, &mut self.right)?;
+                collect(alloc, names(&self.right), collector)
+            }
+            Relation::L => {
+                find(alloc, Edges::Left, tables, &mut self.left)?;
+                collect(alloc, names(&self.left), collector)
+            }
+            Relation::H => {
+                self.find_all(alloc, tables)?;
+                collect(alloc, names(&self.both), collector)
+            }
+            Relation::J => {
+                self.find_both(alloc, tables)?;
+                let joined = joined_names(alloc, names(&self.right), names(&self.left))?;
+                collect(alloc, &joined, collector)
+            }
+        }
+    }
+
+    /// The classes of the elements of a semigroup under one of Green's relations, as `collect`
+    /// finds them.
     pub fn classes(
         &mut self,
         alloc: Global,
@@ -137,25 +180,9 @@ impl ClassNames {
         ensures classes { IfOk result (λ found. AreClasses (length tables.now.words)
             (AreRelated relation tables.now) (map (λ c. c.items) found.items)) }
     {
-        match relation {
-            Relation::R => {
-                find(alloc, Edges::Right, tables, &mut self.right)?;
-                grouped(alloc, names(&self.right))
-            }
-            Relation::L => {
-                find(alloc, Edges::Left, tables, &mut self.left)?;
-                grouped(alloc, names(&self.left))
-            }
-            Relation::H => {
-                self.find_all(alloc, tables)?;
-                grouped(alloc, names(&self.both))
-            }
-            Relation::J => {
-                self.find_both(alloc, tables)?;
-                let joined = joined_names(alloc, names(&self.right), names(&self.left))?;
-                grouped(alloc, &joined)
-            }
-        }
+        let mut lists = Lists::new(alloc, tables.words.len());
+        self.collect(alloc, tables, relation, &mut lists)?;
+        Ok(lists.into_lists())
     }
 
     /// The numbers of the idempotents of a semigroup, ascending (libsemigroups,

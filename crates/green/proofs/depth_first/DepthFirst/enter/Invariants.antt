@@ -1,4 +1,4 @@
-use Rattle.std.proofs.Common.{◌≡◌, ◌≢◌, ◌+◌, ◌≤◌, length}
+use Rattle.std.proofs.Common.{◌≢◌, ◌+◌, ◌≤◌, length}
 use Rattle.cayley.specs.Tables.{edge}
 use Rattle.green.specs.Touring.{IsEdgeFrom, IsOnTop, IsTourBut, KeepsSeen, left_over, state_at}
 use Rattle.green.specs.declared.states.State.TheVariants.{Unseen}

@@ -1,7 +1,6 @@
-use Rattle.std.proofs.Common.{◌≡◌, ◌≢◌, ◌-◌, ◌<◌, ◌∙◌, ap, subst, sym, length, arith}
+use Rattle.std.proofs.Common.{◌≢◌, ◌-◌, ◌<◌, ◌∙◌, ap, subst, sym, length, arith}
 use Rattle.cayley.specs.Tables.{edge}
-use Rattle.green.specs.Touring.{Tour, IsTour, left_over, start_at}
-use Rattle.green.proofs.Results.{on_ok}
+use Rattle.green.specs.Touring.{Tour, IsTour, start_at}
 use Rattle.green.proofs.StepLaws.{Stepped, Taken, ended, number_taken}
 use Rattle.green.proofs.depth_first.DepthFirst.step.Goals as goal
 

@@ -1,7 +1,5 @@
-use Rattle.std.proofs.Common.{◌≢◌, subst, sym, length}
+use Rattle.std.proofs.Common.{length}
 use Rattle.cayley.specs.Tables.{edge}
-use Rattle.green.specs.Touring.{Tour, IsTour, state_at}
-use Rattle.green.specs.declared.states.State.TheVariants.{Unseen}
 use Rattle.green.proofs.StepLaws.{begun_led, begun_tour}
 use Rattle.green.proofs.depth_first.DepthFirst.visit.Goals as goal
 
