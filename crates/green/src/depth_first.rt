@@ -270,14 +270,14 @@ impl DepthFirst {
     }
 
     // The name of the component of each number that is done.
-    pub(crate) fn names(&self, alloc: Global) -> Result<Vec<usize>, NoMemory>
+    pub(crate) fn names(&self, alloc: Global) -> Result<Vec<u32>, NoMemory>
         ensures count { IfOk result (λ names. length names.items ≡ length self.now.states) }
         ensures at { IfOk result (λ names. (i name : ℕ) → i < length self.now.states
             → state_at self.now.states i ≡ Done name → slice_index names.items i ≡ name) }
     {
         let mut names = Vec::with_capacity(alloc, self.states.len())?;
         for number in 0..self.states.len() {
-            names.push(self.name(number))?;
+            names.push(in_four_bytes(self.name(number))?)?;
         }
         Ok(names)
     }

@@ -11,7 +11,7 @@ use std::alloc::Global;
 // Puts a number into the class of its name, or into a new one; so many are there before and, as
 // the answer says, after it.
 fn put<C: Collector>(
-    names: &[usize],
+    names: &[u32],
     number: usize,
     places: &mut Vec<Option<u32>>,
     count: usize,
@@ -26,7 +26,7 @@ fn put<C: Collector>(
     ensures collected { IfOk result (λ now. AreCollected names.now (number + 1) places.new.items
         now (C.holds collector.new)) }
 {
-    let name = names[number];
+    let name = names[number] as usize;
     if let Some(place) = places[name] {
         collector.add(place as usize, number)?;
         return Ok(count);
@@ -41,7 +41,7 @@ fn put<C: Collector>(
 // are.
 pub(crate) fn collect<C: Collector>(
     alloc: Global,
-    names: &[usize],
+    names: &[u32],
     collector: &mut C,
 ) -> Result<(), NoMemory>
     requires small { AreSmall names.now }

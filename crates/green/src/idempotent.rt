@@ -16,7 +16,7 @@ use std::alloc::Global;
 // graph. The names are those of the L-classes.
 fn product_in_class(
     tables: &CayleyTables,
-    names: &[usize],
+    names: &[u32],
     first: usize,
     second: usize,
 ) -> Option<usize>
@@ -44,7 +44,7 @@ fn product_in_class(
 
 // The idempotent in the H-class of a number, if there is one: powers are followed until they come
 // back to the number, or leave its L-class.
-fn idempotent_in_class(tables: &CayleyTables, names: &[usize], number: usize) -> Option<usize>
+fn idempotent_in_class(tables: &CayleyTables, names: &[u32], number: usize) -> Option<usize>
     requires fit { FitTogether tables.now }
     requires commute { DoCommute tables.now }
     requires words { AreOfLetters tables.now }
@@ -67,8 +67,8 @@ fn idempotent_in_class(tables: &CayleyTables, names: &[usize], number: usize) ->
 // Marks the idempotent in the H-class of a number, unless a number of this class was seen before.
 fn mark(
     tables: &CayleyTables,
-    left: &[usize],
-    both: &[usize],
+    left: &[u32],
+    both: &[u32],
     number: usize,
     seen: &mut Vec<bool>,
     marks: &mut Vec<bool>,
@@ -83,7 +83,7 @@ fn mark(
     requires marked { AreMarked tables.now both.now number seen.old.items marks.old.items }
     ensures { AreMarked tables.now both.now (number + 1) seen.new.items marks.new.items }
 {
-    let name = both[number];
+    let name = both[number] as usize;
     if seen[name] {
         return;
     }
@@ -111,8 +111,8 @@ fn marked(alloc: Global, marks: &[bool]) -> Result<Vec<usize>, NoMemory>
 pub(crate) fn idempotents(
     alloc: Global,
     tables: &CayleyTables,
-    left: &[usize],
-    both: &[usize],
+    left: &[u32],
+    both: &[u32],
 ) -> Result<Vec<usize>, NoMemory>
     requires fit { FitTogether tables.now }
     requires commute { DoCommute tables.now }

@@ -3,11 +3,12 @@ ghost use Rattle.std.specs.Prelude.{◌≡◌, ℕ, ◌<◌, length, slice_index
 ghost use Rattle.green.specs.Grouping.{AreSmall};
 ghost use Rattle.green.specs.Joining.{AreJoinedNames, IsLeastThatMeets};
 
+use crate::states::in_four_bytes;
 use ports::NoMemory;
 use std::alloc::Global;
 
 // For each second name the least first name that meets it, where one does.
-fn least_names(alloc: Global, first: &[usize], second: &[usize]) -> Result<Vec<usize>, NoMemory>
+fn least_names(alloc: Global, first: &[u32], second: &[u32]) -> Result<Vec<u32>, NoMemory>
     requires count { length second.now ≡ length first.now }
     requires first { AreSmall first.now }
     requires second { AreSmall second.now }
@@ -16,9 +17,10 @@ fn least_names(alloc: Global, first: &[usize], second: &[usize]) -> Result<Vec<u
         → IsLeastThatMeets first.now second.now (slice_index second.now i)
         (slice_index least.items (slice_index second.now i))) }
 {
-    let mut least = vec![in alloc; first.len(); first.len()]?;
+    let none = in_four_bytes(first.len())?;
+    let mut least = vec![in alloc; none; first.len()]?;
     for number in 0..first.len() {
-        let name = second[number];
+        let name = second[number] as usize;
         if first[number] < least[name] {
             least[name] = first[number];
         }
@@ -29,9 +31,9 @@ fn least_names(alloc: Global, first: &[usize], second: &[usize]) -> Result<Vec<u
 // For each number the least first name that meets its second name.
 pub(crate) fn joined_names(
     alloc: Global,
-    first: &[usize],
-    second: &[usize],
-) -> Result<Vec<usize>, NoMemory>
+    first: &[u32],
+    second: &[u32],
+) -> Result<Vec<u32>, NoMemory>
     requires count { length second.now ≡ length first.now }
     requires first { AreSmall first.now }
     requires second { AreSmall second.now }
@@ -40,7 +42,7 @@ pub(crate) fn joined_names(
     let least = least_names(alloc, first, second)?;
     let mut names = Vec::with_capacity(alloc, second.len())?;
     for name in second {
-        names.push(least[*name])?;
+        names.push(least[*name as usize])?;
     }
     Ok(names)
 }

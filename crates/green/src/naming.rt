@@ -12,7 +12,7 @@ use ports::NoMemory;
 use std::alloc::Global;
 
 // For each number the name of its component in the graph with these rows.
-fn names_in(alloc: Global, rows: &Rows, letters: usize) -> Result<Vec<usize>, NoMemory>
+fn names_in(alloc: Global, rows: &Rows, letters: usize) -> Result<Vec<u32>, NoMemory>
     requires { AreEdges letters (length rows.now) rows.now }
     ensures { IfOk result (λ names. AreNames (length rows.now)
         (AreConnected (IsEdge letters (edge rows.now))) names.items) }
@@ -29,7 +29,7 @@ pub(crate) fn component_names(
     alloc: Global,
     edges: Edges,
     tables: &CayleyTables,
-) -> Result<Vec<usize>, NoMemory>
+) -> Result<Vec<u32>, NoMemory>
     requires { FitTogether tables.now }
     ensures { IfOk result (λ names. AreNamesAlong edges tables.now names.items) }
 {

@@ -28,9 +28,9 @@ use theory::Relation;
 /// L-class, since in a finite semigroup J is D (Howie 1995, proposition 2.1.4).
 #[derive(Drop)]
 pub struct ClassNames {
-    right: Option<Vec<usize>>,
-    left: Option<Vec<usize>>,
-    both: Option<Vec<usize>>,
+    right: Option<Vec<u32>>,
+    left: Option<Vec<u32>>,
+    both: Option<Vec<u32>>,
 }
 
 impl Model for ClassNames {
@@ -51,7 +51,7 @@ fn find(
     alloc: Global,
     edges: Edges,
     tables: &CayleyTables,
-    known: &mut Option<Vec<usize>>,
+    known: &mut Option<Vec<u32>>,
 ) -> Result<(), NoMemory>
     requires fit { FitTogether tables.now }
     requires known { IfSome (option_map (λ v. v.items) known.old)
@@ -69,7 +69,7 @@ fn find(
 }
 
 // The names that are known.
-fn names(known: &Option<Vec<usize>>) -> &[usize]
+fn names(known: &Option<Vec<u32>>) -> &[u32]
     requires { IsSome (option_map (λ v. v.items) known.now) }
     ensures { option_map (λ v. v.items) known.now ≡ Some result.now }
 {

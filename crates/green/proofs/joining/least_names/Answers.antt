@@ -1,11 +1,11 @@
-use Rattle.std.proofs.Common.{◌≡◌, ◌+◌, ◌<◌, ◌∙◌, ℕ, Vec, Global, length, slice_index, sym, ap, subst, arith}
+use Rattle.std.proofs.Common.{◌≡◌, ◌+◌, ◌<◌, ◌∙◌, ℕ, Vec, Global, length, replicate, slice_index, sym, ap, subst, arith}
 use Rattle.std.proofs.lemmas.List.{get_or_default}
 use Rattle.green.proofs.JoinLaws.{AreLeastBefore, least_none, least_lower, least_same, least_all}
 use Rattle.green.proofs.joining.least_names.Goals.{then-first-number, else-first-number}
 use Rattle.green.proofs.joining.least_names.Goals as goal
 
 pub loop-number-init : goal.loop-number-init
-loop-number-init c = least_none c.args.first.now c.args.second.now c.in_ok-least.least.items (c.in_ok-least.ensures.items_if_clones_equal (λ y e. e))
+loop-number-init c = least_none c.args.first.now c.args.second.now c.in_ok-least.least.items (c.in_ok-least.ensures.items_if_clones_equal (λ y e. e) ∙ ap (replicate (length c.args.first.now)) c.in_ok-none.ensures)
 
 pub loop-number-preserved : goal.loop-number-preserved
 loop-number-preserved c =

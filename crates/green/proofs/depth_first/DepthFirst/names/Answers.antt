@@ -1,4 +1,4 @@
-use Rattle.std.proofs.Common.{◌<◌, ap, length, arith}
+use Rattle.std.proofs.Common.{◌<◌, ◌++◌, ◌∷◌, ◌∙◌, [], ap, length, arith}
 use Rattle.green.specs.Touring.{Tour}
 use Rattle.green.proofs.NameLaws.{names_more}
 use Rattle.green.proofs.depth_first.DepthFirst.names.Goals as goal
@@ -9,7 +9,7 @@ loop-number-init c = record { count = ap length c.in_ok-names.ensures.items; at 
 pub loop-number-preserved : goal.loop-number-preserved
 loop-number-preserved c =
     let more = names_more c.args.self.now.states c.loop-number.names.items c.push.new.self.items c.loop-number.number c.name.result c.loop-number.invariant.count
-    c.loop-number.invariant.at c.name.ensures c.in_ok-push.ensures.items in
+    c.loop-number.invariant.at c.name.ensures (c.in_ok-push.ensures.items ∙ ap (λ name. c.loop-number.names.items ++ name ∷ []) c.in_ok-in_four_bytes.ensures) in
     record { count = more.0; at = more.1 }
 
 pub returns-clause-count : goal.returns-clause-count
