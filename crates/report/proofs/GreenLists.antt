@@ -5,12 +5,12 @@ use Rattle.std.proofs.lemmas.List.Elements.{All-nil, All-cons}
 use Rattle.ports.specs.declared.sink.Sink.{Ghosts}
 use Rattle.ports.specs.declared.fault.WriteFault.{WriteFault}
 use Rattle.ports.specs.Writes.{Writes, WritesBytes}
-use Rattle.ports.proofs.WriteLemmas.{meant_bytes}
+use Rattle.ports.proofs.WriteLemmas.{meant_bytes, same_bytes}
 use Rattle.theory.specs.Word.{Word}
 use Rattle.theory.specs.ShortLex.{◌≺◌}
 use Rattle.theory.specs.Listing.{IsListOf, IsAscending}
 use Rattle.theory.specs.Class.{IsLeast, IsClassList}
-use Rattle.theory.specs.Green.{IsInClassOf, AreClassesAt, AreClasses}
+use Rattle.theory.specs.Green.{AreClasses}
 use Rattle.theory.specs.declared.Relation.{Relation}
 use Rattle.theory.proofs.Counting.{IsIn}
 use Rattle.theory.proofs.Listings.{IsStrictOrder, list_from_ascending}
@@ -23,16 +23,14 @@ use Rattle.problem.proofs.RelatedByValue.{related_by_value}
 use Rattle.congruence.specs.CayleyGraphs.{AreTablesFor}
 use Rattle.green.specs.Related.{AreRelated, IsIdempotentAt}
 use Rattle.green.proofs.GroupLaws.{classes_same}
+use Rattle.report.specs.Collected.{AreLinesOf, TextLines}
 use Rattle.report.specs.Gains.{AreBytesOf, bytes_of}
 use Rattle.report.specs.Greens.{AreGreenAt, AreGreenLines, AreIdempotentLines, IsIdempotentOf, IsLeastIdempotent}
 use Rattle.report.specs.Lines.{class_line, class_text, end_line, word_line}
+use Rattle.report.specs.Texts.{AreTexts}
 use Rattle.report.proofs.Alike.{classes_alike}
 use Rattle.report.proofs.Elements.{list_start, listed_least}
 use Rattle.report.proofs.GreenTables.{listed_in, green_alike, idempotents_alike}
-
--- a class's line, as it is put together
-pub class_line_is : (letters : List ℕ) (words : List Word) (line class numbers : List ℕ) → line ≡ class_text letters words class → class ≡ numbers → line ++ codes "\n" ≡ class_line letters words numbers
-class_line_is letters words line class numbers e same = ap (λ t. t ++ codes "\n") (e ∙ ap (class_text letters words) same)
 
 -- what is listed has the property
 in_listed : (P : ℕ → Type 0) (cursor : Option ℕ) (xs : List ℕ) → IsListOf P ◌<◌ cursor xs → (x : ℕ) → IsIn x xs → P x
@@ -43,18 +41,6 @@ in_listed P cursor (y ∷ xs) h x (inr m) = in_listed P (Some y) xs h.1 x m
 pub listed_below : (n : ℕ) (P : ℕ → Type 0) → ((x : ℕ) → P x → x < n) → (cursor : Option ℕ) (xs : List ℕ) → IsListOf P ◌<◌ cursor xs → All (λ x. x < n) xs
 listed_below n P below cursor [] h = All-nil (λ x. x < n)
 listed_below n P below cursor (x ∷ xs) h = All-cons (λ x. x < n) x xs (below x h.0.has) (listed_below n P below (Some x) xs h.1)
-
--- the numbers of all classes are below n
-module _ {X : Type 0} (items : X → List ℕ) (n : ℕ) (Rel : ℕ → ℕ → Type 0) where
-  classes_below_at : (is : List ℕ) (found : List X) → AreClassesAt n Rel is (map items found) → All (λ c. All (λ i. i < n) (items c)) found
-  classes_below_at [] [] h = All-nil (λ c. All (λ i. i < n) (items c))
-  classes_below_at [] (c ∷ cs) h = absurd h
-  classes_below_at (i ∷ is) [] h = absurd h
-  classes_below_at (i ∷ is) (c ∷ cs) h =
-      All-cons (λ c. All (λ i. i < n) (items c)) c cs (listed_below n (IsInClassOf n Rel i) (λ x k. k.below) None (items c) h.0) (classes_below_at is cs h.1)
-
-  pub classes_below : (found : List X) → AreClasses n Rel (map items found) → All (λ c. All (λ i. i < n) (items c)) found
-  classes_below found h = classes_below_at h.firsts found h.classes_at
 
 map_twice : {X Y Z : Type 0} (f : Y → Z) (g : X → Y) (xs : List X) → map f (map g xs) ≡ map (λ x. f (g x)) xs
 map_twice f g [] = refl
@@ -83,22 +69,27 @@ module _ (p : Problem) (t : CayleyTables) (one : HasOneShape p) (unpaired : pair
       classes_alike (SameValueOf p) (SameClassOf p) (λ u v. ((alike u v).1, (alike u v).0)) t.words tables.graphs.listed
 
   -- the classes of numbers are those of the words
-  green_lines : (relation : Relation) {X : Type 0} (items : X → List ℕ) (found : List X) → AreClasses (length t.words) (AreRelated relation t) (map items found)
-      → AreGreenLines relation p (map (λ c. class_line (letters_of p) t.words (items c)) found ++ end_line false ∷ [])
-  green_lines relation items found h = record {
+  green_lines : (relation : Relation) (classes : List (List ℕ)) → AreClasses (length t.words) (AreRelated relation t) classes
+      → AreGreenLines relation p (map (class_line (letters_of p) t.words) classes ++ end_line false ∷ [])
+  green_lines relation classes h = record {
     words = t.words;
     listed = all_listed;
-    classes = map items found;
-    are_classes = classes_same (length t.words) (AreRelated relation t) (AreGreenAt relation p t.words) (green_alike relation p t one tables) (map items found) h;
-    are_lines = ap (λ ls. ls ++ end_line false ∷ []) (sym (map_twice (class_line (letters_of p) t.words) items found));
+    classes = classes;
+    are_classes = classes_same (length t.words) (AreRelated relation t) (AreGreenAt relation p t.words) (green_alike relation p t one tables) classes h;
+    are_lines = refl;
   }
 
-  pub green_told : {K : Type 0} (sink : Ghosts K) (relation : Relation) {X : Type 0} (items : X → List ℕ) (found : List X) → AreClasses (length t.words) (AreRelated relation t) (map items found)
-      → (old new : K) (r : Result (Unit {0}) WriteFault) → WritesBytes sink (bytes_of (map (λ c. class_line (letters_of p) t.words (items c)) found ++ end_line false ∷ [])) old new r
+  -- what is written where the lines of classes are
+  pub green_told : {K : Type 0} (sink : Ghosts K) (relation : Relation) (s : TextLines) (classes : List (List ℕ)) → AreClasses (length t.words) (AreRelated relation t) classes
+      → AreTexts (letters_of p) t.words s.texts → AreLinesOf s classes
+      → (old new : K) (r : Result (Unit {0}) WriteFault) → WritesBytes sink (bytes_of (map (λ line. line ++ codes "\n") s.lines ++ end_line false ∷ [])) old new r
       → Writes sink (λ _. AreBytesOf (AreGreenLines relation p)) old new r
-  green_told sink relation items found h old new r =
-      meant_bytes sink (bytes_of (map (λ c. class_line (letters_of p) t.words (items c)) found ++ end_line false ∷ [])) old new r tt
-      (λ _. record { lines = map (λ c. class_line (letters_of p) t.words (items c)) found ++ end_line false ∷ []; are_such = green_lines relation items found h; are_bytes = refl })
+  green_told sink relation s classes h texts lines old new r written =
+      let told : List (List ℕ) = map (class_line (letters_of p) t.words) classes ++ end_line false ∷ [] in
+      let same : map (λ line. line ++ codes "\n") s.lines ≡ map (class_line (letters_of p) t.words) classes =
+      ap (map (λ line. line ++ codes "\n")) (lines.lines (letters_of p) t.words texts) ∙ map_twice (λ line. line ++ codes "\n") (class_text (letters_of p) t.words) classes in
+      meant_bytes sink (bytes_of told) old new r tt (λ _. record { lines = told; are_such = green_lines relation classes h; are_bytes = refl })
+      (same_bytes sink (bytes_of (map (λ line. line ++ codes "\n") s.lines ++ end_line false ∷ [])) (bytes_of told) old new r (ap (λ ls. bytes_of (ls ++ end_line false ∷ [])) same) written)
 
   -- the words of ascending numbers ascend
   between : (i j : ℕ) → i < j → j < length t.words → slice_index_or t.words i [] ≺ slice_index_or t.words j []

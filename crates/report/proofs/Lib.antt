@@ -16,3 +16,4 @@ pub mod GreenTables
 pub mod GreenLists
 pub mod TextLaws
 pub mod SameTables
+pub mod LineLaws

@@ -110,4 +110,4 @@ module _ (p : Problem) (one : HasOneShape p) (unpaired : pairs_of p ≡ []) (t s
   }
 
   pub texts_alike : (texts : JoinedTexts) → AreTextsOf p t texts → AreTextsOf p s texts
-  texts_alike texts h = subst (λ (words : List Word). (length texts.ends ≡ length words) × AreTexts (letters_of p) words texts) words_alike h
+  texts_alike texts h = subst (λ (words : List Word). (texts.count ≡ length words) × AreTexts (letters_of p) words texts) words_alike h

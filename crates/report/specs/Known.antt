@@ -10,7 +10,7 @@ use Rattle.report.specs.declared.known.KnownElements.{KnownElements}
 
 -- the texts are those of all words of the tables
 abbrev pub AreTextsOf : Problem → CayleyTables → JoinedTexts → Type 0
-AreTextsOf p t texts = (length texts.ends ≡ length t.words) × AreTexts (letters_of p) t.words texts
+AreTextsOf p t texts = (texts.count ≡ length t.words) × AreTexts (letters_of p) t.words texts
 
 -- names of classes, and texts, are right, whatever tables the problem has
 pub record AreKnownOf (p : Problem) (known : KnownElements) : Type 0 where

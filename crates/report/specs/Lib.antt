@@ -1,5 +1,6 @@
 pub mod Lines
 pub mod Pages
+pub mod Blocks
 pub mod Texts
 pub mod Greens
 pub mod Chains
@@ -7,3 +8,4 @@ pub mod Answer
 pub mod Gains
 pub mod Known
 pub mod Kept
+pub mod Collected

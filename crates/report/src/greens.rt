@@ -1,75 +1,50 @@
 // Green's classes and idempotents, as lines.
-ghost use Rattle.std.specs.Prelude.{◌≡◌, ◌+◌, ◌<◌, ◌++◌, ◌∷◌, ℕ, List, [], length, map, slice_index_or, take, All, OnOk, IfOk, false};
+ghost use Rattle.std.specs.Prelude.{◌≡◌, ◌<◌, ◌≤◌, ◌++◌, ◌∷◌, ℕ, List, [], length, map, slice_index_or, All, IfOk, false};
 ghost use Rattle.ports.specs.Writes.{Writes, WritesBytes};
-ghost use Rattle.theory.specs.Word.{Word};
+ghost use Rattle.theory.specs.Green.{AreClasses};
+ghost use Rattle.cayley.specs.Tables.{FitTogether};
+ghost use Rattle.green.specs.Known.{AreNamesIn};
+ghost use Rattle.green.specs.Related.{AreRelated, DoCommute};
 ghost use Rattle.congruence.specs.CayleyGraphs.{AreTablesFor};
 ghost use Rattle.problem.specs.Problem.{HasOneShape, letters_of, pairs_of};
+ghost use Rattle.report.specs.Collected.{AreLinesOf, AreOfWords};
 ghost use Rattle.report.specs.Gains.{AreBytesOf, bytes_of};
 ghost use Rattle.report.specs.Greens.{AreGreenLines, AreIdempotentLines};
-ghost use Rattle.report.specs.Lines.{class_line, class_text, end_line, word_line};
+ghost use Rattle.report.specs.Lines.{end_line, word_line};
 ghost use Rattle.report.specs.Known.{AreKnownOf};
-ghost use Rattle.report.specs.Texts.{AreTexts};
 
+use crate::class_lines::ClassLines;
 use crate::known::KnownElements;
-use crate::line::Line;
 use crate::listings::{write_end, write_word};
 use crate::texts::Texts;
 use froidure_pin::CayleyTables;
-use green::Relation;
+use green::{ClassNames, Relation};
 use ports::{NoMemory, Sink, WriteFault};
 use problem::Problem;
 use std::alloc::Global;
 
-// Puts a word of a class behind those before it, after a space if there are any.
-fn put_word(texts: &Texts, class: &[usize], place: usize, line: &mut Line) -> Result<(), NoMemory>
-    requires texts { (letters : List ℕ) × (words : List Word) × AreTexts letters words texts.now }
-    requires numbers { All (λ i. i < length texts.now.ends) class.now }
-    requires place { place < length class.now }
-    ensures { OnOk result ((letters : List ℕ) (words : List Word)
-        → AreTexts letters words texts.now
-        → line.old ≡ class_text letters words (take place class.now)
-        → line.new ≡ class_text letters words (take (place + 1) class.now)) }
-{
-    if 0 < place {
-        line.text(texts.behind_space(class[place]))
-    } else {
-        line.text(texts.text(class[place]))
-    }
-}
-
-// Puts the words of a class into an empty line.
-fn put_class(texts: &Texts, class: &[usize], line: &mut Line) -> Result<(), NoMemory>
-    requires texts { (letters : List ℕ) × (words : List Word) × AreTexts letters words texts.now }
-    requires numbers { All (λ i. i < length texts.now.ends) class.now }
-    requires empty { line.old ≡ [] }
-    ensures { OnOk result ((letters : List ℕ) (words : List Word)
-        → AreTexts letters words texts.now → line.new ≡ class_text letters words class.now) }
-{
-    for place in 0..class.len() {
-        put_word(texts, class, place, line)?;
-    }
-    Ok(())
-}
-
-// Writes a line for each class, and the end of the list.
-fn write_lines<O: Sink>(
+// Collects the classes of the elements under one of Green's relations, as lines of their texts.
+fn class_lines<'a>(
     alloc: Global,
-    texts: &Texts,
-    found: &[Vec<usize>],
-    sink: &mut O,
-) -> Result<(), WriteFault>
-    requires texts { (letters : List ℕ) × (words : List Word) × AreTexts letters words texts.now }
-    requires numbers { All (λ class. All (λ i. i < length texts.now.ends) class.items) found.now }
-    ensures { (letters : List ℕ) (words : List Word) → AreTexts letters words texts.now
-        → WritesBytes O.Sink (bytes_of (map (λ class. class_line letters words class.items)
-        found.now ++ end_line false ∷ [])) sink.old sink.new result }
+    tables: &CayleyTables,
+    relation: Relation,
+    names: &mut ClassNames,
+    texts: &'a Texts,
+) -> Result<ClassLines<'a>, NoMemory>
+    requires fit { FitTogether tables.now }
+    requires commute { DoCommute tables.now }
+    requires known { AreNamesIn tables.now names.old }
+    requires texts { AreOfWords texts.now }
+    requires count { length tables.now.words ≤ texts.now.count }
+    ensures known { AreNamesIn tables.now names.new }
+    ensures texts { IfOk result (λ c. c.texts ≡ texts.now) }
+    ensures lines { IfOk result (λ c. (classes : List (List ℕ))
+        × AreClasses (length tables.now.words) (AreRelated relation tables.now) classes
+        × AreLinesOf c classes) }
 {
-    let mut line = Line::starting(alloc, b"")?;
-    for class in found {
-        put_class(texts, class, &mut line)?;
-        line.write_out(sink)?;
-    }
-    write_end(false, sink)
+    let mut lines = ClassLines::new(alloc, texts);
+    names.collect(alloc, tables, relation, &mut lines)?;
+    Ok(lines)
 }
 
 // Writes the words of these numbers, and the end of the list.
@@ -111,9 +86,10 @@ pub fn write_green<O: Sink>(
     ensures written { Writes O.Sink (λ _. AreBytesOf (AreGreenLines relation problem.now))
         sink.old sink.new result }
 {
-    let found = elements.classes(alloc, problem, tables, relation)?;
     elements.find_texts(alloc, problem, tables)?;
-    write_lines(alloc, elements.texts(), &found, sink)
+    let texts = elements.texts.as_ref().unwrap();
+    let mut lines = class_lines(alloc, tables, relation, &mut elements.names, texts)?;
+    lines.write(sink)
 }
 
 /// Writes the least words of the idempotents, and the end of the list. What is found on the way is

@@ -1,17 +1,16 @@
 // What is known of the elements of a problem while its queries are answered.
-ghost use Rattle.std.specs.Prelude.{◌≡◌, ◌<◌, [], length, map, IfOk, OnOk, None, Some};
+ghost use Rattle.std.specs.Prelude.{◌≡◌, ◌<◌, [], IfOk, OnOk, None};
 ghost use Rattle.std.specs.Option.{IsSome};
-ghost use Rattle.theory.specs.Green.{AreClasses};
 ghost use Rattle.theory.specs.Listing.{IsListOf};
 ghost use Rattle.problem.specs.declared.kinds.Problem.{Problem as Posed};
 ghost use Rattle.problem.specs.Problem.{HasOneShape, pairs_of};
 ghost use Rattle.congruence.specs.CayleyGraphs.{AreTablesFor};
-ghost use Rattle.green.specs.Related.{AreRelated, IsIdempotentAt};
+ghost use Rattle.green.specs.Related.{IsIdempotentAt};
 ghost use Rattle.report.specs.Known.{AreKnownOf};
 
 use crate::texts::Texts;
 use froidure_pin::CayleyTables;
-use green::{ClassNames, Relation};
+use green::ClassNames;
 use ports::NoMemory;
 use problem::Problem;
 use std::alloc::Global;
@@ -20,8 +19,8 @@ use std::alloc::Global;
 /// classes under Green's relations, and the texts of their least words.
 #[derive(Drop)]
 pub struct KnownElements {
-    names: ClassNames,
-    texts: Option<Texts>,
+    pub names: ClassNames,
+    pub texts: Option<Texts>,
 }
 
 impl KnownElements {
@@ -33,27 +32,6 @@ impl KnownElements {
             names: ClassNames::new(),
             texts: None,
         }
-    }
-
-    /// The classes of the elements under one of Green's relations, by the numbers of the tables.
-    /// Only want of memory refuses it.
-    pub fn classes(
-        &mut self,
-        alloc: Global,
-        problem: &Problem,
-        tables: &CayleyTables,
-        relation: Relation,
-    ) -> Result<Vec<Vec<usize>>, NoMemory>
-        requires tables { AreTablesFor problem.now tables.now }
-        requires shape { HasOneShape problem.now }
-        requires unpaired { pairs_of problem.now ≡ [] }
-        requires known { AreKnownOf problem.now self.old }
-        ensures known { AreKnownOf problem.now self.new }
-        ensures classes { IfOk result (λ found. AreClasses (length tables.now.words)
-            (AreRelated relation tables.now) (map (λ c. c.items) found.items)) }
-    {
-        let _problem = problem;
-        self.names.classes(alloc, tables, relation)
     }
 
     /// The idempotents, by the numbers of the tables, ascending. Only want of memory refuses it.
@@ -94,13 +72,5 @@ impl KnownElements {
             self.texts = Some(Texts::new(alloc, problem.alphabet(), &tables.words)?);
         }
         Ok(())
-    }
-
-    /// The texts, which are known.
-    pub fn texts(&self) -> &Texts
-        requires { IsSome self.now.texts }
-        ensures { self.now.texts ≡ Some result.now }
-    {
-        self.texts.as_ref().unwrap()
     }
 }

@@ -3,8 +3,10 @@
 
 mod answers;
 mod awaited;
+mod blocks;
 #[cfg(test)]
 mod chain_tests;
+mod class_lines;
 mod completing;
 mod facts;
 mod graphs;

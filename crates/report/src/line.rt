@@ -35,6 +35,16 @@ impl Line {
         Ok(Line { bytes })
     }
 
+    /// A line that begins with a text, with room for so many bytes at least. Only want of memory
+    /// refuses it.
+    pub fn with_room(alloc: Global, text: &[u8], room: usize) -> Result<Line, NoMemory>
+        ensures { IfOk result (λ line. line ≡ text.now) }
+    {
+        let mut bytes = Vec::with_capacity(alloc, room)?;
+        bytes.extend_from_slice(text)?;
+        Ok(Line { bytes })
+    }
+
     /// A line that begins with a word. Only want of memory refuses it.
     pub fn of_word(alloc: Global, alphabet: &Alphabet, word: &Word) -> Result<Line, NoMemory>
         requires { IsOver (length alphabet.now) word.now }

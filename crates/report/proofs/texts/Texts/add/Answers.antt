@@ -1,10 +1,13 @@
-use Rattle.std.proofs.Common.{◌≡◌, ◌<◌, ◌++◌, ◌+◌, ◌∷◌, [], ℕ, List, length, slice_index, slice_index_or, slice_range, IfSome, MatchOption, sym, ap, subst, subst₂, arith}
+use Rattle.std.proofs.Common.{◌≡◌, ◌≤◌, ◌++◌, ◌+◌, ◌-◌, ◌∷◌, ◌∙◌, [], ℕ, List, length, slice_index_or, codes, refl, sym, ap, subst, arith}
+use Rattle.std.specs.List.{slice_range}
 use Rattle.std.proofs.lemmas.Option.{get_or_from_slice_get}
 use Rattle.theory.specs.Word.{Word, IsOver}
 use Rattle.theory.proofs.Words.{over_right}
+use Rattle.words.specs.WordText.{bytes_of}
 use Rattle.froidure_pin.specs.Found.{word_or_none}
-use Rattle.report.specs.Texts.{JoinedTexts, AreTexts, start_of}
-use Rattle.report.proofs.TextLaws.{both, texts_more}
+use Rattle.report.specs.declared.blocks.Block.{Block}
+use Rattle.report.specs.Texts.{JoinedTexts, AreTexts}
+use Rattle.report.proofs.TextLaws.{joined, slice_kept, texts_more}
 use Rattle.report.proofs.texts.Texts.add.Goals as goal
 
 pub byte-requires : goal.byte-requires
@@ -12,7 +15,7 @@ byte-requires c =
     let k : ℕ = length c.args.alphabet.now in
     let words : List Word = c.args.words.now in
     let u : Word = word_or_none words c.factors-prefix.result.0 in
-    let here : c.len.result ≡ length c.args.self.now.ends = omega (arith, c.len.ensures, ap (λ (t : JoinedTexts). length t.ends) c.self.view_is) in
+    let here : c.self.inside.count ≡ c.args.self.now.count = ap (λ (t : JoinedTexts). t.count) c.self.view_is in
     let over : IsOver k (u ++ c.factors-prefix.result.1 ∷ []) = subst (IsOver k) c.factors-prefix.ensures.word (subst (λ n. IsOver k (slice_index_or words n [])) (sym here) c.requires.over) in
     (over_right k u (c.factors-prefix.result.1 ∷ []) over).0
 
@@ -21,18 +24,23 @@ returns-clause-texts c =
     let alphabet : List ℕ = c.args.alphabet.now in
     let words : List Word = c.args.words.now in
     let bytes : List ℕ = c.self.inside.bytes.items in
-    let ends : List ℕ = c.self.inside.ends.items in
-    let texts : AreTexts alphabet words (both bytes ends) = subst (λ (t : JoinedTexts). AreTexts alphabet words t) (sym c.self.view_is) c.requires.texts in
-    let here : c.len.result ≡ length ends = omega (arith, c.len.ensures) in
-    let earlier : IfSome c.factors-prefix.result.0 (λ p. p < length ends) = subst (λ n. IfSome c.factors-prefix.result.0 (λ p. p < n)) here c.factors-prefix.ensures.earlier in
-    let word : slice_index_or words (length ends) [] ≡ word_or_none words c.factors-prefix.result.0 ++ c.factors-prefix.result.1 ∷ [] =
-    subst (λ n. slice_index_or words n [] ≡ word_or_none words c.factors-prefix.result.0 ++ c.factors-prefix.result.1 ∷ []) here c.factors-prefix.ensures.word in
-    let now : List ℕ = c.repeat.new.bytes.items in
-    let before : List ℕ = c.push.new.self.items in
-    let told = subst (λ (es : List ℕ). MatchOption c.factors-prefix.result.0 (now ≡ before) (λ i. now ≡ before ++ slice_range before (start_of es i + 1) (slice_index es i)))
-    c.deref.ensures.value c.in_ok-repeat.ensures in
-    let front = subst (λ (xs : List ℕ). MatchOption c.factors-prefix.result.0 (now ≡ xs) (λ i. now ≡ xs ++ slice_range xs (start_of ends i + 1) (slice_index ends i))) c.in_ok-push.ensures.items told in
-    let end : c.len-2.result ≡ length (now ++ c.byte.result ∷ []) = omega (arith, c.len-2.ensures, c.push-2.new.self.ok.0, ap length c.in_ok-push-2.ensures.items) in
-    subst₂ (λ (xs es : List ℕ). AreTexts alphabet words (both xs es)) (sym c.in_ok-push-2.ensures.items) (sym c.in_ok-push-3.ensures.items)
-    (texts_more alphabet words bytes ends texts c.factors-prefix.result.0 now c.factors-prefix.result.1 c.byte.result c.len-2.result earlier word front
-    (sym (get_or_from_slice_get alphabet c.factors-prefix.result.1 c.byte.result 0 c.byte.ensures)) end)
+    let blocks : List Block = c.self.inside.blocks.items in
+    let count : ℕ = c.self.inside.count in
+    let texts : AreTexts alphabet words (joined bytes blocks count) = subst (λ (t : JoinedTexts). AreTexts alphabet words t) (sym c.self.view_is) c.requires.texts in
+    let prefix = c.factors-prefix.result.0 in
+    let start : ℕ = c.letters-letters.result.start in
+    let end : ℕ = c.letters-letters.result.end in
+    let letters : List ℕ = slice_range bytes start end in
+    let same : bytes ≡ c.args.self.now.bytes = ap (λ (t : JoinedTexts). t.bytes) c.self.view_is in
+    let front : letters ≡ bytes_of alphabet (word_or_none words prefix) = ap (λ (xs : List ℕ). slice_range xs start end) same ∙ c.letters-letters.ensures.letters alphabet words c.requires.texts in
+    let within : end ≤ length bytes = omega (arith, c.letters-letters.ensures.within, ap length same) in
+    let more : c.extend_from_within.new.self.items ≡ (bytes ++ codes " ") ++ letters =
+    c.in_ok-extend_from_within.ensures.items ∙ ap (λ (xs : List ℕ). xs ++ slice_range xs start end) c.in_ok-push.ensures.items
+    ∙ ap (λ xs. (bytes ++ codes " ") ++ xs) (slice_kept bytes (codes " ") start end c.letters-letters.ensures.order within) in
+    let whole : c.push-2.new.self.items ≡ ((bytes ++ codes " ") ++ letters) ++ c.byte.result ∷ [] = c.in_ok-push-2.ensures.items ∙ ap (λ xs. xs ++ c.byte.result ∷ []) more in
+    let place : c.len-place.result ≡ length bytes = omega (arith, c.len-place.ensures) in
+    let width : c.len.result - c.len-place.result ≡ length c.push-2.new.self.items - length bytes = omega (arith, c.len.ensures, place) in
+    let block : Block = record { first = count; place = c.len-place.result; width = c.len.result - c.len-place.result } in
+    subst (λ (bs : List Block). AreTexts alphabet words (joined c.push-2.new.self.items bs (count + 1))) (sym c.in_ok-begin_block.ensures)
+    (texts_more alphabet words bytes blocks count texts prefix letters c.factors-prefix.result.1 c.byte.result block c.push-2.new.self.items c.factors-prefix.ensures.word front
+    (sym (get_or_from_slice_get alphabet c.factors-prefix.result.1 c.byte.result 0 c.byte.ensures)) whole refl place width)

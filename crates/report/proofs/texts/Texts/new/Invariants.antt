@@ -1,9 +1,10 @@
-use Rattle.std.proofs.Common.{◌≡◌, length}
-use Rattle.report.specs.Texts.{AreTexts}
+use Rattle.std.proofs.Common.{◌≡◌}
+use Rattle.report.specs.Texts.{AreTexts, MayBeginAt}
 use Rattle.report.proofs.texts.Texts.new.Given as goal
 
 abbrev pub invariant-loop : goal.invariant-loop
 invariant-loop l = record {
-  count : length l.texts.ends ≡ l.counter;
+  count : l.texts.count ≡ l.counter;
   texts : AreTexts l.alphabet l.words l.texts;
+  near : MayBeginAt l.texts l.block;
 }
