@@ -10,15 +10,12 @@ use Rattle.green.proofs.TourLaws.{one_place, rising}
 
 -- One more stands ahead, where an edge of the last component leads.
 module _ (n w : ℕ) (next : ℕ → ℕ → ℕ) (t : Tour) (number letter : ℕ) (h : IsTourBut n w next (IsEdgeFrom number letter) t) (top : IsOnTop t number) (less : letter < w) where
-  begun_before : (k : ℕ) → k < length t.starts → (start_at t.starts k).ahead ≤ length t.ahead
-  begun_before = h.starts.within
-
   -- all components begin up to a place of this number
   belong_here : (q : ℕ) → q < length t.path → slice_index t.path q ≡ number → BelongTogether t.starts q (length t.ahead)
   belong_here q l e k m =
       let same : top.0 ≡ q = one_place top.0 q (state_at t.states number) top.1 (ap (state_at t.states) (sym e) ∙ h.placed.on_path q l) in
       let place = top.2 k m in
-      let ahead = begun_before k m in
+      let ahead = h.starts.within k m in
       (λ _. ahead, λ _. omega (arith, place, same))
 
   module _ (v : ℕ) (is : v ≡ next number letter) where

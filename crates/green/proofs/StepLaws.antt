@@ -81,16 +81,8 @@ module _ (n w : ℕ) (next : ℕ → ℕ → ℕ) (t : Tour) (number letter : �
 
 -- no edge of a number is skipped behind the last letter
 pub all_looked : (n w m : ℕ) (next : ℕ → ℕ → ℕ) (t : Tour) (number : ℕ) → IsTourBut n w next (IsEdgeFrom number m) t → w ≤ m → IsTour n w next t
-all_looked n w m next t number h all = record {
-  count = h.count;
-  placed = h.placed;
-  starts = h.starts;
-  done = h.done;
-  upward = h.upward;
-  downward = h.downward;
-  edges = λ q a l less. elim (h.edges q a l less) [ inl s ↦ absurd (omega (arith, s.1, less, all)) | inr r ↦ inr r ];
-  ahead = h.ahead;
-}
+all_looked n w m next t number h all =
+    passed_tour n w next (IsEdgeFrom number m) t h (λ i a. ⊥) (λ q a l less s. absurd (omega (arith, s.1, less, all)))
 
 -- A number that is new is entered.
 module _ (n w : ℕ) (next : ℕ → ℕ → ℕ) (t : Tour) (v : ℕ) (h : IsTourBut n w next (IsEdgeTo next v) t) (new : state_at t.states v ≡ Unseen) (small : v < n)
@@ -176,13 +168,4 @@ module _ (n w : ℕ) (next : ℕ → ℕ → ℕ) (t : Tour) (h : IsTour n w nex
   begun_led p l = absurd (no_path p l)
 
   pub begun_tour : IsTourBut n w next (IsEdgeTo next v) t
-  begun_tour = record {
-    count = h.count;
-    placed = h.placed;
-    starts = h.starts;
-    done = h.done;
-    upward = h.upward;
-    downward = h.downward;
-    edges = λ q a l m. absurd (no_path q l);
-    ahead = h.ahead;
-  }
+  begun_tour = passed_tour n w next (λ i a. ⊥) t h (IsEdgeTo next v) (λ q a l m s. absurd s)
