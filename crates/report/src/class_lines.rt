@@ -79,7 +79,8 @@ impl<'a> ClassLines<'a> {
         }
     }
 
-    /// Writes each line, and the end of the list. The lines are empty afterwards.
+    /// Writes each line, and the end of the list. The lines are for this one time: what they are
+    /// afterwards is not told.
     pub fn write<O: Sink>(&mut self, sink: &mut O) -> Result<(), WriteFault>
         ensures { WritesBytes O.Sink (bytes_of (map (λ line. line ++ codes "\n") self.old.lines
             ++ end_line false ∷ [])) sink.old sink.new result }
