@@ -1,5 +1,5 @@
 -- Nodes that become one.
-use Rattle.std.proofs.Common.{◌≡◌, ◌≢◌, ℕ, ◌+◌, ◌<◌, List, [], ◌∷◌, ◌++◌, refl, sym, ◌∙◌, ap, arith, ◌⊎◌, inl, inr, Option, Some, None, length, subst, get_or, set, map, max, min, slice_index, Bool, true, false, ◌&&◌, nat_eq, option_map, length-set}
+use Rattle.std.proofs.Common.{◌≡◌, ◌≢◌, ℕ, ◌+◌, ◌<◌, ◌≤◌, List, [], ◌∷◌, ◌++◌, refl, sym, ◌∙◌, ap, arith, ◌⊎◌, inl, inr, Option, Some, None, length, subst, get_or, set, map, max, min, slice_index, Bool, true, false, ◌&&◌, nat_eq, option_map, length-set}
 use Rattle.std.specs.List.{range_with_len}
 use Rattle.std.proofs.lemmas.Bool.{cases_eq, cases_lt}
 use Rattle.std.proofs.lemmas.List.{get_or-set_same, get_or-set_other, get_or_past}
@@ -14,7 +14,8 @@ use Rattle.coincidence.specs.Live.{IsOn, IsLiveGraph, count_on}
 use Rattle.coincidence.specs.Marks.{AreCarried}
 use Rattle.coincidence.specs.Pending.{IsAmong}
 use Rattle.coincidence.specs.Absorbing.{Extends, IsSameShape, IsMet, IsAbsorbed}
-use Rattle.coincidence.specs.Joining.{relabel_pair, AreOne, IsTaken, IsMarkMoved, IsJoined}
+use Rattle.coincidence.specs.Joining.{AreAllOne, AreLed, AreOn, AreOne, AreTaken, IsTaken, IsMarkMoved, IsJoined}
+use Rattle.coincidence.specs.Lost.{IsLed, IsLedAt, Passes}
 use Rattle.coincidence.specs.declared.pending.Pending.{Pending}
 use Rattle.coincidence.specs.declared.pending.Pending.TheVariants.{NewEdge}
 use Rattle.coincidence.proofs.FollowsLaws.{path_more}
@@ -27,71 +28,98 @@ use Rattle.coincidence.proofs.PendingLaws.{among_push, among_before, among_last}
 use Rattle.coincidence.proofs.AbsorbLaws.{same_shape, shape_trans}
 
 -- pairs that are taken
-pub record IsTaking (queue rest : List (ℕ × ℕ)) : Type 0 where
+pub record IsTaking (was is : List Bool) (class into : List ℕ) (queue rest : List (ℕ × ℕ)) : Type 0 where
+  pub led : IsLed was is class into
   pub left : Extends rest queue
-  pub other : (p q : ℕ) → IsAmong (p, q) queue → IsAmong (p, q) rest ⊎ (p ≡ q)
+  pub other : (p q : ℕ) → IsAmong (p, q) queue → IsAmong (p, q) rest ⊎ (slice_index class p ≡ slice_index class q)
 
-pub taking_start : (queue : List (ℕ × ℕ)) → IsTaking queue queue
-taking_start queue = record { left = λ x h. h; other = λ p q h. inl h }
+abbrev pub AreTaking : List Bool → List ℕ → List ℕ → List (ℕ × ℕ) → List (ℕ × ℕ) → Type 0
+AreTaking is old new queue rest = (was : List Bool) (class : List ℕ) → IsLed was is class old → AreOn was queue → IsTaking was is class new queue rest
 
-pub taking_step : (queue rest rest' : List (ℕ × ℕ)) (s t : ℕ) → s ≡ t → rest ≡ rest' ++ (s, t) ∷ [] → IsTaking queue rest → IsTaking queue rest'
-taking_step queue rest rest' s t same e k = record {
-  left = λ x h. k.left x (subst (λ z. IsAmong x z) (sym e) (among_before x (s, t) rest' h));
-  other = λ p q h. elim (k.other p q h) [
-    | inr one ↦ inr one
-    | inl there ↦ elim (among_push (p, q) (s, t) rest' (subst (λ z. IsAmong (p, q) z) e there)) [
-      | inl k' ↦ inl k'
-      | inr pair ↦ inr (ap (λ (z : ℕ × ℕ). z.0) pair ∙ same ∙ sym (ap (λ (z : ℕ × ℕ). z.1) pair))
-    ]
-  ];
-}
+pub taking_start : (is : List Bool) (into : List ℕ) (queue : List (ℕ × ℕ)) → AreTaking is into into queue queue
+taking_start is into queue = λ was class led on. record { led = led; left = λ x h. h; other = λ p q h. inl h }
 
-pub taking_found : (queue rest rest' : List (ℕ × ℕ)) (s t : ℕ) → s ≢ t → rest ≡ rest' ++ (s, t) ∷ [] → IsTaking queue rest → IsTaken queue rest' s t
-taking_found queue rest rest' s t apart e k = record {
-  apart = apart;
-  there = k.left (s, t) (subst (λ z. IsAmong (s, t) z) (sym e) (among_last (s, t) rest'));
-  left = λ x h. k.left x (subst (λ z. IsAmong x z) (sym e) (among_before x (s, t) rest' h));
-  other = λ p q h. elim (k.other p q h) [
-    | inr one ↦ inr (inl one)
-    | inl there ↦ elim (among_push (p, q) (s, t) rest' (subst (λ z. IsAmong (p, q) z) e there)) [
-      | inl k' ↦ inl k'
-      | inr pair ↦ inr (inr (ap (λ (z : ℕ × ℕ). z.0) pair, ap (λ (z : ℕ × ℕ). z.1) pair))
-    ]
-  ];
-}
+-- the last pair is taken, and what is kept in place of its nodes is looked up
+module _ (is : List Bool) (old mid next new : List ℕ) (queue rest rest' : List (ℕ × ℕ)) (p q s t : ℕ) (pop : rest ≡ rest' ++ (p, q) ∷ []) (k : AreTaking is old mid queue rest) where
+  there : (was : List Bool) (class : List ℕ) → IsTaking was is class mid queue rest → IsAmong (p, q) queue
+  there was class now = now.left (p, q) (subst (λ z. IsAmong (p, q) z) (sym pop) (among_last (p, q) rest'))
 
-pub taking_end : (queue rest : List (ℕ × ℕ)) → rest ≡ [] → IsTaking queue rest → AreOne queue
-taking_end queue rest e k s t h = elim (k.other s t h) [ inl there ↦ absurd (subst (λ z. IsAmong (s, t) z) e there) | inr one ↦ one ]
+  left : (was : List Bool) (class : List ℕ) → IsTaking was is class mid queue rest → Extends rest' queue
+  left was class now = λ x h. now.left x (subst (λ z. IsAmong x z) (sym pop) (among_before x (p, q) rest' h))
 
--- nodes that the pairs of the queue make one
-pub data Joined (queue : List (ℕ × ℕ)) : ℕ → ℕ → Type 0 where
-  same : (s t : ℕ) → s ≡ t → Joined queue s t
-  pair : (s t : ℕ) → IsAmong (s, t) queue → Joined queue s t
-  flip : (s t : ℕ) → Joined queue s t → Joined queue t s
-  chain : (s t u : ℕ) → Joined queue s t → Joined queue t u → Joined queue s u
+  pub first_led : AreLed is old queue → IsLedAt is mid p
+  first_led h = let now = k h.0 h.1 h.2 h.3 in (h.0, h.1, now.led, (h.3 p q (there h.0 h.1 now)).0)
 
-pub joined_map : (queue queued : List (ℕ × ℕ)) (f : ℕ → ℕ) → ((s t : ℕ) → IsAmong (s, t) queue → Joined queued (f s) (f t)) → (s t : ℕ) → Joined queue s t → Joined queued (f s) (f t)
-joined_map queue queued f h s t (same _ _ e) = same (f s) (f t) (ap f e)
-joined_map queue queued f h s t (pair _ _ k) = h s t k
-joined_map queue queued f h s t (flip _ _ j) = flip (f t) (f s) (joined_map queue queued f h t s j)
-joined_map queue queued f h s t (chain _ u _ j k) = chain (f s) (f u) (f t) (joined_map queue queued f h s u j) (joined_map queue queued f h u t k)
+  pub second_led : AreLed is old queue → Passes is mid next p s → IsLedAt is next q
+  second_led h first = let now = k h.0 h.1 h.2 h.3 in let on = h.3 p q (there h.0 h.1 now) in (h.0, h.1, (first h.0 h.1 now.led on.0).0, on.1)
 
-pub joined_one : (queue : List (ℕ × ℕ)) → AreOne queue → (s t : ℕ) → Joined queue s t → s ≡ t
-joined_one queue one s t (same _ _ e) = e
-joined_one queue one s t (pair _ _ k) = one s t k
-joined_one queue one s t (flip _ _ j) = sym (joined_one queue one t s j)
-joined_one queue one s t (chain _ u _ j k) = joined_one queue one s u j ∙ joined_one queue one u t k
+  module _ (s_on : IsOn is s) (t_on : IsOn is t) (first : Passes is mid next p s) (second : Passes is next new q t) where
+    record IsLooked (was : List Bool) (class : List ℕ) : Type 0 where
+      led : IsLed was is class new
+      s_is : s ≡ slice_index class p
+      t_is : t ≡ slice_index class q
 
--- pairs with one node for the other
-pub among_map : (f : ℕ × ℕ → ℕ × ℕ) (p : ℕ × ℕ) (queue : List (ℕ × ℕ)) → IsAmong p queue → IsAmong (f p) (map f queue)
-among_map f p [] h = absurd h
-among_map f p (q ∷ queue) (inl e) = inl (ap f e)
-among_map f p (q ∷ queue) (inr h) = inr (among_map f p queue h)
+    looked : (was : List Bool) (class : List ℕ) → AreOn was queue → IsTaking was is class mid queue rest → IsLooked was class
+    looked was class on now =
+        let both = on p q (there was class now) in
+        let one = first was class now.led both.0 in
+        let two = second was class one.0 both.1 in
+        record { led = two.0; s_is = sym (two.0.own s s_on) ∙ one.2; t_is = sym (two.0.own t t_on) ∙ two.2 }
 
-pub among_unmap : (f : ℕ × ℕ → ℕ × ℕ) (p : ℕ × ℕ) (queue : List (ℕ × ℕ)) → IsAmong p (map f queue) → (q : ℕ × ℕ) × IsAmong q queue × (p ≡ f q)
-among_unmap f p [] h = absurd h
-among_unmap f p (q ∷ queue) (inl e) = (q, inl refl, e)
-among_unmap f p (q ∷ queue) (inr h) = let r = among_unmap f p queue h in (r.0, inr r.1, r.2)
+    pub taking_step : s ≡ t → AreTaking is old new queue rest'
+    taking_step same = λ was class led on.
+        let now = k was class led on in
+        let l = looked was class on now in
+        record {
+          led = l.led;
+          left = left was class now;
+          other = λ n m h. elim (now.other n m h) [
+            | inr one ↦ inr one
+            | inl here ↦ elim (among_push (n, m) (p, q) rest' (subst (λ z. IsAmong (n, m) z) pop here)) [
+              | inl h' ↦ inl h'
+              | inr pair ↦ inr (ap (λ (z : ℕ × ℕ). slice_index class z.0) pair ∙ sym l.s_is ∙ same ∙ l.t_is ∙ sym (ap (λ (z : ℕ × ℕ). slice_index class z.1) pair))
+            ]
+          ];
+        }
+
+    pub taking_found : AreTaken is old new queue rest' s t
+    taking_found = λ was class led on.
+        let now = k was class led on in
+        let l = looked was class on now in
+        record {
+          led = l.led;
+          there = (p, q, there was class now, l.s_is, l.t_is);
+          left = left was class now;
+          other = λ n m h. elim (now.other n m h) [
+            | inr one ↦ inr (inl one)
+            | inl here ↦ elim (among_push (n, m) (p, q) rest' (subst (λ z. IsAmong (n, m) z) pop here)) [
+              | inl h' ↦ inl h'
+              | inr pair ↦ inr (inr (ap (λ (z : ℕ × ℕ). slice_index class z.0) pair ∙ sym l.s_is, ap (λ (z : ℕ × ℕ). slice_index class z.1) pair ∙ sym l.t_is))
+            ]
+          ];
+        }
+
+pub taking_end : (is : List Bool) (old new : List ℕ) (queue rest : List (ℕ × ℕ)) → rest ≡ [] → AreTaking is old new queue rest → AreAllOne is old queue
+taking_end is old new queue rest e k = λ was class led on p q h. elim ((k was class led on).other p q h) [ inl there ↦ absurd (subst (λ z. IsAmong (p, q) z) e there) | inr one ↦ one ]
+
+-- classes that the pairs of the queue make one
+pub data Joined (class : List ℕ) (queue : List (ℕ × ℕ)) : ℕ → ℕ → Type 0 where
+  same : (s t : ℕ) → s ≡ t → Joined class queue s t
+  pair : (s t p q : ℕ) → IsAmong (p, q) queue → s ≡ slice_index class p → t ≡ slice_index class q → Joined class queue s t
+  flip : (s t : ℕ) → Joined class queue s t → Joined class queue t s
+  chain : (s t u : ℕ) → Joined class queue s t → Joined class queue t u → Joined class queue s u
+
+pub joined_map : (class class' : List ℕ) (queue queued : List (ℕ × ℕ)) (f : ℕ → ℕ) → ((p q : ℕ) → IsAmong (p, q) queue → Joined class' queued (f (slice_index class p)) (f (slice_index class q))) → (s t : ℕ) → Joined class queue s t → Joined class' queued (f s) (f t)
+joined_map class class' queue queued f h s t (same _ _ e) = same (f s) (f t) (ap f e)
+joined_map class class' queue queued f h s t (pair _ _ p q k e d) = subst (λ z. Joined class' queued z (f t)) (ap f (sym e)) (subst (λ z. Joined class' queued (f (slice_index class p)) z) (ap f (sym d)) (h p q k))
+joined_map class class' queue queued f h s t (flip _ _ j) = flip (f t) (f s) (joined_map class class' queue queued f h t s j)
+joined_map class class' queue queued f h s t (chain _ u _ j k) = chain (f s) (f u) (f t) (joined_map class class' queue queued f h s u j) (joined_map class class' queue queued f h u t k)
+
+pub joined_one : (class : List ℕ) (queue : List (ℕ × ℕ)) → AreOne class queue → (s t : ℕ) → Joined class queue s t → s ≡ t
+joined_one class queue one s t (same _ _ e) = e
+joined_one class queue one s t (pair _ _ p q k e d) = e ∙ one p q k ∙ sym d
+joined_one class queue one s t (flip _ _ j) = sym (joined_one class queue one t s j)
+joined_one class queue one s t (chain _ u _ j k) = joined_one class queue one s u j ∙ joined_one class queue one u t k
 
 -- s and t are to be one: they are the classes of x and y, or edges of one letter from one class lead there
 pub record IsEdgeMet (g : Graph) (class : List ℕ) (s t : ℕ) : Type 0 where
@@ -141,15 +169,16 @@ meeting_means g x y class s t edges rx ry apart c (inr k) =
     }
 
 -- a merging under way: the graph of the classes, but for the pairs of the queue
-pub record IsJoining (old cur : Graph) (was is marked marks : List Bool) (before after : List Pending) (x y : ℕ) (at to : Option ℕ) (queue : List (ℕ × ℕ)) : Type 0 where
+pub record IsJoining (old cur : Graph) (was is marked marks : List Bool) (before after : List Pending) (x y : ℕ) (at to : Option ℕ) (into : List ℕ) (queue : List (ℕ × ℕ)) : Type 0 where
   pub class : List ℕ
   pub classing : IsClassing old x y class
   pub alike : IsSameShape old cur
-  pub edge : (n a m : ℕ) → target old n a ≡ Some m → (t : ℕ) × (target cur (slice_index class n) a ≡ Some t) × Joined queue (slice_index class m) t
+  pub edge : (n a m : ℕ) → target old n a ≡ Some m → (t : ℕ) × (target cur (slice_index class n) a ≡ Some t) × Joined class queue (slice_index class m) t
   pub back : (c a t : ℕ) → target cur c a ≡ Some t → (n m : ℕ) × (slice_index class n ≡ c) × (target old n a ≡ Some m) × (slice_index class m ≡ t)
-  pub meets : (s t : ℕ) → IsAmong (s, t) queue → IsMeeting old x y class s t
-  pub one : Joined queue (slice_index class x) (slice_index class y)
-  pub shape : length is ≡ length was
+  pub on : AreOn was queue
+  pub meets : (p q : ℕ) → IsAmong (p, q) queue → IsMeeting old x y class (slice_index class p) (slice_index class q)
+  pub one : Joined class queue (slice_index class x) (slice_index class y)
+  pub led : IsLed was is class into
   pub live : (n : ℕ) → get_or is n false ≡ (get_or was n false && nat_eq (slice_index class n) n)
   pub carried : AreCarried class marked marks
   pub gone : to ≡ option_map (slice_index class) at
@@ -174,20 +203,24 @@ pub at_same : (f : ℕ → ℕ) (at : Option ℕ) → ((n : ℕ) → at ≡ Some
 at_same f None h = refl
 at_same f (Some n) h = ap (λ z. Some z) (sym (h n refl))
 
-pub joining_start : (k : ℕ) (g : Graph) (live marked : List Bool) (pending : List Pending) (x y : ℕ) (at : Option ℕ) → IsGraph k g → IsLiveGraph g live → length marked ≡ length g
-    → IsOn live x → IsOn live y → ((n : ℕ) → at ≡ Some n → IsOn live n) → IsJoining g g live live marked marked pending pending x y at at ((x, y) ∷ [])
-joining_start k g live marked pending x y at is lives shape hx hy here = record {
+pub joining_start : (k : ℕ) (g : Graph) (live marked : List Bool) (pending : List Pending) (x y : ℕ) (at : Option ℕ) (into : List ℕ) → IsGraph k g → IsLiveGraph g live → length marked ≡ length g
+    → IsOn live x → IsOn live y → ((n : ℕ) → at ≡ Some n → IsOn live n) → length live ≤ length into → IsJoining g g live live marked marked pending pending x y at at into ((x, y) ∷ [])
+joining_start k g live marked pending x y at into is lives shape hx hy here room = record {
   class = class;
   classing = apart_classing k g x y class is (length-range_with_len 0 (length g)) own;
   alike = same_shape g;
   edge = λ n a m e. let b = target_in k g is n a m e in (m, ap (λ z. target g z a) (own n b.0) ∙ e, same (slice_index class m) m (own m b.2));
   back = λ c a t e. let b = target_in k g is c a t e in (c, t, own c b.0, e, own t b.2);
-  meets = λ s t h. elim h [
-    | inl e ↦ inl (ap (λ (z : ℕ × ℕ). z.0) e ∙ sym (own x in_x), ap (λ (z : ℕ × ℕ). z.1) e ∙ sym (own y in_y))
+  on = λ p q h. elim h [
+    | inl e ↦ (subst (IsOn live) (sym (ap (λ (z : ℕ × ℕ). z.0) e)) hx, subst (IsOn live) (sym (ap (λ (z : ℕ × ℕ). z.1) e)) hy)
     | inr none ↦ absurd none
   ];
-  one = pair (slice_index class x) (slice_index class y) (inl (rw (own x in_x, own y in_y) refl));
-  shape = refl;
+  meets = λ p q h. elim h [
+    | inl e ↦ inl (ap (λ (z : ℕ × ℕ). slice_index class z.0) e, ap (λ (z : ℕ × ℕ). slice_index class z.1) e)
+    | inr none ↦ absurd none
+  ];
+  one = pair (slice_index class x) (slice_index class y) x y (inl refl) refl refl;
+  led = record { shape = refl; room = room; own = λ n on. own n (inside n on); led = λ n on. inl on };
   live = λ n. elim (cases_lt n (length g)) [
     | inl h ↦ sym (ap (λ z. get_or live n false && z) (ap (λ z. nat_eq z n) (own n h) ∙ eq_refl n) ∙ and_true (get_or live n false))
     | inr h ↦ let off : get_or live n false ≡ false = get_or_past live n false (omega (arith, h, lives.shape)) in off ∙ sym (ap (λ z. z && nat_eq (slice_index class n) n) off)
@@ -211,20 +244,14 @@ joining_start k g live marked pending x y at is lives shape hx hy here = record 
     inside : (n : ℕ) → IsOn live n → n < length g
     inside n on = omega (arith, on_within live n on, lives.shape)
 
-    in_x : x < length g
-    in_x = inside x hx
-
-    in_y : y < length g
-    in_y = inside y hy
-
 pub option_gone : (class class' : List ℕ) (f : ℕ → ℕ) → ((n : ℕ) → slice_index class' n ≡ f (slice_index class n)) → (at to to' : Option ℕ) → to ≡ option_map (slice_index class) at → to' ≡ option_map f to → to' ≡ option_map (slice_index class') at
 option_gone class class' f h None to to' e d = d ∙ ap (option_map f) e
 option_gone class class' f h (Some n) to to' e d = d ∙ ap (option_map f) e ∙ ap (λ z. Some z) (sym (h n))
 
 -- one pair of the queue is drawn
-module _ (old cur new : Graph) (was is marked marks moved : List Bool) (before after later : List Pending) (x y : ℕ) (at to to' : Option ℕ) (queue rest queued : List (ℕ × ℕ)) (s t lost kept : ℕ)
+module _ (old cur new : Graph) (was is marked marks moved : List Bool) (before after later : List Pending) (x y : ℕ) (at to to' : Option ℕ) (into found : List ℕ) (queue rest queued : List (ℕ × ℕ)) (s t lost kept : ℕ)
     (lives : IsLiveGraph old was) (rx : IsReached old x) (ry : IsReached old y)
-    (j : IsJoining old cur was is marked marks before after x y at to queue) (taken : IsTaken queue rest s t)
+    (j : IsJoining old cur was is marked marks before after x y at to into queue) (takes : AreTaken is into found queue rest s t)
     (ends : ((s ≡ lost) × (t ≡ kept)) ⊎ ((s ≡ kept) × (t ≡ lost))) (less : kept < lost) where
   class' : List ℕ
   class' = map (relabel lost kept) j.class
@@ -232,8 +259,14 @@ module _ (old cur new : Graph) (was is marked marks moved : List Bool) (before a
   index : (n : ℕ) → slice_index (map (relabel lost kept) j.class) n ≡ relabel lost kept (slice_index j.class n)
   index n = index_map (relabel lost kept) j.class n (relabel_zero lost kept (omega (arith, less)))
 
+  taken : IsTaken was is j.class found queue rest s t
+  taken = takes was j.class j.led j.on
+
   meant : IsMeant old x y j.class s t
-  meant = meeting_means old x y j.class s t lives.edges rx ry taken.apart j.classing (j.meets s t taken.there)
+  meant =
+      let there = taken.there in
+      meeting_means old x y j.class s t lives.edges rx ry (λ e. absurd (elim ends [ inl d ↦ omega (arith, e, d.0, d.1, less) | inr d ↦ omega (arith, e, d.0, d.1, less) ])) j.classing
+      (subst (λ z. IsMeeting old x y j.class z t) (sym there.3) (subst (λ z. IsMeeting old x y j.class (slice_index j.class there.0) z) (sym there.4) (j.meets there.0 there.1 there.2)))
 
   record IsEnds : Type 0 where
     lost_own : slice_index j.class lost ≡ lost
@@ -277,13 +310,13 @@ module _ (old cur new : Graph) (was is marked marks moved : List Bool) (before a
       still n on (inl e) = subst (IsOn is) (sym e) lost_on
       still n on (inr d) = sym (get_or-set_other is lost n false false d) ∙ on
 
-  -- pairs of the queue are one, once lost is kept
-  carried_pair : (ab : IsAbsorbed cur new lost kept (map (relabel_pair lost kept) rest) queued after later) → (p q : ℕ) → IsAmong (p, q) queue → Joined queued (relabel lost kept p) (relabel lost kept q)
+  -- classes of pairs of the queue are one, once lost is kept
+  carried_pair : (ab : IsAbsorbed cur new lost kept rest queued after later) → (p q : ℕ) → IsAmong (p, q) queue → Joined (map (relabel lost kept) j.class) queued (relabel lost kept (slice_index j.class p)) (relabel lost kept (slice_index j.class q))
   carried_pair ab p q h = elim (taken.other p q h) [
-    | inl k ↦ pair (relabel lost kept p) (relabel lost kept q) (ab.still (relabel lost kept p, relabel lost kept q) (among_map (relabel_pair lost kept) (p, q) rest k))
+    | inl k ↦ pair (relabel lost kept (slice_index j.class p)) (relabel lost kept (slice_index j.class q)) p q (ab.still (p, q) k) (sym (index p)) (sym (index q))
     | inr k ↦ elim k [
-      | inl e ↦ same (relabel lost kept p) (relabel lost kept q) (ap (relabel lost kept) e)
-      | inr e ↦ same (relabel lost kept p) (relabel lost kept q) (ap (relabel lost kept) e.0 ∙ one ends ∙ sym (ap (relabel lost kept) e.1))
+      | inl e ↦ same (relabel lost kept (slice_index j.class p)) (relabel lost kept (slice_index j.class q)) (ap (relabel lost kept) e)
+      | inr e ↦ same (relabel lost kept (slice_index j.class p)) (relabel lost kept (slice_index j.class q)) (ap (relabel lost kept) e.0 ∙ one ends ∙ sym (ap (relabel lost kept) e.1))
     ]
   ]
     where
@@ -291,8 +324,8 @@ module _ (old cur new : Graph) (was is marked marks moved : List Bool) (before a
       one (inl e) = relabel_same lost kept s e.0 ∙ sym (relabel_other lost kept t (λ d. absurd (omega (arith, d, e.1, less))) ∙ e.1)
       one (inr e) = relabel_other lost kept s (λ d. absurd (omega (arith, d, e.0, less))) ∙ e.0 ∙ sym (relabel_same lost kept t e.1)
 
-  moves : (p q : ℕ) → (ab : IsAbsorbed cur new lost kept (map (relabel_pair lost kept) rest) queued after later) → Joined queue p q → Joined queued (relabel lost kept p) (relabel lost kept q)
-  moves p q ab h = joined_map queue queued (relabel lost kept) (carried_pair ab) p q h
+  moves : (p q : ℕ) → (ab : IsAbsorbed cur new lost kept rest queued after later) → Joined j.class queue p q → Joined (map (relabel lost kept) j.class) queued (relabel lost kept p) (relabel lost kept q)
+  moves p q ab h = joined_map j.class (map (relabel lost kept) j.class) queue queued (relabel lost kept) (carried_pair ab) p q h
 
   meeting_on : (p q : ℕ) → IsMeeting old x y j.class p q → IsMeeting old x y (map (relabel lost kept) j.class) (relabel lost kept p) (relabel lost kept q)
   meeting_on p q (inl e) = inl (ap (relabel lost kept) e.0 ∙ sym (index x), ap (relabel lost kept) e.1 ∙ sym (index y))
@@ -342,8 +375,60 @@ module _ (old cur new : Graph) (was is marked marks moved : List Bool) (before a
       kept_to n on (inl e) = subst (IsOn moved) (sym (index n ∙ relabel_same lost kept (slice_index j.class n) e)) (mark.moved (subst (IsOn marks) e on))
       kept_to n on (inr d) = subst (IsOn moved) (sym (index n ∙ relabel_other lost kept (slice_index j.class n) d)) (mark.stays (slice_index j.class n) on d)
 
-  pub joining_step : IsAbsorbed cur new lost kept (map (relabel_pair lost kept) rest) queued after later → IsMarkMoved marks moved lost kept → to' ≡ option_map (relabel lost kept) to
-      → IsJoining old new was (set is lost false) marked moved before later x y at to' queued
+  -- where an edge leads, once lost is kept, there is a class of a node that is reached
+  record IsAtClass (m : ℕ) : Type 0 where
+    node : ℕ
+    from : IsReached old node
+    is_class : m ≡ slice_index (map (relabel lost kept) j.class) node
+
+  at_class : (n a m : ℕ) → target cur n a ≡ Some m → IsAtClass (relabel lost kept m)
+  at_class n a m e =
+      let o = j.back n a m e in
+      let w = lives.edges o.0 a o.1 o.3 in
+      record { node = o.1; from = (w.0 ++ a ∷ [], path_more old 0 o.0 w.0 a w.1 ∙ o.3); is_class = ap (relabel lost kept) (sym o.4) ∙ sym (index o.1) }
+
+  own_class : (m : ℕ) → IsAtClass m → slice_index (map (relabel lost kept) j.class) m ≡ m
+  own_class m k = ap (slice_index (map (relabel lost kept) j.class)) k.is_class ∙ classing'.idem k.node ∙ sym k.is_class
+
+  on_class : (m : ℕ) → IsAtClass m → IsOn was m
+  on_class m k = subst (IsOn was) (sym k.is_class) (lives.lives (slice_index (map (relabel lost kept) j.class) k.node) (classing'.reach k.node k.from))
+
+  -- lost leads to kept
+  led' : IsLed was (set is lost false) (map (relabel lost kept) j.class) (set found lost kept)
+  led' = record {
+    shape = length-set is lost false ∙ j.led.shape;
+    room = omega (arith, length-set is lost false, length-set found lost kept, taken.led.room);
+    own = λ n on. own n on (cases_eq n lost);
+    led = λ n h. go n h (cases_eq n lost);
+  }
+    where
+      within : lost < length found
+      within = omega (arith, on_within is lost lost_on, taken.led.room)
+
+      kept_is : slice_index (map (relabel lost kept) j.class) kept ≡ kept
+      kept_is = index kept ∙ ap (relabel lost kept) both.kept_own ∙ relabel_other lost kept kept (λ d. absurd (omega (arith, d, less)))
+
+      own : (n : ℕ) → IsOn (set is lost false) n → (n ≡ lost) ⊎ (n ≢ lost) → slice_index (map (relabel lost kept) j.class) n ≡ n
+      own n on (inl e) = absurd (let off : false ≡ true = sym (get_or-set_same is lost false false (on_within is lost lost_on)) ∙ subst (IsOn (set is lost false)) e on in let none : ⊥ = cc in none)
+      own n on (inr d) = index n ∙ ap (relabel lost kept) (taken.led.own n (sym (get_or-set_other is lost n false false d) ∙ on)) ∙ relabel_other lost kept n d
+
+      Goes : ℕ → Type 0
+      Goes n = IsOn (set is lost false) n ⊎ ((slice_index (set found lost kept) n < n) × IsOn was (slice_index (set found lost kept) n) × (slice_index (map (relabel lost kept) j.class) (slice_index (set found lost kept) n) ≡ slice_index (map (relabel lost kept) j.class) n))
+
+      go : (n : ℕ) → IsOn was n → (n ≡ lost) ⊎ (n ≢ lost) → Goes n
+      go n h (inl e) =
+          let read : slice_index (set found lost kept) n ≡ kept = ap (slice_index (set found lost kept)) e ∙ get_or-set_same found lost kept 0 within in
+          let lost_is : slice_index (map (relabel lost kept) j.class) n ≡ kept = index n ∙ relabel_same lost kept (slice_index j.class n) (ap (slice_index j.class) e ∙ both.lost_own) in
+          inr (omega (arith, read, less, e), subst (IsOn was) (sym read) (lives.lives kept both.kept_reached), ap (slice_index (map (relabel lost kept) j.class)) read ∙ kept_is ∙ sym lost_is)
+      go n h (inr d) =
+          let read : slice_index (set found lost kept) n ≡ slice_index found n = get_or-set_other found lost n kept 0 d in
+          elim (taken.led.led n h) [
+            | inl on ↦ inl (get_or-set_other is lost n false false d ∙ on)
+            | inr k ↦ inr (omega (arith, read, k.0), subst (IsOn was) (sym read) k.1, ap (slice_index (map (relabel lost kept) j.class)) read ∙ index (slice_index found n) ∙ ap (relabel lost kept) k.2 ∙ sym (index n))
+          ]
+
+  pub joining_step : IsAbsorbed cur new lost kept rest queued after later → IsMarkMoved marks moved lost kept → to' ≡ option_map (relabel lost kept) to
+      → IsJoining old new was (set is lost false) marked moved before later x y at to' (set found lost kept) queued
   joining_step ab mark gone = record {
     class = map (relabel lost kept) j.class;
     classing = classing';
@@ -351,15 +436,20 @@ module _ (old cur new : Graph) (was is marked marks moved : List Bool) (before a
     edge = λ n a m e.
         let o = j.edge n a m e in
         let k = ab.edge (slice_index j.class n) a o.0 o.1 in
-        let near : Joined queued (relabel lost kept o.0) k.0 = elim k.2 [ inl h ↦ same (relabel lost kept o.0) k.0 (sym h) | inr h ↦ pair (relabel lost kept o.0) k.0 h ] in
-        (k.0, ap (λ z. target new z a) (index n) ∙ k.1, subst (λ z. Joined queued z k.0) (sym (index m)) (chain (relabel lost kept (slice_index j.class m)) (relabel lost kept o.0) k.0 (moves (slice_index j.class m) o.0 ab o.2) near));
+        let at = at_class (slice_index j.class n) a o.0 o.1 in
+        let near : Joined (map (relabel lost kept) j.class) queued (relabel lost kept o.0) k.0 = elim k.2 [
+          | inl h ↦ same (relabel lost kept o.0) k.0 (sym h)
+          | inr h ↦ pair (relabel lost kept o.0) k.0 (relabel lost kept o.0) k.0 h (sym (own_class (relabel lost kept o.0) at)) (sym (own_target ab (relabel lost kept (slice_index j.class n)) a k.0 k.1))
+        ] in
+        (k.0, ap (λ z. target new z a) (index n) ∙ k.1, subst (λ z. Joined (map (relabel lost kept) j.class) queued z k.0) (sym (index m)) (chain (relabel lost kept (slice_index j.class m)) (relabel lost kept o.0) k.0 (moves (slice_index j.class m) o.0 ab o.2) near));
     back = λ c a p e.
         let k = ab.back c a p e in
         let o = j.back k.0 a k.1 k.3 in
         (o.0, o.1, index o.0 ∙ ap (relabel lost kept) o.2 ∙ k.2, o.3, index o.1 ∙ ap (relabel lost kept) o.4 ∙ k.4);
+    on = λ p q h. on p q (ab.meets p q h);
     meets = λ p q h. meets p q (ab.meets p q h);
-    one = subst (λ z. Joined queued z (slice_index (map (relabel lost kept) j.class) y)) (sym (index x)) (subst (λ z. Joined queued (relabel lost kept (slice_index j.class x)) z) (sym (index y)) (moves (slice_index j.class x) (slice_index j.class y) ab j.one));
-    shape = length-set is lost false ∙ j.shape;
+    one = subst (λ z. Joined (map (relabel lost kept) j.class) queued z (slice_index (map (relabel lost kept) j.class) y)) (sym (index x)) (subst (λ z. Joined (map (relabel lost kept) j.class) queued (relabel lost kept (slice_index j.class x)) z) (sym (index y)) (moves (slice_index j.class x) (slice_index j.class y) ab j.one));
+    led = led';
     live = live';
     carried = marks' mark;
     gone = option_gone j.class (map (relabel lost kept) j.class) (relabel lost kept) index at to to' j.gone gone;
@@ -367,11 +457,22 @@ module _ (old cur new : Graph) (was is marked marks moved : List Bool) (before a
     pending = λ p h. ab.pending p (j.pending p h);
   }
     where
-      meets : (p q : ℕ) → IsAmong (p, q) (map (relabel_pair lost kept) rest) ⊎ ((a : ℕ) × IsMet cur lost kept a p q) → IsMeeting old x y (map (relabel lost kept) j.class) p q
+      own_target : (ab : IsAbsorbed cur new lost kept rest queued after later) → (c a p : ℕ) → target new c a ≡ Some p → slice_index (map (relabel lost kept) j.class) p ≡ p
+      own_target ab c a p e =
+          let k = ab.back c a p e in
+          subst (λ z. slice_index (map (relabel lost kept) j.class) z ≡ z) k.4 (own_class (relabel lost kept k.1) (at_class k.0 a k.1 k.3))
+
+      on : (p q : ℕ) → IsAmong (p, q) rest ⊎ ((a : ℕ) × IsMet cur lost kept a p q) → IsOn was p × IsOn was q
+      on p q (inl h) = j.on p q (taken.left (p, q) h)
+      on p q (inr k) = (
+        subst (IsOn was) (sym k.1.s_is) (on_class (relabel lost kept k.1.m) (at_class k.1.n k.0 k.1.m k.1.first)),
+        subst (IsOn was) (sym k.1.t_is) (on_class (relabel lost kept k.1.m') (at_class k.1.n' k.0 k.1.m' k.1.second)),
+      )
+
+      meets : (p q : ℕ) → IsAmong (p, q) rest ⊎ ((a : ℕ) × IsMet cur lost kept a p q) → IsMeeting old x y (map (relabel lost kept) j.class) (slice_index (map (relabel lost kept) j.class) p) (slice_index (map (relabel lost kept) j.class) q)
       meets p q (inl h) =
-          let o = among_unmap (relabel_pair lost kept) (p, q) rest h in
-          let there = meeting_on o.0.0 o.0.1 (j.meets o.0.0 o.0.1 (taken.left o.0 o.1)) in
-          subst (λ z. IsMeeting old x y (map (relabel lost kept) j.class) z q) (sym (ap (λ (z : ℕ × ℕ). z.0) o.2)) (subst (λ z. IsMeeting old x y (map (relabel lost kept) j.class) (relabel lost kept o.0.0) z) (sym (ap (λ (z : ℕ × ℕ). z.1) o.2)) there)
+          subst (λ z. IsMeeting old x y (map (relabel lost kept) j.class) z (slice_index (map (relabel lost kept) j.class) q)) (sym (index p)) (subst (λ z. IsMeeting old x y (map (relabel lost kept) j.class) (relabel lost kept (slice_index j.class p)) z) (sym (index q))
+          (meeting_on (slice_index j.class p) (slice_index j.class q) (j.meets p q (taken.left (p, q) h))))
       meets p q (inr k) =
           let f = j.back k.1.n k.0 k.1.m k.1.first in
           let g = j.back k.1.n' k.0 k.1.m' k.1.second in
@@ -384,26 +485,26 @@ module _ (old cur new : Graph) (was is marked marks moved : List Bool) (before a
             together = index f.0 ∙ ap (relabel lost kept) f.2 ∙ k.1.together ∙ sym (index g.0 ∙ ap (relabel lost kept) g.2);
             first = f.3;
             second = g.3;
-            s_is = k.1.s_is ∙ sym (index f.1 ∙ ap (relabel lost kept) f.4);
-            t_is = k.1.t_is ∙ sym (index g.1 ∙ ap (relabel lost kept) g.4);
+            s_is = ap (slice_index (map (relabel lost kept) j.class)) (k.1.s_is ∙ sym (index f.1 ∙ ap (relabel lost kept) f.4)) ∙ classing'.idem f.1;
+            t_is = ap (slice_index (map (relabel lost kept) j.class)) (k.1.t_is ∙ sym (index g.1 ∙ ap (relabel lost kept) g.4)) ∙ classing'.idem g.1;
           })
 
 -- nothing is left to draw
-pub joining_end : (old cur : Graph) (was is marked marks : List Bool) (before after : List Pending) (x y : ℕ) (at to : Option ℕ) (queue : List (ℕ × ℕ)) → AreOne queue
-    → IsJoining old cur was is marked marks before after x y at to queue → IsJoined old cur was is marked marks before after x y at to
-joining_end old cur was is marked marks before after x y at to queue one j = record {
+pub joining_end : (old cur : Graph) (was is marked marks : List Bool) (before after : List Pending) (x y : ℕ) (at to : Option ℕ) (into : List ℕ) (queue : List (ℕ × ℕ)) → AreAllOne is into queue
+    → IsJoining old cur was is marked marks before after x y at to into queue → IsJoined old cur was is marked marks before after x y at to
+joining_end old cur was is marked marks before after x y at to into queue all j = record {
   class = j.class;
   merging = record {
     classing = j.classing;
     folded = record {
-      edge = λ n a m e. let o = j.edge n a m e in o.1 ∙ ap (λ z. Some z) (sym (joined_one queue one (slice_index j.class m) o.0 o.2));
+      edge = λ n a m e. let o = j.edge n a m e in o.1 ∙ ap (λ z. Some z) (sym (joined_one j.class queue (all was j.class j.led j.on) (slice_index j.class m) o.0 o.2));
       back = λ c a t e. j.back c a t e;
     };
     nodes = j.alike.nodes;
     graph = j.alike.graph;
-    one = joined_one queue one (slice_index j.class x) (slice_index j.class y) j.one;
+    one = joined_one j.class queue (all was j.class j.led j.on) (slice_index j.class x) (slice_index j.class y) j.one;
   };
-  shape = j.shape;
+  shape = j.led.shape;
   live = j.live;
   carried = j.carried;
   gone = j.gone;

@@ -16,3 +16,4 @@ pub mod Drawing
 pub mod Ordering
 pub mod Kept
 pub mod Rings
+pub mod Lost

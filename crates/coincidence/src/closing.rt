@@ -116,6 +116,7 @@ pub fn close_in(
     marked: &mut Vec<bool>,
     order: &mut Order,
     pending: &mut Worklist,
+    into: &mut Vec<usize>,
     at: Option<usize>,
 ) -> Result<(), NoMemory>
     requires live { IsLiveGraph edges.old.graph live.old.items }
@@ -151,7 +152,9 @@ pub fn close_in(
                 edges.set_edge(node, letter, to);
             }
             Due::Join(_, _, x, y) => {
-                place = merge(alloc, edges, live, marked, order, pending, x, y, place)?;
+                place = merge(
+                    alloc, edges, live, marked, order, pending, into, x, y, place,
+                )?;
             }
         }
     }
@@ -166,6 +169,7 @@ pub fn identify_in(
     marked: &mut Vec<bool>,
     order: &mut Order,
     pending: &mut Worklist,
+    into: &mut Vec<usize>,
     x: usize,
     y: usize,
 ) -> Result<(), NoMemory>
@@ -188,7 +192,7 @@ pub fn identify_in(
         → IsClosedBut pairs edges.old.graph live.old.items pending.old
         → IsClosedBut pairs edges.new.graph live.new.items pending.new) }
 {
-    merge(alloc, edges, live, marked, order, pending, x, y, None)?;
+    merge(alloc, edges, live, marked, order, pending, into, x, y, None)?;
     Ok(())
 }
 

@@ -4,21 +4,32 @@ ghost use Rattle.std.specs.Option.{ForSome};
 ghost use Rattle.coincidence.specs.Kept.{IsMended, IsSome};
 ghost use Rattle.coincidence.specs.Live.{IsLiveGraph, IsOn};
 ghost use Rattle.coincidence.specs.Merging.{EdgesReached, IsReached, relabel};
-ghost use Rattle.coincidence.specs.Joining.{AreOne, IsJoined, IsMarkMoved, IsTaken, relabel_pair};
+ghost use Rattle.coincidence.specs.Joining.{AreAllOne, AreLed, AreTaken, IsJoined, IsMarkMoved};
 
 use crate::absorb::absorb;
 use crate::edges::Edges;
+use crate::lost::{kept_node, make_room};
 use crate::order::Order;
 use crate::pending::Worklist;
 use ports::NoMemory;
 use std::alloc::Global;
 
-// A pair of the queue whose nodes are two. Pairs of one node are dropped before it.
-fn next_pair(queue: &mut Vec<(usize, usize)>) -> Option<(usize, usize)>
-    ensures none { IfNone result (AreOne queue.old.items) }
-    ensures some { IfSome result (λ p. IsTaken queue.old.items queue.new.items p.0 p.1) }
+// The live nodes that are kept in place of those of a pair of the queue, and are two. Pairs for
+// which they are one are dropped before it.
+fn next_pair(
+    queue: &mut Vec<(usize, usize)>,
+    live: &Vec<bool>,
+    into: &mut Vec<usize>,
+) -> Option<(usize, usize)>
+    requires { AreLed live.now.items into.old.items queue.old.items }
+    ensures none { IfNone result (AreAllOne live.now.items into.old.items queue.old.items) }
+    ensures apart { IfSome result (λ p. p.0 ≢ p.1) }
+    ensures some { IfSome result (λ p. AreTaken live.now.items into.old.items into.new.items
+        queue.old.items queue.new.items p.0 p.1) }
 {
-    while let Some((s, t)) = queue.pop() {
+    while let Some((p, q)) = queue.pop() {
+        let s = kept_node(live, into, p);
+        let t = kept_node(live, into, q);
         if s != t {
             return Some((s, t));
         }
@@ -31,15 +42,6 @@ fn kept_for(node: usize, lost: usize, kept: usize) -> usize
     ensures { result ≡ relabel lost kept node }
 {
     if node == lost { kept } else { node }
-}
-
-// In each pair of the queue the one node stands in the place of the other.
-fn relabel_all(queue: &mut Vec<(usize, usize)>, lost: usize, kept: usize)
-    ensures { queue.new.items ≡ map (relabel_pair lost kept) queue.old.items }
-{
-    for pair in queue.iter_mut() {
-        *pair = (kept_for(pair.0, lost, kept), kept_for(pair.1, lost, kept));
-    }
 }
 
 // The mark of the one node goes to the other.
@@ -66,7 +68,9 @@ fn gone(at: Option<usize>, lost: usize, kept: usize) -> Option<usize>
 }
 
 /// The least merging under which two nodes are one. It tells where a node has gone, marks go with
-/// their nodes, and edges that are new are pending. Refused only where memory is wanting.
+/// their nodes, and edges that are new are pending. Beside each node that it loses it writes the
+/// one that is kept, and what stands there at first does not matter. Refused only where memory is
+/// wanting.
 pub fn merge(
     alloc: Global,
     edges: &mut Edges,
@@ -74,6 +78,7 @@ pub fn merge(
     marked: &mut Vec<bool>,
     order: &mut Order,
     pending: &mut Worklist,
+    into: &mut Vec<usize>,
     x: usize,
     y: usize,
     at: Option<usize>,
@@ -90,15 +95,16 @@ pub fn merge(
         to) }
 {
     let _letters = edges.letters();
+    make_room(into, live.len())?;
     let mut to = at;
     let mut queue = Vec::new(alloc);
     queue.push((x, y))?;
-    while let Some((s, t)) = next_pair(&mut queue) {
+    while let Some((s, t)) = next_pair(&mut queue, live, into) {
         let lost = s.max(t);
         let kept = s.min(t);
-        relabel_all(&mut queue, lost, kept);
         absorb(edges, pending, &mut queue, lost, kept)?;
         live[lost] = false;
+        into[lost] = kept;
         order.cut(lost);
         move_mark(marked, lost, kept);
         to = gone(to, lost, kept);

@@ -14,6 +14,7 @@ mod due;
 mod edges;
 mod entries;
 mod joins;
+mod lost;
 mod marks;
 mod order;
 mod pending;

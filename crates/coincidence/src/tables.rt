@@ -42,6 +42,7 @@ pub struct Table {
     marked: Vec<bool>,
     order: Order,
     pending: Worklist,
+    into: Vec<usize>,
     failed: bool,
 }
 
@@ -95,6 +96,7 @@ impl Table {
             marked,
             order,
             pending,
+            into: Vec::new(alloc),
             failed: false,
         })
     }
@@ -224,6 +226,7 @@ impl Table {
             &mut self.marked,
             &mut self.order,
             &mut self.pending,
+            &mut self.into,
             x,
             y,
         ) {
@@ -262,6 +265,7 @@ impl Table {
             &mut self.marked,
             &mut self.order,
             &mut self.pending,
+            &mut self.into,
             at,
         ) {
             Ok(()) => {
