@@ -34,7 +34,7 @@ get_less [] ys i x within e = absurd (omega arith)
 get_less (y ∷ xs) ys zero x within e = e
 get_less (y ∷ xs) ys (suc i) x within e = get_less xs ys i x (omega arith) e
 
-get_last : {X : Type 0} (xs : List X) (y : X) (i : ℕ) (x : X) → slice_get (xs ++ y ∷ []) i ≡ Some x
+pub get_last : {X : Type 0} (xs : List X) (y : X) (i : ℕ) (x : X) → slice_get (xs ++ y ∷ []) i ≡ Some x
     → ((i < length xs) × (slice_get xs i ≡ Some x)) ⊎ ((i ≡ length xs) × (y ≡ x))
 get_last [] y zero x e = inr (refl, let same : y ≡ x = cc in same)
 get_last [] y (suc i) x e = let bad : ⊥ = cc in absurd bad
@@ -124,37 +124,42 @@ reversed_map f (x ∷ xs) =
     ap (map f) (reverse-append (x ∷ []) xs) ∙ map-append f (reverse xs) (x ∷ []) ∙ ap (λ ys. ys ++ f x ∷ []) (reversed_map f xs)
     ∙ sym (reverse-append (f x ∷ []) (map f xs))
 
--- where a step is made by a fact, its own steps lead there too
-pub leads_instead : (P : Presentation) (u w : Word) (step : ChainStep) (fact : Fact) → Gives P u (step_of step) w
-    → slice_get P.relations step.relation ≡ Some (pair_of fact) → Proves P fact → LeadTo P u (steps_of (in_place_of step fact.steps.items)) w
-leads_instead P u w step fact g is proves =
-    subst (λ (ts : List PlacedStep). LeadTo P u ts w)
-    (sym (moved_steps step.place (read_steps step.forward fact.steps.items))) (
-    subst (λ n. LeadTo P u (map (shifted_step n) (steps_of (read_steps step.forward fact.steps.items))) w) g.placed
+-- where a step is made by a pair of words, steps from the one to the other lead there too
+pub leads_by : (P q : Presentation) (u w : Word) (step : ChainStep) (left right : Word) (steps : List ChainStep) → Gives P u (step_of step) w
+    → slice_get P.relations step.relation ≡ Some (left, right) → LeadTo q left (steps_of steps) right → LeadTo q u (steps_of (in_place_of step steps)) w
+leads_by P q u w step left right steps g is proves =
+    subst (λ (ts : List PlacedStep). LeadTo q u ts w)
+    (sym (moved_steps step.place (read_steps step.forward steps))) (
+    subst (λ n. LeadTo q u (map (shifted_step n) (steps_of (read_steps step.forward steps))) w) g.placed
     (go step.forward (subst (λ (s : Word × Word). u ≡ g.before ++ ((read_sides step.forward s).0 ++ g.after)) sides g.source)
     (subst (λ (s : Word × Word). w ≡ g.before ++ ((read_sides step.forward s).1 ++ g.after)) sides g.target)))
   where
     some_same : (a b : Word × Word) → Some a ≡ Some b → a ≡ b
     some_same a b e = cc
 
-    sides : g.sides ≡ pair_of fact
-    sides = some_same g.sides (pair_of fact) (sym g.known ∙ is)
+    sides : g.sides ≡ (left, right)
+    sides = some_same g.sides (left, right) (sym g.known ∙ is)
 
-    back : steps_of (reverse (map turned fact.steps.items)) ≡ reverse (map turned_step (steps_of fact.steps.items))
-    back = reversed_map step_of (map turned fact.steps.items) ∙ ap reverse (turned_steps fact.steps.items)
+    back : steps_of (reverse (map turned steps)) ≡ reverse (map turned_step (steps_of steps))
+    back = reversed_map step_of (map turned steps) ∙ ap reverse (turned_steps steps)
 
-    go : (forward : Bool) → u ≡ g.before ++ ((read_sides forward (pair_of fact)).0 ++ g.after) → w ≡ g.before ++ ((read_sides forward (pair_of fact)).1 ++ g.after)
-        → LeadTo P u (map (shifted_step (length g.before)) (steps_of (read_steps forward fact.steps.items))) w
+    go : (forward : Bool) → u ≡ g.before ++ ((read_sides forward (left, right)).0 ++ g.after) → w ≡ g.before ++ ((read_sides forward (left, right)).1 ++ g.after)
+        → LeadTo q u (map (shifted_step (length g.before)) (steps_of (read_steps forward steps))) w
     go true source target =
-        subst (λ x. LeadTo P x (map (shifted_step (length g.before)) (steps_of fact.steps.items)) w) (sym source)
-        (subst (λ x. LeadTo P (g.before ++ (fact.left ++ g.after)) (map (shifted_step (length g.before)) (steps_of fact.steps.items)) x) (sym target)
-        (leads_inside P g.before g.after fact.left (steps_of fact.steps.items) fact.right proves))
+        subst (λ x. LeadTo q x (map (shifted_step (length g.before)) (steps_of steps)) w) (sym source)
+        (subst (λ x. LeadTo q (g.before ++ (left ++ g.after)) (map (shifted_step (length g.before)) (steps_of steps)) x) (sym target)
+        (leads_inside q g.before g.after left (steps_of steps) right proves))
     go false source target =
-        subst (λ x. LeadTo P x (map (shifted_step (length g.before)) (steps_of (reverse (map turned fact.steps.items)))) w) (sym source)
-        (subst (λ x. LeadTo P (g.before ++ (fact.right ++ g.after)) (map (shifted_step (length g.before)) (steps_of (reverse (map turned fact.steps.items)))) x) (sym target)
-        (subst (λ (ts : List PlacedStep). LeadTo P (g.before ++ (fact.right ++ g.after)) (map (shifted_step (length g.before)) ts) (g.before ++ (fact.left ++ g.after))) (sym back)
-        (leads_inside P g.before g.after fact.right (reverse (map turned_step (steps_of fact.steps.items))) fact.left
-        (leads_back P fact.left (steps_of fact.steps.items) fact.right proves))))
+        subst (λ x. LeadTo q x (map (shifted_step (length g.before)) (steps_of (reverse (map turned steps)))) w) (sym source)
+        (subst (λ x. LeadTo q (g.before ++ (right ++ g.after)) (map (shifted_step (length g.before)) (steps_of (reverse (map turned steps)))) x) (sym target)
+        (subst (λ (ts : List PlacedStep). LeadTo q (g.before ++ (right ++ g.after)) (map (shifted_step (length g.before)) ts) (g.before ++ (left ++ g.after))) (sym back)
+        (leads_inside q g.before g.after right (reverse (map turned_step (steps_of steps))) left
+        (leads_back q left (steps_of steps) right proves))))
+
+-- where a step is made by a fact, its own steps lead there too
+pub leads_instead : (P : Presentation) (u w : Word) (step : ChainStep) (fact : Fact) → Gives P u (step_of step) w
+    → slice_get P.relations step.relation ≡ Some (pair_of fact) → Proves P fact → LeadTo P u (steps_of (in_place_of step fact.steps.items)) w
+leads_instead P u w step fact g is proves = leads_by P P u w step fact.left fact.right fact.steps.items g is proves
 
 -- weights: numbers below k are lighter than k
 lighter : (m : ℕ) (P : Presentation) (k : ℕ) (u : Word) (steps : List ChainStep) (vs : List Word) → length P.relations ≤ k → AllGive P u (steps_of steps) vs

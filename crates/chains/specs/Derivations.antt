@@ -1,5 +1,7 @@
 -- Facts that follow from relations, each by steps over these and over earlier facts.
-use Rattle.std.specs.Prelude.{◌≡◌, ℕ, suc, ◌+◌, ◌<◌, ◌^◌, Bool, true, false, not, List, length, map, reverse, take, slice_get, Some}
+use Rattle.std.specs.Prelude.{◌≡◌, ℕ, suc, ◌+◌, ◌<◌, ◌^◌, Bool, true, false, not, List, length, map, reverse, take, slice_get, nat_eq, Some}
+use Rattle.std.specs.Global.{Vec}
+use Rattle.std.specs.HashMap.{HashMap, get}
 use Rattle.std.specs.List.{sum_by}
 use Rattle.theory.specs.Word.{Word}
 use Rattle.theory.specs.Congruence.{Presentation, with_relations}
@@ -77,3 +79,8 @@ pub record GoesOn (d : Derived) (old_left : List ChainStep) (old : Walk)
   pub leads : (v : Word) → LeadTo (all_of d) (here old) (steps_of (reverse old_left)) v
       → LeadTo (all_of d) (here new) (steps_of (reverse new_left)) v
   pub less : weight_of d new_left < weight_of d old_left
+
+-- each chain that is kept leads, by the relations alone, from the left word of its number to the right one
+abbrev pub AreKept : {S : Type 0} → Derived → HashMap ℕ (Vec ChainStep) S → Type 0
+AreKept {S} d kept = (number : ℕ) (chain : Vec ChainStep) (left right : Word) → get nat_eq kept number ≡ Some chain
+    → slice_get (all_of d).relations number ≡ Some (left, right) → LeadTo d.presentation left (steps_of chain.items) right

@@ -4,7 +4,7 @@ ghost use Rattle.theory.specs.Word.{Word as Letters};
 ghost use Rattle.theory.specs.PlacedStep.{LeadTo};
 ghost use Rattle.chains.specs.Chains.{AllFit, IsStraight, steps_of};
 ghost use Rattle.chains.specs.Walks.{IsWalk, here};
-ghost use Rattle.chains.specs.Derivations.{Derived, GoesOn, Proves, all_of, weight_of};
+ghost use Rattle.chains.specs.Derivations.{AreKept, Derived, GoesOn, Proves, all_of, weight_of};
 
 use crate::pending::{put, reversed};
 use crate::steps::ChainStep;
@@ -12,6 +12,7 @@ use crate::walks::Walk;
 use ports::NoMemory;
 use presentation::Presentation;
 use std::alloc::Global;
+use std::collections::HashMap;
 use std::marker::Model;
 use words::Word;
 
@@ -130,9 +131,15 @@ impl Derivations {
         Ok(())
     }
 
-    // Makes the next step: one by a relation at once; in the place of one by a fact, the steps of
-    // the fact are to be made.
-    fn read_next(&self, pending: &mut Vec<ChainStep>, walk: &mut Walk) -> Result<(), NoMemory>
+    // Makes the next step: one by a relation at once, and one by a fact whose chain is kept by the
+    // chain; in the place of one by another fact, the steps of the fact are to be made.
+    fn read_next(
+        &self,
+        kept: &HashMap<usize, Vec<ChainStep>>,
+        pending: &mut Vec<ChainStep>,
+        walk: &mut Walk,
+    ) -> Result<(), NoMemory>
+        requires kept { AreKept self.now kept.now }
         requires some { 0 < length pending.old.items }
         requires begun { (from : Letters) × IsWalk self.now.presentation from walk.old }
         requires fits { AllFit (all_of self.now) (here walk.old) (reverse pending.old.items) }
@@ -146,15 +153,22 @@ impl Derivations {
         if step.relation < relations {
             return walk.go(self.alloc, &self.presentation, step);
         }
+        if let Some(chain) = kept.get(&step.relation) {
+            return walk.go_instead(self.alloc, &self.presentation, step, chain.as_slice());
+        }
         let fact = &self.facts[step.relation - relations];
         put(pending, step, fact.steps.as_slice())
     }
 
-    /// Spells steps over relations and facts out as steps over relations alone, from the word on.
-    /// Where a word is met again, what lies between is dropped, so no word stands twice and the
-    /// list is never longer than words there are. Refused only where memory is wanting.
-    pub fn spell(&self, from: &Word, steps: &[ChainStep]) -> Result<Vec<ChainStep>, NoMemory>
-        requires { AllFit (all_of self.now) from.now steps.now }
+    // Spells steps out, those by facts whose chains are kept by the chains.
+    fn spell_by(
+        &self,
+        kept: &HashMap<usize, Vec<ChainStep>>,
+        from: &Word,
+        steps: &[ChainStep],
+    ) -> Result<Vec<ChainStep>, NoMemory>
+        requires kept { AreKept self.now kept.now }
+        requires fits { AllFit (all_of self.now) from.now steps.now }
         ensures { IfOk result (λ chain. (to : Letters)
             → LeadTo (all_of self.now) from.now (steps_of steps.now) to
             → IsStraight self.now.presentation from.now chain.items to) }
@@ -162,8 +176,76 @@ impl Derivations {
         let mut walk = Walk::new(self.alloc, from)?;
         let mut pending = reversed(self.alloc, steps)?;
         while !pending.is_empty() {
-            self.read_next(&mut pending, &mut walk)?;
+            self.read_next(kept, &mut pending, &mut walk)?;
         }
         Ok(walk.steps)
+    }
+
+    // Keeps the chain of a fact.
+    fn keep(&self, kept: &mut HashMap<usize, Vec<ChainStep>>, number: usize) -> Result<(), NoMemory>
+        requires within { number < length self.now.facts }
+        requires kept { AreKept self.now kept.old }
+        ensures { OnOk result (AreKept self.now kept.new) }
+    {
+        let fact = &self.facts[number];
+        let chain = self.spell_by(kept, &fact.left, fact.steps.as_slice())?;
+        let _none = kept.insert(self.presentation.relations().len() + number, chain)?;
+        Ok(())
+    }
+
+    // Marks the facts that the steps use.
+    fn mark(&self, needed: &mut Vec<bool>, steps: &[ChainStep])
+        ensures { length needed.new.items ≡ length needed.old.items }
+    {
+        let relations = self.presentation.relations().len();
+        for step in steps {
+            if relations <= step.relation && step.relation - relations < needed.len() {
+                needed[step.relation - relations] = true;
+            }
+        }
+    }
+
+    // Which facts the steps use, or facts that they use.
+    fn needed(&self, steps: &[ChainStep]) -> Result<Vec<bool>, NoMemory>
+        ensures { IfOk result (λ needed. length needed.items ≡ length self.now.facts) }
+    {
+        let mut needed = vec![in self.alloc; false; self.facts.len()]?;
+        self.mark(&mut needed, steps);
+        for number in (0..self.facts.len()).rev() {
+            if needed[number] {
+                self.mark(&mut needed, self.facts[number].steps.as_slice());
+            }
+        }
+        Ok(needed)
+    }
+
+    // The chains of the facts that are needed. The facts before a fact come first, so what a chain
+    // stands on is kept.
+    fn chains_of(&self, needed: &Vec<bool>) -> Result<HashMap<usize, Vec<ChainStep>>, NoMemory>
+        requires { length needed.now.items ≡ length self.now.facts }
+        ensures { IfOk result (AreKept self.now) }
+    {
+        let mut kept = HashMap::new(self.alloc);
+        for number in 0..self.facts.len() {
+            if needed[number] {
+                self.keep(&mut kept, number)?;
+            }
+        }
+        Ok(kept)
+    }
+
+    /// Spells steps over relations and facts out as steps over relations alone, from the word on.
+    /// Where a word is met again, what lies between is dropped, so no word stands twice and the
+    /// list is never longer than words there are. Each fact that is used is spelled out once. Refused
+    /// only where memory is wanting.
+    pub fn spell(&self, from: &Word, steps: &[ChainStep]) -> Result<Vec<ChainStep>, NoMemory>
+        requires { AllFit (all_of self.now) from.now steps.now }
+        ensures { IfOk result (λ chain. (to : Letters)
+            → LeadTo (all_of self.now) from.now (steps_of steps.now) to
+            → IsStraight self.now.presentation from.now chain.items to) }
+    {
+        let needed = self.needed(steps)?;
+        let kept = self.chains_of(&needed)?;
+        self.spell_by(&kept, from, steps)
     }
 }

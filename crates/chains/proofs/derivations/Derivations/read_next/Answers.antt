@@ -2,11 +2,12 @@ use Rattle.std.proofs.Common.{◌≡◌, ◌++◌, ◌∙◌, ◌<◌, ◌≤◌
 use Rattle.std.proofs.lemmas.Result.{on_ok_weaker}
 use Rattle.std.proofs.lemmas.Option.{slice_get-get_or}
 use Rattle.theory.specs.Word.{Word}
-use Rattle.chains.specs.Chains.{AllFit}
-use Rattle.chains.specs.Derivations.{Derived, GoesOn, all_of, in_place_of}
+use Rattle.theory.specs.PlacedStep.{LeadTo}
+use Rattle.chains.specs.Chains.{AllFit, steps_of}
+use Rattle.chains.specs.Derivations.{AreKept, Derived, GoesOn, all_of, in_place_of}
 use Rattle.chains.specs.Walks.{IsWalk, here}
 use Rattle.chains.specs.declared.steps.ChainStep.{ChainStep}
-use Rattle.chains.proofs.SpellLaws.{fact_there, goes_by_fact, goes_by_relation, step_fits}
+use Rattle.chains.proofs.SpellLaws.{chain_fits, fact_there, goes_by_chain, goes_by_fact, goes_by_relation, step_fits}
 use Rattle.chains.proofs.derivations.Derivations.read_next.Goals as goal
 
 -- how many relations there are
@@ -59,5 +60,32 @@ returns c =
     subst (λ (d : Derived). GoesOn d c.args.pending.now.items c.args.walk.now c.put.new.pending.items c.args.walk.now) c.self.view_is
     (goes_by_fact d c.self.invariant c.args.pending.now.items c.pop.new.self.items c.in-Some.step c.args.walk.now popped fits c.put.new.pending.items c.index-fact.result.now behind
     (subst (λ n. slice_get d.facts (c.in-Some.step.relation - n) ≡ Some c.index-fact.result.now) count at)
-    (put ∙ ap (λ (steps : List ChainStep). c.pop.new.self.items ++ reverse (in_place_of c.in-Some.step steps)) c.as_slice.ensures.value)))
+    (put ∙ ap (λ (steps : List ChainStep). c.pop.new.self.items ++ reverse (in_place_of c.in-Some.step steps)) c.as_slice-2.ensures.value)))
     c.put.ensures
+
+pub go_instead-requires-clause-fits : goal.go_instead-requires-clause-fits
+go_instead-requires-clause-fits c =
+    let d : Derived = record { presentation = c.self.inside.presentation.presentation; facts = c.self.inside.facts.items } in
+    let popped = c.pop.ensures.items ∙ ap (λ (o : Option ChainStep). c.pop.new.self.items ++ option_to_list o) c.in-Some.is in
+    let fits = subst (λ (d : Derived). AllFit (all_of d) (here c.args.walk.now) (reverse c.args.pending.now.items)) (sym c.self.view_is) c.requires.fits in
+    let are = subst (λ (d : Derived). AreKept d c.args.kept.now) (sym c.self.view_is) c.requires.kept in
+    subst (λ (steps : List ChainStep). AllFit d.presentation (here c.args.walk.now) (in_place_of c.in-Some.step steps)) (sym c.as_slice.ensures.value)
+    (chain_fits d c.self.invariant c.args.pending.now.items c.pop.new.self.items c.in-Some.step c.args.walk.now popped fits c.args.kept.now c.in-Some-get.chain.now are
+    (sym c.in-Some-get.ensures.value))
+
+pub returns-in-Some-get : goal.returns-in-Some-get
+returns-in-Some-get c =
+    let d : Derived = record { presentation = c.self.inside.presentation.presentation; facts = c.self.inside.facts.items } in
+    let popped = c.pop.ensures.items ∙ ap (λ (o : Option ChainStep). c.pop.new.self.items ++ option_to_list o) c.in-Some.is in
+    let fits = subst (λ (d : Derived). AllFit (all_of d) (here c.args.walk.now) (reverse c.args.pending.now.items)) (sym c.self.view_is) c.requires.fits in
+    let are = subst (λ (d : Derived). AreKept d c.args.kept.now) (sym c.self.view_is) c.requires.kept in
+    let begun = subst (λ (d : Derived). (from : Word) × IsWalk d.presentation from c.args.walk.now) (sym c.self.view_is) c.requires.begun in
+    on_ok_weaker c.go_instead.result
+    (λ went.
+    subst (λ (d : Derived). GoesOn d c.args.pending.now.items c.args.walk.now c.pop.new.self.items c.go_instead.new.self) c.self.view_is
+    (goes_by_chain d c.self.invariant c.args.pending.now.items c.pop.new.self.items c.in-Some.step c.args.walk.now popped fits c.args.kept.now c.in-Some-get.chain.now are
+    (sym c.in-Some-get.ensures.value) c.go_instead.new.self begun
+    (λ u v walk leads.
+    went u v walk
+    (subst (λ (steps : List ChainStep). LeadTo d.presentation (here c.args.walk.now) (steps_of (in_place_of c.in-Some.step steps)) v) (sym c.as_slice.ensures.value) leads))))
+    c.go_instead.ensures

@@ -1,11 +1,11 @@
 use Rattle.std.proofs.Common.{◌≡◌, length, arith}
 use Rattle.std.proofs.lemmas.List.{nil_from_length}
 use Rattle.chains.proofs.SpellLaws.{left_fit, spelled_on, spelled_out}
-use Rattle.chains.proofs.derivations.Derivations.spell.Goals as goal
+use Rattle.chains.proofs.derivations.Derivations.spell_by.Goals as goal
 
 pub read_next-requires-clause-fits : goal.read_next-requires-clause-fits
 read_next-requires-clause-fits c =
-    left_fit c.args.self.now c.args.from.now c.args.steps.now c.loop-pending.pending.items c.loop-pending.walk c.loop-pending.invariant c.requires
+    left_fit c.args.self.now c.args.from.now c.args.steps.now c.loop-pending.pending.items c.loop-pending.walk c.loop-pending.invariant c.requires.fits
 
 pub loop-pending-preserved : goal.loop-pending-preserved
 loop-pending-preserved c =

@@ -1,6 +1,6 @@
 use Rattle.chains.specs.Derivations.{weight_of}
 use Rattle.chains.proofs.SpellLaws.{IsSpelled}
-use Rattle.chains.proofs.derivations.Derivations.spell.Given as goal
+use Rattle.chains.proofs.derivations.Derivations.spell_by.Given as goal
 
 abbrev pub invariant-loop-pending : goal.invariant-loop-pending
 invariant-loop-pending l = IsSpelled l.self l.from l.steps l.pending.items l.walk
