@@ -1,19 +1,26 @@
 -- What a completion logs, step by step.
-use Rattle.std.proofs.Common.{◌≡◌, ℕ, zero, suc, min, ◌+◌, ◌-◌, ◌<◌, ◌≤◌, Bool, true, false, List, [], ◌∷◌, ◌++◌, map, reverse, take, drop, length, refl, sym, ◌∙◌, ap, subst, arith, append_assoc, Option, None, Some, slice_get, is_some, length-take, take-append-drop}
-use Rattle.std.proofs.lemmas.List.{nil_from_length, append-nil}
-use Rattle.std.proofs.lemmas.Option.{slice_get_within}
+use Rattle.std.proofs.Common.{◌≡◌, ℕ, zero, suc, min, ◌+◌, ◌-◌, ◌<◌, ◌≤◌, Bool, true, false, List, [], ◌∷◌, ◌++◌, map, reverse, take, drop, length, get_or, set, refl, sym, ◌∙◌, ap, subst, subst₂, arith, append_assoc, Equal, Option, None, Some, slice_get, is_some, IsTrue, MatchOption, length-take, take-append-drop}
+use Rattle.std.specs.List.{Contains}
+use Rattle.std.specs.List.Sorted.{IsPermutation}
+use Rattle.std.proofs.lemmas.List.{nil_from_length, append-nil, get_or_default, map-append}
+use Rattle.std.proofs.lemmas.List.Elements.{All-head, All-nil, All-set, All-tail, All-weaker, Contains-append_left, Contains-append_right, Contains-get_or, Contains-push}
+use Rattle.std.proofs.lemmas.List.Sorted.{All-permutation}
+use Rattle.std.proofs.lemmas.Option.{get_or_from_slice_get, slice_get_within}
 use Rattle.theory.specs.Word.{Word}
 use Rattle.theory.specs.Congruence.{Presentation}
 use Rattle.theory.specs.PlacedStep.{Gives, AllGive, LeadTo, last_word, read_sides}
+use Rattle.theory.specs.ShortLex.{◌≺◌, shortlex}
+use Rattle.theory.proofs.Words.{before_irrefl, before_trans, shortlex_exact}
 use Rattle.chains.specs.Chains.{steps_of}
-use Rattle.chains.specs.Derivations.{Derived, all_of, turned}
+use Rattle.chains.specs.Derivations.{Derived, all_of, pair_of, turned}
 use Rattle.chains.proofs.DerivationLaws.{leads_around, leads_once, leads_once_back, leads_there_and_back}
 use Rattle.chains.specs.declared.derivations.Fact.{Fact}
 use Rattle.chains.specs.declared.steps.ChainStep.{ChainStep}
 use Rattle.reduced_automaton.specs.Traces.{LeadBy, as_relations, step_of}
 use Rattle.reduced_automaton.specs.declared.traces.Applied.{Applied}
-use Rattle.knuth_bendix.specs.Logs.{AreFor, Grows, IsFor, IsLogOf, Shows}
-use Rattle.knuth_bendix.specs.Overlaps.{critical_pair, overlaps_by}
+use Rattle.knuth_bendix.specs.Logs.{AreFor, AreLogged, Grows, IsFor, IsLogOf, IsLogged, KeepsLog, LogsHeld, LogsRule, Shows}
+use Rattle.knuth_bendix.specs.Overlaps.{critical_pair, overlaps_by, rule_at}
+use Rattle.knuth_bendix.specs.Runs.{AreShortRelations}
 
 -- facts may be added one after another
 pub grows_none : (log : Option Derived) → Grows log log
@@ -186,3 +193,101 @@ take_next xs i x e = ap (λ n. take n xs) (let more : i + 1 ≡ suc i = omega ar
     go {X} {x} [] i e = let bad : ⊥ = cc in absurd bad
     go {X} {x} (y ∷ xs) zero e = let same : y ≡ x = cc in ap (λ z. z ∷ []) same
     go {X} {x} (y ∷ xs) (suc i) e = ap (λ (zs : List X). y ∷ zs) (go xs i e)
+
+-- what is logged stays so when facts are added
+pub still_logged : (old new : Option Derived) (pair : Word × Word) → Grows old new → IsLogged old pair → IsLogged new pair
+still_logged None new pair grows is = subst (λ (o : Option Derived). IsLogged o pair) (sym grows) tt
+still_logged (Some d) new pair grows is =
+    let more : (all_of d).relations ++ map pair_of grows.0 ≡ d.presentation.relations ++ map pair_of (d.facts ++ grows.0) =
+    append_assoc d.presentation.relations (map pair_of d.facts) (map pair_of grows.0)
+    ∙ ap (λ (ps : List (Word × Word)). d.presentation.relations ++ ps) (sym (map-append pair_of d.facts grows.0)) in
+    subst (λ (o : Option Derived). IsLogged o pair) (sym grows.1)
+    (subst (λ (ps : List (Word × Word)). Contains ps pair) more (Contains-append_left (all_of d).relations (map pair_of grows.0) pair is))
+
+pub all_still_logged : (old new : Option Derived) (pairs : List (Word × Word)) → Grows old new → AreLogged old pairs → AreLogged new pairs
+all_still_logged old new pairs grows all = All-weaker (IsLogged old) (IsLogged new) (λ pair. still_logged old new pair grows) pairs all
+
+-- the fact that was added is logged
+pub fact_logged : (old new : Derived) (fact : Fact) (left right : Word) → new ≡ record { presentation = old.presentation; facts = old.facts ++ fact ∷ [] }
+    → fact.left ≡ left → fact.right ≡ right → IsLogged (Some new) (left, right)
+fact_logged old new fact left right is first second =
+    let pushed : Contains (map pair_of (old.facts ++ fact ∷ [])) (pair_of fact) =
+    subst (λ (ps : List (Word × Word)). Contains ps (pair_of fact)) (sym (map-append pair_of old.facts (fact ∷ []))) (Contains-push (map pair_of old.facts) (pair_of fact)) in
+    subst (λ (d : Derived). IsLogged (Some d) (left, right)) (sym is)
+    (subst₂ (λ (l r : Word). Contains (old.presentation.relations ++ map pair_of (old.facts ++ fact ∷ [])) (l, r)) first second
+    (Contains-append_right old.presentation.relations (map pair_of (old.facts ++ fact ∷ [])) (pair_of fact) pushed))
+
+-- what has a number is logged
+pub numbered_logged : (pairs : List (Word × Word)) (n : ℕ) (pair : Word × Word) → slice_get pairs n ≡ Some pair → Contains pairs pair
+numbered_logged pairs n pair is = (n, slice_get_within pairs n pair is, get_or_from_slice_get pairs n pair pair is)
+
+pub found_logged : (pairs : List (Word × Word)) (pair : Word × Word) (found : Option ℕ) (is : Bool) → is ≡ is_some found
+    → MatchOption found (Contains pairs pair → ⊥) (λ n. slice_get pairs n ≡ Some pair) → IsTrue is → Contains pairs pair
+found_logged pairs pair None is e known holds = let bad : ⊥ = cc in absurd bad
+found_logged pairs pair (Some n) is e known holds = numbered_logged pairs n pair known
+
+-- a rule of those that are logged
+pub rule_logged : (log : Option Derived) (rules : List (Word × Word)) (place : ℕ) (rule : Word × Word) → AreLogged log rules → place < length rules
+    → rule ≡ get_or rules place rule → IsLogged log rule
+rule_logged log rules place rule all within is = subst (IsLogged log) (sym is) (all place rule within)
+
+-- a rule that has another right side
+pub right_logged : (log : Option Derived) (old new : List (Word × Word)) (place : ℕ) (rule : Word × Word) (right : Word) → AreLogged log old → place < length old
+    → rule ≡ get_or old place rule → IsLogged log (rule.0, right) → new ≡ set old place ((rule_at old place).0, right) → AreLogged log new
+right_logged log old new place rule right all within is one set_is =
+    let left : rule.0 ≡ (rule_at old place).0 = ap (λ (r : Word × Word). r.0) (is ∙ get_or_default old place rule ([], []) within) in
+    subst (AreLogged log) (sym set_is)
+    (All-set (IsLogged log) old place ((rule_at old place).0, right) (subst (λ (w : Word). IsLogged log (w, right)) left one) all)
+
+-- the rule that two words make
+pub equal_rule_logged : (log : Option Derived) (left right : Word) → Equal ≡ shortlex left right → LogsRule log left right
+equal_rule_logged log left right e =
+    record {
+      less = λ before. cc;
+      greater = λ before. absurd (before_irrefl right (subst (λ (w : Word). right ≺ w) (shortlex_exact left right (sym e)) before));
+    }
+
+pub less_rule_logged : (log : Option Derived) (left right : Word) → left ≺ right → IsLogged log (right, left) → LogsRule log left right
+less_rule_logged log left right less one =
+    record { less = λ _. one; greater = λ before. absurd (before_irrefl left (before_trans left right left less before)) }
+
+pub greater_rule_logged : (log : Option Derived) (left right : Word) → right ≺ left → IsLogged log (left, right) → LogsRule log left right
+greater_rule_logged log left right greater one =
+    record { less = λ before. absurd (before_irrefl left (before_trans left right left before greater)); greater = λ _. one }
+
+-- the relations are logged, and so are the equations at the start
+pub relation_logged : (p : Presentation) (log : Option Derived) (pair : Word × Word) → IsLogOf p log → Contains p.relations pair → IsLogged log pair
+relation_logged p None pair is listed = tt
+relation_logged p (Some d) pair is listed =
+    Contains-append_left d.presentation.relations (map pair_of d.facts) pair (subst (λ (q : Presentation). Contains q.relations pair) (sym is) listed)
+
+pub start_held : (p : Presentation) (L : ℕ) (log : Option Derived) (equations : List (Word × Word)) → IsLogOf p log → AreShortRelations L p.relations equations
+    → LogsHeld log [] equations
+start_held p L log equations is short =
+    record {
+      each_rule = All-nil (IsLogged log);
+      each_equation = λ k d less.
+          relation_logged p log (get_or equations k d) is (short.are (get_or equations k d).0 (get_or equations k d).1 (Contains-get_or equations k d less)).0;
+    }
+
+-- rules and equations that are held
+pub none_held : (log : Option Derived) (rules equations : List (Word × Word)) → log ≡ None → LogsHeld log rules equations
+none_held log rules equations is =
+    subst (λ (o : Option Derived). LogsHeld o rules equations) (sym is) (record { each_rule = λ k d less. tt; each_equation = λ k d less. tt })
+
+pub still_held : (old new : Option Derived) (rules equations : List (Word × Word)) → Grows old new → LogsHeld old rules equations → LogsHeld new rules equations
+still_held old new rules equations grows held =
+    record { each_rule = all_still_logged old new rules grows held.each_rule; each_equation = all_still_logged old new equations grows held.each_equation }
+
+-- an equation is taken out
+pub taken_held : (log : Option Derived) (rules old new : List (Word × Word)) (pair : Word × Word) → IsPermutation old (pair ∷ new) → LogsHeld log rules old
+    → IsLogged log pair × LogsHeld log rules new
+taken_held log rules old new pair moved held =
+    let all : AreLogged log (pair ∷ new) = All-permutation (IsLogged log) old (pair ∷ new) moved held.each_equation in
+    (All-head (IsLogged log) pair new all, record { each_rule = held.each_rule; each_equation = All-tail (IsLogged log) pair new all })
+
+pub keeps_none : (log : Option Derived) (rules equations : List (Word × Word)) → LogsHeld log rules equations → KeepsLog log log rules equations
+keeps_none log rules equations held = record { grows = grows_none log; held = held }
+
+pub keeps_after : (a b c : Option Derived) (rules equations : List (Word × Word)) → Grows a b → KeepsLog b c rules equations → KeepsLog a c rules equations
+keeps_after a b c rules equations grows keeps = record { grows = grows_after a b c grows keeps.grows; held = keeps.held }

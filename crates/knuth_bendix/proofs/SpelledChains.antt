@@ -1,5 +1,5 @@
 -- What the chains of a logged completion say.
-use Rattle.std.proofs.Common.{◌≡◌, ℕ, true, List, [], refl, sym, ◌∙◌, ap, arith, subst, ◌⊎◌, inl, inr, Option, None, Some, Result, Ok, Err, is_some, OnOk, MatchResult}
+use Rattle.std.proofs.Common.{◌≡◌, ℕ, true, List, [], refl, sym, ◌∙◌, ap, arith, subst, subst₂, ◌⊎◌, inl, inr, Option, None, Some, Result, Ok, Err, is_some, IfOk, MatchResult}
 use Rattle.theory.specs.Word.{Word}
 use Rattle.theory.specs.Congruence.{Presentation, IsWellFormed, of_presentation}
 use Rattle.theory.specs.Chain.{Related}
@@ -9,8 +9,8 @@ use Rattle.theory.proofs.RuleLists.{listed_reduced, listed_reduces}
 use Rattle.race.specs.declared.engines.Progress.{Progress}
 use Rattle.race.specs.declared.engines.Progress.TheVariants.{More, Decided, Spent, NoMemory}
 use Rattle.chains.specs.Derivations.{Derived}
-use Rattle.knuth_bendix.specs.Logs.{Grows, IsLogOf}
-use Rattle.knuth_bendix.proofs.LogLaws.{log_grows, log_of_none, logged_grows}
+use Rattle.knuth_bendix.specs.Logs.{IsLogOf, KeepsLog, LogsHeld}
+use Rattle.knuth_bendix.proofs.LogLaws.{log_grows, log_of_none, logged_grows, none_held}
 use Rattle.knuth_bendix.proofs.SortedRules.{IsDecidedRun}
 
 -- related words are reduced to one
@@ -39,15 +39,32 @@ is_starved Decided = inr (λ e. cc)
 is_starved Spent = inr (λ e. cc)
 is_starved NoMemory = inl refl
 
-pub settled_log : {E : Type 0} (p : Presentation) (old new settled : Option Derived) (turn : Result (List (Word × Word) × Progress) E) (rest : List (Word × Word) × Progress)
-    → IsLogOf p old → OnOk turn (Grows old new) → MatchResult turn (λ t. rest ≡ t) (λ _. (rest.0 ≡ []) × (rest.1 ≡ NoMemory))
+pub record IsSettled (p : Presentation) (old settled : Option Derived) (rules equations : List (Word × Word)) (said : Progress) : Type 0 where
+  pub log_of : IsLogOf p settled
+  pub held : LogsHeld settled rules equations
+  pub same : (said ≡ NoMemory → ⊥) → is_some settled ≡ is_some old
+
+pub settled_log : {E : Type 0} (p : Presentation) (old new settled : Option Derived) (equations : List (Word × Word))
+    (turn : Result (List (Word × Word) × Progress) E) (rest : List (Word × Word) × Progress)
+    → IsLogOf p old → IfOk turn (λ t. KeepsLog old new t.0 equations) → MatchResult turn (λ t. rest ≡ t) (λ _. (rest.0 ≡ []) × (rest.1 ≡ NoMemory))
     → ((rest.1 ≡ NoMemory → ⊥) → settled ≡ new) → (rest.1 ≡ NoMemory → settled ≡ None)
-    → IsLogOf p settled × ((rest.1 ≡ NoMemory → ⊥) → is_some settled ≡ is_some old)
-settled_log p old new settled (Ok t) rest is grows left kept lost = (
-  elim (is_starved rest.1) [
-    | inl e ↦ log_of_none p settled (lost e)
-    | inr n ↦ subst (IsLogOf p) (sym (kept n)) (log_grows p old new is grows)
-  ],
-  λ n. ap (λ (o : Option Derived). is_some o) (kept n) ∙ logged_grows old new grows,
-)
-settled_log p old new settled (Err none) rest is grows left kept lost = (log_of_none p settled (lost left.1), λ n. absurd (n left.1))
+    → IsSettled p old settled rest.0 equations rest.1
+settled_log p old new settled equations (Ok t) rest is keeps left kept lost =
+    record {
+      log_of = elim (is_starved rest.1) [
+        | inl e ↦ log_of_none p settled (lost e)
+        | inr n ↦ subst (IsLogOf p) (sym (kept n)) (log_grows p old new is keeps.grows)
+      ];
+      held = elim (is_starved rest.1) [
+        | inl e ↦ none_held settled rest.0 equations (lost e)
+        | inr n ↦
+            subst₂ (λ (log : Option Derived) (r : List (Word × Word) × Progress). LogsHeld log r.0 equations) (sym (kept n)) (sym left) keeps.held
+      ];
+      same = λ n. ap (λ (o : Option Derived). is_some o) (kept n) ∙ logged_grows old new keeps.grows;
+    }
+settled_log p old new settled equations (Err none) rest is keeps left kept lost =
+    record {
+      log_of = log_of_none p settled (lost left.1);
+      held = none_held settled rest.0 equations (lost left.1);
+      same = λ n. absurd (n left.1);
+    }

@@ -1,8 +1,9 @@
 -- What a completion logs: facts that follow from the relations, or nothing.
-use Rattle.std.specs.Prelude.{◌≡◌, true, List, [], ◌∷◌, ◌++◌, Option, None, Some, slice_get}
+use Rattle.std.specs.Prelude.{◌≡◌, true, List, [], ◌∷◌, ◌++◌, Option, None, Some, slice_get, All, Contains}
 use Rattle.theory.specs.Word.{Word}
 use Rattle.theory.specs.Congruence.{Presentation}
 use Rattle.theory.specs.PlacedStep.{LeadTo}
+use Rattle.theory.specs.ShortLex.{◌≺◌}
 use Rattle.chains.specs.Chains.{steps_of}
 use Rattle.chains.specs.Derivations.{Derived, all_of}
 use Rattle.chains.specs.declared.derivations.Fact.{Fact}
@@ -41,3 +42,27 @@ AreFor rules relations (at ∷ trace) [] = ⊥
 abbrev pub IsLogOf : Presentation → Option Derived → Type 0
 IsLogOf p None = Unit {0}
 IsLogOf p (Some d) = d.presentation ≡ p
+
+-- the pair is a relation or a fact of the log, if something is logged
+abbrev pub IsLogged : Option Derived → Word × Word → Type 0
+IsLogged None pair = Unit {0}
+IsLogged (Some d) pair = Contains (all_of d).relations pair
+
+-- each pair is a relation or a fact of the log, if something is logged
+abbrev pub AreLogged : Option Derived → List (Word × Word) → Type 0
+AreLogged log = All (IsLogged log)
+
+-- the rule that two words make, where they differ, is logged
+pub record LogsRule (log : Option Derived) (left right : Word) : Type 0 where
+  pub less : left ≺ right → IsLogged log (right, left)
+  pub greater : right ≺ left → IsLogged log (left, right)
+
+-- the rules and the equations are logged
+pub record LogsHeld (log : Option Derived) (rules equations : List (Word × Word)) : Type 0 where
+  pub each_rule : AreLogged log rules
+  pub each_equation : AreLogged log equations
+
+-- facts may have been added to the log, and the rules and the equations are logged
+pub record KeepsLog (old new : Option Derived) (rules equations : List (Word × Word)) : Type 0 where
+  pub grows : Grows old new
+  pub held : LogsHeld new rules equations

@@ -1,5 +1,5 @@
 // Completion, an equation at a time.
-ghost use Rattle.std.specs.Prelude.{◌≡◌, ◌≢◌, ◌≤◌, ◌<◌, ◌⊎◌, ◌↔◌, All, [], cond, length, true, false, None, IfOk, OnOk, IsTrue, MatchBool, MatchOption, MatchResult};
+ghost use Rattle.std.specs.Prelude.{◌≡◌, ◌≢◌, ◌≤◌, ◌<◌, ◌⊎◌, ◌↔◌, All, [], cond, length, true, false, None, is_some, IfOk, OnOk, IsTrue, MatchBool, MatchOption, MatchResult};
 ghost use Rattle.theory.specs.Word.{Word as Letters};
 ghost use Rattle.theory.specs.Chain.{Related};
 ghost use Rattle.chains.specs.Chains.{IsStraight};
@@ -8,7 +8,7 @@ ghost use Rattle.theory.specs.Class.{IsRuleList, SameClass};
 ghost use Rattle.theory.specs.Completion.{AreRules, CompletionEnds, Listed, Rule};
 ghost use Rattle.knuth_bendix.specs.Held.{IsSound};
 ghost use Rattle.knuth_bendix.specs.Overlaps.{AreShort};
-ghost use Rattle.knuth_bendix.specs.Logs.{Grows};
+ghost use Rattle.knuth_bendix.specs.Logs.{IsLogOf, KeepsLog, LogsHeld};
 ghost use Rattle.knuth_bendix.specs.Runs.{AreShortRelations, CompletionRun, IsTurn};
 
 use crate::confluence::are_joined;
@@ -42,7 +42,7 @@ pub struct Completion {
 
 impl Model for Completion {
     ghost use Rattle.std.specs.Prelude.{is_some};
-    ghost use Rattle.knuth_bendix.specs.Logs.{IsLogOf};
+    ghost use Rattle.knuth_bendix.specs.Logs.{IsLogOf, LogsHeld};
     ghost use Rattle.knuth_bendix.specs.Runs.{CompletionRun, IsCompletion, left_of};
 
     ghost Value = { CompletionRun };
@@ -57,7 +57,7 @@ impl Model for Completion {
     } };
 
     ghost invariant = { λ c. IsCompletion c.presentation.presentation c.length c.rules c.equations
-        c.said × IsLogOf c.presentation.presentation c.log };
+        c.said × IsLogOf c.presentation.presentation c.log × LogsHeld c.log c.rules c.equations };
 }
 
 // Whether neither side of the relation has more letters than the bound.
@@ -134,11 +134,12 @@ fn go_on(
     equations: &mut Equations,
     log: &mut Log,
 ) -> Result<(KeptRules, Progress), NoMemory>
-    requires { IsSound presentation.now.presentation length
+    requires sound { IsSound presentation.now.presentation length
         (record { rules = rules; equations = equations.old }) }
+    requires held { LogsHeld log.old rules equations.old }
     ensures turn { IfOk result (λ turn. IsTurn presentation.now.presentation length rules
         equations.old turn.0 equations.new turn.1) }
-    ensures grows { OnOk result (Grows log.old log.new) }
+    ensures logged { IfOk result (λ turn. KeepsLog log.old log.new turn.0 equations.new) }
 {
     match equations.pop() {
         Some(pair) => {
@@ -236,6 +237,32 @@ impl Racer for Completion {
 }
 
 impl Completion {
+    // The completion before the first turn, with the log.
+    fn with_log(
+        alloc: Global,
+        presentation: &Presentation,
+        length: usize,
+        log: Log,
+    ) -> Result<Completion, NoMemory>
+        requires { IsLogOf presentation.now.presentation log }
+        ensures presentation { IfOk result (λ c. c.presentation ≡ presentation.now.presentation) }
+        ensures length { IfOk result (λ c. c.length ≡ length) }
+        ensures rules { IfOk result (λ c. c.rules ≡ []) }
+        ensures said { IfOk result (λ c. c.said ≡ Progress.More) }
+        ensures logged { IfOk result (λ c. c.logged ≡ is_some log) }
+    {
+        let equations = short_relations(alloc, presentation.relations(), length)?;
+        Ok(Completion {
+            alloc,
+            presentation: presentation.copy(alloc)?,
+            length,
+            rules: KeptRules::new(alloc),
+            equations,
+            log,
+            said: Progress::More,
+        })
+    }
+
     /// The completion of the presentation within so many letters. No turn has been made. Refused
     /// only where memory is wanting.
     pub fn new(
@@ -249,16 +276,7 @@ impl Completion {
         ensures said { IfOk result (λ c. c.said ≡ Progress.More) }
         ensures logged { IfOk result (λ c. c.logged ≡ false) }
     {
-        let equations = short_relations(alloc, presentation.relations(), length)?;
-        Ok(Completion {
-            alloc,
-            presentation: presentation.copy(alloc)?,
-            length,
-            rules: KeptRules::new(alloc),
-            equations,
-            log: Log::none(),
-            said: Progress::More,
-        })
+        Completion::with_log(alloc, presentation, length, Log::none())
     }
 
     /// The completion of the presentation within so many letters, which logs how each rule follows
@@ -276,9 +294,7 @@ impl Completion {
         ensures logged { IfOk result (λ c. c.logged ≡ true) }
     {
         let log = Log::new(alloc, presentation)?;
-        let mut completion = Completion::new(alloc, presentation, length)?;
-        completion.log = log;
-        Ok(completion)
+        Completion::with_log(alloc, presentation, length, log)
     }
 
     /// Whether a turn has given `Decided`.

@@ -1,12 +1,12 @@
 // How the rules and equations of a completion follow from the relations.
-ghost use Rattle.std.specs.Prelude.{◌≡◌, ℕ, ◌<◌, ◌≤◌, [], None, Some, is_some, length, slice_get, IfOk, OnOk};
+ghost use Rattle.std.specs.Prelude.{◌≡◌, ℕ, ◌<◌, ◌≤◌, [], None, Some, is_some, length, slice_get, Contains, IfOk, OnOk, IsTrue};
 ghost use Rattle.theory.specs.Word.{Word as Letters};
 ghost use Rattle.theory.specs.PlacedStep.{LeadTo, read_sides};
 ghost use Rattle.theory.specs.Completion.{IsReduced, Listed, Reduces};
 ghost use Rattle.reduced_automaton.specs.Traces.{LeadBy};
 ghost use Rattle.chains.specs.Chains.{IsStraight, steps_of};
 ghost use Rattle.chains.specs.Derivations.{Derived, all_of};
-ghost use Rattle.knuth_bendix.specs.Logs.{AreFor, Grows, IsFor, Shows};
+ghost use Rattle.knuth_bendix.specs.Logs.{AreFor, AreLogged, Grows, IsFor, IsLogged, Shows};
 ghost use Rattle.knuth_bendix.specs.Overlaps.{critical_pair, overlaps_by};
 
 use chains::{ChainStep, Derivations, Fact, around, turn_back};
@@ -39,32 +39,42 @@ fn key_of(alloc: Global, left: &Word, right: &Word) -> Result<Vec<u8>, NoMemory>
 }
 
 impl Facts {
-    // The number of the relation or fact of the two words. Where there is none, it is refused as if
-    // memory were wanting.
-    fn number_of(&self, alloc: Global, pair: &(Word, Word)) -> Result<usize, NoMemory>
-        ensures { IfOk result (λ number. slice_get (all_of self.now.derivations).relations number
-            ≡ Some pair.now) }
+    // The number of the relation or fact of the two words, which have the key.
+    fn number_of(&self, key: &Vec<u8>, pair: &(Word, Word)) -> usize
+        requires { Contains (all_of self.now.derivations).relations pair.now }
+        ensures { slice_get (all_of self.now.derivations).relations result ≡ Some pair.now }
     {
-        let key = key_of(alloc, &pair.0, &pair.1)?;
-        let likely = match self.likely.get(&key) {
+        let likely = match self.likely.get(key) {
             Some(number) => *number,
             None => 0,
         };
         match self.derivations.number_of(likely, &pair.0, &pair.1) {
-            Some(number) => Ok(number),
-            None => Err(NoMemory),
+            Some(number) => number,
+            None => unreachable!(),
+        }
+    }
+
+    // Whether the key leads to the relation or fact of the two words.
+    fn is_found(&self, key: &Vec<u8>, left: &Word, right: &Word) -> bool
+        ensures { IsTrue result → IsLogged (Some self.now.derivations) (left.now, right.now) }
+    {
+        match self.likely.get(key) {
+            Some(number) => self.derivations.number_of(*number, left, right).is_some(),
+            None => false,
         }
     }
 
     // The step of a rule that is applied.
     fn step_of(&self, alloc: Global, rules: &KeptRules, at: Applied) -> Result<ChainStep, NoMemory>
-        requires { at.rule < length rules.now }
+        requires within { at.rule < length rules.now }
+        requires logged { AreLogged (Some self.now.derivations) rules.now }
         ensures { IfOk result (IsFor rules.now (all_of self.now.derivations).relations at) }
     {
-        let relation = self.number_of(alloc, rules.rule(at.rule))?;
+        let rule = rules.rule(at.rule);
+        let key = key_of(alloc, &rule.0, &rule.1)?;
         Ok(ChainStep {
             place: at.place,
-            relation,
+            relation: self.number_of(&key, rule),
             forward: true,
         })
     }
@@ -76,7 +86,8 @@ impl Facts {
         rules: &KeptRules,
         trace: &[Applied],
     ) -> Result<Vec<ChainStep>, NoMemory>
-        requires { (u : Letters) × (v : Letters) × LeadBy rules.now u trace.now v }
+        requires lead { (u : Letters) × (v : Letters) × LeadBy rules.now u trace.now v }
+        requires logged { AreLogged (Some self.now.derivations) rules.now }
         ensures { IfOk result (λ steps. (u v : Letters) → LeadBy rules.now u trace.now v
             → LeadTo (all_of self.now.derivations) u (steps_of steps.items) v) }
     {
@@ -96,10 +107,13 @@ impl Facts {
         steps: Vec<ChainStep>,
     ) -> Result<(), NoMemory>
         requires { LeadTo (all_of self.old.derivations) left.now (steps_of steps.items) right.now }
-        ensures { OnOk result (Grows (Some self.old.derivations) (Some self.new.derivations)) }
+        ensures grows { OnOk result
+            (Grows (Some self.old.derivations) (Some self.new.derivations)) }
+        ensures logged { OnOk result
+            (IsLogged (Some self.new.derivations) (left.now, right.now)) }
     {
         let key = key_of(alloc, left, right)?;
-        if self.likely.contains_key(&key) {
+        if self.is_found(&key, left, right) {
             return Ok(());
         }
         let number = self.derivations.len();
@@ -174,6 +188,7 @@ impl Log {
         rules: &KeptRules,
         word: &Word,
     ) -> Result<(Word, Vec<ChainStep>), NoMemory>
+        requires { AreLogged self.now rules.now }
         ensures reached { IfOk result (λ r. Reduces (Listed rules.now) word.now r.0) }
         ensures reduced { IfOk result (λ r. IsReduced (Listed rules.now) r.0) }
         ensures shown { IfOk result (λ r. Shows self.now word.now r.1.items r.0) }
@@ -198,7 +213,8 @@ impl Log {
         steps: Vec<ChainStep>,
     ) -> Result<(), NoMemory>
         requires { Shows self.old left.now steps.items right.now }
-        ensures { OnOk result (Grows self.old self.new) }
+        ensures grows { OnOk result (Grows self.old self.new) }
+        ensures logged { OnOk result (IsLogged self.new (left.now, right.now)) }
     {
         if let Some(facts) = &mut self.facts {
             facts.push(alloc, left, right, steps)?;
@@ -216,6 +232,7 @@ impl Log {
         back: &[ChainStep],
         on: &[ChainStep],
     ) -> Result<Vec<ChainStep>, NoMemory>
+        requires { IsLogged self.now pair.now }
         ensures { IfOk result (λ steps. (left right : Letters)
             → Shows self.now (read_sides forward pair.now).0 back.now left
             → Shows self.now (read_sides forward pair.now).1 on.now right
@@ -224,10 +241,10 @@ impl Log {
         let Some(facts) = &self.facts else {
             return Ok(Vec::new(alloc));
         };
-        let relation = facts.number_of(alloc, pair)?;
+        let key = key_of(alloc, &pair.0, &pair.1)?;
         let step = ChainStep {
             place: 0,
-            relation,
+            relation: facts.number_of(&key, pair),
             forward,
         };
         around(alloc, back, &[step], on)
@@ -248,6 +265,8 @@ impl Log {
         requires first { shared ≤ length first.now.0 }
         requires second { shared ≤ length second.now.0 }
         requires overlaps { overlaps_by first.now.0 second.now.0 shared }
+        requires first_logged { IsLogged self.now first.now }
+        requires second_logged { IsLogged self.now second.now }
         ensures { IfOk result (λ steps. (left right : Letters)
             → Shows self.now (critical_pair first.now second.now shared).0 back.now left
             → Shows self.now (critical_pair first.now second.now shared).1 on.now right
@@ -256,14 +275,16 @@ impl Log {
         let Some(facts) = &self.facts else {
             return Ok(Vec::new(alloc));
         };
+        let first_key = key_of(alloc, &first.0, &first.1)?;
+        let second_key = key_of(alloc, &second.0, &second.1)?;
         let up = ChainStep {
             place: 0,
-            relation: facts.number_of(alloc, first)?,
+            relation: facts.number_of(&first_key, first),
             forward: false,
         };
         let down = ChainStep {
             place: first.0.len() - shared,
-            relation: facts.number_of(alloc, second)?,
+            relation: facts.number_of(&second_key, second),
             forward: true,
         };
         around(alloc, back, &[up, down], on)

@@ -2,7 +2,7 @@
 ghost use Rattle.std.specs.Prelude.{◌≡◌, ℕ, ◌+◌, ◌-◌, ◌*◌, ◌<◌, ◌≤◌, [], ◌∷◌, ◌++◌, length, IfOk, OnOk, IsTrue, ◌↔◌};
 ghost use Rattle.std.specs.List.Sorted.{IsPermutation};
 ghost use Rattle.knuth_bendix.specs.Overlaps.{AreJoined, AreShort, Gains, HasLength, IsJoinedBy, IsOverlap, ReducesTo, critical_pair, overlaps_by, rule_at};
-ghost use Rattle.knuth_bendix.specs.Logs.{Grows, Shows};
+ghost use Rattle.knuth_bendix.specs.Logs.{AreLogged, Grows, KeepsLog, LogsHeld, Shows};
 
 use crate::equations::Equations;
 use crate::lengths::Lengths;
@@ -76,6 +76,7 @@ fn reduced_pair(
     requires shared_second { shared ≤ length (rule_at rules.now second).0 }
     requires overlaps { overlaps_by (rule_at rules.now first).0 (rule_at rules.now second).0
         shared }
+    requires logged { AreLogged log.now rules.now }
     ensures reduces { IfOk result (λ r. ReducesTo rules.now first second shared r.0 r.1) }
     ensures shown { IfOk result (λ r. Shows log.now r.0 r.2.items r.1) }
 {
@@ -103,12 +104,14 @@ fn push_different(
     equations: &mut Equations,
     log: &mut Log,
 ) -> Result<(), NoMemory>
-    requires { Shows log.old left steps.items right }
+    requires shown { Shows log.old left steps.items right }
+    requires logged { AreLogged log.old equations.old }
     ensures same { OnOk result (left ≡ right → equations.new ≡ equations.old) }
     ensures different { OnOk result
         ((left ≡ right → ⊥)
         → IsPermutation (equations.old ++ (left, right) ∷ []) equations.new) }
     ensures grows { OnOk result (Grows log.old log.new) }
+    ensures logged { OnOk result (AreLogged log.new equations.new) }
 {
     if left.letters() != right.letters() {
         log.push(alloc, &left, &right, steps)?;
@@ -134,13 +137,14 @@ fn join_overlap(
     requires shared_second { shared ≤ length (rule_at rules.now second).0 }
     requires overlaps { overlaps_by (rule_at rules.now first).0 (rule_at rules.now second).0
         shared }
+    requires held { LogsHeld log.old rules.now equations.old }
     ensures gains { OnOk result ((lengths : Lengths)
         → IsOverlap lengths (rule_at rules.now first) (rule_at rules.now second) shared
         → Gains lengths rules.now equations.old equations.new 1) }
     ensures joined { OnOk result (IsJoinedBy rules.now equations.new
         (critical_pair (rule_at rules.now first) (rule_at rules.now second) shared).0
         (critical_pair (rule_at rules.now first) (rule_at rules.now second) shared).1) }
-    ensures grows { OnOk result (Grows log.old log.new) }
+    ensures logged { OnOk result (KeepsLog log.old log.new rules.now equations.new) }
 {
     let (left, right, steps) = reduced_pair(alloc, rules, first, second, shared, log)?;
     push_different(alloc, left, right, steps, equations, log)?;
@@ -161,11 +165,12 @@ pub fn join_overlaps(
 ) -> Result<(), NoMemory>
     requires first { first < length rules.now }
     requires second { second < length rules.now }
+    requires held { LogsHeld log.old rules.now equations.old }
     ensures gains { OnOk result (Gains lengths rules.now equations.old equations.new
         (length (rule_at rules.now first).0)) }
     ensures joined { OnOk result (AreJoined lengths rules.now equations.new
         (rule_at rules.now first) (rule_at rules.now second)) }
-    ensures grows { OnOk result (Grows log.old log.new) }
+    ensures logged { OnOk result (KeepsLog log.old log.new rules.now equations.new) }
 {
     let shortest = rules.rule(first).0.len().min(rules.rule(second).0.len());
     for shared in 1..shortest {
@@ -186,7 +191,8 @@ pub fn join_all(
     equations: &mut Equations,
     log: &mut Log,
 ) -> Result<(), NoMemory>
-    requires { newest < length rules.now }
+    requires newest { newest < length rules.now }
+    requires held { LogsHeld log.old rules.now equations.old }
     ensures gains { OnOk result ((most : ℕ) → AreShort most rules.now
         → Gains lengths rules.now equations.old equations.new (length rules.now * (most + most))) }
     ensures joined { OnOk result ((other : ℕ) → other < length rules.now
@@ -194,7 +200,7 @@ pub fn join_all(
         (rule_at rules.now other)
         × AreJoined lengths rules.now equations.new (rule_at rules.now other)
         (rule_at rules.now newest)) }
-    ensures grows { OnOk result (Grows log.old log.new) }
+    ensures logged { OnOk result (KeepsLog log.old log.new rules.now equations.new) }
 {
     for other in 0..rules.len() {
         join_overlaps(alloc, rules, newest, other, lengths, equations, log)?;

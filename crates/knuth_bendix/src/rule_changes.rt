@@ -3,7 +3,7 @@ ghost use Rattle.std.specs.Prelude.{◌≡◌, ℕ, ◌<◌, length, IfOk, OnOk}
 ghost use Rattle.theory.specs.ShortLex.{◌≺◌};
 ghost use Rattle.knuth_bendix.specs.Changes.{AddsRule, IsDone, Joins, Rewrites};
 ghost use Rattle.knuth_bendix.specs.Overlaps.{rule_at};
-ghost use Rattle.knuth_bendix.specs.Logs.{Grows, Shows};
+ghost use Rattle.knuth_bendix.specs.Logs.{AreLogged, Grows, IsLogged, KeepsLog, LogsHeld, LogsRule, Shows};
 ghost use Rattle.theory.specs.Completion.{IsReduced, Listed, Reduces};
 
 use crate::equations::Equations;
@@ -24,9 +24,12 @@ fn reduce_right(
     rule: &(Word, Word),
     log: &mut Log,
 ) -> Result<Word, NoMemory>
+    requires rules { AreLogged log.old rules.now }
+    requires rule { IsLogged log.old rule.now }
     ensures reached { IfOk result (λ w. Reduces (Listed rules.now) rule.now.1 w) }
     ensures reduced { IfOk result (λ w. IsReduced (Listed rules.now) w) }
     ensures grows { OnOk result (Grows log.old log.new) }
+    ensures logged { IfOk result (λ w. IsLogged log.new (rule.now.0, w)) }
 {
     let (right, on) = log.reduce(alloc, rules, &rule.1)?;
     let steps = log.across(alloc, rule, true, &[], on.as_slice())?;
@@ -44,11 +47,13 @@ fn rewrite_right(
 ) -> Result<(), NoMemory>
     requires place { place < length rules.old }
     requires newest { newest < length rules.old }
+    requires logged { AreLogged log.old rules.old }
     ensures rewrites { OnOk result (Rewrites rules.old rules.new) }
     ensures others { OnOk result ((i : ℕ) → i < length rules.old → (i ≡ place → ⊥)
         → rule_at rules.new i ≡ rule_at rules.old i) }
     ensures done { OnOk result (IsDone (rule_at rules.old newest).0 rules.old rules.new place) }
     ensures grows { OnOk result (Grows log.old log.new) }
+    ensures logged { OnOk result (AreLogged log.new rules.new) }
 {
     if has_factor(&rules.rule(place).1, &rules.rule(newest).0) {
         let right = reduce_right(alloc, rules, rules.rule(place), log)?;
@@ -64,11 +69,13 @@ fn rewrite_rights(
     newest: usize,
     log: &mut Log,
 ) -> Result<(), NoMemory>
-    requires { newest < length rules.old }
+    requires newest { newest < length rules.old }
+    requires logged { AreLogged log.old rules.old }
     ensures rewrites { OnOk result (Rewrites rules.old rules.new) }
     ensures done { OnOk result ((i : ℕ) → i < length rules.new
         → IsDone (rule_at rules.old newest).0 rules.old rules.new i) }
     ensures grows { OnOk result (Grows log.old log.new) }
+    ensures logged { OnOk result (AreLogged log.new rules.new) }
 {
     for place in 0..rules.len() {
         rewrite_right(alloc, rules, place, newest, log)?;
@@ -88,10 +95,12 @@ fn add_rule(
     equations: &mut Equations,
     log: &mut Log,
 ) -> Result<KeptRules, NoMemory>
-    requires { right ≺ left }
+    requires falls { right ≺ left }
+    requires rule { IsLogged log.old (left, right) }
+    requires held { LogsHeld log.old rules equations.old }
     ensures adds { IfOk result (λ new. AddsRule length left right rules equations.old new
         equations.new) }
-    ensures grows { OnOk result (Grows log.old log.new) }
+    ensures logged { IfOk result (λ new. KeepsLog log.old log.new new equations.new) }
 {
     let (mut rules, gone) = rules.add(left, right)?;
     equations.extend(gone)?;
@@ -113,7 +122,9 @@ fn log_rule(
 ) -> Result<(), NoMemory>
     requires down { Shows log.old pair.now.0 down.now left.now }
     requires on { Shows log.old pair.now.1 on.now right.now }
-    ensures { OnOk result (Grows log.old log.new) }
+    requires logged { IsLogged log.old pair.now }
+    ensures grows { OnOk result (Grows log.old log.new) }
+    ensures rule { OnOk result (LogsRule log.new left.now right.now) }
 {
     match shortlex(left, right) {
         Ordering::Equal => Ok(()),
@@ -135,11 +146,14 @@ fn reduce_both(
     pair: &(Word, Word),
     log: &mut Log,
 ) -> Result<(Word, Word), NoMemory>
+    requires rules { AreLogged log.old rules.now }
+    requires pair { IsLogged log.old pair.now }
     ensures down_left { IfOk result (λ r. Reduces (Listed rules.now) pair.now.0 r.0) }
     ensures down_right { IfOk result (λ r. Reduces (Listed rules.now) pair.now.1 r.1) }
     ensures end_left { IfOk result (λ r. IsReduced (Listed rules.now) r.0) }
     ensures end_right { IfOk result (λ r. IsReduced (Listed rules.now) r.1) }
     ensures grows { OnOk result (Grows log.old log.new) }
+    ensures rule { IfOk result (λ r. LogsRule log.new r.0 r.1) }
 {
     let (left, down) = log.reduce(alloc, rules, &pair.0)?;
     let (right, on) = log.reduce(alloc, rules, &pair.1)?;
@@ -166,9 +180,11 @@ pub fn join(
     equations: &mut Equations,
     log: &mut Log,
 ) -> Result<KeptRules, NoMemory>
+    requires pair { IsLogged log.old pair.now }
+    requires held { LogsHeld log.old rules equations.old }
     ensures joins { IfOk result (λ new. Joins length pair.now.0 pair.now.1 rules equations.old new
         equations.new) }
-    ensures grows { OnOk result (Grows log.old log.new) }
+    ensures logged { IfOk result (λ new. KeepsLog log.old log.new new equations.new) }
 {
     let (left, right) = reduce_both(alloc, &rules, pair, log)?;
     match shortlex(&left, &right) {

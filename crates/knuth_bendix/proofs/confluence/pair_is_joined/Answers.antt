@@ -1,6 +1,7 @@
 use Rattle.std.proofs.Common.{List, length, subst}
 use Rattle.theory.specs.Word.{Word}
 use Rattle.knuth_bendix.specs.Overlaps.{Gains, rule_at}
+use Rattle.knuth_bendix.proofs.LogLaws.{none_held}
 use Rattle.knuth_bendix.proofs.OverlapSteps.{tested_pair}
 use Rattle.knuth_bendix.proofs.confluence.pair_is_joined.Goals as goal
 
@@ -11,3 +12,6 @@ returns c =
     c.is_empty.ensures
     (subst (λ (es : List (Word × Word)). Gains c.args.lengths c.args.rules.now es c.join_overlaps.new.equations most) c.new-equations.ensures c.in_ok-join_overlaps.ensures.gains)
     c.in_ok-join_overlaps.ensures.joined
+
+pub join_overlaps-requires-clause-held : goal.join_overlaps-requires-clause-held
+join_overlaps-requires-clause-held c = none_held c.none-log.result c.args.rules.now c.new-equations.result c.none-log.ensures

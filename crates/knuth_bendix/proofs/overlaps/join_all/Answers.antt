@@ -1,17 +1,17 @@
 use Rattle.std.proofs.Common.{◌≡◌, length, arith}
-use Rattle.knuth_bendix.proofs.LogLaws.{grows_after}
+use Rattle.knuth_bendix.proofs.LogLaws.{grows_after, keeps_after}
 use Rattle.knuth_bendix.proofs.OverlapSteps.{with_end, with_step}
 use Rattle.knuth_bendix.proofs.overlaps.join_all.Goals as goal
 
 pub loop-other-preserved : goal.loop-other-preserved
 loop-other-preserved c = record {
-  grows =
-      grows_after c.args.log.now c.join_overlaps.new.log c.join_overlaps-in-loop-other.new.log
-      (grows_after c.args.log.now c.loop-other.log c.join_overlaps.new.log c.loop-other.invariant.grows c.in_ok-join_overlaps.ensures.grows)
-      c.in_ok-join_overlaps-2.ensures.grows;
+  logged =
+      keeps_after c.args.log.now c.join_overlaps.new.log c.join_overlaps-in-loop-other.new.log c.args.rules.now c.join_overlaps-in-loop-other.new.equations
+      (grows_after c.args.log.now c.loop-other.log c.join_overlaps.new.log c.loop-other.invariant.logged.grows c.in_ok-join_overlaps.ensures.logged.grows)
+      c.in_ok-join_overlaps-2.ensures.logged;
   joined =
       with_step c.args.lengths c.args.rules.now c.args.equations.now c.loop-other.equations c.join_overlaps.new.equations c.join_overlaps-in-loop-other.new.equations
-      c.args.newest c.loop-other.other c.requires (omega arith) c.loop-other.invariant.joined
+      c.args.newest c.loop-other.other c.requires.newest (omega arith) c.loop-other.invariant.joined
       c.in_ok-join_overlaps.ensures.gains c.in_ok-join_overlaps.ensures.joined c.in_ok-join_overlaps-2.ensures.gains c.in_ok-join_overlaps-2.ensures.joined;
 }
 

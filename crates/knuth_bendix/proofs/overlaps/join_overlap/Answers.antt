@@ -1,3 +1,4 @@
+use Rattle.knuth_bendix.proofs.LogLaws.{all_still_logged}
 use Rattle.knuth_bendix.proofs.OverlapSteps.{overlap_gains, overlap_joined}
 use Rattle.knuth_bendix.proofs.overlaps.join_overlap.Goals as goal
 
@@ -12,3 +13,13 @@ returns-clause-joined c =
     overlap_joined c.args.rules.now c.args.equations.now c.push_different.new.equations c.args.first c.args.second c.args.shared c.in_ok-left.left c.in_ok-left.right
     c.in_ok-left.ensures.reduces
     (record { same = c.in_ok-push_different.ensures.same; different = c.in_ok-push_different.ensures.different })
+
+pub returns-clause-logged : goal.returns-clause-logged
+returns-clause-logged c =
+    record {
+      grows = c.in_ok-push_different.ensures.grows;
+      held = record {
+        each_rule = all_still_logged c.args.log.now c.push_different.new.log c.args.rules.now c.in_ok-push_different.ensures.grows c.requires.held.each_rule;
+        each_equation = c.in_ok-push_different.ensures.logged;
+      };
+    }

@@ -1,6 +1,7 @@
-use Rattle.std.proofs.Common.{refl, ◌+◌, List, sym, subst, subst₂, arith}
-use Rattle.knuth_bendix.specs.Logs.{Grows}
-use Rattle.knuth_bendix.proofs.LogLaws.{grows_after}
+use Rattle.std.proofs.Common.{refl, ◌+◌, List, Option, sym, subst, subst₂, arith}
+use Rattle.chains.specs.Derivations.{Derived}
+use Rattle.knuth_bendix.specs.Logs.{KeepsLog}
+use Rattle.knuth_bendix.proofs.LogLaws.{keeps_after}
 use Rattle.knuth_bendix.proofs.OverlapSteps.{IsJoinedTo, joined_elsewhere, joined_there}
 use Rattle.reduced_automaton.proofs.Standing.{rule_read}
 use Rattle.theory.specs.Word.{Word}
@@ -13,11 +14,14 @@ loop-shared-preserved c =
     let Joined : List (Word × Word) → Type 0 = λ es. IsJoinedTo c.args.lengths c.args.rules.now c.args.equations.now es c.args.first c.args.second (c.loop-shared.shared + 1) in
     let first = rule_read c.args.rules.now c.args.rules.now c.args.first c.rule-in-loop-shared.result.now refl c.requires.first c.rule-in-loop-shared.ensures.rule in
     let second = rule_read c.args.rules.now c.args.rules.now c.args.second c.rule-in-loop-shared-2.result.now refl c.requires.second c.rule-in-loop-shared-2.ensures.rule in
+    let Keeps : Option Derived → List (Word × Word) → Type 0 = λ log es. KeepsLog c.args.log.now log c.args.rules.now es in
     record {
-      grows = elim c.if-is_overlap.branch [
+      logged = elim c.if-is_overlap.branch [
         | then-is_overlap+in_ok-join_overlap w ↦
-            subst (λ log. Grows c.args.log.now log) (sym w.log-is) (grows_after c.args.log.now c.loop-shared.log w.join_overlap.new.log c.loop-shared.invariant.grows w.in_ok-join_overlap.ensures.grows)
-        | else-is_overlap w ↦ subst (λ log. Grows c.args.log.now log) (sym w.log-is) c.loop-shared.invariant.grows
+            subst₂ Keeps (sym w.log-is) (sym w.equations-is)
+            (keeps_after c.args.log.now c.loop-shared.log w.join_overlap.new.log c.args.rules.now w.join_overlap.new.equations c.loop-shared.invariant.logged.grows
+            w.in_ok-join_overlap.ensures.logged)
+        | else-is_overlap w ↦ subst₂ Keeps (sym w.log-is) (sym w.equations-is) c.loop-shared.invariant.logged
       ];
       joined = elim c.if-is_overlap.branch [
         | then-is_overlap+in_ok-join_overlap w ↦

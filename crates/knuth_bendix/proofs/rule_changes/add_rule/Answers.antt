@@ -1,8 +1,12 @@
-use Rattle.std.proofs.Common.{◌≡◌, ◌-◌, ◌++◌, ◌∷◌, [], List, length, length-append, not, refl, ap, subst, arith}
+use Rattle.std.proofs.Common.{◌≡◌, ◌-◌, ◌++◌, ◌∷◌, [], List, length, length-append, not, refl, sym, ap, subst, arith}
 use Rattle.std.specs.List.{filter}
 use Rattle.std.specs.List.Sorted.{IsPermutation}
+use Rattle.std.proofs.lemmas.List.Elements.{All-append, All-filter, All-push}
+use Rattle.std.proofs.lemmas.List.Sorted.{All-permutation}
 use Rattle.theory.specs.Word.{Word}
 use Rattle.reduced_automaton.specs.Rules.{stands_in}
+use Rattle.knuth_bendix.specs.Logs.{AreLogged, IsLogged}
+use Rattle.knuth_bendix.proofs.LogLaws.{all_still_logged, keeps_after}
 use Rattle.knuth_bendix.proofs.RuleChanges.{adds_rule}
 use Rattle.knuth_bendix.proofs.rule_changes.add_rule.Goals as goal
 
@@ -16,3 +20,28 @@ returns-clause-adds c =
     (record { kept_is = refl; moved = subst (λ (es : List (Word × Word)). IsPermutation (c.args.equations.now ++ es) c.extend.new.self) c.in_ok-rules.ensures.gone c.in_ok-extend.ensures }) newest
     c.in_ok-rules.ensures.kept c.in_ok-rewrite_rights.ensures.rewrites c.in_ok-rewrite_rights.ensures.done c.in_ok-join_all.ensures.gains
     c.in_ok-join_all.ensures.joined
+
+pub rewrite_rights-requires-clause-logged : goal.rewrite_rights-requires-clause-logged
+rewrite_rights-requires-clause-logged c =
+    let kept : List (Word × Word) = filter (λ r. not (stands_in c.args.left r.0)) c.args.rules in
+    subst (AreLogged c.args.log.now) (sym c.in_ok-rules.ensures.kept)
+    (All-push (IsLogged c.args.log.now) kept (c.args.left, c.args.right)
+    (All-filter (λ r. not (stands_in c.args.left r.0)) (IsLogged c.args.log.now) c.args.rules c.requires.held.each_rule) c.requires.rule)
+
+pub join_all-requires-clause-held : goal.join_all-requires-clause-held
+join_all-requires-clause-held c =
+    let gone : AreLogged c.args.log.now c.in_ok-rules.gone.items =
+    subst (AreLogged c.args.log.now) (sym c.in_ok-rules.ensures.gone)
+    (All-filter (λ r. stands_in c.args.left r.0) (IsLogged c.args.log.now) c.args.rules c.requires.held.each_rule) in
+    let between : AreLogged c.args.log.now c.extend.new.self =
+    All-permutation (IsLogged c.args.log.now) (c.args.equations.now ++ c.in_ok-rules.gone.items) c.extend.new.self c.in_ok-extend.ensures
+    (All-append (IsLogged c.args.log.now) c.args.equations.now c.in_ok-rules.gone.items c.requires.held.each_equation gone) in
+    record {
+      each_rule = c.in_ok-rewrite_rights.ensures.logged;
+      each_equation = all_still_logged c.args.log.now c.rewrite_rights.new.log c.extend.new.self c.in_ok-rewrite_rights.ensures.grows between;
+    }
+
+pub returns-clause-logged : goal.returns-clause-logged
+returns-clause-logged c =
+    keeps_after c.args.log.now c.rewrite_rights.new.log c.join_all.new.log c.rewrite_rights.new.rules c.join_all.new.equations
+    c.in_ok-rewrite_rights.ensures.grows c.in_ok-join_all.ensures.logged

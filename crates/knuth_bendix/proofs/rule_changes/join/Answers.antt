@@ -1,11 +1,13 @@
-use Rattle.std.proofs.lemmas.Result.{IfOk-weaker, on_ok_weaker}
-use Rattle.knuth_bendix.proofs.LogLaws.{grows_after}
+use Rattle.std.proofs.Common.{sym}
+use Rattle.std.proofs.lemmas.Result.{IfOk-weaker}
+use Rattle.knuth_bendix.specs.Logs.{KeepsLog}
+use Rattle.knuth_bendix.proofs.LogLaws.{keeps_after, keeps_none, still_held}
 use Rattle.knuth_bendix.specs.Changes.{AddsRule, Joins}
 use Rattle.knuth_bendix.proofs.RuleChanges.{greater_first, joins_equal, joins_greater}
 use Rattle.knuth_bendix.proofs.rule_changes.join.Goals as goal
 
-pub add_rule-requires-in-Greater : goal.add_rule-requires-in-Greater
-add_rule-requires-in-Greater c = greater_first c.in_ok-left.left c.in_ok-left.right c.in-Greater.ensures
+pub add_rule-requires-in-Greater-clause-falls : goal.add_rule-requires-in-Greater-clause-falls
+add_rule-requires-in-Greater-clause-falls c = greater_first c.in_ok-left.left c.in_ok-left.right c.in-Greater.ensures
 
 pub returns-in-Equal-clause-joins : goal.returns-in-Equal-clause-joins
 returns-in-Equal-clause-joins c =
@@ -33,11 +35,35 @@ returns-in-Greater-clause-joins c =
     new c.add_rule-in-Greater.new.equations c.in-Greater.ensures adds)
     c.add_rule-in-Greater.ensures.adds
 
-pub returns-in-Less-clause-grows : goal.returns-in-Less-clause-grows
-returns-in-Less-clause-grows c =
-    on_ok_weaker c.add_rule.result (grows_after c.args.log.now c.reduce_both.new.log c.add_rule.new.log c.in_ok-left.ensures.grows) c.add_rule.ensures.grows
+pub add_rule-requires-clause-rule : goal.add_rule-requires-clause-rule
+add_rule-requires-clause-rule c = c.in_ok-left.ensures.rule.less (sym c.in-Less.ensures)
 
-pub returns-in-Greater-clause-grows : goal.returns-in-Greater-clause-grows
-returns-in-Greater-clause-grows c =
-    on_ok_weaker c.add_rule-in-Greater.result (grows_after c.args.log.now c.reduce_both.new.log c.add_rule-in-Greater.new.log c.in_ok-left.ensures.grows)
-    c.add_rule-in-Greater.ensures.grows
+pub add_rule-requires-in-Greater-clause-rule : goal.add_rule-requires-in-Greater-clause-rule
+add_rule-requires-in-Greater-clause-rule c = c.in_ok-left.ensures.rule.greater (greater_first c.in_ok-left.left c.in_ok-left.right c.in-Greater.ensures)
+
+pub add_rule-requires-clause-held : goal.add_rule-requires-clause-held
+add_rule-requires-clause-held c =
+    still_held c.args.log.now c.reduce_both.new.log c.args.rules c.args.equations.now c.in_ok-left.ensures.grows c.requires.held
+
+pub add_rule-requires-in-Greater-clause-held : goal.add_rule-requires-in-Greater-clause-held
+add_rule-requires-in-Greater-clause-held c =
+    still_held c.args.log.now c.reduce_both.new.log c.args.rules c.args.equations.now c.in_ok-left.ensures.grows c.requires.held
+
+pub returns-in-Equal-clause-logged : goal.returns-in-Equal-clause-logged
+returns-in-Equal-clause-logged c =
+    keeps_after c.args.log.now c.reduce_both.new.log c.reduce_both.new.log c.args.rules c.args.equations.now c.in_ok-left.ensures.grows
+    (keeps_none c.reduce_both.new.log c.args.rules c.args.equations.now
+    (still_held c.args.log.now c.reduce_both.new.log c.args.rules c.args.equations.now c.in_ok-left.ensures.grows c.requires.held))
+
+pub returns-in-Less-clause-logged : goal.returns-in-Less-clause-logged
+returns-in-Less-clause-logged c =
+    IfOk-weaker c.add_rule.result (λ new. KeepsLog c.reduce_both.new.log c.add_rule.new.log new c.add_rule.new.equations)
+    (λ new. KeepsLog c.args.log.now c.add_rule.new.log new c.add_rule.new.equations)
+    (λ new. keeps_after c.args.log.now c.reduce_both.new.log c.add_rule.new.log new c.add_rule.new.equations c.in_ok-left.ensures.grows) c.add_rule.ensures.logged
+
+pub returns-in-Greater-clause-logged : goal.returns-in-Greater-clause-logged
+returns-in-Greater-clause-logged c =
+    IfOk-weaker c.add_rule-in-Greater.result (λ new. KeepsLog c.reduce_both.new.log c.add_rule-in-Greater.new.log new c.add_rule-in-Greater.new.equations)
+    (λ new. KeepsLog c.args.log.now c.add_rule-in-Greater.new.log new c.add_rule-in-Greater.new.equations)
+    (λ new. keeps_after c.args.log.now c.reduce_both.new.log c.add_rule-in-Greater.new.log new c.add_rule-in-Greater.new.equations c.in_ok-left.ensures.grows)
+    c.add_rule-in-Greater.ensures.logged

@@ -5,7 +5,11 @@ use Rattle.knuth_bendix.proofs.RuleChanges.{rewritten_start, rewritten_length, r
 use Rattle.knuth_bendix.proofs.rule_changes.rewrite_rights.Goals as goal
 
 pub loop-place-init : goal.loop-place-init
-loop-place-init c = record { rewritten = rewritten_start (rule_at c.args.rules.now c.args.newest).0 c.args.rules.now; grows = grows_none c.args.log.now }
+loop-place-init c = record {
+  rewritten = rewritten_start (rule_at c.args.rules.now c.args.newest).0 c.args.rules.now;
+  grows = grows_none c.args.log.now;
+  logged = c.requires.logged;
+}
 
 pub rewrite_right-requires-clause-place : goal.rewrite_right-requires-clause-place
 rewrite_right-requires-clause-place c =
@@ -18,8 +22,9 @@ rewrite_right-requires-clause-newest c =
 pub loop-place-preserved : goal.loop-place-preserved
 loop-place-preserved c = record {
   grows = grows_after c.args.log.now c.loop-place.log c.rewrite_right.new.log c.loop-place.invariant.grows c.in_ok-rewrite_right.ensures.grows;
+  logged = c.in_ok-rewrite_right.ensures.logged;
   rewritten =
-      rewritten_step c.args.rules.now c.loop-place.rules c.rewrite_right.new.rules c.args.newest c.loop-place.place c.requires (omega arith)
+      rewritten_step c.args.rules.now c.loop-place.rules c.rewrite_right.new.rules c.args.newest c.loop-place.place c.requires.newest (omega arith)
       c.loop-place.invariant.rewritten c.in_ok-rewrite_right.ensures.rewrites c.in_ok-rewrite_right.ensures.others c.in_ok-rewrite_right.ensures.done;
 }
 

@@ -1,7 +1,7 @@
-use Rattle.std.proofs.Common.{◌≡◌, ◌∙◌, ap, is_some}
-use Rattle.race.specs.declared.engines.Progress.TheVariants.{NoMemory}
-use Rattle.knuth_bendix.specs.Logs.{IsLogOf}
-use Rattle.knuth_bendix.proofs.SpelledChains.{settled_log}
+use Rattle.std.proofs.Common.{◌∙◌, List, ap, subst, sym}
+use Rattle.theory.specs.Word.{Word}
+use Rattle.knuth_bendix.specs.Logs.{LogsHeld}
+use Rattle.knuth_bendix.proofs.SpelledChains.{IsSettled, settled_log}
 use Rattle.knuth_bendix.specs.Runs.{CompletionRun}
 use Rattle.knuth_bendix.proofs.Turns.{Leaves, turn_leaves}
 use Rattle.knuth_bendix.proofs.completions.CompletionRacer.advance.Goals as goal
@@ -14,17 +14,20 @@ after_turn c =
     c.go_on-turn.ensures.turn c.left_by-rules.ensures
 
 settled : (c : goal.After-said-1)
-    → IsLogOf c.self.inside.presentation.presentation c.settle.new.log
-    × ((c.left_by-rules.result.1 ≡ NoMemory → ⊥) → is_some c.settle.new.log ≡ is_some c.self.inside.log)
+    → IsSettled c.self.inside.presentation.presentation c.self.inside.log c.settle.new.log c.left_by-rules.result.0 c.go_on-turn.new.equations c.left_by-rules.result.1
 settled c =
-    settled_log c.self.inside.presentation.presentation c.self.inside.log c.go_on-turn.new.log c.settle.new.log c.go_on-turn.result c.left_by-rules.result c.self.invariant.1
-    c.go_on-turn.ensures.grows c.left_by-rules.ensures c.settle.ensures.kept c.settle.ensures.lost
+    settled_log c.self.inside.presentation.presentation c.self.inside.log c.go_on-turn.new.log c.settle.new.log c.go_on-turn.new.equations c.go_on-turn.result
+    c.left_by-rules.result c.self.invariant.1 c.go_on-turn.ensures.logged c.left_by-rules.ensures c.settle.ensures.kept c.settle.ensures.lost
+
+pub go_on-turn-requires-clause-held : goal.go_on-turn-requires-clause-held
+go_on-turn-requires-clause-held c =
+    subst (λ (rs : List (Word × Word)). LogsHeld c.self.inside.log rs c.self.inside.equations) (sym c.replace-rules.ensures.value) c.self.invariant.2
 
 pub returns-clause-logged : goal.returns-clause-logged
-returns-clause-logged c = λ n. (settled c).1 n ∙ ap (λ (r : CompletionRun). r.logged) c.self.view_is
+returns-clause-logged c = λ n. (settled c).same n ∙ ap (λ (r : CompletionRun). r.logged) c.self.view_is
 
 pub invariant_of-self : goal.invariant_of-self
-invariant_of-self c = (record { elements = c.self.invariant.0.elements; run = (after_turn c).run }, (settled c).0)
+invariant_of-self c = (record { elements = c.self.invariant.0.elements; run = (after_turn c).run }, (settled c).log_of, (settled c).held)
 
 pub returns-clause-more : goal.returns-clause-more
 returns-clause-more c = (after_turn c).nearer

@@ -8,10 +8,10 @@ use Rattle.knuth_bendix.specs.Logs.{AreFor}
 use Rattle.knuth_bendix.proofs.LogLaws.{applied_within, for_leads, for_more, take_next}
 use Rattle.knuth_bendix.proofs.logs.Facts.steps_of.Goals as goal
 
-pub step_of-requires : goal.step_of-requires
-step_of-requires c =
+pub step_of-requires-clause-within : goal.step_of-requires-clause-within
+step_of-requires-clause-within c =
     let none : Applied = record { place = 0; rule = 0 } in
-    applied_within c.args.rules.now c.args.trace.now c.requires.0 c.requires.1 c.requires.2 c.loop-at.at-index (slice_index_or c.args.trace.now c.loop-at.at-index none)
+    applied_within c.args.rules.now c.args.trace.now c.requires.lead.0 c.requires.lead.1 c.requires.lead.2 c.loop-at.at-index (slice_index_or c.args.trace.now c.loop-at.at-index none)
     (slice_get-get_or c.args.trace.now c.loop-at.at-index none (omega arith))
 
 pub loop-at-preserved : goal.loop-at-preserved
