@@ -1,5 +1,5 @@
 -- What a completion logs, step by step.
-use Rattle.std.proofs.Common.{◌≡◌, ℕ, zero, suc, min, ◌+◌, ◌-◌, ◌<◌, ◌≤◌, Bool, true, false, List, [], ◌∷◌, ◌++◌, map, reverse, take, drop, length, get_or, set, refl, sym, ◌∙◌, ap, subst, subst₂, arith, append_assoc, Equal, Option, None, Some, slice_get, is_some, IsTrue, MatchOption, length-take, take-append-drop}
+use Rattle.std.proofs.Common.{◌≡◌, ℕ, zero, suc, min, ◌+◌, ◌-◌, ◌<◌, ◌≤◌, Bool, true, false, List, [], ◌∷◌, ◌++◌, map, reverse, take, drop, length, get_or, set, refl, sym, ◌∙◌, ap, subst, subst₂, arith, append_assoc, Equal, Option, None, Some, option_map, slice_get, is_some, IsTrue, MatchOption, length-take, take-append-drop}
 use Rattle.std.specs.List.{Contains}
 use Rattle.std.specs.List.Sorted.{IsPermutation}
 use Rattle.std.proofs.lemmas.List.{nil_from_length, append-nil, get_or_default, map-append}
@@ -18,6 +18,7 @@ use Rattle.chains.specs.declared.derivations.Fact.{Fact}
 use Rattle.chains.specs.declared.steps.ChainStep.{ChainStep}
 use Rattle.reduced_automaton.specs.Traces.{LeadBy, as_relations, step_of}
 use Rattle.reduced_automaton.specs.declared.traces.Applied.{Applied}
+use Rattle.knuth_bendix.specs.declared.logs.Facts.{Facts}
 use Rattle.knuth_bendix.specs.Logs.{AreFor, AreLogged, Grows, IsFor, IsLogOf, IsLogged, KeepsLog, LogsHeld, LogsRule, Shows}
 use Rattle.knuth_bendix.specs.Overlaps.{critical_pair, overlaps_by, rule_at}
 use Rattle.knuth_bendix.specs.Runs.{AreShortRelations}
@@ -119,6 +120,11 @@ overlap_leads P first second shared m n one two overlaps is_first is_second =
     past zero w long = nil_from_length w (omega arith)
     past (suc k) [] long = refl
     past (suc k) (a ∷ w) long = past k w (omega arith)
+
+-- where something is logged
+pub log_is : (log : Option Derived) (held : Option Facts) (facts : Facts) → option_map (λ (f : Facts). f.derivations) held ≡ log → held ≡ Some facts
+    → log ≡ Some facts.derivations
+log_is log held facts view is = sym view ∙ ap (λ (o : Option Facts). option_map (λ (f : Facts). f.derivations) o) is
 
 -- what is shown, where something is logged or nothing
 pub shows_nothing : (log : Option Derived) (u : Word) (steps : List ChainStep) (v : Word) → log ≡ None → Shows log u steps v
