@@ -14,8 +14,8 @@ use Rattle.coincidence.specs.Live.{IsOn, IsLiveGraph, count_on}
 use Rattle.coincidence.specs.Marks.{AreCarried}
 use Rattle.coincidence.specs.Pending.{IsAmong}
 use Rattle.coincidence.specs.Absorbing.{Extends, IsSameShape, IsMet, IsAbsorbed}
-use Rattle.coincidence.specs.Joining.{AreAllOne, AreLed, AreOn, AreOne, AreTaken, IsTaken, IsMarkMoved, IsJoined}
-use Rattle.coincidence.specs.Lost.{IsLed, IsLedAt, Passes}
+use Rattle.coincidence.specs.Joining.{AreAllOne, HaveClasses, AreOn, AreOne, AreTaken, IsTaken, IsMarkMoved, IsJoined}
+use Rattle.coincidence.specs.Replaced.{AreReplaced, IsKnown, StaysInClass}
 use Rattle.coincidence.specs.declared.pending.Pending.{Pending}
 use Rattle.coincidence.specs.declared.pending.Pending.TheVariants.{NewEdge}
 use Rattle.coincidence.proofs.FollowsLaws.{path_more}
@@ -28,16 +28,16 @@ use Rattle.coincidence.proofs.PendingLaws.{among_push, among_before, among_last}
 use Rattle.coincidence.proofs.AbsorbLaws.{same_shape, shape_trans}
 
 -- pairs that are taken
-pub record IsTaking (was is : List Bool) (class into : List ℕ) (queue rest : List (ℕ × ℕ)) : Type 0 where
-  pub led : IsLed was is class into
+pub record IsTaking (was is : List Bool) (class replaced_by : List ℕ) (queue rest : List (ℕ × ℕ)) : Type 0 where
+  pub replaced : AreReplaced was is class replaced_by
   pub left : Extends rest queue
   pub other : (p q : ℕ) → IsAmong (p, q) queue → IsAmong (p, q) rest ⊎ (slice_index class p ≡ slice_index class q)
 
 abbrev pub AreTaking : List Bool → List ℕ → List ℕ → List (ℕ × ℕ) → List (ℕ × ℕ) → Type 0
-AreTaking is old new queue rest = (was : List Bool) (class : List ℕ) → IsLed was is class old → AreOn was queue → IsTaking was is class new queue rest
+AreTaking is old new queue rest = (was : List Bool) (class : List ℕ) → AreReplaced was is class old → AreOn was queue → IsTaking was is class new queue rest
 
-pub taking_start : (is : List Bool) (into : List ℕ) (queue : List (ℕ × ℕ)) → AreTaking is into into queue queue
-taking_start is into queue = λ was class led on. record { led = led; left = λ x h. h; other = λ p q h. inl h }
+pub taking_start : (is : List Bool) (replaced_by : List ℕ) (queue : List (ℕ × ℕ)) → AreTaking is replaced_by replaced_by queue queue
+taking_start is replaced_by queue = λ was class replaced on. record { replaced = replaced; left = λ x h. h; other = λ p q h. inl h }
 
 -- the last pair is taken, and what is kept in place of its nodes is looked up
 module _ (is : List Bool) (old mid next new : List ℕ) (queue rest rest' : List (ℕ × ℕ)) (p q s t : ℕ) (pop : rest ≡ rest' ++ (p, q) ∷ []) (k : AreTaking is old mid queue rest) where
@@ -47,31 +47,31 @@ module _ (is : List Bool) (old mid next new : List ℕ) (queue rest rest' : List
   left : (was : List Bool) (class : List ℕ) → IsTaking was is class mid queue rest → Extends rest' queue
   left was class now = λ x h. now.left x (subst (λ z. IsAmong x z) (sym pop) (among_before x (p, q) rest' h))
 
-  pub first_led : AreLed is old queue → IsLedAt is mid p
-  first_led h = let now = k h.0 h.1 h.2 h.3 in (h.0, h.1, now.led, (h.3 p q (there h.0 h.1 now)).0)
+  pub first_replaced : HaveClasses is old queue → IsKnown is mid p
+  first_replaced h = let now = k h.0 h.1 h.2 h.3 in (h.0, h.1, now.replaced, (h.3 p q (there h.0 h.1 now)).0)
 
-  pub second_led : AreLed is old queue → Passes is mid next p s → IsLedAt is next q
-  second_led h first = let now = k h.0 h.1 h.2 h.3 in let on = h.3 p q (there h.0 h.1 now) in (h.0, h.1, (first h.0 h.1 now.led on.0).0, on.1)
+  pub second_replaced : HaveClasses is old queue → StaysInClass is mid next p s → IsKnown is next q
+  second_replaced h first = let now = k h.0 h.1 h.2 h.3 in let on = h.3 p q (there h.0 h.1 now) in (h.0, h.1, (first h.0 h.1 now.replaced on.0).0, on.1)
 
-  module _ (s_on : IsOn is s) (t_on : IsOn is t) (first : Passes is mid next p s) (second : Passes is next new q t) where
+  module _ (s_on : IsOn is s) (t_on : IsOn is t) (first : StaysInClass is mid next p s) (second : StaysInClass is next new q t) where
     record IsLooked (was : List Bool) (class : List ℕ) : Type 0 where
-      led : IsLed was is class new
+      replaced : AreReplaced was is class new
       s_is : s ≡ slice_index class p
       t_is : t ≡ slice_index class q
 
     looked : (was : List Bool) (class : List ℕ) → AreOn was queue → IsTaking was is class mid queue rest → IsLooked was class
     looked was class on now =
         let both = on p q (there was class now) in
-        let one = first was class now.led both.0 in
+        let one = first was class now.replaced both.0 in
         let two = second was class one.0 both.1 in
-        record { led = two.0; s_is = sym (two.0.own s s_on) ∙ one.2; t_is = sym (two.0.own t t_on) ∙ two.2 }
+        record { replaced = two.0; s_is = sym (two.0.own s s_on) ∙ one.2; t_is = sym (two.0.own t t_on) ∙ two.2 }
 
     pub taking_step : s ≡ t → AreTaking is old new queue rest'
-    taking_step same = λ was class led on.
-        let now = k was class led on in
+    taking_step same = λ was class replaced on.
+        let now = k was class replaced on in
         let l = looked was class on now in
         record {
-          led = l.led;
+          replaced = l.replaced;
           left = left was class now;
           other = λ n m h. elim (now.other n m h) [
             | inr one ↦ inr one
@@ -83,11 +83,11 @@ module _ (is : List Bool) (old mid next new : List ℕ) (queue rest rest' : List
         }
 
     pub taking_found : AreTaken is old new queue rest' s t
-    taking_found = λ was class led on.
-        let now = k was class led on in
+    taking_found = λ was class replaced on.
+        let now = k was class replaced on in
         let l = looked was class on now in
         record {
-          led = l.led;
+          replaced = l.replaced;
           there = (p, q, there was class now, l.s_is, l.t_is);
           left = left was class now;
           other = λ n m h. elim (now.other n m h) [
@@ -100,7 +100,7 @@ module _ (is : List Bool) (old mid next new : List ℕ) (queue rest rest' : List
         }
 
 pub taking_end : (is : List Bool) (old new : List ℕ) (queue rest : List (ℕ × ℕ)) → rest ≡ [] → AreTaking is old new queue rest → AreAllOne is old queue
-taking_end is old new queue rest e k = λ was class led on p q h. elim ((k was class led on).other p q h) [ inl there ↦ absurd (subst (λ z. IsAmong (p, q) z) e there) | inr one ↦ one ]
+taking_end is old new queue rest e k = λ was class replaced on p q h. elim ((k was class replaced on).other p q h) [ inl there ↦ absurd (subst (λ z. IsAmong (p, q) z) e there) | inr one ↦ one ]
 
 -- classes that the pairs of the queue make one
 pub data Joined (class : List ℕ) (queue : List (ℕ × ℕ)) : ℕ → ℕ → Type 0 where
@@ -169,7 +169,7 @@ meeting_means g x y class s t edges rx ry apart c (inr k) =
     }
 
 -- a merging under way: the graph of the classes, but for the pairs of the queue
-pub record IsJoining (old cur : Graph) (was is marked marks : List Bool) (before after : List Pending) (x y : ℕ) (at to : Option ℕ) (into : List ℕ) (queue : List (ℕ × ℕ)) : Type 0 where
+pub record IsJoining (old cur : Graph) (was is marked marks : List Bool) (before after : List Pending) (x y : ℕ) (at to : Option ℕ) (replaced_by : List ℕ) (queue : List (ℕ × ℕ)) : Type 0 where
   pub class : List ℕ
   pub classing : IsClassing old x y class
   pub alike : IsSameShape old cur
@@ -178,7 +178,7 @@ pub record IsJoining (old cur : Graph) (was is marked marks : List Bool) (before
   pub on : AreOn was queue
   pub meets : (p q : ℕ) → IsAmong (p, q) queue → IsMeeting old x y class (slice_index class p) (slice_index class q)
   pub one : Joined class queue (slice_index class x) (slice_index class y)
-  pub led : IsLed was is class into
+  pub replaced : AreReplaced was is class replaced_by
   pub live : (n : ℕ) → get_or is n false ≡ (get_or was n false && nat_eq (slice_index class n) n)
   pub carried : AreCarried class marked marks
   pub gone : to ≡ option_map (slice_index class) at
@@ -203,9 +203,9 @@ pub at_same : (f : ℕ → ℕ) (at : Option ℕ) → ((n : ℕ) → at ≡ Some
 at_same f None h = refl
 at_same f (Some n) h = ap (λ z. Some z) (sym (h n refl))
 
-pub joining_start : (k : ℕ) (g : Graph) (live marked : List Bool) (pending : List Pending) (x y : ℕ) (at : Option ℕ) (into : List ℕ) → IsGraph k g → IsLiveGraph g live → length marked ≡ length g
-    → IsOn live x → IsOn live y → ((n : ℕ) → at ≡ Some n → IsOn live n) → length live ≤ length into → IsJoining g g live live marked marked pending pending x y at at into ((x, y) ∷ [])
-joining_start k g live marked pending x y at into is lives shape hx hy here room = record {
+pub joining_start : (k : ℕ) (g : Graph) (live marked : List Bool) (pending : List Pending) (x y : ℕ) (at : Option ℕ) (replaced_by : List ℕ) → IsGraph k g → IsLiveGraph g live → length marked ≡ length g
+    → IsOn live x → IsOn live y → ((n : ℕ) → at ≡ Some n → IsOn live n) → length live ≤ length replaced_by → IsJoining g g live live marked marked pending pending x y at at replaced_by ((x, y) ∷ [])
+joining_start k g live marked pending x y at replaced_by is lives shape hx hy here room = record {
   class = class;
   classing = apart_classing k g x y class is (length-range_with_len 0 (length g)) own;
   alike = same_shape g;
@@ -220,7 +220,7 @@ joining_start k g live marked pending x y at into is lives shape hx hy here room
     | inr none ↦ absurd none
   ];
   one = pair (slice_index class x) (slice_index class y) x y (inl refl) refl refl;
-  led = record { shape = refl; room = room; own = λ n on. own n (inside n on); led = λ n on. inl on };
+  replaced = record { shape = refl; room = room; own = λ n on. own n (inside n on); replaced = λ n on. inl on };
   live = λ n. elim (cases_lt n (length g)) [
     | inl h ↦ sym (ap (λ z. get_or live n false && z) (ap (λ z. nat_eq z n) (own n h) ∙ eq_refl n) ∙ and_true (get_or live n false))
     | inr h ↦ let off : get_or live n false ≡ false = get_or_past live n false (omega (arith, h, lives.shape)) in off ∙ sym (ap (λ z. z && nat_eq (slice_index class n) n) off)
@@ -249,9 +249,9 @@ option_gone class class' f h None to to' e d = d ∙ ap (option_map f) e
 option_gone class class' f h (Some n) to to' e d = d ∙ ap (option_map f) e ∙ ap (λ z. Some z) (sym (h n))
 
 -- one pair of the queue is drawn
-module _ (old cur new : Graph) (was is marked marks moved : List Bool) (before after later : List Pending) (x y : ℕ) (at to to' : Option ℕ) (into found : List ℕ) (queue rest queued : List (ℕ × ℕ)) (s t lost kept : ℕ)
+module _ (old cur new : Graph) (was is marked marks moved : List Bool) (before after later : List Pending) (x y : ℕ) (at to to' : Option ℕ) (replaced_by found : List ℕ) (queue rest queued : List (ℕ × ℕ)) (s t lost kept : ℕ)
     (lives : IsLiveGraph old was) (rx : IsReached old x) (ry : IsReached old y)
-    (j : IsJoining old cur was is marked marks before after x y at to into queue) (takes : AreTaken is into found queue rest s t)
+    (j : IsJoining old cur was is marked marks before after x y at to replaced_by queue) (takes : AreTaken is replaced_by found queue rest s t)
     (ends : ((s ≡ lost) × (t ≡ kept)) ⊎ ((s ≡ kept) × (t ≡ lost))) (less : kept < lost) where
   class' : List ℕ
   class' = map (relabel lost kept) j.class
@@ -260,7 +260,7 @@ module _ (old cur new : Graph) (was is marked marks moved : List Bool) (before a
   index n = index_map (relabel lost kept) j.class n (relabel_zero lost kept (omega (arith, less)))
 
   taken : IsTaken was is j.class found queue rest s t
-  taken = takes was j.class j.led j.on
+  taken = takes was j.class j.replaced j.on
 
   meant : IsMeant old x y j.class s t
   meant =
@@ -394,23 +394,23 @@ module _ (old cur new : Graph) (was is marked marks moved : List Bool) (before a
   on_class m k = subst (IsOn was) (sym k.is_class) (lives.lives (slice_index (map (relabel lost kept) j.class) k.node) (classing'.reach k.node k.from))
 
   -- lost leads to kept
-  led' : IsLed was (set is lost false) (map (relabel lost kept) j.class) (set found lost kept)
-  led' = record {
-    shape = length-set is lost false ∙ j.led.shape;
-    room = omega (arith, length-set is lost false, length-set found lost kept, taken.led.room);
+  replaced' : AreReplaced was (set is lost false) (map (relabel lost kept) j.class) (set found lost kept)
+  replaced' = record {
+    shape = length-set is lost false ∙ j.replaced.shape;
+    room = omega (arith, length-set is lost false, length-set found lost kept, taken.replaced.room);
     own = λ n on. own n on (cases_eq n lost);
-    led = λ n h. go n h (cases_eq n lost);
+    replaced = λ n h. go n h (cases_eq n lost);
   }
     where
       within : lost < length found
-      within = omega (arith, on_within is lost lost_on, taken.led.room)
+      within = omega (arith, on_within is lost lost_on, taken.replaced.room)
 
       kept_is : slice_index (map (relabel lost kept) j.class) kept ≡ kept
       kept_is = index kept ∙ ap (relabel lost kept) both.kept_own ∙ relabel_other lost kept kept (λ d. absurd (omega (arith, d, less)))
 
       own : (n : ℕ) → IsOn (set is lost false) n → (n ≡ lost) ⊎ (n ≢ lost) → slice_index (map (relabel lost kept) j.class) n ≡ n
       own n on (inl e) = absurd (let off : false ≡ true = sym (get_or-set_same is lost false false (on_within is lost lost_on)) ∙ subst (IsOn (set is lost false)) e on in let none : ⊥ = cc in none)
-      own n on (inr d) = index n ∙ ap (relabel lost kept) (taken.led.own n (sym (get_or-set_other is lost n false false d) ∙ on)) ∙ relabel_other lost kept n d
+      own n on (inr d) = index n ∙ ap (relabel lost kept) (taken.replaced.own n (sym (get_or-set_other is lost n false false d) ∙ on)) ∙ relabel_other lost kept n d
 
       Goes : ℕ → Type 0
       Goes n = IsOn (set is lost false) n ⊎ ((slice_index (set found lost kept) n < n) × IsOn was (slice_index (set found lost kept) n) × (slice_index (map (relabel lost kept) j.class) (slice_index (set found lost kept) n) ≡ slice_index (map (relabel lost kept) j.class) n))
@@ -422,7 +422,7 @@ module _ (old cur new : Graph) (was is marked marks moved : List Bool) (before a
           inr (omega (arith, read, less, e), subst (IsOn was) (sym read) (lives.lives kept both.kept_reached), ap (slice_index (map (relabel lost kept) j.class)) read ∙ kept_is ∙ sym lost_is)
       go n h (inr d) =
           let read : slice_index (set found lost kept) n ≡ slice_index found n = get_or-set_other found lost n kept 0 d in
-          elim (taken.led.led n h) [
+          elim (taken.replaced.replaced n h) [
             | inl on ↦ inl (get_or-set_other is lost n false false d ∙ on)
             | inr k ↦ inr (omega (arith, read, k.0), subst (IsOn was) (sym read) k.1, ap (slice_index (map (relabel lost kept) j.class)) read ∙ index (slice_index found n) ∙ ap (relabel lost kept) k.2 ∙ sym (index n))
           ]
@@ -449,7 +449,7 @@ module _ (old cur new : Graph) (was is marked marks moved : List Bool) (before a
     on = λ p q h. on p q (ab.meets p q h);
     meets = λ p q h. meets p q (ab.meets p q h);
     one = subst (λ z. Joined (map (relabel lost kept) j.class) queued z (slice_index (map (relabel lost kept) j.class) y)) (sym (index x)) (subst (λ z. Joined (map (relabel lost kept) j.class) queued (relabel lost kept (slice_index j.class x)) z) (sym (index y)) (moves (slice_index j.class x) (slice_index j.class y) ab j.one));
-    led = led';
+    replaced = replaced';
     live = live';
     carried = marks' mark;
     gone = option_gone j.class (map (relabel lost kept) j.class) (relabel lost kept) index at to to' j.gone gone;
@@ -490,21 +490,21 @@ module _ (old cur new : Graph) (was is marked marks moved : List Bool) (before a
           })
 
 -- nothing is left to draw
-pub joining_end : (old cur : Graph) (was is marked marks : List Bool) (before after : List Pending) (x y : ℕ) (at to : Option ℕ) (into : List ℕ) (queue : List (ℕ × ℕ)) → AreAllOne is into queue
-    → IsJoining old cur was is marked marks before after x y at to into queue → IsJoined old cur was is marked marks before after x y at to
-joining_end old cur was is marked marks before after x y at to into queue all j = record {
+pub joining_end : (old cur : Graph) (was is marked marks : List Bool) (before after : List Pending) (x y : ℕ) (at to : Option ℕ) (replaced_by : List ℕ) (queue : List (ℕ × ℕ)) → AreAllOne is replaced_by queue
+    → IsJoining old cur was is marked marks before after x y at to replaced_by queue → IsJoined old cur was is marked marks before after x y at to
+joining_end old cur was is marked marks before after x y at to replaced_by queue all j = record {
   class = j.class;
   merging = record {
     classing = j.classing;
     folded = record {
-      edge = λ n a m e. let o = j.edge n a m e in o.1 ∙ ap (λ z. Some z) (sym (joined_one j.class queue (all was j.class j.led j.on) (slice_index j.class m) o.0 o.2));
+      edge = λ n a m e. let o = j.edge n a m e in o.1 ∙ ap (λ z. Some z) (sym (joined_one j.class queue (all was j.class j.replaced j.on) (slice_index j.class m) o.0 o.2));
       back = λ c a t e. j.back c a t e;
     };
     nodes = j.alike.nodes;
     graph = j.alike.graph;
-    one = joined_one j.class queue (all was j.class j.led j.on) (slice_index j.class x) (slice_index j.class y) j.one;
+    one = joined_one j.class queue (all was j.class j.replaced j.on) (slice_index j.class x) (slice_index j.class y) j.one;
   };
-  shape = j.led.shape;
+  shape = j.replaced.shape;
   live = j.live;
   carried = j.carried;
   gone = j.gone;

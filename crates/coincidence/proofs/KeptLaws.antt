@@ -1,6 +1,6 @@
 -- The order of nodes, as the code keeps it, goes on.
-use Rattle.std.proofs.Common.{◌≡◌, ◌≢◌, ℕ, zero, suc, ◌+◌, ◌*◌, ◌-◌, ◌<◌, ◌≤◌, List, [], ◌∷◌, ◌++◌, length, refl, sym, ◌∙◌, ap, subst, subst₂, arith, inl, inr, Option, Some, None, get_or, set, replicate, length-set, min, Bool, false, cond, nat_eq, nat_lt}
-use Rattle.std.proofs.lemmas.List.{get_or_append_left, get_or_push, length_push, get_or-set_same, get_or-set_other, get_or_past}
+use Rattle.std.proofs.Common.{◌≡◌, ◌≢◌, ℕ, zero, suc, ◌+◌, ◌*◌, ◌-◌, ◌<◌, ◌≤◌, List, [], ◌∷◌, ◌++◌, length, refl, sym, ◌∙◌, ap, subst, subst₂, arith, inl, inr, Option, Some, None, get_or, set, replicate, length-set, min, Bool, false, cond, nat_eq, nat_lt, true, is_some}
+use Rattle.std.proofs.lemmas.List.{get_or_append_left, get_or_push, get_or_read, length_push, get_or-set_same, get_or-set_other, get_or_past}
 use Rattle.std.proofs.lemmas.Bool.{cases_lt, cases_eq}
 use Rattle.std.proofs.Math.Nat.{mul-le-mul_left}
 use Rattle.theory.specs.Word.{Word}
@@ -9,7 +9,7 @@ use Rattle.theory.specs.Graph.{Graph, target, path, SameEnd, IsGraph}
 use Rattle.word_graph.specs.Gaps.{count_none}
 use Rattle.word_graph.specs.Walk.{IsWalkTo, IsFound, IsBefore, IsFirstMissing}
 use Rattle.word_graph.proofs.WalkLaws.{some_same, before_next, walk_known, walk_found, walk_row, walk_start}
-use Rattle.coincidence.specs.Kept.{IsKeptAs, IsKept, IsMended, IsPlaced, IsSome, step_at, walked}
+use Rattle.coincidence.specs.Kept.{IsKeptAs, IsKept, IsMended, IsPlaced, IsSome, LeadsToPlaced, step_at, walked}
 use Rattle.coincidence.specs.Live.{IsOn}
 use Rattle.coincidence.specs.Marks.{AllMarked, IsFirstUnmarked}
 use Rattle.coincidence.specs.Ordering.{IsOrderTo, before_place, cut_walk}
@@ -370,6 +370,30 @@ kept_step k g marked o steps' places' row' letter' done' next graph less letter 
     go : (x : Option ℕ) → get_or o.places.items next None ≡ x → IsKeptAs k g marked steps' places' row' (letter' + 1) done'
     go None e = let n = new e in rw (n.0, n.1, row_is, letter_is, done_is) (kept_found k g marked o.steps.items o.places.items o.row o.letter o.done is next less letter graph here e)
     go (Some j) e = let n = known (j, e) in rw (n.0, n.1, row_is, letter_is, done_is) (kept_known k g marked o.steps.items o.places.items o.row o.letter o.done is next less letter here j e)
+
+-- a place that is read
+pub placed_read : (places : List (Option ℕ)) (n : ℕ) (x : Option ℕ) → n < length places → x ≡ get_or places n x → is_some x ≡ true → (j : ℕ) × (get_or places n None ≡ Some j)
+placed_read places n None less at some = cc
+placed_read places n (Some j) less at some = (j, sym (get_or_read places n (Some j) less at None))
+
+-- the walk passes edges that lead to nodes with a place
+kept_passed : (k : ℕ) (g : Graph) (marked : List Bool) (o : Order) (count : ℕ) → o.row < length o.steps.items → o.letter + count ≤ k
+    → ((a : ℕ) → o.letter ≤ a → a < o.letter + count → LeadsToPlaced g o (step_at o.steps.items o.row).node a) → IsKept k g marked o
+    → IsKeptAs k g marked o.steps.items o.places.items o.row (o.letter + count) o.done
+kept_passed k g marked o zero less within passed is = let e : o.letter ≡ o.letter + 0 = omega arith in subst (λ z. IsKeptAs k g marked o.steps.items o.places.items o.row z o.done) e is
+kept_passed k g marked o (suc count) less within passed is =
+    let so_far = kept_passed k g marked o count less (omega (arith, within)) (λ a h h'. passed a h (omega (arith, h'))) is in
+    let here = passed (o.letter + count) (omega arith) (omega arith) in
+    let e : (o.letter + count) + 1 ≡ o.letter + suc count = omega arith in
+    subst (λ z. IsKeptAs k g marked o.steps.items o.places.items o.row z o.done) e
+    (kept_known k g marked o.steps.items o.places.items o.row (o.letter + count) o.done so_far here.0 less (omega (arith, within)) here.1 here.2.0 here.2.1)
+
+pub kept_on : (k : ℕ) (g : Graph) (marked : List Bool) (o : Order) (letter : ℕ) → o.row < length o.steps.items → o.letter ≤ letter → letter ≤ k
+    → ((a : ℕ) → o.letter ≤ a → a < letter → LeadsToPlaced g o (step_at o.steps.items o.row).node a) → IsKept k g marked o → IsKept k g marked (record o { letter = letter })
+kept_on k g marked o letter less from within passed is =
+    let e : o.letter + (letter - o.letter) ≡ letter = omega (arith, from) in
+    subst (λ z. IsKeptAs k g marked o.steps.items o.places.items o.row z o.done) e
+    (kept_passed k g marked o (letter - o.letter) less (omega (arith, e, within)) (λ a h h'. passed a h (omega (arith, e, h'))) is)
 
 -- nodes in the order are nodes
 pub kept_inside : (k : ℕ) (g : Graph) (marked : List Bool) (o : Order) (j : ℕ) → IsKept k g marked o → j < length o.steps.items → (step_at o.steps.items j).node < length o.places.items

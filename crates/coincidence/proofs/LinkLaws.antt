@@ -1,7 +1,7 @@
 -- Lists of sources where edges come and go.
 use Rattle.std.proofs.Common.{append_assoc, ◌≡◌, ◌≢◌, ℕ, zero, suc, ◌<◌, ◌≤◌, All, List, [], ◌∷◌, ◌++◌, refl, sym, ◌∙◌, ap, arith, ◌⊎◌, inl, inr, Option, Some, None, length, subst, get_or, set, replicate, length-set}
 use Rattle.std.proofs.lemmas.Bool.{cases_eq}
-use Rattle.std.proofs.lemmas.List.{length-append, length-replicate}
+use Rattle.std.proofs.lemmas.List.{length-replicate}
 use Rattle.std.proofs.lemmas.List.Elements.{All-set, All-push}
 use Rattle.theory.specs.Graph.{Graph, target, IsGraph}
 use Rattle.theory.proofs.Counting.{IsIn, AreApart, in_numbers, length_numbers, numbers_below, pigeonhole}
@@ -447,89 +447,3 @@ linked_later k t n a m p is edge behind =
           (entry_put t.graph n a None at.0 (omega (arith, is.graph.width n [] at.0, at.1))) (entry_put t.nexts p a (target t.nexts n a) hx (omega (arith, is.nexts p [] hx, at.1))) refl
           node letter l.0 l.1;
     }
-
-pushed : (xs : List ℕ) (x : ℕ) (ys : List ℕ) → (xs ++ x ∷ []) ++ ys ≡ xs ++ x ∷ ys
-pushed [] x ys = refl
-pushed (y ∷ xs) x ys = ap (λ z. y ∷ z) (pushed xs x ys)
-
--- a search through a list for a node: those before it, the last of which is told, and those from it on
-pub record IsSearched (t : Links) (to letter node : ℕ) (before at : Option ℕ) : Type 0 where
-  pub list : List ℕ
-  pub front : List ℕ
-  pub rest : List ℕ
-  pub sources : IsSources t to letter list
-  pub parts : list ≡ front ++ rest
-  pub chain : IsChain (λ n. target t.nexts n letter) at rest
-  pub ahead : IsAmong node rest
-  pub last : (p : ℕ) → before ≡ Some p → (first : List ℕ) × (front ≡ first ++ p ∷ [])
-  pub none : before ≡ None → front ≡ []
-
-pub searched_start : (k : ℕ) (t : Links) (to letter node : ℕ) → IsLinked k t → target t.graph node letter ≡ Some to → IsSearched t to letter node None (target t.firsts to letter)
-searched_start k t to letter node is edge =
-    let l = is.lists to letter in
-    record { list = l.0; front = []; rest = l.0; sources = l.1; parts = refl; chain = l.1.chain; ahead = l.1.all node edge; last = λ p e. absurd (let none : ⊥ = cc in none); none = λ e. refl }
-
--- the node that comes is another
-pub searched_step : (t : Links) (to letter node source : ℕ) (before : Option ℕ) → source ≢ node → IsSearched t to letter node before (Some source) → IsSearched t to letter node (Some source) (target t.nexts source letter)
-searched_step t to letter node source before other s = go s.rest s.parts s.chain s.ahead
-  where
-    go : (rest : List ℕ) → s.list ≡ s.front ++ rest → IsChain (λ n. target t.nexts n letter) (Some source) rest → IsAmong node rest → IsSearched t to letter node (Some source) (target t.nexts source letter)
-    go [] parts chain ahead = absurd ahead
-    go (n ∷ rest) parts chain ahead =
-        let same : source ≡ n = some_same source n chain.0 in
-        record {
-          list = s.list;
-          front = s.front ++ source ∷ [];
-          rest = rest;
-          sources = s.sources;
-          parts = parts ∙ ap (λ z. s.front ++ z ∷ rest) (sym same) ∙ sym (pushed s.front source rest);
-          chain = subst (λ z. IsChain (λ n. target t.nexts n letter) (target t.nexts z letter) rest) (sym same) chain.1;
-          ahead = elim ahead [ inl e ↦ absurd (other (same ∙ sym e)) | inr h ↦ h ];
-          last = λ p e. (s.front, ap (λ z. s.front ++ z ∷ []) (some_same source p e));
-          none = λ e. absurd (let no : ⊥ = cc in no);
-        }
-
--- the node has come
-pub searched_found : (t : Links) (to letter node : ℕ) (before : Option ℕ) → IsSearched t to letter node before (Some node) → (list : List ℕ) → IsSources t to letter list → IsBehind list node before
-searched_found t to letter node before s list sources = go before s.rest s.parts s.chain s.last s.none
-  where
-    same : s.list ≡ list
-    same = chain_one (λ n. target t.nexts n letter) (target t.firsts to letter) s.list list s.sources.chain sources.chain
-
-    go : (before : Option ℕ) (rest : List ℕ) → s.list ≡ s.front ++ rest → IsChain (λ n. target t.nexts n letter) (Some node) rest
-        → ((p : ℕ) → before ≡ Some p → (first : List ℕ) × (s.front ≡ first ++ p ∷ [])) → (before ≡ None → s.front ≡ []) → IsBehind list node before
-    go None [] parts chain last none = let no : None ≡ Some node = sym chain in cc
-    go (Some p) [] parts chain last none = let no : None ≡ Some node = sym chain in cc
-    go None (n ∷ rest) parts chain last none = (rest, sym same ∙ parts ∙ ap (λ z. z ++ n ∷ rest) (none refl) ∙ ap (λ z. z ∷ rest) (sym (some_same node n chain.0)))
-    go (Some p) (n ∷ rest) parts chain last none =
-        let f = last p refl in
-        (f.0, rest, sym same ∙ parts ∙ ap (λ z. z ++ n ∷ rest) f.1 ∙ pushed f.0 p (n ∷ rest) ∙ ap (λ z. f.0 ++ p ∷ z ∷ rest) (sym (some_same node n chain.0)))
-
--- the search ends
-pub searched_less : (k : ℕ) (t : Links) (to letter node source : ℕ) (before : Option ℕ) → IsLinked k t → source ≢ node → IsSearched t to letter node before (Some source)
-    → chain_count (length t.graph) (λ n. target t.nexts n letter) (target t.nexts source letter) < chain_count (length t.graph) (λ n. target t.nexts n letter) (Some source)
-searched_less k t to letter node source before is other s = go (searched_step t to letter node source before other s) s.rest s.parts s.chain
-  where
-    next : ℕ → Option ℕ
-    next n = target t.nexts n letter
-
-    few : (front rest : List ℕ) → s.list ≡ front ++ rest → length rest ≤ length t.graph
-    few front rest e = omega (arith, sources_few k t to letter s.list is s.sources, ap length e, length-append front rest)
-
-    go : IsSearched t to letter node (Some source) (target t.nexts source letter) → (rest : List ℕ) → s.list ≡ s.front ++ rest → IsChain (λ n. target t.nexts n letter) (Some source) rest
-        → chain_count (length t.graph) (λ n. target t.nexts n letter) (target t.nexts source letter) < chain_count (length t.graph) (λ n. target t.nexts n letter) (Some source)
-    go q [] parts chain = let no : None ≡ Some source = sym chain in cc
-    go q (n ∷ rest) parts chain =
-        let same : source ≡ n = some_same source n chain.0 in
-        let now = chain_counted (length t.graph) (λ n. target t.nexts n letter) (Some source) (n ∷ rest) chain (few s.front (n ∷ rest) parts) in
-        let all = few s.front (n ∷ rest) parts in
-        let later = chain_counted (length t.graph) (λ n. target t.nexts n letter) (target t.nexts source letter) rest (subst (λ z. IsChain (λ n. target t.nexts n letter) (target t.nexts z letter) rest) (sym same) chain.1) (omega (arith, all)) in
-        omega (arith, now, later)
-
--- the node comes before the end
-pub searched_past : (t : Links) (to letter node : ℕ) (before : Option ℕ) → IsSearched t to letter node before None → ⊥
-searched_past t to letter node before s = go s.rest s.chain s.ahead
-  where
-    go : (rest : List ℕ) → IsChain (λ n. target t.nexts n letter) None rest → IsAmong node rest → ⊥
-    go [] chain ahead = ahead
-    go (n ∷ rest) chain ahead = let no : None ≡ Some n = chain.0 in cc

@@ -2,7 +2,7 @@
 use Rattle.std.specs.Prelude.{◌≡◌, ◌≢◌, ℕ, ◌&&◌, nat_eq, Bool, false, List, length, slice_index, slice_index_or, option_map, Option, Some, ◌⊎◌}
 use Rattle.theory.specs.Graph.{Graph, target}
 use Rattle.coincidence.specs.Live.{IsOn}
-use Rattle.coincidence.specs.Lost.{IsLed}
+use Rattle.coincidence.specs.Replaced.{AreReplaced}
 use Rattle.coincidence.specs.Marks.{AreCarried}
 use Rattle.coincidence.specs.Folding.{IsMerging}
 use Rattle.coincidence.specs.Pending.{IsAmong}
@@ -19,9 +19,9 @@ abbrev pub AreOne : List ℕ → List (ℕ × ℕ) → Type 0
 AreOne class queue = (p q : ℕ) → IsAmong (p, q) queue → slice_index class p ≡ slice_index class q
 
 -- of the queue a pair of the classes s and t was taken, and pairs of one class dropped
-pub record IsTaken (was is : List Bool) (class into : List ℕ) (queue rest : List (ℕ × ℕ))
+pub record IsTaken (was is : List Bool) (class replaced_by : List ℕ) (queue rest : List (ℕ × ℕ))
     (s t : ℕ) : Type 0 where
-  pub led : IsLed was is class into
+  pub replaced : AreReplaced was is class replaced_by
   pub there : (p q : ℕ) × IsAmong (p, q) queue × (s ≡ slice_index class p)
       × (t ≡ slice_index class q)
   pub left : Extends rest queue
@@ -29,21 +29,21 @@ pub record IsTaken (was is : List Bool) (class into : List ℕ) (queue rest : Li
       → IsAmong (p, q) rest ⊎ ((slice_index class p ≡ slice_index class q)
       ⊎ ((slice_index class p ≡ s) × (slice_index class q ≡ t)))
 
--- some classes are told where lost nodes have gone, and pairs are of nodes that were live
-abbrev pub AreLed : List Bool → List ℕ → List (ℕ × ℕ) → Type 0
-AreLed is into queue = (was : List Bool) × (class : List ℕ) × IsLed was is class into
-    × AreOn was queue
+-- lost nodes were replaced within some classes, and pairs are of nodes that were live
+abbrev pub HaveClasses : List Bool → List ℕ → List (ℕ × ℕ) → Type 0
+HaveClasses is replaced_by queue = (was : List Bool) × (class : List ℕ)
+    × AreReplaced was is class replaced_by × AreOn was queue
 
 -- and whatever the classes are, all pairs are of one class
 abbrev pub AreAllOne : List Bool → List ℕ → List (ℕ × ℕ) → Type 0
-AreAllOne is into queue = (was : List Bool) (class : List ℕ) → IsLed was is class into
-    → AreOn was queue → AreOne class queue
+AreAllOne is replaced_by queue = (was : List Bool) (class : List ℕ)
+    → AreReplaced was is class replaced_by → AreOn was queue → AreOne class queue
 
 -- and whatever the classes are, the pair is taken
 abbrev pub AreTaken : List Bool → List ℕ → List ℕ → List (ℕ × ℕ) → List (ℕ × ℕ)
     → ℕ → ℕ → Type 0
-AreTaken is old new queue rest s t = (was : List Bool) (class : List ℕ) → IsLed was is class old
-    → AreOn was queue → IsTaken was is class new queue rest s t
+AreTaken is old new queue rest s t = (was : List Bool) (class : List ℕ)
+    → AreReplaced was is class old → AreOn was queue → IsTaken was is class new queue rest s t
 
 -- the mark of lost is at kept
 pub record IsMarkMoved (was is : List Bool) (lost kept : ℕ) : Type 0 where

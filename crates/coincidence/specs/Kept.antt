@@ -1,7 +1,7 @@
 -- The order of nodes, as the code keeps it.
 use Rattle.std.specs.Prelude.{◌≡◌, ℕ, ◌+◌, ◌*◌, ◌-◌, ◌<◌, ◌≤◌, List, Bool, length, slice_index_or, Option, Some, None}
 use Rattle.theory.specs.Word.{Word}
-use Rattle.theory.specs.Graph.{Graph}
+use Rattle.theory.specs.Graph.{Graph, target}
 use Rattle.word_graph.specs.Gaps.{count_none}
 use Rattle.word_graph.specs.Walk.{Walked, IsFirstMissing}
 use Rattle.coincidence.specs.Live.{IsOn}
@@ -44,6 +44,10 @@ IsKept k g marked o = IsKeptAs k g marked o.steps.items o.places.items o.row o.l
 -- the node has a place
 abbrev pub IsPlaced : Order → ℕ → Type 0
 IsPlaced o n = (j : ℕ) × (slice_index_or o.places.items n None ≡ Some j)
+
+-- the edge of the letter a leads to a node that has one
+abbrev pub LeadsToPlaced : Graph → Order → ℕ → ℕ → Type 0
+LeadsToPlaced g o n a = (m : ℕ) × (target g n a ≡ Some m) × IsPlaced o m
 
 -- edges that the walk has yet to come to
 abbrev pub cells_left : ℕ → Graph → Order → ℕ

@@ -16,4 +16,5 @@ pub mod Drawing
 pub mod Ordering
 pub mod Kept
 pub mod Rings
-pub mod Lost
+pub mod Replaced
+pub mod Uses

@@ -52,3 +52,15 @@ chain_count (suc most) next (Some n) = suc (chain_count most next (next n))
 abbrev pub IsBehind : List ℕ → ℕ → Option ℕ → Type 0
 IsBehind list node None = (back : List ℕ) × (list ≡ node ∷ back)
 IsBehind list node (Some before) = (front back : List ℕ) × (list ≡ front ++ before ∷ node ∷ back)
+
+-- in the list of m, at the letter a, the node n stands first, or right behind another
+abbrev pub IsBack : Links → ℕ → ℕ → ℕ → Option ℕ → Type 0
+IsBack t n a m None = target t.firsts m a ≡ Some n
+IsBack t n a m (Some before) = (target t.graph before a ≡ Some m)
+    × (target t.nexts before a ≡ Some n)
+
+-- for each edge, the node before its own in the list of its target
+pub record IsBacked (k : ℕ) (t : Links) (befores : Graph) : Type 0 where
+  pub width : All (λ row. length row ≡ k) befores
+  pub rows : length t.graph ≤ length befores
+  pub backs : (n a m : ℕ) → target t.graph n a ≡ Some m → IsBack t n a m (target befores n a)

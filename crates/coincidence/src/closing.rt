@@ -15,19 +15,20 @@ ghost use Rattle.coincidence.specs.Drawing.{IsDueOf};
 
 use crate::due::Due;
 use crate::edges::Edges;
+use crate::indexed::Indexed;
 use crate::joins::merge;
 use crate::order::Order;
 use crate::pending::{Pending, Worklist};
 use crate::reads::{due_at, due_through};
 use ports::NoMemory;
-use presentation::{Congruence, Pairs};
 use std::alloc::Global;
 use words::Letter;
 
 // What the relations ask for at a node, or across an edge, that is pending.
-fn due_of(edges: &Edges, live: &Vec<bool>, relations: &Pairs, entry: Pending) -> Due
+fn due_of(congruence: &Indexed, edges: &Edges, live: &Vec<bool>, entry: Pending) -> Due
     requires { IsLiveGraph edges.now.graph live.now.items }
-    ensures { IsDueOf relations.now edges.now.graph live.now.items entry result }
+    ensures { IsDueOf congruence.now.congruence.presentation.relations edges.now.graph
+        live.now.items entry result }
 {
     match entry {
         Pending::NewNode(node) => {
@@ -37,20 +38,20 @@ fn due_of(edges: &Edges, live: &Vec<bool>, relations: &Pairs, entry: Pending) ->
             if !live[node] {
                 return Due::Nothing;
             }
-            due_at(edges, node, relations)
+            due_at(edges, node, congruence.relations())
         }
         Pending::NewEdge(node, letter) => {
             let Some(_) = edges.target(node, letter) else {
                 return Due::Nothing;
             };
-            due_through(edges, node, letter, relations)
+            due_through(edges, node, letter, congruence)
         }
     }
 }
 
 // What relations or pairs ask for, with nothing read but what is pending, and the pairs at the
 // root.
-fn due_next(congruence: &Congruence, edges: &Edges, live: &Vec<bool>, pending: &mut Worklist) -> Due
+fn due_next(congruence: &Indexed, edges: &Edges, live: &Vec<bool>, pending: &mut Worklist) -> Due
     requires live { IsLiveGraph edges.now.graph live.now.items }
     requires closed { IsClosedBut congruence.now.congruence.presentation.relations edges.now.graph
         live.now.items pending.old }
@@ -58,9 +59,8 @@ fn due_next(congruence: &Congruence, edges: &Edges, live: &Vec<bool>, pending: &
     ensures closed { IsClosedBut congruence.now.congruence.presentation.relations edges.now.graph
         live.now.items pending.new }
 {
-    let relations = congruence.presentation().relations();
     while let Some(entry) = pending.last() {
-        match due_of(edges, live, relations, entry) {
+        match due_of(congruence, edges, live, entry) {
             Due::Nothing => {
                 pending.drop_last();
             }
@@ -71,7 +71,7 @@ fn due_next(congruence: &Congruence, edges: &Edges, live: &Vec<bool>, pending: &
 }
 
 // What relations ask for at one node, or the pairs at the root.
-fn due_there(congruence: &Congruence, edges: &Edges, live: &Vec<bool>, node: usize) -> Due
+fn due_there(congruence: &Indexed, edges: &Edges, live: &Vec<bool>, node: usize) -> Due
     requires live { IsLiveGraph edges.now.graph live.now.items }
     requires node { IsOn live.now.items node }
     ensures { IsDueIn congruence.now.congruence edges.now.graph live.now.items (Some node) result }
@@ -80,12 +80,12 @@ fn due_there(congruence: &Congruence, edges: &Edges, live: &Vec<bool>, node: usi
         Due::Nothing => {}
         due => return due,
     }
-    due_at(edges, node, congruence.presentation().relations())
+    due_at(edges, node, congruence.relations())
 }
 
 // What is asked for next: anywhere, or at one node.
 fn due_in(
-    congruence: &Congruence,
+    congruence: &Indexed,
     edges: &Edges,
     live: &Vec<bool>,
     pending: &mut Worklist,
@@ -110,13 +110,13 @@ fn due_in(
 /// wanting.
 pub fn close_in(
     alloc: Global,
-    congruence: &Congruence,
+    congruence: &Indexed,
     edges: &mut Edges,
     live: &mut Vec<bool>,
     marked: &mut Vec<bool>,
     order: &mut Order,
     pending: &mut Worklist,
-    into: &mut Vec<usize>,
+    replaced_by: &mut Vec<usize>,
     at: Option<usize>,
 ) -> Result<(), NoMemory>
     requires live { IsLiveGraph edges.old.graph live.old.items }
@@ -153,7 +153,16 @@ pub fn close_in(
             }
             Due::Join(_, _, x, y) => {
                 place = merge(
-                    alloc, edges, live, marked, order, pending, into, x, y, place,
+                    alloc,
+                    edges,
+                    live,
+                    marked,
+                    order,
+                    pending,
+                    replaced_by,
+                    x,
+                    y,
+                    place,
                 )?;
             }
         }
@@ -169,7 +178,7 @@ pub fn identify_in(
     marked: &mut Vec<bool>,
     order: &mut Order,
     pending: &mut Worklist,
-    into: &mut Vec<usize>,
+    replaced_by: &mut Vec<usize>,
     x: usize,
     y: usize,
 ) -> Result<(), NoMemory>
@@ -192,7 +201,18 @@ pub fn identify_in(
         → IsClosedBut pairs edges.old.graph live.old.items pending.old
         → IsClosedBut pairs edges.new.graph live.new.items pending.new) }
 {
-    merge(alloc, edges, live, marked, order, pending, into, x, y, None)?;
+    merge(
+        alloc,
+        edges,
+        live,
+        marked,
+        order,
+        pending,
+        replaced_by,
+        x,
+        y,
+        None,
+    )?;
     Ok(())
 }
 

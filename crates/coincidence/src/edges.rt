@@ -1,9 +1,10 @@
 // Edges, and the lists of their sources.
-ghost use Rattle.std.specs.Prelude.{◌≡◌, ◌≢◌, ℕ, ◌<◌, ◌≤◌, List, [], ◌∷◌, length, replicate, Option, None, Some, IfOk, OnOk, OnErr};
-ghost use Rattle.theory.specs.Graph.{target as target_of, IsGraph};
+ghost use Rattle.std.specs.Prelude.{◌≡◌, ◌≢◌, ℕ, ◌<◌, ◌≤◌, All, [], ◌∷◌, length, replicate, Option, None, Some, IfOk, OnOk, OnErr};
+ghost use Rattle.std.specs.Option.{ForSome};
+ghost use Rattle.theory.specs.Graph.{target as target_of};
 ghost use Rattle.word_graph.specs.Edges.{with_edge, with_node};
-ghost use Rattle.coincidence.specs.Cells.{with_entry};
-ghost use Rattle.coincidence.specs.Links.{IsLinked, IsSources, IsBehind};
+ghost use Rattle.coincidence.specs.Cells.{with_entry, with_entry_at};
+ghost use Rattle.coincidence.specs.Links.{IsLinked};
 
 use crate::cells::Cells;
 use ports::NoMemory;
@@ -12,24 +13,41 @@ use std::marker::Model;
 use words::Letter;
 
 // A word graph that also lists, for each node and letter, the nodes where the edges of the letter
-// into the node start.
+// into the node start. The lists are linked both ways, so that an edge is taken away at once.
 #[derive(Drop)]
 pub struct Edges {
     letters: usize,
     targets: Cells,
     firsts: Cells,
     nexts: Cells,
+    befores: Cells,
 }
 
 impl Model for Edges {
-    ghost use Rattle.coincidence.specs.Links.{Links, IsLinked};
+    ghost use Rattle.coincidence.specs.Links.{Links, IsBacked, IsLinked};
 
     ghost Value = { Links };
 
     ghost view = { λ e. record { graph = e.targets; firsts = e.firsts; nexts = e.nexts } };
 
-    ghost invariant = { λ e. IsLinked e.letters
-        (record { graph = e.targets; firsts = e.firsts; nexts = e.nexts }) };
+    ghost invariant = { λ e. record {
+      linked : IsLinked e.letters
+          (record { graph = e.targets; firsts = e.firsts; nexts = e.nexts });
+      backed : IsBacked e.letters
+          (record { graph = e.targets; firsts = e.firsts; nexts = e.nexts }) e.befores;
+    } };
+}
+
+// Puts an entry at the node and letter, if there is a node.
+fn put_at(cells: &mut Cells, node: Option<usize>, letter: Letter, entry: Option<usize>)
+    requires node { ForSome node (λ n. n < length cells.old) }
+    requires letter { All (λ row. letter < length row) cells.old }
+    requires entry { ForSome entry (λ n. n < length cells.old) }
+    ensures { cells.new ≡ with_entry_at cells.old node letter entry }
+{
+    if let Some(node) = node {
+        cells.put(node, letter, entry);
+    }
 }
 
 impl Edges {
@@ -46,11 +64,13 @@ impl Edges {
         let targets = Cells::new(alloc, letters)?;
         let firsts = Cells::new(alloc, letters)?;
         let nexts = Cells::new(alloc, letters)?;
+        let befores = Cells::new(alloc, letters)?;
         Ok(Edges {
             letters,
             targets,
             firsts,
             nexts,
+            befores,
         })
     }
 
@@ -99,6 +119,7 @@ impl Edges {
             → self.new.graph ≡ with_node k self.old.graph) }
         ensures err { OnErr result (self.new.graph ≡ self.old.graph) }
     {
+        self.befores.add_row()?;
         self.firsts.add_row()?;
         self.nexts.add_row()?;
         self.targets.add_row()?;
@@ -115,27 +136,10 @@ impl Edges {
     {
         let first = self.firsts.get(to, letter);
         self.nexts.put(node, letter, first);
+        self.befores.put(node, letter, None);
+        put_at(&mut self.befores, first, letter, Some(node));
         self.firsts.put(to, letter, Some(node));
         self.targets.put(node, letter, Some(to));
-    }
-
-    // The node before this one in the list of the node that its edge leads to. `None` where it is
-    // the first.
-    fn source_before(&self, node: usize, letter: Letter, to: usize) -> Option<usize>
-        requires { target_of self.now.graph node letter ≡ Some to }
-        ensures { (list : List ℕ) → IsSources self.now to letter list → IsBehind list node result }
-    {
-        let _letters = self.letters();
-        let mut before = None;
-        let mut at = self.first_source(to, letter);
-        while let Some(source) = at {
-            if source == node {
-                return before;
-            }
-            before = Some(source);
-            at = self.next_source(source, letter);
-        }
-        before
     }
 
     /// Takes the edge of the letter from the node away.
@@ -147,7 +151,8 @@ impl Edges {
             return;
         };
         let next = self.nexts.get(node, letter);
-        let before = self.source_before(node, letter, to);
+        let before = self.befores.get(node, letter);
+        put_at(&mut self.befores, next, letter, before);
         self.targets.put(node, letter, None);
         match before {
             None => self.firsts.put(to, letter, next),
@@ -162,5 +167,6 @@ impl Edges {
         self.targets.clear();
         self.firsts.clear();
         self.nexts.clear();
+        self.befores.clear();
     }
 }

@@ -4,32 +4,32 @@ ghost use Rattle.std.specs.Option.{ForSome};
 ghost use Rattle.coincidence.specs.Kept.{IsMended, IsSome};
 ghost use Rattle.coincidence.specs.Live.{IsLiveGraph, IsOn};
 ghost use Rattle.coincidence.specs.Merging.{EdgesReached, IsReached, relabel};
-ghost use Rattle.coincidence.specs.Joining.{AreAllOne, AreLed, AreTaken, IsJoined, IsMarkMoved};
+ghost use Rattle.coincidence.specs.Joining.{AreAllOne, HaveClasses, AreTaken, IsJoined, IsMarkMoved};
 
 use crate::absorb::absorb;
 use crate::edges::Edges;
-use crate::lost::{kept_node, make_room};
 use crate::order::Order;
 use crate::pending::Worklist;
+use crate::replaced::{make_room, representative};
 use ports::NoMemory;
 use std::alloc::Global;
 
-// The live nodes that are kept in place of those of a pair of the queue, and are two. Pairs for
-// which they are one are dropped before it.
+// The representatives of a pair of the queue, which are two. Pairs of one representative are
+// dropped before it.
 fn next_pair(
     queue: &mut Vec<(usize, usize)>,
     live: &Vec<bool>,
-    into: &mut Vec<usize>,
+    replaced_by: &mut Vec<usize>,
 ) -> Option<(usize, usize)>
-    requires { AreLed live.now.items into.old.items queue.old.items }
-    ensures none { IfNone result (AreAllOne live.now.items into.old.items queue.old.items) }
+    requires { HaveClasses live.now.items replaced_by.old.items queue.old.items }
+    ensures none { IfNone result (AreAllOne live.now.items replaced_by.old.items queue.old.items) }
     ensures apart { IfSome result (λ p. p.0 ≢ p.1) }
-    ensures some { IfSome result (λ p. AreTaken live.now.items into.old.items into.new.items
-        queue.old.items queue.new.items p.0 p.1) }
+    ensures some { IfSome result (λ p. AreTaken live.now.items replaced_by.old.items
+        replaced_by.new.items queue.old.items queue.new.items p.0 p.1) }
 {
     while let Some((p, q)) = queue.pop() {
-        let s = kept_node(live, into, p);
-        let t = kept_node(live, into, q);
+        let s = representative(live, replaced_by, p);
+        let t = representative(live, replaced_by, q);
         if s != t {
             return Some((s, t));
         }
@@ -68,8 +68,8 @@ fn gone(at: Option<usize>, lost: usize, kept: usize) -> Option<usize>
 }
 
 /// The least merging under which two nodes are one. It tells where a node has gone, marks go with
-/// their nodes, and edges that are new are pending. Beside each node that it loses it writes the
-/// one that is kept, and what stands there at first does not matter. Refused only where memory is
+/// their nodes, and edges that are new are pending. Each node that is lost is replaced by the one
+/// that is kept; how others were replaced before does not matter. Refused only where memory is
 /// wanting.
 pub fn merge(
     alloc: Global,
@@ -78,7 +78,7 @@ pub fn merge(
     marked: &mut Vec<bool>,
     order: &mut Order,
     pending: &mut Worklist,
-    into: &mut Vec<usize>,
+    replaced_by: &mut Vec<usize>,
     x: usize,
     y: usize,
     at: Option<usize>,
@@ -95,16 +95,16 @@ pub fn merge(
         to) }
 {
     let _letters = edges.letters();
-    make_room(into, live.len())?;
+    make_room(replaced_by, live.len())?;
     let mut to = at;
     let mut queue = Vec::new(alloc);
     queue.push((x, y))?;
-    while let Some((s, t)) = next_pair(&mut queue, live, into) {
+    while let Some((s, t)) = next_pair(&mut queue, live, replaced_by) {
         let lost = s.max(t);
         let kept = s.min(t);
         absorb(edges, pending, &mut queue, lost, kept)?;
         live[lost] = false;
-        into[lost] = kept;
+        replaced_by[lost] = kept;
         order.cut(lost);
         move_mark(marked, lost, kept);
         to = gone(to, lost, kept);

@@ -13,15 +13,17 @@ mod copies;
 mod due;
 mod edges;
 mod entries;
+mod indexed;
 mod joins;
-mod lost;
 mod marks;
 mod order;
 mod pending;
 mod periods;
 mod reads;
+mod replaced;
 mod rings;
 mod tables;
+mod uses;
 
 pub use tables::Table;
 

@@ -1,9 +1,9 @@
 // Nodes in the order of their least words, kept as the graph changes.
 ghost use Rattle.std.specs.Prelude.{◌≡◌, ◌≢◌, ℕ, suc, ◌+◌, ◌<◌, ◌≤◌, List, [], ◌∷◌, ◌++◌, length, replicate, Bool, true, false, Option, None, Some, IfOk, OnOk, IfSome, IfNone, slice_index_or, slice_set, MatchOption};
 ghost use Rattle.theory.specs.Facts.{AllDefined};
-ghost use Rattle.theory.specs.Graph.{Graph, IsGraph, SameEnd};
+ghost use Rattle.theory.specs.Graph.{Graph, target as target_of, IsGraph, SameEnd};
 ghost use Rattle.word_graph.specs.Walk.{IsFirstMissing};
-ghost use Rattle.coincidence.specs.Kept.{IsKept, IsAhead, IsPlaced, IsSome, step_at};
+ghost use Rattle.coincidence.specs.Kept.{IsKept, IsAhead, IsPlaced, IsSome, LeadsToPlaced, step_at};
 ghost use Rattle.coincidence.specs.Live.{IsOn};
 ghost use Rattle.coincidence.specs.Marks.{AllMarked, IsFirstUnmarked};
 
@@ -153,7 +153,31 @@ impl Order {
         Ok(())
     }
 
-    // The walk goes on by one edge, or to the next row. Only want of memory refuses it.
+    // The first letter, from where the walk stands on, whose edge from the node leads to none that
+    // has a place.
+    fn next_unplaced(&self, edges: &Edges, letters: usize, node: usize) -> usize
+        requires few { letters ≤ 256 }
+        requires stand { self.now.letter ≤ letters }
+        requires nodes { (a m : ℕ) → target_of edges.now.graph node a ≡ Some m
+            → m < length self.now.places.items }
+        ensures from { self.now.letter ≤ result }
+        ensures within { result ≤ letters }
+        ensures placed { (a : ℕ) → self.now.letter ≤ a → a < result
+            → LeadsToPlaced edges.now.graph self.now node a }
+    {
+        for number in self.letter..letters {
+            let Some(next) = edges.target(node, Letter::new(number as u8)) else {
+                return number;
+            };
+            if self.places[next].is_none() {
+                return number;
+            }
+        }
+        letters
+    }
+
+    // The walk goes on to the next edge that leads to a node without a place, or to the next row.
+    // Only want of memory refuses it.
     fn step(&mut self, edges: &Edges, letters: usize) -> Result<Ahead, NoMemory>
         requires few { letters ≤ 256 }
         requires graph { IsGraph letters edges.now.graph }
@@ -167,12 +191,13 @@ impl Order {
         if self.steps.len() <= self.row {
             return Ok(Ahead::Whole);
         }
+        let node = self.steps[self.row].node;
+        self.letter = self.next_unplaced(edges, letters, node);
         if letters <= self.letter {
             self.row += 1;
             self.letter = 0;
             return Ok(Ahead::More);
         }
-        let node = self.steps[self.row].node;
         let letter = Letter::new(self.letter as u8);
         let Some(next) = edges.target(node, letter) else {
             return Ok(Ahead::Missing(node, letter));

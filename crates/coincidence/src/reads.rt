@@ -5,10 +5,13 @@ ghost use Rattle.theory.specs.Graph.{path as path_of, target as target_of};
 ghost use Rattle.coincidence.specs.DueSpec.{IsDueFrom, IsDueAt};
 ghost use Rattle.coincidence.specs.Live.{IsLiveGraph, IsOn};
 ghost use Rattle.coincidence.specs.Reading.{IsCut, IsDueBoth, IsDueBehind, IsDueAlong, IsDueThrough};
+ghost use Rattle.coincidence.specs.Uses.{IsDueInSides};
 
 use crate::due::Due;
 use crate::edges::Edges;
+use crate::indexed::Indexed;
 use crate::rings::comes_round;
+use crate::uses::{other_side, side};
 use presentation::Pairs;
 use words::{Letter, Word};
 
@@ -162,20 +165,43 @@ fn due_along(edges: &Edges, node: usize, letter: Letter, side: &Word, other: &Wo
     Due::Nothing
 }
 
-/// What the relations ask for where a side is read across the edge of the letter from the node.
-pub fn due_through(edges: &Edges, node: usize, letter: Letter, relations: &Pairs) -> Due
-    ensures { IsDueThrough edges.now.graph relations.now node letter result }
+// What the first sides of the relations ask for, or the second, where they are read across the edge
+// of the letter from the node. Sides in which the letter does not stand are not looked at.
+fn due_in_sides(
+    edges: &Edges,
+    node: usize,
+    letter: Letter,
+    congruence: &Indexed,
+    second: bool,
+) -> Due
+    ensures { IsDueInSides second edges.now.graph
+        congruence.now.congruence.presentation.relations node letter result }
 {
-    for i in 0..relations.len() {
-        let pair = relations.pair(i);
-        match due_along(edges, node, letter, &pair.0, &pair.1) {
-            Due::Nothing => {}
-            due => return due,
-        }
-        match due_along(edges, node, letter, &pair.1, &pair.0) {
+    let relations = congruence.relations();
+    let places = congruence.with_letter(letter, second);
+    for i in 0..places.len() {
+        let pair = relations.pair(places[i]);
+        match due_along(
+            edges,
+            node,
+            letter,
+            side(pair, second),
+            other_side(pair, second),
+        ) {
             Due::Nothing => {}
             due => return due,
         }
     }
     Due::Nothing
+}
+
+/// What the relations ask for where a side is read across the edge of the letter from the node.
+pub fn due_through(edges: &Edges, node: usize, letter: Letter, congruence: &Indexed) -> Due
+    ensures { IsDueThrough edges.now.graph congruence.now.congruence.presentation.relations node
+        letter result }
+{
+    match due_in_sides(edges, node, letter, congruence, false) {
+        Due::Nothing => due_in_sides(edges, node, letter, congruence, true),
+        due => due,
+    }
 }

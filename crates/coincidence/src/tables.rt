@@ -16,6 +16,7 @@ ghost use Rattle.coincidence.specs.Table.{CosetTable, IsTable, IsLive, IsDefined
 use crate::closing::{close_in, define_in, identify_in};
 use crate::copies::word_graph;
 use crate::edges::Edges;
+use crate::indexed::Indexed;
 use crate::order::Order;
 use crate::pending::{Pending, Worklist};
 use ports::NoMemory;
@@ -36,13 +37,13 @@ use words::Letter;
 #[derive(Drop)]
 pub struct Table {
     alloc: Global,
-    congruence: Congruence,
+    congruence: Indexed,
     edges: Edges,
     live: Vec<bool>,
     marked: Vec<bool>,
     order: Order,
     pending: Worklist,
-    into: Vec<usize>,
+    replaced_by: Vec<usize>,
     failed: bool,
 }
 
@@ -79,7 +80,7 @@ impl Table {
         ensures marked { IfOk result (λ t. t.marked ≡ false ∷ []) }
         ensures ok { IfOk result (λ t. t.failed ≡ false) }
     {
-        let congruence = congruence.copy(alloc)?;
+        let congruence = Indexed::new(alloc, congruence.copy(alloc)?)?;
         let edges = Edges::new(alloc, congruence.presentation().letters())?;
         let mut live = Vec::new(alloc);
         live.push(true)?;
@@ -96,7 +97,7 @@ impl Table {
             marked,
             order,
             pending,
-            into: Vec::new(alloc),
+            replaced_by: Vec::new(alloc),
             failed: false,
         })
     }
@@ -226,7 +227,7 @@ impl Table {
             &mut self.marked,
             &mut self.order,
             &mut self.pending,
-            &mut self.into,
+            &mut self.replaced_by,
             x,
             y,
         ) {
@@ -265,7 +266,7 @@ impl Table {
             &mut self.marked,
             &mut self.order,
             &mut self.pending,
-            &mut self.into,
+            &mut self.replaced_by,
             at,
         ) {
             Ok(()) => {

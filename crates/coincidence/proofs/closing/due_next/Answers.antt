@@ -1,4 +1,4 @@
-use Rattle.std.proofs.Common.{◌≡◌, [], List, Option, Some, ap, subst, sym, ◌∙◌}
+use Rattle.std.proofs.Common.{◌≡◌, [], List, Option, Some, subst, sym}
 use Rattle.theory.specs.Word.{Word}
 use Rattle.coincidence.specs.DueSpec.{IsDueAt}
 use Rattle.coincidence.specs.Pending.{IsClosedBut}
@@ -10,20 +10,16 @@ use Rattle.coincidence.proofs.closing.due_next.Goals as goal
 
 pub loop-entry-preserved : goal.loop-entry-preserved
 loop-entry-preserved c =
-    let relations = c.relations-relations.ensures.relations ∙ ap (λ z. z.relations) c.presentation.ensures.presentation in
     let last : IsLast c.loop-entry.pending (Some c.in-Some.entry) = c.in-Some.ensures in
-    let drop : IsDueOf c.args.congruence.now.congruence.presentation.relations c.args.edges.now.graph c.args.live.now.items c.in-Some.entry Nothing =
-    subst (λ (z : List (Word × Word)). IsDueOf z c.args.edges.now.graph c.args.live.now.items c.in-Some.entry Nothing) relations c.in-Nothing.ensures in
+    let drop : IsDueOf c.args.congruence.now.congruence.presentation.relations c.args.edges.now.graph c.args.live.now.items c.in-Some.entry Nothing = c.in-Nothing.ensures in
     let rest : c.drop_last.new.self ≡ last.0 = c.drop_last.ensures last.0 c.in-Some.entry last.1 in
     subst (λ (z : List Pending). IsClosedBut c.args.congruence.now.congruence.presentation.relations c.args.edges.now.graph c.args.live.now.items z) (sym rest)
     (drop last.0 (subst (λ (z : List Pending). IsClosedBut c.args.congruence.now.congruence.presentation.relations c.args.edges.now.graph c.args.live.now.items z) last.1 c.loop-entry.invariant))
 
 pub returns-in_default-due_of : goal.returns-in_default-due_of
 returns-in_default-due_of c =
-    let relations = c.relations-relations.ensures.relations ∙ ap (λ z. z.relations) c.presentation.ensures.presentation in
     record {
-      due = due_entry c.args.congruence.now.congruence c.args.edges.now.graph c.args.live.now.items c.in-Some.entry c.due_of.result c.requires.live (λ e. c.in_default-due_of.not-Nothing e)
-          (subst (λ (z : List (Word × Word)). IsDueOf z c.args.edges.now.graph c.args.live.now.items c.in-Some.entry c.due_of.result) relations c.due_of.ensures);
+      due = due_entry c.args.congruence.now.congruence c.args.edges.now.graph c.args.live.now.items c.in-Some.entry c.due_of.result c.requires.live (λ e. c.in_default-due_of.not-Nothing e) c.due_of.ensures;
       closed = c.loop-entry.invariant;
     }
 

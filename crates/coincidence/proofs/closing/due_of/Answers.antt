@@ -2,6 +2,7 @@ use Rattle.std.proofs.Common.{◌≡◌, ◌<◌, true, false, length, subst, sy
 use Rattle.std.proofs.lemmas.List.{get_or_read}
 use Rattle.coincidence.specs.Live.{IsOn}
 use Rattle.coincidence.specs.Drawing.{IsDueOf}
+use Rattle.coincidence.specs.DueSpec.{IsDueAt}
 use Rattle.coincidence.specs.declared.due.Due.TheVariants.{Nothing}
 use Rattle.coincidence.specs.declared.pending.Pending.{Pending}
 use Rattle.coincidence.proofs.MarkLaws.{on_within}
@@ -10,13 +11,13 @@ use Rattle.coincidence.proofs.closing.due_of.Goals as goal
 
 pub returns-then-len-node : goal.returns-then-len-node
 returns-then-len-node c =
-    subst (λ (e : Pending). IsDueOf c.args.relations.now c.args.edges.now.graph c.args.live.now.items e Nothing) (sym c.in-NewNode.is)
-    (drop_node c.args.relations.now c.args.edges.now.graph c.args.live.now.items c.in-NewNode.node (λ on. absurd (omega (arith, on_within c.args.live.now.items c.in-NewNode.node on, c.if-len-node.true, c.len.ensures))))
+    subst (λ (e : Pending). IsDueOf c.args.congruence.now.congruence.presentation.relations c.args.edges.now.graph c.args.live.now.items e Nothing) (sym c.in-NewNode.is)
+    (drop_node c.args.congruence.now.congruence.presentation.relations c.args.edges.now.graph c.args.live.now.items c.in-NewNode.node (λ on. absurd (omega (arith, on_within c.args.live.now.items c.in-NewNode.node on, c.if-len-node.true, c.len.ensures))))
 
 pub returns-then-not-index : goal.returns-then-not-index
 returns-then-not-index c =
-    subst (λ (e : Pending). IsDueOf c.args.relations.now c.args.edges.now.graph c.args.live.now.items e Nothing) (sym c.in-NewNode.is)
-    (drop_node c.args.relations.now c.args.edges.now.graph c.args.live.now.items c.in-NewNode.node (λ on.
+    subst (λ (e : Pending). IsDueOf c.args.congruence.now.congruence.presentation.relations c.args.edges.now.graph c.args.live.now.items e Nothing) (sym c.in-NewNode.is)
+    (drop_node c.args.congruence.now.congruence.presentation.relations c.args.edges.now.graph c.args.live.now.items c.in-NewNode.node (λ on.
     let is : c.index.result.now ≡ true = get_or_read c.args.live.now.items c.in-NewNode.node c.index.result.now (on_within c.args.live.now.items c.in-NewNode.node on) c.index.ensures false ∙ on in
     let no : false ≡ true = sym c.if-not-index.true ∙ is in cc))
 
@@ -24,17 +25,17 @@ pub returns-else-not-index : goal.returns-else-not-index
 returns-else-not-index c =
     let less : c.in-NewNode.node < length c.args.live.now.items = omega (arith, c.if-len-node.false, c.len.ensures) in
     let on : IsOn c.args.live.now.items c.in-NewNode.node = sym (get_or_read c.args.live.now.items c.in-NewNode.node c.index.result.now less c.index.ensures false) ∙ c.if-not-index.false in
-    subst (λ (e : Pending). IsDueOf c.args.relations.now c.args.edges.now.graph c.args.live.now.items e c.due_at.result) (sym c.in-NewNode.is)
-    (due_of_node c.args.relations.now c.args.edges.now.graph c.args.live.now.items c.in-NewNode.node c.due_at.result on c.due_at.ensures)
+    subst (λ (e : Pending). IsDueOf c.args.congruence.now.congruence.presentation.relations c.args.edges.now.graph c.args.live.now.items e c.due_at.result) (sym c.in-NewNode.is)
+    (due_of_node c.args.congruence.now.congruence.presentation.relations c.args.edges.now.graph c.args.live.now.items c.in-NewNode.node c.due_at.result on (subst (λ z. IsDueAt c.args.edges.now.graph c.in-NewNode.node z c.due_at.result) c.relations.ensures c.due_at.ensures))
 
 pub returns-in_default : goal.returns-in_default
 returns-in_default c =
-    subst (λ (e : Pending). IsDueOf c.args.relations.now c.args.edges.now.graph c.args.live.now.items e Nothing) (sym c.in-NewEdge.is)
-    (drop_none c.args.relations.now c.args.edges.now.graph c.args.live.now.items c.in-NewEdge.node c.in-NewEdge.letter (sym c.target.ensures ∙ c.in_default.is))
+    subst (λ (e : Pending). IsDueOf c.args.congruence.now.congruence.presentation.relations c.args.edges.now.graph c.args.live.now.items e Nothing) (sym c.in-NewEdge.is)
+    (drop_none c.args.congruence.now.congruence.presentation.relations c.args.edges.now.graph c.args.live.now.items c.in-NewEdge.node c.in-NewEdge.letter (sym c.target.ensures ∙ c.in_default.is))
 
 pub returns-in-Some : goal.returns-in-Some
 returns-in-Some c =
-    subst (λ (e : Pending). IsDueOf c.args.relations.now c.args.edges.now.graph c.args.live.now.items e c.due_through.result) (sym c.in-NewEdge.is)
-    (due_of_edge c.args.relations.now c.args.edges.now.graph c.args.live.now.items c.in-NewEdge.node c.in-NewEdge.letter c.due_through.result
+    subst (λ (e : Pending). IsDueOf c.args.congruence.now.congruence.presentation.relations c.args.edges.now.graph c.args.live.now.items e c.due_through.result) (sym c.in-NewEdge.is)
+    (due_of_edge c.args.congruence.now.congruence.presentation.relations c.args.edges.now.graph c.args.live.now.items c.in-NewEdge.node c.in-NewEdge.letter c.due_through.result
     (record { shape = c.requires.shape; reached = c.requires.reached; lives = c.requires.lives; edges = c.requires.edges })
     (λ e. let no : None ≡ Some c.in-Some.field-0 = sym e ∙ sym c.in-Some.ensures in cc) c.due_through.ensures)

@@ -5,7 +5,7 @@ use Rattle.coincidence.proofs.joins.merge.Given as goal
 
 abbrev pub invariant-loop-s : goal.invariant-loop-s
 invariant-loop-s l = record {
-  joining : IsJoining l.initial.edges.graph l.edges.graph l.initial.live.items l.live.items l.initial.marked.items l.marked.items l.initial.pending l.pending l.x l.y l.fn.at l.to l.into.items l.queue.items;
+  joining : IsJoining l.initial.edges.graph l.edges.graph l.initial.live.items l.live.items l.initial.marked.items l.marked.items l.initial.pending l.pending l.x l.y l.fn.at l.to l.replaced_by.items l.queue.items;
   order : IsMended l.initial.order l.order l.initial.live.items l.live.items;
 }
 

@@ -1,4 +1,4 @@
-use Rattle.std.proofs.Common.{◌<◌, length, subst, sym}
+use Rattle.std.proofs.Common.{◌<◌, subst}
 use Rattle.coincidence.proofs.PendingLaws.{closed_nodes}
 use Rattle.coincidence.proofs.pending.Worklist.gather.Goals as goal
 

@@ -1,0 +1,84 @@
+// Congruences whose relations are found by their letters.
+ghost use Rattle.std.specs.Prelude.{◌≡◌, false, true, length, IfOk};
+ghost use Rattle.presentation.specs.Presented.{IsPosed};
+ghost use Rattle.coincidence.specs.Uses.{AreUses, AreUsesOf};
+
+use crate::uses::Uses;
+use ports::NoMemory;
+use presentation::{Congruence, Pairs, Presentation};
+use std::alloc::Global;
+use std::marker::Model;
+use words::Letter;
+
+// A congruence, and for each letter the relations in a side of which it stands.
+#[derive(Drop)]
+pub struct Indexed {
+    congruence: Congruence,
+    firsts: Uses,
+    seconds: Uses,
+}
+
+impl Model for Indexed {
+    ghost use Rattle.std.specs.Prelude.{true, false};
+    ghost use Rattle.presentation.specs.Presented.{Posed};
+    ghost use Rattle.coincidence.specs.Uses.{AreUses};
+
+    ghost Value = { Posed };
+
+    ghost view = { λ c. c.congruence };
+
+    ghost invariant = { λ c. record {
+      firsts : AreUses false c.congruence.congruence.presentation.relations c.firsts;
+      seconds : AreUses true c.congruence.congruence.presentation.relations c.seconds;
+    } };
+}
+
+impl Indexed {
+    /// The congruence with its index. Refused only where memory is wanting.
+    pub fn new(alloc: Global, congruence: Congruence) -> Result<Indexed, NoMemory>
+        ensures { IfOk result (λ c. c ≡ congruence) }
+    {
+        let relations = congruence.presentation().relations();
+        let firsts = Uses::new(alloc, relations, false)?;
+        let seconds = Uses::new(alloc, relations, true)?;
+        Ok(Indexed {
+            congruence,
+            firsts,
+            seconds,
+        })
+    }
+
+    /// The presentation, as [`Congruence::presentation`] gives it.
+    pub fn presentation(&self) -> &Presentation
+        ensures alphabet { result.now.alphabet ≡ self.now.alphabet }
+        ensures presentation { result.now.presentation ≡ self.now.congruence.presentation }
+        ensures posed { IsPosed self.now }
+    {
+        self.congruence.presentation()
+    }
+
+    /// The pairs.
+    pub fn pairs(&self) -> &Pairs
+        ensures { result.now ≡ self.now.congruence.pairs }
+    {
+        self.congruence.pairs()
+    }
+
+    /// The relations.
+    pub fn relations(&self) -> &Pairs
+        ensures { result.now ≡ self.now.congruence.presentation.relations }
+    {
+        self.congruence.presentation().relations()
+    }
+
+    /// The places of the relations in whose first side, or second, the letter stands.
+    pub fn with_letter(&self, letter: Letter, second: bool) -> &[usize]
+        ensures { AreUsesOf second self.now.congruence.presentation.relations letter result.now }
+    {
+        if second {
+            self.seconds.places(letter)
+        } else {
+            self.firsts.places(letter)
+        }
+    }
+}
