@@ -1,5 +1,6 @@
 pub mod StandingLaws
 pub mod ChainLaws
+pub mod LighterLaws
 pub mod WalkLaws
 pub mod DerivationLaws
 pub mod SpellLaws

@@ -80,7 +80,18 @@ pub record GoesOn (d : Derived) (old_left : List ChainStep) (old : Walk)
       → LeadTo (all_of d) (here new) (steps_of (reverse new_left)) v
   pub less : weight_of d new_left < weight_of d old_left
 
--- each chain that is kept leads, by the relations alone, from the left word of its number to the right one
+-- each chain that is kept leads, by the relations alone, from the left word of its number to the
+-- right one
 abbrev pub AreKept : {S : Type 0} → Derived → HashMap ℕ (Vec ChainStep) S → Type 0
-AreKept {S} d kept = (number : ℕ) (chain : Vec ChainStep) (left right : Word) → get nat_eq kept number ≡ Some chain
-    → slice_get (all_of d).relations number ≡ Some (left, right) → LeadTo d.presentation left (steps_of chain.items) right
+AreKept {S} d kept = (number : ℕ) (chain : Vec ChainStep) (left right : Word)
+    → get nat_eq kept number ≡ Some chain → slice_get (all_of d).relations number ≡ Some (left, right)
+    → LeadTo d.presentation left (steps_of chain.items) right
+
+-- the other steps lead to each word to which the steps lead
+abbrev pub LeadAlike : Presentation → Word → List ChainStep → List ChainStep → Type 0
+LeadAlike p u steps others = (v : Word) → LeadTo p u (steps_of steps) v → LeadTo p u (steps_of others) v
+
+-- the log has the words of the first facts of another, so many, and perhaps other steps
+pub record IsFrontOf (n : ℕ) (d front : Derived) : Type 0 where
+  pub presentation : front.presentation ≡ d.presentation
+  pub words : map pair_of front.facts ≡ map pair_of (take n d.facts)

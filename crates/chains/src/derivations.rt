@@ -1,12 +1,14 @@
 // Facts that follow from a presentation, each by steps over the relations and earlier facts.
-ghost use Rattle.std.specs.Prelude.{◌≡◌, ℕ, ◌+◌, ◌<◌, [], ◌∷◌, ◌++◌, List, length, reverse, slice_get, Contains, IsTrue, ◌↔◌, MatchOption, IfOk, OnOk, OnErr};
+ghost use Rattle.std.specs.Prelude.{◌≡◌, ℕ, ◌+◌, ◌<◌, [], ◌∷◌, ◌++◌, List, length, map, reverse, slice_get, Contains, IsTrue, ◌↔◌, MatchOption, IfSome, IfOk, OnOk, OnErr};
 ghost use Rattle.theory.specs.Word.{Word as Letters};
-ghost use Rattle.theory.specs.PlacedStep.{LeadTo};
-ghost use Rattle.chains.specs.Chains.{AllFit, IsStraight, steps_of};
+ghost use Rattle.theory.specs.PlacedStep.{Gives, LeadTo};
+ghost use Rattle.chains.specs.Chains.{AllFit, Fits, IsStraight, step_of, steps_of};
 ghost use Rattle.chains.specs.Walks.{IsWalk, here};
-ghost use Rattle.chains.specs.Derivations.{AreKept, Derived, GoesOn, Proves, all_of, weight_of};
+ghost use Rattle.chains.specs.Derivations.{AreKept, Derived, GoesOn, IsFrontOf, LeadAlike, Proves, all_of, pair_of, weight_of};
 
+use crate::guide::{Guide, Weights};
 use crate::pending::{put, reversed};
+use crate::search::find;
 use crate::steps::ChainStep;
 use crate::walks::Walk;
 use ports::NoMemory;
@@ -15,6 +17,12 @@ use std::alloc::Global;
 use std::collections::HashMap;
 use std::marker::Model;
 use words::Word;
+
+// Steps that stand for no more steps by relations are not shortened.
+const FEW_STEPS: u64 = 50;
+
+// So many more letters than the words of given steps may those of lighter ones have.
+const MORE_LETTERS: usize = 4;
 
 /// Two words, and steps that lead from the left one to the right one.
 #[derive(Drop)]
@@ -234,11 +242,8 @@ impl Derivations {
         Ok(kept)
     }
 
-    /// Spells steps over relations and facts out as steps over relations alone, from the word on.
-    /// Where a word is met again, what lies between is dropped, so no word stands twice and the
-    /// list is never longer than words there are. Each fact that is used is spelled out once. Refused
-    /// only where memory is wanting.
-    pub fn spell(&self, from: &Word, steps: &[ChainStep]) -> Result<Vec<ChainStep>, NoMemory>
+    // Spells steps out, each fact that is used once.
+    fn spell_once(&self, from: &Word, steps: &[ChainStep]) -> Result<Vec<ChainStep>, NoMemory>
         requires { AllFit (all_of self.now) from.now steps.now }
         ensures { IfOk result (λ chain. (to : Letters)
             → LeadTo (all_of self.now) from.now (steps_of steps.now) to
@@ -247,5 +252,212 @@ impl Derivations {
         let needed = self.needed(steps)?;
         let kept = self.chains_of(&needed)?;
         self.spell_by(&kept, from, steps)
+    }
+
+    // The word that the step gives, or `None` where it does not fit.
+    fn next(&self, step: ChainStep, word: &Word) -> Result<Option<Word>, NoMemory>
+        ensures { IfOk result (λ found. MatchOption found
+            (Fits (all_of self.now) word.now (step_of step) → ⊥)
+            (Gives (all_of self.now) word.now (step_of step))) }
+    {
+        if step.relation >= self.len() {
+            return Ok(None);
+        }
+        let (first, second) = self.sides(step.relation);
+        step.exchanged(self.alloc, first, second, word)
+    }
+
+    // The word to which the steps lead, and how many letters the longest word on the way has; or
+    // `None` where some step does not fit.
+    fn end_of(&self, from: &Word, steps: &[ChainStep]) -> Result<Option<(Word, usize)>, NoMemory>
+        ensures { IfOk result (λ found. MatchOption found
+            (AllFit (all_of self.now) from.now steps.now → ⊥)
+            (λ end. LeadTo (all_of self.now) from.now (steps_of steps.now) end.0)) }
+    {
+        let mut word = from.copy(self.alloc)?;
+        let mut letters = word.len();
+        for place in 0..steps.len() {
+            let Some(next) = self.next(steps[place], &word)? else {
+                return Ok(None);
+            };
+            letters = letters.max(next.len());
+            word = next;
+        }
+        Ok(Some((word, letters)))
+    }
+
+    // Whether the steps lead from the one word to the other.
+    fn do_lead(&self, from: &Word, steps: &[ChainStep], to: &Word) -> Result<bool, NoMemory>
+        ensures { IfOk result (λ yes. IsTrue yes
+            → LeadTo (all_of self.now) from.now (steps_of steps.now) to.now) }
+    {
+        let Some(end) = self.end_of(from, steps)? else {
+            return Ok(false);
+        };
+        Ok(end.0.letters() == to.letters())
+    }
+
+    // Steps that lead where the given ones do and weigh less than the limit, where a search finds
+    // some.
+    fn find_lighter(
+        &self,
+        guide: &Guide,
+        from: &Word,
+        steps: &[ChainStep],
+        limit: u64,
+    ) -> Result<Option<Vec<ChainStep>>, NoMemory>
+        ensures { IfOk result (λ lighter. IfSome lighter
+            (λ found. LeadAlike (all_of self.now) from.now steps.now found.items)) }
+    {
+        if limit <= 1 {
+            return Ok(None);
+        }
+        let Some((to, letters)) = self.end_of(from, steps)? else {
+            return Ok(None);
+        };
+        let letters = letters.saturating_add(MORE_LETTERS);
+        let Some(found) = find(self.alloc, guide, from, &to, letters, limit)? else {
+            return Ok(None);
+        };
+        if !self.do_lead(from, found.as_slice(), &to)? {
+            return Ok(None);
+        }
+        Ok(Some(found))
+    }
+
+    // Steps that lead where the given ones do: others that weigh less than the limit, where a search
+    // finds some, and else the same.
+    fn lighter(
+        &self,
+        guide: &Guide,
+        from: &Word,
+        steps: &[ChainStep],
+        limit: u64,
+    ) -> Result<Vec<ChainStep>, NoMemory>
+        ensures { IfOk result (λ found. LeadAlike (all_of self.now) from.now steps.now found.items) }
+    {
+        match self.find_lighter(guide, from, steps, limit)? {
+            Some(found) => Ok(found),
+            None => Ok(Vec::from_slice(self.alloc, steps)?),
+        }
+    }
+
+    // The fact of this number, over a log of those before it: by steps that weigh less than the
+    // limit, where some are found.
+    fn fact_over(
+        &self,
+        light: &Derivations,
+        guide: &Guide,
+        number: usize,
+        limit: u64,
+    ) -> Result<Fact, NoMemory>
+        requires within { number < length self.now.facts }
+        requires front { IsFrontOf number self.now light.now }
+        ensures proves { IfOk result (λ fact. Proves (all_of light.now) fact) }
+        ensures words { IfOk result (λ fact. slice_get (map pair_of self.now.facts) number
+            ≡ Some (pair_of fact)) }
+    {
+        let fact = &self.facts[number];
+        let steps = light.lighter(guide, &fact.left, fact.steps.as_slice(), limit)?;
+        Ok(Fact {
+            left: fact.left.copy(self.alloc)?,
+            right: fact.right.copy(self.alloc)?,
+            steps,
+        })
+    }
+
+    // What a search over the relations goes by.
+    fn guide(&self) -> Result<Guide, NoMemory> {
+        let mut guide = Guide::new(self.alloc);
+        let relations = self.presentation.relations();
+        for number in 0..relations.len() {
+            let pair = relations.pair(number);
+            guide.add(&pair.0, &pair.1, number, 1)?;
+        }
+        Ok(guide)
+    }
+
+    // The log with lighter steps for the facts that are needed, where some are found. Its facts are
+    // put among what a search goes by.
+    fn lightened(
+        &self,
+        guide: &mut Guide,
+        weights: &mut Weights,
+        needed: &Vec<bool>,
+    ) -> Result<Derivations, NoMemory>
+        requires { length needed.now.items ≡ length self.now.facts }
+        ensures { IfOk result (IsFrontOf (length self.now.facts) self.now) }
+    {
+        let mut light = Derivations::new(self.alloc, &self.presentation)?;
+        for number in 0..self.facts.len() {
+            let limit = if needed[number] {
+                weights.of(self.facts[number].steps.as_slice())
+            } else {
+                0
+            };
+            let fact = self.fact_over(&light, guide, number, limit)?;
+            weights.push(fact.steps.as_slice())?;
+            let weight = weights.of(fact.steps.as_slice());
+            guide.add(&fact.left, &fact.right, light.len(), weight)?;
+            light.push(fact)?;
+        }
+        Ok(light)
+    }
+
+    // The log, and steps over it from the word on, with lighter steps in both, where some are found.
+    fn shortened(
+        &self,
+        from: &Word,
+        steps: &[ChainStep],
+    ) -> Result<(Derivations, Vec<ChainStep>), NoMemory>
+        ensures log { IfOk result (λ r. IsFrontOf (length self.now.facts) self.now r.0) }
+        ensures steps { IfOk result (λ r.
+            LeadAlike (all_of self.now) from.now steps.now r.1.items) }
+    {
+        let needed = self.needed(steps)?;
+        let mut weights = Weights::of_relations(self.alloc, self.presentation.relations().len())?;
+        let mut guide = self.guide()?;
+        let light = self.lightened(&mut guide, &mut weights, &needed)?;
+        let lighter = light.lighter(&guide, from, steps, weights.of(steps))?;
+        Ok((light, lighter))
+    }
+
+    // How many steps by relations the steps stand for, or the greatest number.
+    fn weight_of(&self, steps: &[ChainStep]) -> Result<u64, NoMemory> {
+        let mut weights = Weights::of_relations(self.alloc, self.presentation.relations().len())?;
+        for number in 0..self.facts.len() {
+            weights.push(self.facts[number].steps.as_slice())?;
+        }
+        Ok(weights.of(steps))
+    }
+
+    // Spells out lighter steps than those given, where some are found: after the first search facts
+    // may be needed that were not before, so there are two.
+    fn spell_shortened(&self, from: &Word, steps: &[ChainStep]) -> Result<Vec<ChainStep>, NoMemory>
+        requires { AllFit (all_of self.now) from.now steps.now }
+        ensures { IfOk result (λ chain. (to : Letters)
+            → LeadTo (all_of self.now) from.now (steps_of steps.now) to
+            → IsStraight self.now.presentation from.now chain.items to) }
+    {
+        let (light, lighter) = self.shortened(from, steps)?;
+        let (lightest, least) = light.shortened(from, lighter.as_slice())?;
+        lightest.spell_once(from, least.as_slice())
+    }
+
+    /// Spells steps over relations and facts out as steps over relations alone, from the word on.
+    /// Where a word is met again, what lies between is dropped, so no word stands twice and the
+    /// list is never longer than words there are. Each fact that is used is spelled out once. Where
+    /// the list would be long, other steps that lead to the same word are looked for first. Refused
+    /// only where memory is wanting.
+    pub fn spell(&self, from: &Word, steps: &[ChainStep]) -> Result<Vec<ChainStep>, NoMemory>
+        requires { AllFit (all_of self.now) from.now steps.now }
+        ensures { IfOk result (λ chain. (to : Letters)
+            → LeadTo (all_of self.now) from.now (steps_of steps.now) to
+            → IsStraight self.now.presentation from.now chain.items to) }
+    {
+        if self.weight_of(steps)? <= FEW_STEPS {
+            return self.spell_once(from, steps);
+        }
+        self.spell_shortened(from, steps)
     }
 }

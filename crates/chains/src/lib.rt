@@ -6,7 +6,10 @@
 mod chains;
 mod derivations;
 pub mod facts;
+mod fronts;
+mod guide;
 mod pending;
+mod search;
 mod steps;
 mod walks;
 

@@ -61,14 +61,14 @@ fn replaced(
 }
 
 // The sides of a relation in the direction in which they are read.
-fn read_sides(forward: bool, sides: &(Word, Word)) -> (&Word, &Word)
-    ensures first { result.0.now ≡ (read_sides forward sides.now).0 }
-    ensures second { result.1.now ≡ (read_sides forward sides.now).1 }
+fn read_sides<'a>(forward: bool, first: &'a Word, second: &'a Word) -> (&'a Word, &'a Word)
+    ensures first { result.0.now ≡ (read_sides forward (first.now, second.now)).0 }
+    ensures second { result.1.now ≡ (read_sides forward (first.now, second.now)).1 }
 {
     if forward {
-        (&sides.0, &sides.1)
+        (first, second)
     } else {
-        (&sides.1, &sides.0)
+        (second, first)
     }
 }
 
@@ -99,6 +99,30 @@ impl ChainStep {
         }
     }
 
+    // The word in which the step exchanges the one side for the other, or `None` where that does not
+    // stand there.
+    pub(crate) fn exchanged(
+        self,
+        alloc: Global,
+        first: &Word,
+        second: &Word,
+        word: &Word,
+    ) -> Result<Option<Word>, NoMemory>
+        ensures { let sides = read_sides self.forward (first.now, second.now) in
+            IfOk result (λ found. MatchOption found
+            (StandsAt sides.0 word.now self.place → ⊥)
+            (IsReplaced word.now self.place sides.0 sides.1)) }
+    {
+        let (factor, by) = read_sides(self.forward, first, second);
+        replaced(
+            alloc,
+            word.letters(),
+            self.place,
+            factor.letters(),
+            by.letters(),
+        )
+    }
+
     // The word that the step gives, or `None` where it does not fit.
     pub(crate) fn next(
         self,
@@ -114,13 +138,7 @@ impl ChainStep {
         if self.relation >= relations.len() {
             return Ok(None);
         }
-        let (factor, by) = read_sides(self.forward, relations.pair(self.relation));
-        replaced(
-            alloc,
-            word.letters(),
-            self.place,
-            factor.letters(),
-            by.letters(),
-        )
+        let sides = relations.pair(self.relation);
+        self.exchanged(alloc, &sides.0, &sides.1, word)
     }
 }

@@ -21,19 +21,16 @@ use words::Word;
 pub struct Walk {
     pub words: Vec<Word>,
     pub steps: Vec<ChainStep>,
-    pub places: HashMap<Vec<u8>, usize>,
+    pub places: HashMap<Vec<usize>, usize>,
 }
 
-// The letters of the word. Refused, as memory that is wanting, only where memory is wanting.
-fn key_of(alloc: Global, word: &Word) -> Result<Vec<u8>, NoMemory>
+// The numbers of the letters of the word. Refused only where memory is wanting.
+fn key_of(alloc: Global, word: &Word) -> Result<Vec<usize>, NoMemory>
     ensures { IfOk result (λ key. key.items ≡ word.now) }
 {
     let mut key = Vec::new(alloc);
     for letter in word.letters() {
-        let Ok(number) = u8::try_from(letter.number()) else {
-            return Err(NoMemory);
-        };
-        key.push(number)?;
+        key.push(letter.number())?;
     }
     Ok(key)
 }
@@ -64,7 +61,7 @@ impl Walk {
     }
 
     // The place of the word among the words. Its letters are given.
-    fn place_of(&self, key: &Vec<u8>, word: &Word) -> Option<usize>
+    fn place_of(&self, key: &Vec<usize>, word: &Word) -> Option<usize>
         requires { key.now.items ≡ word.now }
         ensures within { IfSome result (λ place. place < length self.now.words.items) }
         ensures place { ArePlaces self.now.words.items self.now.places
@@ -118,6 +115,7 @@ impl Walk {
         };
         self.reach(alloc, step, next)
     }
+
     /// Makes steps one after another, the last one first. Refused only where memory is wanting.
     pub fn go_all(
         &mut self,
