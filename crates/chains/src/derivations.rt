@@ -21,6 +21,9 @@ use words::Word;
 // Steps that stand for no more steps by relations are not shortened.
 const FEW_STEPS: u64 = 50;
 
+// Steps that stand for more steps by relations are spelled out by the chains of their facts.
+const MANY_STEPS: u64 = 1_000_000;
+
 // So many more letters than the words of given steps may those of lighter ones have.
 const MORE_LETTERS: usize = 4;
 
@@ -242,15 +245,26 @@ impl Derivations {
         Ok(kept)
     }
 
-    // Spells steps out, each fact that is used once.
-    fn spell_once(&self, from: &Word, steps: &[ChainStep]) -> Result<Vec<ChainStep>, NoMemory>
+    // The chains of the facts that the steps use. None, where the steps stand for so few that these
+    // are made at once sooner than the chains of all facts.
+    fn chains_for(&self, steps: &[ChainStep]) -> Result<HashMap<usize, Vec<ChainStep>>, NoMemory>
+        ensures { IfOk result (AreKept self.now) }
+    {
+        if self.weight_of(steps)? <= MANY_STEPS {
+            return Ok(HashMap::new(self.alloc));
+        }
+        let needed = self.needed(steps)?;
+        self.chains_of(&needed)
+    }
+
+    // Spells these very steps out.
+    fn spell_as_given(&self, from: &Word, steps: &[ChainStep]) -> Result<Vec<ChainStep>, NoMemory>
         requires { AllFit (all_of self.now) from.now steps.now }
         ensures { IfOk result (λ chain. (to : Letters)
             → LeadTo (all_of self.now) from.now (steps_of steps.now) to
             → IsStraight self.now.presentation from.now chain.items to) }
     {
-        let needed = self.needed(steps)?;
-        let kept = self.chains_of(&needed)?;
+        let kept = self.chains_for(steps)?;
         self.spell_by(&kept, from, steps)
     }
 
@@ -441,14 +455,14 @@ impl Derivations {
     {
         let (light, lighter) = self.shortened(from, steps)?;
         let (lightest, least) = light.shortened(from, lighter.as_slice())?;
-        lightest.spell_once(from, least.as_slice())
+        lightest.spell_as_given(from, least.as_slice())
     }
 
     /// Spells steps over relations and facts out as steps over relations alone, from the word on.
     /// Where a word is met again, what lies between is dropped, so no word stands twice and the
-    /// list is never longer than words there are. Each fact that is used is spelled out once. Where
-    /// the list would be long, other steps that lead to the same word are looked for first. Refused
-    /// only where memory is wanting.
+    /// list is never longer than words there are. Where the list would be long, other steps that lead
+    /// to the same word are looked for first, and where it would still be very long, each fact that
+    /// is used is spelled out once. Refused only where memory is wanting.
     pub fn spell(&self, from: &Word, steps: &[ChainStep]) -> Result<Vec<ChainStep>, NoMemory>
         requires { AllFit (all_of self.now) from.now steps.now }
         ensures { IfOk result (λ chain. (to : Letters)
@@ -456,7 +470,7 @@ impl Derivations {
             → IsStraight self.now.presentation from.now chain.items to) }
     {
         if self.weight_of(steps)? <= FEW_STEPS {
-            return self.spell_once(from, steps);
+            return self.spell_as_given(from, steps);
         }
         self.spell_shortened(from, steps)
     }

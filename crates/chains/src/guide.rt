@@ -117,10 +117,7 @@ impl Guide {
     // Puts in that the side may be exchanged.
     fn put(&mut self, side: Vec<u8>, exchange: Exchange) -> Result<(), NoMemory> {
         self.longest = self.longest.max(side.len());
-        let exchanges = self
-            .exchanges
-            .entry(side)?
-            .or_insert(Vec::new(self.alloc));
+        let exchanges = self.exchanges.entry(side)?.or_insert(Vec::new(self.alloc));
         put(exchanges, exchange)
     }
 

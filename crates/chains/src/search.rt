@@ -10,14 +10,14 @@ use words::Word;
 // A search looks along so many words at least, and at most; in between, along one word for so much
 // that the steps weigh which it is to undercut.
 const LEAST_WORDS: u64 = 200;
+
 const MOST_WORDS: u64 = 20_000;
+
 const WEIGHT_OF_A_WORD: u64 = 300;
 
 // How many words are looked along for steps that weigh less than the limit.
 fn words_for(limit: u64) -> u64 {
-    (limit / WEIGHT_OF_A_WORD)
-        .max(LEAST_WORDS)
-        .min(MOST_WORDS)
+    (limit / WEIGHT_OF_A_WORD).max(LEAST_WORDS).min(MOST_WORDS)
 }
 
 // The words that are reached from both ends.

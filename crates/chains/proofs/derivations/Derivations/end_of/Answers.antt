@@ -17,8 +17,8 @@ returns-in_default c =
     let within : place < length steps = omega (arith, c.loop-place-test.true) in
     let left = left_begins steps place step within (get_or_default steps place none step within) in
     λ fits. led_nowhere p c.args.from.now steps c.loop-place.word (drop place steps) (drop (place + 1) steps) step c.loop-place.invariant left
-        (not_given p c.loop-place.word (step_of step) c.in_ok-next.field-0 c.in_ok-next.ensures c.in_default.is)
-        (last_word c.args.from.now fits.0) (fits.0, fits.1, refl)
+    (not_given p c.loop-place.word (step_of step) c.in_ok-next.field-0 c.in_ok-next.ensures c.in_default.is)
+    (last_word c.args.from.now fits.0) (fits.0, fits.1, refl)
 
 pub loop-place-preserved : goal.loop-place-preserved
 loop-place-preserved c =
