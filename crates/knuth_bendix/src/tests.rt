@@ -273,3 +273,23 @@ fn chains_of_the_symmetric_group(rt: HostRuntime) -> Result<(), Fail> {
     assert!(rt; !is_joined(alloc, &symmetric, 12, ("ab", "ba"))?);
     Ok(())
 }
+
+// Facts rest on facts here so deep that, spelled as they are logged, they stand for millions of
+// steps.
+#[test]
+fn chains_of_a_semigroup_that_collapses(rt: HostRuntime) -> Result<(), Fail> {
+    let alloc = rt.alloc();
+    let relations = [
+        ("ccaac", "ccdba"),
+        ("aabac", "a"),
+        ("dacb", "db"),
+        ("bddd", "a"),
+        ("bdaac", "c"),
+        ("dabd", "bb"),
+    ];
+    let collapsing = presented(alloc, "abcd", false, &relations)?;
+    let steps = chain(alloc, &collapsing, 8, ("abab", "da"))?.unwrap_or(Vec::new(alloc));
+    assert!(rt; 100 < steps.len() && steps.len() < 500);
+    assert!(rt; is_joined(alloc, &collapsing, 8, ("abab", "da"))?);
+    Ok(())
+}
