@@ -19,7 +19,7 @@ use std::marker::Model;
 use words::Word;
 
 // Steps that stand for no more steps by relations are not shortened.
-const FEW_STEPS: u64 = 50;
+const FEW_STEPS: u64 = 200;
 
 // Steps that stand for more steps by relations are spelled out by the chains of their facts.
 const MANY_STEPS: u64 = 1_000_000;
