@@ -85,6 +85,27 @@ fn nodes(engine: &Hlt) -> Result<usize, NoMemory> {
     }
 }
 
+// Whether the turns give these answers, one after another.
+fn gives<R: Racer>(engine: &mut R, answers: &[Progress]) -> bool {
+    for answer in answers {
+        if engine.advance() != *answer {
+            return false;
+        }
+    }
+    true
+}
+
+// Whether the turns give these answers, and then the graph has so many nodes. An engine is taken by
+// reference: a value of so many fields costs the proofs much at each step.
+fn reaches(engine: &mut Hlt, answers: &[Progress], count: usize) -> Result<bool, NoMemory> {
+    Ok(gives(engine, answers) && nodes(engine)? == count)
+}
+
+// Whether the enumeration is decided in the end, and its graph has so many nodes.
+fn ends_with(engine: &mut Hlt, count: usize) -> Result<bool, NoMemory> {
+    Ok(end(engine) == Progress::Decided && nodes(engine)? == count)
+}
+
 // The monoid of one letter of which three are the empty word.
 fn cyclic(alloc: Global) -> Result<Presentation, NoMemory> {
     let mut presentation = free(alloc, b"a", true)?;
@@ -96,37 +117,41 @@ fn cyclic(alloc: Global) -> Result<Presentation, NoMemory> {
 fn three_rows_suffice(rt: HostRuntime) -> Result<(), Fail> {
     let alloc = rt.alloc();
     let mut engine = enumeration(alloc, cyclic(alloc)?, 3)?;
-    assert_eq!(rt; engine.advance(), Progress::More);
-    assert_eq!(rt; engine.advance(), Progress::More);
-    assert!(rt; !engine.is_decided());
-    assert_eq!(rt; engine.advance(), Progress::Decided);
-    assert_eq!(rt; nodes(&engine)?, 3);
+    let answers = [Progress::More, Progress::More, Progress::Decided];
+    assert!(rt; reaches(&mut engine, &answers, 3)?);
     Ok(())
 }
 
 #[test]
-fn fewer_rows_do_not(rt: HostRuntime) -> Result<(), Fail> {
+fn two_rows_do_not(rt: HostRuntime) -> Result<(), Fail> {
     let alloc = rt.alloc();
     let mut engine = enumeration(alloc, cyclic(alloc)?, 2)?;
-    assert_eq!(rt; engine.advance(), Progress::More);
-    assert_eq!(rt; engine.advance(), Progress::Spent);
-    assert_eq!(rt; engine.advance(), Progress::Spent);
-    let mut none = enumeration(alloc, cyclic(alloc)?, 0)?;
-    assert_eq!(rt; none.advance(), Progress::Spent);
+    let answers = [Progress::More, Progress::Spent, Progress::Spent];
+    assert!(rt; gives(&mut engine, &answers));
     Ok(())
+}
+
+#[test]
+fn no_row_does_not(rt: HostRuntime) -> Result<(), Fail> {
+    let alloc = rt.alloc();
+    let mut engine = enumeration(alloc, cyclic(alloc)?, 0)?;
+    assert_eq!(rt; engine.advance(), Progress::Spent);
+    Ok(())
+}
+
+// The enumeration over right pairs that are the relations themselves.
+fn over_relations(alloc: Global, presentation: Presentation, rows: usize) -> Result<Hlt, NoMemory> {
+    let pairs = presentation.relations().copy(alloc)?;
+    let congruence = Congruence::new(presentation, Kind::Right, pairs);
+    Hlt::new(alloc, &congruence, rows)
 }
 
 #[test]
 fn pairs_come_before_rows(rt: HostRuntime) -> Result<(), Fail> {
     let alloc = rt.alloc();
-    let presentation = cyclic(alloc)?;
-    let pairs = presentation.relations().copy(alloc)?;
-    let congruence = Congruence::new(presentation, Kind::Right, pairs);
-    let mut engine = Hlt::new(alloc, &congruence, 3)?;
-    assert_eq!(rt; engine.advance(), Progress::More);
-    assert_eq!(rt; engine.advance(), Progress::More);
-    assert_eq!(rt; engine.advance(), Progress::Decided);
-    assert_eq!(rt; nodes(&engine)?, 3);
+    let mut engine = over_relations(alloc, cyclic(alloc)?, 3)?;
+    let answers = [Progress::More, Progress::More, Progress::Decided];
+    assert!(rt; reaches(&mut engine, &answers, 3)?);
     Ok(())
 }
 
@@ -143,8 +168,7 @@ fn symmetric(alloc: Global) -> Result<Presentation, NoMemory> {
 fn enumerates_the_symmetric_group(rt: HostRuntime) -> Result<(), Fail> {
     let alloc = rt.alloc();
     let mut engine = enumeration(alloc, symmetric(alloc)?, 50)?;
-    assert_eq!(rt; end(&mut engine), Progress::Decided);
-    assert_eq!(rt; nodes(&engine)?, 6);
+    assert!(rt; ends_with(&mut engine, 6)?);
     Ok(())
 }
 
@@ -152,8 +176,7 @@ fn enumerates_the_symmetric_group(rt: HostRuntime) -> Result<(), Fail> {
 fn a_right_pair_shrinks_the_index(rt: HostRuntime) -> Result<(), Fail> {
     let alloc = rt.alloc();
     let mut engine = over_a(&rt, alloc, symmetric(alloc)?, 50)?;
-    assert_eq!(rt; end(&mut engine), Progress::Decided);
-    assert_eq!(rt; nodes(&engine)?, 3);
+    assert!(rt; ends_with(&mut engine, 3)?);
     Ok(())
 }
 
@@ -168,8 +191,7 @@ fn trivial(alloc: Global) -> Result<Presentation, NoMemory> {
 fn collapses_to_one_class(rt: HostRuntime) -> Result<(), Fail> {
     let alloc = rt.alloc();
     let mut engine = enumeration(alloc, trivial(alloc)?, 1)?;
-    assert_eq!(rt; engine.advance(), Progress::Decided);
-    assert_eq!(rt; nodes(&engine)?, 1);
+    assert!(rt; reaches(&mut engine, &[Progress::Decided], 1)?);
     Ok(())
 }
 
@@ -184,10 +206,15 @@ fn long_cycle(alloc: Global) -> Result<Presentation, NoMemory> {
 fn a_lookahead_decides(rt: HostRuntime) -> Result<(), Fail> {
     let alloc = rt.alloc();
     let mut engine = enumeration(alloc, long_cycle(alloc)?, 100)?;
-    assert_eq!(rt; end(&mut engine), Progress::Decided);
-    assert_eq!(rt; nodes(&engine)?, 150);
-    let mut fewer = enumeration(alloc, long_cycle(alloc)?, 99)?;
-    assert_eq!(rt; end(&mut fewer), Progress::Spent);
+    assert!(rt; ends_with(&mut engine, 150)?);
+    Ok(())
+}
+
+#[test]
+fn fewer_rows_see_no_lookahead(rt: HostRuntime) -> Result<(), Fail> {
+    let alloc = rt.alloc();
+    let mut engine = enumeration(alloc, long_cycle(alloc)?, 99)?;
+    assert_eq!(rt; end(&mut engine), Progress::Spent);
     Ok(())
 }
 
@@ -202,7 +229,6 @@ fn sent<T: Send>(value: T) -> T
 fn goes_to_another_thread(rt: HostRuntime) -> Result<(), Fail> {
     let alloc = rt.alloc();
     let mut engine = sent(enumeration(alloc, cyclic(alloc)?, 2)?);
-    assert_eq!(rt; engine.advance(), Progress::More);
-    assert_eq!(rt; engine.advance(), Progress::Spent);
+    assert!(rt; gives(&mut engine, &[Progress::More, Progress::Spent]));
     Ok(())
 }
