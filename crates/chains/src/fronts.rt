@@ -38,7 +38,11 @@ pub struct Front {
 
 // The words one after another.
 fn joined(alloc: Global, head: &[u8], middle: &[u8], tail: &[u8]) -> Result<Vec<u8>, NoMemory> {
-    let mut word = Vec::new(alloc);
+    let letters = head
+        .len()
+        .saturating_add(middle.len())
+        .saturating_add(tail.len());
+    let mut word = Vec::with_capacity(alloc, letters)?;
     word.extend_from_slice(head)?;
     word.extend_from_slice(middle)?;
     word.extend_from_slice(tail)?;
