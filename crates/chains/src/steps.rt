@@ -27,16 +27,6 @@ fn stands_at(word: &[Letter], place: usize, factor: &[Letter]) -> bool
     place <= word.len() && word[place..].starts_with(factor)
 }
 
-// Puts the letters at the end of the word.
-fn extend(word: &mut Word, letters: &[Letter]) -> Result<(), NoMemory>
-    ensures { OnOk result (word.new ≡ word.old ++ letters.now) }
-{
-    for letter in letters {
-        word.push(*letter)?;
-    }
-    Ok(())
-}
-
 // The word with the factor at the place replaced by another, or `None` where it does not stand
 // there.
 fn replaced(
@@ -53,10 +43,10 @@ fn replaced(
     if !stands_at(word, place, factor) {
         return Ok(None);
     }
-    let mut made = Word::new(alloc);
-    extend(&mut made, &word[..place])?;
-    extend(&mut made, by)?;
-    extend(&mut made, &word[place + factor.len()..])?;
+    let mut made = Word::with_capacity(alloc, word.len().saturating_add(by.len()))?;
+    made.append(&word[..place])?;
+    made.append(by)?;
+    made.append(&word[place + factor.len()..])?;
     Ok(Some(made))
 }
 

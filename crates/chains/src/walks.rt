@@ -28,7 +28,7 @@ pub struct Walk {
 fn key_of(alloc: Global, word: &Word) -> Result<Vec<usize>, NoMemory>
     ensures { IfOk result (λ key. key.items ≡ word.now) }
 {
-    let mut key = Vec::new(alloc);
+    let mut key = Vec::with_capacity(alloc, word.len())?;
     for letter in word.letters() {
         key.push(letter.number())?;
     }

@@ -61,6 +61,15 @@ impl Word {
         }
     }
 
+    /// The empty word, with room for so many letters. Refused only where memory is wanting.
+    pub fn with_capacity(alloc: Global, letters: usize) -> Result<Word, NoMemory>
+        ensures { IfOk result (λ w. w ≡ []) }
+    {
+        Ok(Word {
+            letters: Vec::with_capacity(alloc, letters)?,
+        })
+    }
+
     /// How many letters the word has.
     pub fn len(&self) -> usize
         ensures { result ≡ length self.now }
@@ -90,6 +99,16 @@ impl Word {
         ensures err { OnErr result (self.new ≡ self.old) }
     {
         self.letters.push(letter)?;
+        Ok(())
+    }
+
+    /// Puts letters at the end, in order. Refused only where memory is wanting, and then the word
+    /// stays as it was.
+    pub fn append(&mut self, letters: &[Letter]) -> Result<(), NoMemory>
+        ensures ok { OnOk result (self.new ≡ self.old ++ letters.now) }
+        ensures err { OnErr result (self.new ≡ self.old) }
+    {
+        self.letters.extend_from_slice(letters)?;
         Ok(())
     }
 
