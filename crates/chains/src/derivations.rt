@@ -382,7 +382,7 @@ impl Derivations {
 
     // What a search over the relations goes by.
     fn guide(&self) -> Result<Guide, NoMemory> {
-        let mut guide = Guide::new(self.alloc);
+        let mut guide = Guide::new(self.alloc)?;
         let relations = self.presentation.relations();
         for number in 0..relations.len() {
             let pair = relations.pair(number);

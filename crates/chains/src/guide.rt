@@ -4,7 +4,6 @@ ghost use Rattle.std.specs.Prelude.{◌<◌, length, IfSome};
 use crate::steps::ChainStep;
 use ports::NoMemory;
 use std::alloc::Global;
-use std::collections::HashMap;
 use words::Word;
 
 // A side that may take the place of another: by which relation or fact, in which direction, and how
@@ -53,17 +52,24 @@ impl Weights {
     }
 }
 
-/// By what each side of a relation or fact may be exchanged.
+// The beginning of a side, or a side: the places of those with a letter more, by this letter, and by
+// what the side may be exchanged.
+#[derive(Drop)]
+struct Beginning {
+    longer: Vec<(u8, usize)>,
+    exchanges: Vec<Exchange>,
+}
+
+/// By what each side of a relation or fact may be exchanged: a tree of the sides, letter by letter.
 #[derive(Drop)]
 pub struct Guide {
     alloc: Global,
-    exchanges: HashMap<Vec<u8>, Vec<Exchange>>,
-    longest: usize,
+    beginnings: Vec<Beginning>,
 }
 
 /// The letters of the word, a byte each. Refused only where memory is wanting.
 pub fn bytes_of(alloc: Global, word: &Word) -> Result<Vec<u8>, NoMemory> {
-    let mut bytes = Vec::new(alloc);
+    let mut bytes = Vec::with_capacity(alloc, word.len())?;
     for letter in word.letters() {
         bytes.push(u8::try_from(letter.number()).unwrap_or(0))?;
     }
@@ -95,30 +101,67 @@ fn put(exchanges: &mut Vec<Exchange>, exchange: Exchange) -> Result<(), NoMemory
 }
 
 impl Guide {
-    /// No relation and no fact.
-    pub fn new(alloc: Global) -> Guide {
-        Guide {
+    /// No relation and no fact. Refused only where memory is wanting.
+    pub fn new(alloc: Global) -> Result<Guide, NoMemory> {
+        let mut guide = Guide {
             alloc,
-            exchanges: HashMap::new(alloc),
-            longest: 0,
+            beginnings: Vec::new(alloc),
+        };
+        let _root = guide.begin()?;
+        Ok(guide)
+    }
+
+    // A beginning that nothing is known of, and its place.
+    fn begin(&mut self) -> Result<usize, NoMemory> {
+        let place = self.beginnings.len();
+        self.beginnings.push(Beginning {
+            longer: Vec::new(self.alloc),
+            exchanges: Vec::new(self.alloc),
+        })?;
+        Ok(place)
+    }
+
+    /// The place of the beginning with this letter more. That of no letters is 0.
+    pub fn longer(&self, place: usize, letter: u8) -> Option<usize> {
+        let beginning = self.beginnings.get(place)?;
+        for (next, longer) in &beginning.longer {
+            if *next == letter {
+                return Some(*longer);
+            }
+        }
+        None
+    }
+
+    /// What may take the place of the side of this place.
+    pub fn exchanges(&self, place: usize) -> &[Exchange] {
+        match self.beginnings.get(place) {
+            Some(beginning) => beginning.exchanges.as_slice(),
+            None => &[],
         }
     }
 
-    /// How many letters the longest side has.
-    pub fn longest(&self) -> usize {
-        self.longest
-    }
-
-    /// What may take the place of the side.
-    pub fn exchanges(&self, side: &[u8]) -> Option<&Vec<Exchange>> {
-        self.exchanges.get(side)
+    // The place of the beginning with this letter more, which is put in where there is none.
+    fn go_on(&mut self, place: usize, letter: u8) -> Result<usize, NoMemory> {
+        if let Some(longer) = self.longer(place, letter) {
+            return Ok(longer);
+        }
+        let longer = self.begin()?;
+        if let Some(beginning) = self.beginnings.get_mut(place) {
+            beginning.longer.push((letter, longer))?;
+        }
+        Ok(longer)
     }
 
     // Puts in that the side may be exchanged.
-    fn put(&mut self, side: Vec<u8>, exchange: Exchange) -> Result<(), NoMemory> {
-        self.longest = self.longest.max(side.len());
-        let exchanges = self.exchanges.entry(side)?.or_insert(Vec::new(self.alloc));
-        put(exchanges, exchange)
+    fn put(&mut self, side: &[u8], exchange: Exchange) -> Result<(), NoMemory> {
+        let mut place = 0;
+        for letter in side {
+            place = self.go_on(place, *letter)?;
+        }
+        match self.beginnings.get_mut(place) {
+            Some(beginning) => put(&mut beginning.exchanges, exchange),
+            None => Ok(()),
+        }
     }
 
     /// Puts in the relation or fact of the two words, of such a number and weight. Refused only where
@@ -130,19 +173,20 @@ impl Guide {
         relation: usize,
         weight: u64,
     ) -> Result<(), NoMemory> {
+        let (first, second) = (bytes_of(self.alloc, left)?, bytes_of(self.alloc, right)?);
         let forward = Exchange {
-            by: bytes_of(self.alloc, right)?,
+            by: Vec::from_slice(self.alloc, second.as_slice())?,
             relation,
             forward: true,
             weight,
         };
-        self.put(bytes_of(self.alloc, left)?, forward)?;
+        self.put(first.as_slice(), forward)?;
         let back = Exchange {
-            by: bytes_of(self.alloc, left)?,
+            by: first,
             relation,
             forward: false,
             weight,
         };
-        self.put(bytes_of(self.alloc, right)?, back)
+        self.put(second.as_slice(), back)
     }
 }

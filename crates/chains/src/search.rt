@@ -1,10 +1,11 @@
 // A search for steps that weigh little, from both ends (Pohl 1971).
-use crate::fronts::{Bounds, Front};
-use crate::guide::{Guide, bytes_of};
+use crate::fronts::Front;
+use crate::guide::{Exchange, Guide, bytes_of};
 use crate::pending::reversed;
 use crate::steps::ChainStep;
 use ports::NoMemory;
 use std::alloc::Global;
+use std::mem::swap;
 use words::Word;
 
 // A search looks along so many words at least, and at most; in between, along one word for so much
@@ -20,48 +21,154 @@ fn words_for(limit: u64) -> u64 {
     (limit / WEIGHT_OF_A_WORD).max(LEAST_WORDS).min(MOST_WORDS)
 }
 
-// The words that are reached from both ends.
+// A factor of a word: the place of the word, and what stands before the factor and behind it.
+#[derive(Clone, Copy)]
+struct Factor<'a> {
+    place: usize,
+    head: &'a [u8],
+    tail: &'a [u8],
+}
+
+// The words that are reached from both ends, by steps that weigh less than the limit, and with no
+// more letters than these. What is looked along is the end that is near; it is where the steps begin
+// unless the ends have changed places. Where words of both ends are one, the least weight is the
+// limit from then on, and the places of the word are kept.
 #[derive(Drop)]
 struct Search {
-    there: Front,
-    back: Front,
-    bounds: Bounds,
+    near: Front,
+    far: Front,
+    turned: bool,
+    letters: usize,
+    limit: u64,
+    meeting: Option<(usize, usize)>,
+    word: Vec<u8>,
 }
 
 impl Search {
+    // The two ends change places.
+    fn turn(&mut self) {
+        swap(&mut self.near, &mut self.far);
+        self.turned = !self.turned;
+        if let Some((near, far)) = self.meeting {
+            self.meeting = Some((far, near));
+        }
+    }
+
+    // The word with the factor exchanged.
+    fn make(&mut self, factor: &Factor, by: &[u8]) -> Result<(), NoMemory> {
+        self.word.clear();
+        self.word.extend_from_slice(factor.head)?;
+        self.word.extend_from_slice(by)?;
+        self.word.extend_from_slice(factor.tail)?;
+        Ok(())
+    }
+
+    // Makes one exchange.
+    fn exchange(&mut self, factor: &Factor, exchange: &Exchange) -> Result<(), NoMemory> {
+        let weight = self
+            .near
+            .weight_at(factor.place)
+            .saturating_add(exchange.weight);
+        let around = factor.head.len().saturating_add(factor.tail.len());
+        if self.limit <= weight || self.letters < around.saturating_add(exchange.by.len()) {
+            return Ok(());
+        }
+        self.make(factor, exchange.by.as_slice())?;
+        let step = ChainStep {
+            place: factor.head.len(),
+            relation: exchange.relation,
+            forward: exchange.forward,
+        };
+        let word = self.word.as_slice();
+        let Some(near) = self.near.reach(word, weight, factor.place, step)? else {
+            return Ok(());
+        };
+        let Some(far) = self.far.place_of(self.word.as_slice()) else {
+            return Ok(());
+        };
+        let all = weight.saturating_add(self.far.weight_at(far));
+        if all < self.limit {
+            self.limit = all;
+            self.meeting = Some((near, far));
+        }
+        Ok(())
+    }
+
+    // Makes all exchanges of a factor.
+    fn exchange_all(&mut self, factor: &Factor, exchanges: &[Exchange]) -> Result<(), NoMemory> {
+        for exchange in exchanges {
+            self.exchange(factor, exchange)?;
+        }
+        Ok(())
+    }
+
+    // Makes the exchanges of the factors that stand in the word of a place, behind its head.
+    fn exchange_at(
+        &mut self,
+        guide: &Guide,
+        place: usize,
+        head: &[u8],
+        rest: &[u8],
+    ) -> Result<(), NoMemory> {
+        let mut side = 0;
+        for letters in 0..rest.len() {
+            let factor = Factor {
+                place,
+                head,
+                tail: &rest[letters..],
+            };
+            self.exchange_all(&factor, guide.exchanges(side))?;
+            let Some(longer) = guide.longer(side, rest[letters]) else {
+                return Ok(());
+            };
+            side = longer;
+        }
+        let factor = Factor {
+            place,
+            head,
+            tail: &[],
+        };
+        self.exchange_all(&factor, guide.exchanges(side))
+    }
+
+    // Looks along the lightest word of the end that is near, at each factor of it.
+    fn look_along(&mut self, guide: &Guide) -> Result<(), NoMemory> {
+        let Some((place, word)) = self.near.take()? else {
+            return Ok(());
+        };
+        for letters in 0..word.len() {
+            let (head, rest) = word.as_slice().split_at(letters);
+            self.exchange_at(guide, place, head, rest)?;
+        }
+        Ok(())
+    }
+
     // Looks along the lightest word of either end. False where no steps can be lighter than those
     // that are found, or than the limit.
     fn go_on(&mut self, guide: &Guide) -> Result<bool, NoMemory> {
-        let (Some(there), Some(back)) = (self.there.least(), self.back.least()) else {
+        let (Some(near), Some(far)) = (self.near.least(), self.far.least()) else {
             return Ok(false);
         };
-        if self.bounds.limit <= there.saturating_add(back) {
+        if self.limit <= near.saturating_add(far) {
             return Ok(false);
         }
-        if there <= back {
-            self.there.look_along(guide, &self.back, &mut self.bounds)?;
-        } else {
-            self.turn();
-            self.back.look_along(guide, &self.there, &mut self.bounds)?;
+        if far < near {
             self.turn();
         }
+        self.look_along(guide)?;
         Ok(true)
     }
 
-    // The two ends change places.
-    fn turn(&mut self) {
-        if let Some((there, back)) = self.bounds.meeting {
-            self.bounds.meeting = Some((back, there));
-        }
-    }
-
     // The steps that are found.
-    fn steps(&self, alloc: Global) -> Result<Option<Vec<ChainStep>>, NoMemory> {
-        let Some((there, back)) = self.bounds.meeting else {
+    fn steps(&mut self, alloc: Global) -> Result<Option<Vec<ChainStep>>, NoMemory> {
+        if self.turned {
+            self.turn();
+        }
+        let Some((near, far)) = self.meeting else {
             return Ok(None);
         };
-        let mut steps = reversed(alloc, self.there.steps_to(there)?.as_slice())?;
-        for step in self.back.steps_to(back)? {
+        let mut steps = reversed(alloc, self.near.steps_to(near)?.as_slice())?;
+        for step in self.far.steps_to(far)? {
             steps.push(step.turned())?;
         }
         Ok(Some(steps))
@@ -80,13 +187,13 @@ pub fn find(
     limit: u64,
 ) -> Result<Option<Vec<ChainStep>>, NoMemory> {
     let mut search = Search {
-        there: Front::new(alloc, bytes_of(alloc, from)?)?,
-        back: Front::new(alloc, bytes_of(alloc, to)?)?,
-        bounds: Bounds {
-            letters,
-            limit,
-            meeting: None,
-        },
+        near: Front::new(alloc, bytes_of(alloc, from)?.as_slice())?,
+        far: Front::new(alloc, bytes_of(alloc, to)?.as_slice())?,
+        turned: false,
+        letters,
+        limit,
+        meeting: None,
+        word: Vec::new(alloc),
     };
     for _ in 0..words_for(limit) {
         if !search.go_on(guide)? {
