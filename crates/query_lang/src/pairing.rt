@@ -1,5 +1,5 @@
 // Pairs that lines give, one after another.
-ghost use Rattle.std.specs.Prelude.{◌≡◌, ◌≢◌, IfOk, IfErr, Ok, length};
+ghost use Rattle.std.specs.Prelude.{◌≡◌, ◌≢◌, IfOk, IfErr, OnOk, Ok, length};
 ghost use Rattle.theory.specs.Word.{IsElement};
 ghost use Rattle.problem.specs.Problem.{IsPosable, has_empty_word, is_presented, letters_of, pairs_of, with_pair};
 ghost use Rattle.query_lang.specs.Faults.{IsLineFault};
@@ -113,6 +113,34 @@ impl Paired {
         })
     }
 
+    // The pair of these two words, which may stand behind the others.
+    fn pair_of(
+        &self,
+        alloc: Global,
+        version: Version,
+        kind: Kind,
+        tokens: &[&[u8]],
+    ) -> Result<(Word, Word), LineFault>
+        ensures ok { IfOk result (λ pair. add_pair version self.now kind (texts tokens.now)
+            ≡ Ok (with_pair self.now kind pair)) }
+        ensures few { OnOk result (length (pairs_of self.now) ≢ most_pairs) }
+        ensures left { IfOk result (λ pair. IsElement
+            (has_empty_word self.now) (length (letters_of self.now)) pair.0) }
+        ensures right { IfOk result (λ pair. IsElement
+            (has_empty_word self.now) (length (letters_of self.now)) pair.1) }
+        ensures err { IfErr result (IsLineFault
+            (add_pair version self.now kind (texts tokens.now))) }
+    {
+        let (left, right) = two_tokens(tokens)?;
+        if self.problem.pairs().len() == MOST_PAIRS {
+            return Err(LineFault::refused(Cause::TooManyPairs));
+        }
+        if !self.takes(kind) {
+            return Err(LineFault::refused(Cause::MixedKinds));
+        }
+        self.sides(alloc, version, left, right)
+    }
+
     /// The pair of this kind and of these two words behind the others. Refused with the cause of
     /// its line, or for want of memory.
     pub fn with_pair(
@@ -125,14 +153,7 @@ impl Paired {
         ensures ok { IfOk result (λ next. add_pair version self kind (texts tokens.now) ≡ Ok next) }
         ensures err { IfErr result (IsLineFault (add_pair version self kind (texts tokens.now))) }
     {
-        let (left, right) = two_tokens(tokens)?;
-        if self.problem.pairs().len() == MOST_PAIRS {
-            return Err(LineFault::refused(Cause::TooManyPairs));
-        }
-        if !self.takes(kind) {
-            return Err(LineFault::refused(Cause::MixedKinds));
-        }
-        let (left, right) = self.sides(alloc, version, left, right)?;
+        let (left, right) = self.pair_of(alloc, version, kind, tokens)?;
         Ok(self.with_sides(kind, left, right)?)
     }
 

@@ -7,7 +7,7 @@ ghost use Rattle.query_lang.specs.LineCauses.{AreScript};
 ghost use Rattle.query_lang.specs.Query.{IsQueryOf};
 ghost use Rattle.query_lang.specs.QueryLines.{is_name_there};
 ghost use Rattle.query_lang.specs.Relations.{relations_of};
-ghost use Rattle.query_lang.specs.Script.{asked};
+ghost use Rattle.query_lang.specs.Script.{asked, with_asked};
 ghost use Rattle.query_lang.specs.Texts.{texts};
 
 use crate::cause::Cause;
@@ -15,6 +15,7 @@ use crate::fault::{LineFault, ScriptFault};
 use crate::query_line::{QueryName, query_of};
 use crate::reader::Progress;
 use crate::version::Version;
+use ports::NoMemory;
 use problem::Problem;
 use std::alloc::Global;
 use std::marker::Model;
@@ -114,6 +115,55 @@ impl Script {
         }
     }
 
+    // The query of this name and these tokens, which may stand behind the others. Scripts of this
+    // kind have it.
+    fn query(
+        &self,
+        alloc: Global,
+        version: Version,
+        name: QueryName,
+        tokens: &[&[u8]],
+    ) -> Result<Query, LineFault>
+        requires { is_name_there (is_presented self.now.problem) name ≡ true }
+        ensures ok { IfOk result (λ query. asked version self.now name (texts tokens.now)
+            ≡ Ok (with_asked self.now query)) }
+        ensures own { IfOk result (IsQueryOf self.now.problem) }
+        ensures err { IfErr result (IsLineFault (asked version self.now name (texts tokens.now))) }
+    {
+        if !name.takes(tokens) {
+            return Err(LineFault::refused(Cause::WrongNumberOfWords));
+        }
+        if name.is_barred(&self.problem) {
+            return Err(LineFault::refused(Cause::QueryNotAllowed));
+        }
+        let allow_empty = self.problem.has_empty_word();
+        let relations = relations_of(&self.problem);
+        let alphabet = self.problem.alphabet();
+        let query = query_of(
+            alloc,
+            version,
+            alphabet,
+            allow_empty,
+            relations,
+            name,
+            tokens,
+        )?;
+        Ok(query)
+    }
+
+    // The query behind the others.
+    fn with_asked(self, query: Query) -> Result<Script, NoMemory>
+        requires { IsQueryOf self.problem query }
+        ensures { IfOk result (λ next. next ≡ with_asked self query) }
+    {
+        let Script {
+            problem,
+            mut queries,
+        } = self;
+        queries.push(query)?;
+        Ok(Script { problem, queries })
+    }
+
     // The query of this name and these tokens behind the others. Scripts of this kind have it.
     pub(crate) fn with_query(
         self,
@@ -126,29 +176,8 @@ impl Script {
         ensures ok { IfOk result (λ next. asked version self name (texts tokens.now) ≡ Ok next) }
         ensures err { IfErr result (IsLineFault (asked version self name (texts tokens.now))) }
     {
-        let Script {
-            problem,
-            mut queries,
-        } = self;
-        if !name.takes(tokens) {
-            return Err(LineFault::refused(Cause::WrongNumberOfWords));
-        }
-        if name.is_barred(&problem) {
-            return Err(LineFault::refused(Cause::QueryNotAllowed));
-        }
-        let allow_empty = problem.has_empty_word();
-        let relations = relations_of(&problem);
-        let query = query_of(
-            alloc,
-            version,
-            problem.alphabet(),
-            allow_empty,
-            relations,
-            name,
-            tokens,
-        )?;
-        queries.push(query)?;
-        Ok(Script { problem, queries })
+        let query = self.query(alloc, version, name, tokens)?;
+        Ok(self.with_asked(query)?)
     }
 
     /// What the script poses.

@@ -7,10 +7,10 @@ use Rattle.query_lang.specs.Relations.{relations_of}
 use Rattle.theory.specs.Word.{Word}
 use Rattle.query_lang.specs.QueryLines.{is_name_barred, is_name_there, query_name}
 use Rattle.query_lang.proofs.LineLemmas.{needs_none_generated, relations_given, rules_allowed, without_pairs}
-use Rattle.query_lang.proofs.script.Script.with_query.Goals as goal
+use Rattle.query_lang.proofs.script.Script.query.Goals as goal
 
-pub invariant_of-result : goal.invariant_of-result
-invariant_of-result c =
+pub returns-clause-own : goal.returns-clause-own
+returns-clause-own c =
     let p = c.self.inside.problem in
     let query = c.in_ok-query.query in
     let name : query_name query ≡ c.args.name = c.in_ok-query.ensures.name in
@@ -22,5 +22,5 @@ invariant_of-result c =
     let unpaired : needs_no_pairs query ≡ true → pairs_of p ≡ [] = λ needs. without_pairs p query open_to needs in
     let over : IsQueryOver (has_empty_word p) (length (letters_of p)) (relations_of p) query =
     subst (λ (relations : List (Word × Word)). IsQueryOver (has_empty_word p) (length (letters_of p)) relations query) c.relations_of-relations.ensures
-    (subst₂ (λ empty letters. IsQueryOver empty (length letters) c.relations_of-relations.result.now query) c.has_empty_word-allow_empty.ensures c.alphabet.ensures.letters c.in_ok-query.ensures.over) in
-    (c.self.invariant.0, subst (λ queries. All (IsQueryOf p) queries) (sym c.in_ok-push.ensures.items) (All-push (IsQueryOf p) c.self.inside.queries.items query c.self.invariant.1 (record { there = there; presented = presented; allowed = allowed; unpaired = unpaired; over = over })))
+    (subst₂ (λ empty letters. IsQueryOver empty (length letters) c.relations_of-relations.result.now query) c.has_empty_word-allow_empty.ensures c.alphabet-alphabet.ensures.letters c.in_ok-query.ensures.over) in
+    subst (λ (s : ScriptOf). IsQueryOf s.problem query) c.self.view_is (record { there = there; presented = presented; allowed = allowed; unpaired = unpaired; over = over })
