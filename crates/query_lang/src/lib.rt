@@ -23,10 +23,3 @@ mod version;
 pub use cause::{Cause, cause_text};
 pub use fault::ScriptFault;
 pub use script::{Query, Script, read_script};
-
-#[cfg(test)]
-mod role_tests;
-#[cfg(test)]
-mod tests;
-#[cfg(test)]
-mod version_tests;

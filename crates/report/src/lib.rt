@@ -4,18 +4,12 @@
 mod answers;
 mod awaited;
 mod blocks;
-#[cfg(test)]
-mod chain_tests;
 mod class_lines;
 mod completing;
 mod facts;
 mod graphs;
-#[cfg(test)]
-mod green_tests;
 mod greens;
 mod known;
-#[cfg(test)]
-mod lattice_tests;
 mod line;
 mod listings;
 mod logged;
@@ -23,8 +17,6 @@ mod single;
 mod solved;
 mod state;
 mod tables;
-#[cfg(test)]
-mod tests;
 mod texts;
 mod told;
 

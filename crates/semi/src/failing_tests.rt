@@ -1,5 +1,5 @@
-use super::tests::{Ends, Outcome, SOUND, run_at};
-use super::worker_tests::{GROUP, GROUP_REPORT};
+// Sources and sinks that fail, or move few bytes at a time.
+use super::tests::{Ends, GROUP, GROUP_REPORT, Outcome, SOUND, run_at};
 use ports::Open;
 use std::test::Fail;
 use std::thread::Threads;
@@ -12,13 +12,13 @@ const MADE: &[&str] = &["semi", "--make", "3"];
 const MADE_REPORT: &str = "index 6\nequal no\nnormal bb\n1\na\nb\nmore\n";
 
 // All maps of three points to themselves.
-pub(crate) const ELEMENTS: &str = "trans 3\na = 1 0 2\nb = 1 2 0\nc = 0 0 2\n\
-                                   index\nequal aaa a\nnormal aaa\nelement ab\nclasses 4\n";
+const ELEMENTS: &str = "trans 3\na = 1 0 2\nb = 1 2 0\nc = 0 0 2\n\
+                        index\nequal aaa a\nnormal aaa\nelement ab\nclasses 4\n";
 
 const ELEMENTS_REPORT: &str = "index 27\nequal yes\nnormal a\nelement 2 1 0\na\nb\nc\naa\nmore\n";
 
 // Whether a run came to this status and these bytes.
-pub(crate) fn is_as(ended: &Outcome, status: u8, out: &str, err: &str) -> bool {
+fn is_as(ended: &Outcome, status: u8, out: &str, err: &str) -> bool {
     ended.status == status
         && ended.out.as_slice() == out.as_bytes()
         && ended.err.as_slice() == err.as_bytes()
@@ -161,20 +161,124 @@ fn a_line_that_is_not_told_changes_no_status(rt: HostRuntime) -> Result<(), Fail
     Ok(())
 }
 
+const SMALL: &str = "monoid a";
+
+const BYTE_BY_BYTE: Ends = Ends {
+    read_piece: 1,
+    write_piece: 1,
+    ..SOUND
+};
+
+const ALL_FAIL: Ends = Ends {
+    read: 1,
+    write: 1,
+    tell: 1,
+    ..SOUND
+};
+
+const WRITE_FAILS: Ends = Ends { write: 1, ..SOUND };
+
+const READ_TOLD: &str = "semi: cannot read input\n";
+
+const WRITE_TOLD: &str = "semi: cannot write output\n";
+
+// The words, the script, how the ends go, and the status and the bytes that the run comes to.
+type Case = (
+    &'static [&'static str],
+    &'static str,
+    Ends,
+    u8,
+    &'static str,
+    &'static str,
+);
+
+const CASES: [Case; 10] = [
+    // the ninth read finds the end
+    (
+        NAME,
+        SMALL,
+        Ends {
+            read: 9,
+            ..BYTE_BY_BYTE
+        },
+        4,
+        "",
+        READ_TOLD,
+    ),
+    (
+        NAME,
+        SMALL,
+        Ends {
+            read: 10,
+            ..BYTE_BY_BYTE
+        },
+        0,
+        "",
+        "",
+    ),
+    (NAME, ELEMENTS, WRITE_FAILS, 5, "", WRITE_TOLD),
+    (
+        NAME,
+        ELEMENTS,
+        Ends {
+            tell: 1,
+            ..WRITE_FAILS
+        },
+        5,
+        "",
+        "",
+    ),
+    (
+        NAME,
+        ELEMENTS,
+        Ends {
+            write_piece: 2,
+            write: 3,
+            ..SOUND
+        },
+        5,
+        "inde",
+        WRITE_TOLD,
+    ),
+    // the longest line is written at once
+    (
+        MADE,
+        "",
+        Ends {
+            write_piece: 10,
+            write: 4,
+            ..SOUND
+        },
+        5,
+        "index 6\nequal no\nnormal bb\n",
+        WRITE_TOLD,
+    ),
+    // nothing is read
+    (
+        &["semi", "--workers", "0"],
+        GROUP,
+        Ends { read: 1, ..SOUND },
+        3,
+        "",
+        "semi: arguments refused\n",
+    ),
+    // the first failure gives the status
+    (NAME, ELEMENTS, ALL_FAIL, 4, "", ""),
+    (&["semi", "x"], ELEMENTS, ALL_FAIL, 3, "", ""),
+    (&[], ELEMENTS, SOUND, 0, ELEMENTS_REPORT, ""),
+];
+
+// Whether a case comes to its end.
+fn comes_to_its_end<R: Threads + Sync + AllocGlobal>(rt: &R, case: Case) -> Result<bool, Fail> {
+    let (words, script, ends, status, out, err) = case;
+    let ended = run_at(rt, words, script.as_bytes(), ends, &Open)?;
+    Ok(is_as(&ended, status, out, err))
+}
+
 #[test]
-fn the_first_failure_gives_the_status(rt: HostRuntime) -> Result<(), Fail> {
-    let script = ELEMENTS.as_bytes();
-    let all = Ends {
-        read: 1,
-        write: 1,
-        tell: 1,
-        ..SOUND
-    };
-    let ended = run_at(&rt, NAME, script, all, &Open)?;
-    assert!(rt; is_as(&ended, 4, "", ""));
-    let ended = run_at(&rt, &["semi", "x"], script, all, &Open)?;
-    assert!(rt; is_as(&ended, 3, "", ""));
-    let ended = run_at(&rt, &[], script, SOUND, &Open)?;
-    assert!(rt; is_as(&ended, 0, ELEMENTS_REPORT, ""));
+fn failing_ends_give_their_status(rt: HostRuntime) -> Result<(), Fail> {
+    for (number, case) in CASES.iter().enumerate() {
+        assert!(rt; comes_to_its_end(&rt, *case)?, "case {number}");
+    }
     Ok(())
 }

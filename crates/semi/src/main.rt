@@ -9,27 +9,15 @@ ghost use Rattle.std.specs.Io.Buffered.{writer_buffer};
 
 mod adapters;
 #[cfg(test)]
-mod chain_tests;
-#[cfg(test)]
 mod failing_tests;
 mod fault;
 #[cfg(test)]
-mod hostile_tests;
+mod gate_tests;
 mod made;
-#[cfg(test)]
-mod made_tests;
-#[cfg(test)]
-mod pair_tests;
-#[cfg(test)]
-mod table_tests;
 #[cfg(test)]
 mod tests;
 mod top;
-#[cfg(test)]
-mod version_tests;
 mod whole;
-#[cfg(test)]
-mod worker_tests;
 
 use adapters::{InputSource, OutputSink};
 use fault::Fault;
