@@ -12,6 +12,3 @@ mod sides;
 pub use classes::{Classes, by_pairs};
 pub use racer::PairsRacer;
 pub use sides::number_of;
-
-#[cfg(test)]
-mod tests;

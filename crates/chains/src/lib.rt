@@ -17,6 +17,3 @@ pub use chains::{check, words_of};
 pub use derivations::{Derivations, Fact};
 pub use pending::{around, turn_back};
 pub use steps::ChainStep;
-
-#[cfg(test)]
-mod tests;

@@ -26,6 +26,3 @@ mod tables;
 mod uses;
 
 pub use tables::Table;
-
-#[cfg(test)]
-mod tests;

@@ -20,6 +20,3 @@ mod solving;
 pub use answers::{Index, Solved};
 pub use engine::{Ended, Engine};
 pub use solving::{Verdict, solve};
-
-#[cfg(test)]
-mod tests;

@@ -11,7 +11,7 @@ use crate::engine::{Ended, Engine};
 use crate::lanes::lanes_for;
 use ports::{Gate, NoMemory};
 use problem::{Budgets, Problem};
-use race::{Lane, Outcome, play, race};
+use race::{Lane, Outcome, race};
 use std::alloc::Global;
 use std::thread::Threads;
 
@@ -62,23 +62,6 @@ fn verdict_at(
         }
         Outcome::Starved(_) => Err(NoMemory),
     }
-}
-
-/// Decides the problem within the budgets by a race on one thread, whose lanes take turns by the
-/// schedule and then in rotation. No schedule changes an answer. Refused only where memory is
-/// wanting.
-pub fn decide(
-    alloc: Global,
-    problem: &Problem,
-    budgets: &Budgets,
-    schedule: &Vec<usize>,
-) -> Result<Verdict, NoMemory>
-    requires { IsPosable problem.now }
-    ensures { IfOk result (IsVerdictOf problem.now budgets.now) }
-{
-    let mut lanes = lanes_for(alloc, problem, budgets)?;
-    let outcome = play(&mut lanes, schedule);
-    verdict_at(alloc, problem, lanes, outcome)
 }
 
 /// Decides the problem by engines that race. For a congruence on a presentation these are coset

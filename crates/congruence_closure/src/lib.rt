@@ -7,6 +7,3 @@ mod closing;
 mod parents;
 
 pub use closing::{Maps, least_classes};
-
-#[cfg(test)]
-mod tests;

@@ -19,9 +19,6 @@ use std::hash::{Hash, Hasher};
 use std::marker::Model;
 use theory::values::Values;
 
-#[cfg(test)]
-mod tests;
-
 /// A square Boolean matrix, row by row (libsemigroups, `BMat`). Contracts see its dimension n and
 /// its entries. Its shape is the dimension.
 #[derive(Drop)]

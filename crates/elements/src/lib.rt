@@ -8,8 +8,6 @@ mod field;
 mod matrix;
 mod max_plus;
 mod pperm;
-#[cfg(test)]
-mod tests;
 mod transf;
 
 pub use bmat::BMat;

@@ -19,9 +19,6 @@ use std::hash::{Hash, Hasher};
 use std::marker::Model;
 use theory::values::Values;
 
-#[cfg(test)]
-mod tests;
-
 /// A square matrix over minus infinity and the numbers 0 to t, row by row (libsemigroups,
 /// `MaxPlusTruncMat`). Contracts see its dimension n, its bound t and its entries, where none
 /// stands for minus infinity. Its shape is the dimension and the bound.

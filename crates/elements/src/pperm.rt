@@ -21,9 +21,6 @@ use std::hash::{Hash, Hasher};
 use std::marker::Model;
 use theory::values::Values;
 
-#[cfg(test)]
-mod tests;
-
 /// A partial permutation of the points 0 to n - 1: each point has an image or none, and no image
 /// twice (libsemigroups, `PPerm`). Contracts see the list of the images. Its shape is the degree n.
 #[derive(Drop)]

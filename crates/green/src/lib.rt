@@ -17,6 +17,3 @@ mod states;
 pub use collector::Collector;
 pub use relations::ClassNames;
 pub use theory::Relation;
-
-#[cfg(test)]
-mod tests;

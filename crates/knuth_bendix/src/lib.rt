@@ -16,6 +16,3 @@ mod overlaps;
 mod rule_changes;
 
 pub use completions::Completion;
-
-#[cfg(test)]
-mod tests;

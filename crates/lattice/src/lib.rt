@@ -7,6 +7,3 @@ mod meets;
 
 pub use joins::join;
 pub use meets::meet;
-
-#[cfg(test)]
-mod tests;

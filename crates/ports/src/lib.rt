@@ -32,6 +32,3 @@ pub use source::Source;
 pub use sure_sink::SureSink;
 pub use sure_source::SureSource;
 pub use write::write_all;
-
-#[cfg(test)]
-mod tests;

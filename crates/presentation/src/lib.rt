@@ -17,6 +17,3 @@ pub use fault::AddFault;
 pub use pair_lists::Pairs;
 pub use presentations::{MOST_RELATIONS, Presentation};
 pub use theory::Kind;
-
-#[cfg(test)]
-mod tests;

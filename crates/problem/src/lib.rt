@@ -8,8 +8,6 @@ pub mod facts;
 mod kinds;
 mod lists;
 mod posing;
-#[cfg(test)]
-mod tests;
 
 pub use budgets::Budgets;
 pub use kinds::Problem;

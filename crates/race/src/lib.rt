@@ -24,8 +24,3 @@ pub use lanes::{Lane, LaneState, Step, begin, settle, turn};
 pub use playing::{Outcome, play};
 pub use scripted::Scripted;
 pub use threads::race;
-
-#[cfg(test)]
-mod tests;
-#[cfg(test)]
-mod thread_tests;

@@ -35,6 +35,3 @@ pub use kept_rules::KeptRules;
 pub use rewriting::{has_factor, replaced};
 pub use rule_lists::Rules;
 pub use traces::Applied;
-
-#[cfg(test)]
-mod tests;

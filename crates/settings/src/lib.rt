@@ -156,6 +156,3 @@ pub fn settings_are_one()
     ensures { (words : List Text) (settings other : Settings)
         → Reads words settings → Reads words other → settings ≡ other }
 {}
-
-#[cfg(test)]
-mod tests;

@@ -28,10 +28,3 @@ pub use pages::{TablePage, page, page_two_sided};
 pub use parts::Part;
 pub use runs::run_parts;
 pub use sims::{MOST_CLASSES, Sims};
-
-#[cfg(test)]
-mod page_tests;
-#[cfg(test)]
-mod part_tests;
-#[cfg(test)]
-mod tests;

@@ -9,6 +9,3 @@
 mod enumeration;
 
 pub use enumeration::Felsch;
-
-#[cfg(test)]
-mod tests;

@@ -12,6 +12,3 @@ mod enumeration;
 mod rows;
 
 pub use enumeration::Hlt;
-
-#[cfg(test)]
-mod tests;

@@ -16,6 +16,3 @@ mod walks;
 
 pub use fault::TableFault;
 pub use graphs::{MOST_LETTERS, WordGraph};
-
-#[cfg(test)]
-mod tests;

@@ -16,8 +16,3 @@ pub use alphabets::{Alphabet, MARKER, is_letter};
 pub use fault::{AlphabetFault, PowerFault, WordFault};
 pub use letters::{Letter, Word};
 pub use order::shortlex;
-
-#[cfg(test)]
-mod powers_tests;
-#[cfg(test)]
-mod tests;
