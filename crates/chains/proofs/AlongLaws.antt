@@ -27,8 +27,8 @@ take_more place [] step other within is = absurd (omega (arith, within))
 take_more zero (s ∷ steps) step other within is = ap (λ (t : ChainStep). t ∷ []) (sym is)
 take_more (suc n) (s ∷ steps) step other within is = ap (λ (ss : List ChainStep). s ∷ ss) (take_more n steps step other (omega (arith, within)) is)
 
-pub words_stand : (p : Presentation) (u : Word) (walk : Walk) → IsWalk p u walk → 0 < length walk.words.items
-words_stand p u walk is = let words = ap (λ (ws : List Word). length ws) is.straight.chain.1 in omega (arith, words)
+pub words_stand : (p : Presentation) (u : Word) (walk : Walk) → IsWalk p u walk → 0 < length walk.words.keys
+words_stand p u walk is = let words = ap (λ (ws : List Word). length ws) is.chain.1 in omega (arith, words)
 
 pub goes_first : (p : Presentation) (old : Walk) (steps : List ChainStep) (n : ℕ) → n ≡ length steps → IsGoing p old steps (take n steps) old
 goes_first p old steps n is = record {

@@ -1,79 +1,44 @@
--- The places of words, found by their letters.
-use Rattle.std.proofs.Common.{◌≡◌, ℕ, zero, suc, Bool, true, false, cond, eqb, List, [], ◌∷◌, ◌++◌, length, take, refl, sym, ◌∙◌, ap, subst, arith, ◌⊎◌, inl, inr, None, Some, Contains, slice_get}
-use Rattle.std.specs.Cmp.Lexicographic.{pointwise}
-use Rattle.std.specs.HashMap.{HashMap, Updates, get}
-use Rattle.std.specs.Global.{Vec}
+-- A word that is put among others, unless it stands there.
+use Rattle.std.proofs.Common.{◌≡◌, ℕ, Bool, true, false, not, if◌then◌else◌, List, [], ◌∷◌, ◌++◌, nat_eq, refl, sym, ◌∙◌, ap, subst, Some, Contains, slice_get, true≢false}
+use Rattle.std.specs.Cmp.Lexicographic.{pointwise, nat_list_eq_equiv}
+use Rattle.std.specs.List.{list_any}
 use Rattle.std.proofs.lemmas.Bool.Decides.{Decides-eqb}
-use Rattle.std.proofs.lemmas.Option.{slice_get-get_or}
+use Rattle.std.proofs.lemmas.Map.Views.{list_any-from_Contains}
 use Rattle.std.proofs.lemmas.Slice.Eq.{slice_eq-Decides}
+use Rattle.indexmap.specs.IndexSet.{insert_key}
 use Rattle.theory.specs.Word.{Word}
-use Rattle.theory.proofs.Counting.{IsIn, contains_from_in}
-use Rattle.chains.specs.Walks.{ArePlaces}
-use Rattle.chains.proofs.DerivationLaws.{get_last}
 
--- whether two keys are of one word
-abbrev pub same_key : Vec ℕ → Vec ℕ → Bool
-same_key x y = pointwise eqb x.items y.items
+same_word : (x y : Word) → pointwise nat_eq x y ≡ true → x ≡ y
+same_word x y e = (slice_eq-Decides Decides-eqb x y (pointwise nat_eq x y) refl).0 e
 
-bool_cases : (b : Bool) → (b ≡ true) ⊎ (b ≡ false)
-bool_cases true = inl refl
-bool_cases false = inr refl
+-- whether the word is new
+module _ (words new : List Word) (word : Word) (is_new : Bool) (tells : is_new ≡ not (list_any (pointwise nat_eq word) words))
+    (put : new ≡ insert_key (pointwise nat_eq) words word) where
+  stands : is_new ≡ false → list_any (pointwise nat_eq word) words ≡ true
+  stands known = by (list_any (pointwise nat_eq word) words) (sym tells ∙ known)
+    where
+      by : (b : Bool) → not b ≡ false → b ≡ true
+      by true e = refl
+      by false e = absurd (true≢false e)
 
-key_is : (x y : Vec ℕ) → same_key x y ≡ true → x.items ≡ y.items
-key_is x y e = (slice_eq-Decides Decides-eqb x.items y.items (same_key x y) refl).0 e
+  lacks : is_new ≡ true → list_any (pointwise nat_eq word) words ≡ false
+  lacks known = by (list_any (pointwise nat_eq word) words) (sym tells ∙ known)
+    where
+      by : (b : Bool) → not b ≡ true → b ≡ false
+      by true e = absurd (true≢false (sym e))
+      by false e = refl
 
-is_key : (x y : Vec ℕ) → x.items ≡ y.items → same_key x y ≡ true
-is_key x y e = (slice_eq-Decides Decides-eqb x.items y.items (same_key x y) refl).1 e
+  -- then it is the last one
+  pub new_last : is_new ≡ true → new ≡ words ++ word ∷ []
+  new_last known = put ∙ ap (λ (b : Bool). if b then words else words ++ word ∷ []) (lacks known)
 
-stands_in : (words : List Word) (i : ℕ) (word : Word) → slice_get words i ≡ Some word → IsIn word words
-stands_in [] i word e = let bad : ⊥ = cc in absurd bad
-stands_in (w ∷ words) zero word e = inl (let same : word ≡ w = cc in same)
-stands_in (w ∷ words) (suc i) word e = inr (stands_in words i word e)
+  pub new_nowhere : is_new ≡ true → Contains words word → ⊥
+  new_nowhere known among = true≢false (sym (list_any-from_Contains nat_list_eq_equiv word words among) ∙ lacks known)
 
-get_in_front : (n : ℕ) (words : List Word) (i : ℕ) (word : Word) → slice_get (take n words) i ≡ Some word → slice_get words i ≡ Some word
-get_in_front zero words i word e = let bad : ⊥ = cc in absurd bad
-get_in_front (suc n) [] i word e = e
-get_in_front (suc n) (w ∷ words) zero word e = e
-get_in_front (suc n) (w ∷ words) (suc i) word e = get_in_front n words i word e
+  -- else the words stay, and it stands at its place
+  pub old_stay : is_new ≡ false → new ≡ words
+  old_stay known = put ∙ ap (λ (b : Bool). if b then words else words ++ word ∷ []) (stands known)
 
-module _ {S : Type 0} (words : List Word) (places : HashMap (Vec ℕ) ℕ S) (placed : ArePlaces words places) (key : Vec ℕ) (word : Word) (is : key.items ≡ word) where
-  placed_at : (i : ℕ) → slice_get words i ≡ Some word → get same_key places key ≡ Some i
-  placed_at i e = placed i key (e ∙ ap (λ (w : Word). Some w) (sym is))
-
-  contained_at : Contains words word → (i : ℕ) × (slice_get words i ≡ Some word)
-  contained_at m = (m.0, slice_get-get_or words m.0 word m.1 ∙ ap (λ w. Some w) m.2)
-
-  -- no place is kept
-  pub not_placed : get same_key places key ≡ None → Contains words word → ⊥
-  not_placed none m =
-      let at = contained_at m in
-      let some = placed_at at.0 at.1 in
-      let bad : ⊥ = cc in absurd bad
-
-  -- another word stands at the place that is kept
-  pub placed_elsewhere : (place : ℕ) → get same_key places key ≡ Some place → (slice_get words place ≡ Some word → ⊥) → Contains words word → ⊥
-  placed_elsewhere place kept other m =
-      let at = contained_at m in
-      let some = placed_at at.0 at.1 in
-      other (subst (λ i. slice_get words i ≡ Some word) (let same : at.0 ≡ place = cc in same) at.1)
-
-  -- one word more
-  pub places_more : (new : HashMap (Vec ℕ) ℕ S) → (Contains words word → ⊥) → Updates same_key places new key (Some (length words)) → ArePlaces (words ++ word ∷ []) new
-  places_more new none updates i q e = elim (get_last words word i q.items e) [
-    | inl h ↦ elim (bool_cases (same_key key q)) [
-      | inl same ↦ absurd (none (contains_from_in word words (stands_in words i word (h.1 ∙ ap (λ (w : Word). Some w) (sym (key_is key q same) ∙ is)))))
-      | inr other ↦ updates.2 q other ∙ placed i q h.1
-    ]
-    | inr h ↦
-        updates.0 q ∙ ap (λ b. cond b (Some (length words)) (get same_key places q)) (is_key key q (is ∙ h.1)) ∙ ap (λ n. Some n) (sym h.0)
-  ]
-
--- some words fewer
-pub places_front : {S : Type 0} (words : List Word) (places : HashMap (Vec ℕ) ℕ S) (n : ℕ) → ArePlaces words places → ArePlaces (take n words) places
-places_front words places n placed i q e = placed i q (get_in_front n words i q.items e)
-
--- one word
-pub one_placed : {S : Type 0} (places new : HashMap (Vec ℕ) ℕ S) (key : Vec ℕ) (word : Word) → key.items ≡ word → Updates same_key places new key (Some 0)
-    → ArePlaces (word ∷ []) new
-one_placed places new key word is updates =
-    places_more [] places (λ i q e. let bad : ⊥ = cc in absurd bad) key word is new (λ m. omega (arith, m.1)) updates
+  pub old_place : is_new ≡ false → (place : ℕ) → (k : Word) × (slice_get new place ≡ Some k) × (pointwise nat_eq word k ≡ true) → slice_get words place ≡ Some word
+  old_place known place stored =
+      subst (λ (ws : List Word). slice_get ws place ≡ Some word) (old_stay known) (stored.1 ∙ ap (λ (w : Word). Some w) (sym (same_word word stored.0 stored.2)))

@@ -135,11 +135,11 @@ module _ (d : Derived) (from : Word) (steps left : List ChainStep) (walk : Walk)
   spelled_out none to h =
       let leads = subst (λ (s : List ChainStep). LeadTo (all_of d) (here walk) (steps_of (reverse s)) to) none (spelled.leads to h) in
       let last = (leads_here (all_of d) (here walk) to).0 leads in
-      let words = spelled.stands.straight.chain in (
+      let words = spelled.stands.chain in (
         words.0,
         words.2,
         sym (ap (last_word []) words.1) ∙ last,
-        subst AreDifferent words.1 spelled.stands.straight.different,
+        subst AreDifferent words.1 spelled.stands.different,
       )
 
 -- no chains are kept

@@ -1,9 +1,5 @@
 -- Chains without detours: cut, and with one word more.
-use Rattle.std.proofs.Common.{◌≡◌, ℕ, zero, suc, ◌+◌, List, [], ◌∷◌, ◌++◌, take, length, refl, sym, ◌∙◌, ap, subst, arith, ◌⊎◌, inl, inr, Some, Contains, slice_get, ◌-◌, ◌<◌, ◌≤◌, get_or, Bool, false, eqb, IsTrue, ◌↔◌}
-use Rattle.std.specs.Cmp.Lexicographic.{pointwise}
-use Rattle.std.proofs.lemmas.Bool.Decides.{Decides-eqb}
-use Rattle.std.proofs.lemmas.Option.{slice_get-get_or}
-use Rattle.std.proofs.lemmas.Slice.Eq.{slice_eq-Decides}
+use Rattle.std.proofs.Common.{◌≡◌, ℕ, zero, suc, ◌+◌, List, [], ◌∷◌, ◌++◌, take, length, refl, sym, ◌∙◌, ap, subst, arith, inl, inr, Some, Contains, slice_get, ◌-◌, Bool, false, IsTrue}
 use Rattle.theory.specs.Word.{Word}
 use Rattle.theory.specs.Congruence.{Presentation}
 use Rattle.theory.specs.PlacedStep.{Gives, AllGive, AreDifferent, last_word}
@@ -89,41 +85,13 @@ module _ (p : Presentation) (u : Word) (words : List Word) (steps : List ChainSt
       )
 
 -- the last word
-pub last_is : (words : List Word) (n : ℕ) (word : Word) → 0 < length words → n ≡ length words → word ≡ get_or words (n - 1) word → last_word [] words ≡ word
-last_is [] n word some count is = absurd (omega arith)
-last_is (u ∷ words) n word some count is =
-    go u words ∙ sym (is ∙ ap (λ k. get_or (u ∷ words) k word) (let at : n - 1 ≡ length words = omega (arith, count) in at))
+pub last_is : (words : List Word) (word : Word) → Some word ≡ slice_get words (length words - 1) → last_word [] words ≡ word
+last_is [] word is = let bad : ⊥ = cc in absurd bad
+last_is (u ∷ words) word is = go u words (is ∙ ap (slice_get (u ∷ words)) (let at : length (u ∷ words) - 1 ≡ length words = omega arith in at))
   where
-    go : (u : Word) (words : List Word) → last_word u words ≡ get_or (u ∷ words) (length words) word
-    go u [] = refl
-    go u (v ∷ words) = go v words
-
--- whether a word stands at a place
-pub found_at : (words : List Word) (place : ℕ) (word at letters others : Word) (r : Bool) → place < length words → at ≡ get_or words place at → letters ≡ at → others ≡ word
-    → r ≡ pointwise eqb letters others → IsTrue r ↔ (slice_get words place ≡ Some word)
-found_at words place word at letters others r within is here there same =
-    let equal = slice_eq-Decides Decides-eqb letters others r same in
-    let got : slice_get words place ≡ Some at = slice_get-get_or words place at within ∙ ap (λ w. Some w) (sym is) in (
-      λ t. got ∙ ap (λ w. Some w) (sym here ∙ equal.0 t ∙ there),
-      λ e. equal.1 (here ∙ some_same at word (sym got ∙ e) ∙ sym there),
-    )
-  where
-    some_same : (a b : Word) → Some a ≡ Some b → a ≡ b
-    some_same a b e = cc
-
-pub not_yet : (words : List Word) (place : ℕ) (word : Word) → ((i : ℕ) → i < place → slice_get words i ≡ Some word → ⊥) → (slice_get words place ≡ Some word → ⊥)
-    → (i : ℕ) → i < place + 1 → slice_get words i ≡ Some word → ⊥
-not_yet words place word before here i within e = elim (cases i place (omega (arith, within))) [
-  | inl l ↦ before i l e
-  | inr is ↦ here (subst (λ n. slice_get words n ≡ Some word) is e)
-]
-  where
-    cases : (a b : ℕ) → a ≤ b → (a < b) ⊎ (a ≡ b)
-    cases a b l = search arith
-
-pub nowhere : (words : List Word) (place : ℕ) (word : Word) → length words ≤ place → ((i : ℕ) → i < place → slice_get words i ≡ Some word → ⊥) → Contains words word → ⊥
-nowhere words place word all none m =
-    none m.0 (omega (arith, m.1)) (slice_get-get_or words m.0 word m.1 ∙ ap (λ w. Some w) m.2)
+    go : (u : Word) (words : List Word) → Some word ≡ slice_get (u ∷ words) (length words) → last_word u words ≡ word
+    go u [] is = let same : u ≡ word = cc in same
+    go u (v ∷ words) is = go v words is
 
 pub not_both : (r : Bool) → r ≡ false → IsTrue r → ⊥
 not_both r is t = cc

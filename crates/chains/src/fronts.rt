@@ -7,6 +7,7 @@ use ports::NoMemory;
 use std::alloc::Global;
 use std::cmp::Reverse;
 use std::collections::BinaryHeap;
+use words::Word;
 
 // What the steps to a word weigh, and the last one with the place of the word from which it leads.
 #[derive(Clone, Copy)]
@@ -20,13 +21,13 @@ struct Reached {
 #[derive(Drop)]
 pub struct Front {
     alloc: Global,
-    reached: IndexMap<Vec<u8>, Reached>,
+    reached: IndexMap<Word, Reached>,
     waiting: BinaryHeap<Reverse<(u64, usize)>>,
 }
 
 impl Front {
     /// The word alone. Refused only where memory is wanting.
-    pub fn new(alloc: Global, word: &[u8]) -> Result<Front, NoMemory> {
+    pub fn new(alloc: Global, word: &Word) -> Result<Front, NoMemory> {
         let mut front = Front {
             alloc,
             reached: IndexMap::new(alloc),
@@ -39,18 +40,18 @@ impl Front {
     // Puts in a word that is new, and gives its place.
     fn enter(
         &mut self,
-        word: &[u8],
+        word: &Word,
         weight: u64,
         last: Option<(usize, ChainStep)>,
     ) -> Result<usize, NoMemory> {
-        let word = Vec::from_slice(self.alloc, word)?;
+        let word = word.copy(self.alloc)?;
         let (place, _none) = self.reached.insert_full(word, Reached { weight, last })?;
         self.waiting.push(Reverse((weight, place)))?;
         Ok(place)
     }
 
     /// The place of the word, where it is reached.
-    pub fn place_of(&self, word: &[u8]) -> Option<usize> {
+    pub fn place_of(&self, word: &Word) -> Option<usize> {
         self.reached.get_index_of(word)
     }
 
@@ -74,7 +75,7 @@ impl Front {
     /// new, or lighter than it was, its place. Refused only where memory is wanting.
     pub fn reach(
         &mut self,
-        word: &[u8],
+        word: &Word,
         weight: u64,
         from: usize,
         step: ChainStep,
@@ -96,7 +97,7 @@ impl Front {
 
     /// The lightest word that waits, with its place, and it waits no more. None, where since it began
     /// to wait it was reached by lighter steps. Refused only where memory is wanting.
-    pub fn take(&mut self) -> Result<Option<(usize, Vec<u8>)>, NoMemory> {
+    pub fn take(&mut self) -> Result<Option<(usize, Word)>, NoMemory> {
         let Some(least) = self.waiting.pop() else {
             return Ok(None);
         };
@@ -107,7 +108,7 @@ impl Front {
         if reached.weight < weight {
             return Ok(None);
         }
-        Ok(Some((place, Vec::from_slice(self.alloc, word.as_slice())?)))
+        Ok(Some((place, word.copy(self.alloc)?)))
     }
 
     /// The steps that lead to the word of the place, the last one first. Refused only where memory

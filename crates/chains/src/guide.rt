@@ -4,13 +4,13 @@ ghost use Rattle.std.specs.Prelude.{◌<◌, length, IfSome};
 use crate::steps::ChainStep;
 use ports::NoMemory;
 use std::alloc::Global;
-use words::Word;
+use words::{Letter, Word};
 
 // A side that may take the place of another: by which relation or fact, in which direction, and how
 // much a step by it weighs.
 #[derive(Drop)]
 pub struct Exchange {
-    pub by: Vec<u8>,
+    pub by: Word,
     pub relation: usize,
     pub forward: bool,
     pub weight: u64,
@@ -56,7 +56,7 @@ impl Weights {
 // what the side may be exchanged.
 #[derive(Drop)]
 struct Beginning {
-    longer: Vec<(u8, usize)>,
+    longer: Vec<(Letter, usize)>,
     exchanges: Vec<Exchange>,
 }
 
@@ -67,21 +67,12 @@ pub struct Guide {
     beginnings: Vec<Beginning>,
 }
 
-/// The letters of the word, a byte each. Refused only where memory is wanting.
-pub fn bytes_of(alloc: Global, word: &Word) -> Result<Vec<u8>, NoMemory> {
-    let mut bytes = Vec::with_capacity(alloc, word.len())?;
-    for letter in word.letters() {
-        bytes.push(u8::try_from(letter.number()).unwrap_or(0))?;
-    }
-    Ok(bytes)
-}
-
 // The place of the exchange by the side.
-fn place_of(exchanges: &Vec<Exchange>, by: &[u8]) -> Option<usize>
+fn place_of(exchanges: &Vec<Exchange>, by: &[Letter]) -> Option<usize>
     ensures { IfSome result (λ place. place < length exchanges.now.items) }
 {
     for place in 0..exchanges.len() {
-        if exchanges[place].by.as_slice() == by {
+        if exchanges[place].by.letters() == by {
             return Some(place);
         }
     }
@@ -90,7 +81,7 @@ fn place_of(exchanges: &Vec<Exchange>, by: &[u8]) -> Option<usize>
 
 // Puts the exchange in, unless there is one by the same side that weighs no more.
 fn put(exchanges: &mut Vec<Exchange>, exchange: Exchange) -> Result<(), NoMemory> {
-    let Some(place) = place_of(exchanges, exchange.by.as_slice()) else {
+    let Some(place) = place_of(exchanges, exchange.by.letters()) else {
         exchanges.push(exchange)?;
         return Ok(());
     };
@@ -122,7 +113,7 @@ impl Guide {
     }
 
     /// The place of the beginning with this letter more. That of no letters is 0.
-    pub fn longer(&self, place: usize, letter: u8) -> Option<usize> {
+    pub fn longer(&self, place: usize, letter: Letter) -> Option<usize> {
         let beginning = self.beginnings.get(place)?;
         for (next, longer) in &beginning.longer {
             if *next == letter {
@@ -141,7 +132,7 @@ impl Guide {
     }
 
     // The place of the beginning with this letter more, which is put in where there is none.
-    fn go_on(&mut self, place: usize, letter: u8) -> Result<usize, NoMemory> {
+    fn go_on(&mut self, place: usize, letter: Letter) -> Result<usize, NoMemory> {
         if let Some(longer) = self.longer(place, letter) {
             return Ok(longer);
         }
@@ -153,7 +144,7 @@ impl Guide {
     }
 
     // Puts in that the side may be exchanged.
-    fn put(&mut self, side: &[u8], exchange: Exchange) -> Result<(), NoMemory> {
+    fn put(&mut self, side: &[Letter], exchange: Exchange) -> Result<(), NoMemory> {
         let mut place = 0;
         for letter in side {
             place = self.go_on(place, *letter)?;
@@ -173,20 +164,19 @@ impl Guide {
         relation: usize,
         weight: u64,
     ) -> Result<(), NoMemory> {
-        let (first, second) = (bytes_of(self.alloc, left)?, bytes_of(self.alloc, right)?);
         let forward = Exchange {
-            by: Vec::from_slice(self.alloc, second.as_slice())?,
+            by: right.copy(self.alloc)?,
             relation,
             forward: true,
             weight,
         };
-        self.put(first.as_slice(), forward)?;
+        self.put(left.letters(), forward)?;
         let back = Exchange {
-            by: first,
+            by: left.copy(self.alloc)?,
             relation,
             forward: false,
             weight,
         };
-        self.put(second.as_slice(), back)
+        self.put(right.letters(), back)
     }
 }

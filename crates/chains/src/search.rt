@@ -1,12 +1,12 @@
 // A search for steps that weigh little, from both ends (Pohl 1971).
 use crate::fronts::Front;
-use crate::guide::{Exchange, Guide, bytes_of};
+use crate::guide::{Exchange, Guide};
 use crate::pending::reversed;
 use crate::steps::ChainStep;
 use ports::NoMemory;
 use std::alloc::Global;
 use std::mem::swap;
-use words::Word;
+use words::{Letter, Word};
 
 // A search looks along so many words at least, and at most; in between, along one word for so much
 // that the steps weigh which it is to undercut.
@@ -25,8 +25,8 @@ fn words_for(limit: u64) -> u64 {
 #[derive(Clone, Copy)]
 struct Factor<'a> {
     place: usize,
-    head: &'a [u8],
-    tail: &'a [u8],
+    head: &'a [Letter],
+    tail: &'a [Letter],
 }
 
 // The words that are reached from both ends, by steps that weigh less than the limit, and with no
@@ -41,7 +41,7 @@ struct Search {
     letters: usize,
     limit: u64,
     meeting: Option<(usize, usize)>,
-    word: Vec<u8>,
+    word: Word,
 }
 
 impl Search {
@@ -55,11 +55,11 @@ impl Search {
     }
 
     // The word with the factor exchanged.
-    fn make(&mut self, factor: &Factor, by: &[u8]) -> Result<(), NoMemory> {
+    fn make(&mut self, factor: &Factor, by: &[Letter]) -> Result<(), NoMemory> {
         self.word.clear();
-        self.word.extend_from_slice(factor.head)?;
-        self.word.extend_from_slice(by)?;
-        self.word.extend_from_slice(factor.tail)?;
+        self.word.append(factor.head)?;
+        self.word.append(by)?;
+        self.word.append(factor.tail)?;
         Ok(())
     }
 
@@ -73,17 +73,16 @@ impl Search {
         if self.limit <= weight || self.letters < around.saturating_add(exchange.by.len()) {
             return Ok(());
         }
-        self.make(factor, exchange.by.as_slice())?;
+        self.make(factor, exchange.by.letters())?;
         let step = ChainStep {
             place: factor.head.len(),
             relation: exchange.relation,
             forward: exchange.forward,
         };
-        let word = self.word.as_slice();
-        let Some(near) = self.near.reach(word, weight, factor.place, step)? else {
+        let Some(near) = self.near.reach(&self.word, weight, factor.place, step)? else {
             return Ok(());
         };
-        let Some(far) = self.far.place_of(self.word.as_slice()) else {
+        let Some(far) = self.far.place_of(&self.word) else {
             return Ok(());
         };
         let all = weight.saturating_add(self.far.weight_at(far));
@@ -107,8 +106,8 @@ impl Search {
         &mut self,
         guide: &Guide,
         place: usize,
-        head: &[u8],
-        rest: &[u8],
+        head: &[Letter],
+        rest: &[Letter],
     ) -> Result<(), NoMemory> {
         let mut side = 0;
         for letters in 0..rest.len() {
@@ -137,7 +136,7 @@ impl Search {
             return Ok(());
         };
         for letters in 0..word.len() {
-            let (head, rest) = word.as_slice().split_at(letters);
+            let (head, rest) = word.letters().split_at(letters);
             self.exchange_at(guide, place, head, rest)?;
         }
         Ok(())
@@ -187,13 +186,13 @@ pub fn find(
     limit: u64,
 ) -> Result<Option<Vec<ChainStep>>, NoMemory> {
     let mut search = Search {
-        near: Front::new(alloc, bytes_of(alloc, from)?.as_slice())?,
-        far: Front::new(alloc, bytes_of(alloc, to)?.as_slice())?,
+        near: Front::new(alloc, from)?,
+        far: Front::new(alloc, to)?,
         turned: false,
         letters,
         limit,
         meeting: None,
-        word: Vec::new(alloc),
+        word: Word::new(alloc),
     };
     for _ in 0..words_for(limit) {
         if !search.go_on(guide)? {

@@ -12,3 +12,4 @@ pub mod PowerSigns
 pub mod PowerTexts
 pub mod TextLemmas
 pub mod TextLaws
+pub mod PieceLaws

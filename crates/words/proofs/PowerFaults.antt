@@ -1,18 +1,16 @@
 -- Where a text goes wrong.
-use Rattle.std.proofs.Common.{◌≡◌, ℕ, zero, suc, ◌+◌, ◌*◌, ◌-◌, ◌<◌, ◌≤◌, Bool, true, false, IsTrue, ◌==◌, ◌&&◌, nat_lt, nat_le, List, [], ◌∷◌, ◌++◌, length, take, drop, get_or, Option, Some, None, ◌⊎◌, inl, inr, refl, sym, ap, ◌∙◌, subst, arith, cond, append_assoc, append-nil}
-use Rattle.std.proofs.lemmas.Grind.{common_steps}
+use Rattle.std.proofs.Common.{◌≡◌, ℕ, zero, suc, ◌+◌, ◌<◌, ◌≤◌, Bool, true, false, List, [], ◌∷◌, ◌++◌, length, take, drop, get_or, Option, Some, None, ◌⊎◌, inl, inr, refl, sym, ap, ◌∙◌, subst, arith}
 use Rattle.std.proofs.lemmas.List.{take_more, take_all}
 use Rattle.theory.specs.Word.{Word}
-use Rattle.words.specs.Alphabet.{IsAlphabet, place_of}
+use Rattle.words.specs.Alphabet.{IsAlphabet}
 use Rattle.words.specs.Powers.{IsWordText, IsStart, IsFaultAt}
-use Rattle.words.specs.PowerSteps.{State, value, done, outset, enter, step, go, run, is_ready, is_full, is_ended, is_whole}
+use Rattle.words.specs.PowerSteps.{State, value, done, outset, step, run, is_full, is_whole}
 use Rattle.words.specs.declared.powers.Sign.TheVariants as sign
 use Rattle.words.specs.declared.powers.Last.{Last}
 use Rattle.words.specs.declared.powers.Last.TheVariants as last
 use Rattle.words.proofs.PowerSigns.{some_letter}
-use Rattle.words.proofs.PowerReads.{IsSign, no_run, same, both, no_outer, reads_none, reads_run, reads_whole}
-use Rattle.words.proofs.PowerRuns.{RunsWord, run-append, runs_word, step_letter, step_close, stepped, sign_digit, full_ended}
-use Rattle.words.proofs.PowerTexts.{IsRead}
+use Rattle.words.proofs.PowerReads.{no_run, reads_none, reads_run, reads_whole}
+use Rattle.words.proofs.PowerRuns.{run-append, runs_word, step_letter, step_close, stepped, sign_digit, full_ended}
 
 -- ---- what was read can be completed
 

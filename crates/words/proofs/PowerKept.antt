@@ -1,20 +1,18 @@
 -- The length and the word of what was read, byte by byte.
-use Rattle.std.proofs.Common.{◌≡◌, ℕ, zero, suc, ◌+◌, ◌*◌, ◌-◌, ◌<◌, ◌≤◌, Bool, true, false, IsTrue, ◌==◌, ◌&&◌, nat_lt, nat_le, List, [], ◌∷◌, ◌++◌, length, take, drop, get_or, slice_range, Option, Some, None, ◌⊎◌, inl, inr, refl, sym, ap, ◌∙◌, subst, arith, cond, append_assoc, append-nil, length-append}
-use Rattle.std.proofs.lemmas.Grind.{common_steps}
+use Rattle.std.proofs.Common.{◌≡◌, ℕ, zero, suc, ◌+◌, ◌*◌, ◌-◌, ◌<◌, ◌≤◌, true, ◌==◌, List, [], ◌∷◌, ◌++◌, length, take, drop, get_or, slice_range, Option, Some, None, ◌⊎◌, inl, inr, refl, sym, ap, ◌∙◌, subst, arith, append_assoc, append-nil, length-append}
 use Rattle.std.proofs.lemmas.List.{take-append-drop, take_all}
 use Rattle.std.proofs.Math.Seq.{drop-append_seam, take-append_seam}
 use Rattle.theory.specs.Word.{Word}
-use Rattle.words.specs.Alphabet.{IsAlphabet, place_of}
+use Rattle.words.specs.Alphabet.{IsAlphabet}
 use Rattle.words.specs.Powers.{IsExponent, IsWordText, HasWord, IsLong, IsShort, StandsFor, power}
-use Rattle.words.specs.PowerSteps.{State, value, done, outset, enter, entered, next, copies_of_digit, joined, written, is_ended, is_whole, step, run, go, sign_of}
-use Rattle.words.specs.PowerMarks.{outset_marks, marks_of, marks_after, growth, grown_behind, IsSmall}
+use Rattle.words.specs.PowerSteps.{State, value, done, outset, enter, entered, next, copies_of_digit, joined, written, is_ended, is_whole, step, run, sign_of}
+use Rattle.words.specs.PowerMarks.{outset_marks, marks_after, growth, grown_behind, IsSmall}
 use Rattle.words.specs.declared.powers.Marks.{Marks}
 use Rattle.words.specs.declared.powers.Sign.{Sign}
 use Rattle.words.specs.declared.powers.Sign.TheVariants as sign
 use Rattle.words.specs.declared.powers.Last.{Last}
-use Rattle.words.specs.declared.powers.Last.TheVariants as last
-use Rattle.words.proofs.PowerTexts.{IsRead, IsLast, Begun, Unit_word, Whole, Raised, Counted, exponent_short}
-use Rattle.words.proofs.PowerReads.{both, same, no_outer, no_run}
+use Rattle.words.proofs.PowerTexts.{IsLast, Begun, Unit_word, Whole, Raised, Counted, exponent_short}
+use Rattle.words.proofs.PowerReads.{both, same, no_outer}
 use Rattle.words.proofs.PowerRuns.{run-append, runs_word}
 use Rattle.words.proofs.PowerFaults.{front_runs, runs_more_bytes}
 use Rattle.words.proofs.PowerPlaces.{is_read, few_groups, step_is}

@@ -1,10 +1,10 @@
 -- Where the words of what was read lie.
-use Rattle.std.proofs.Common.{◌≡◌, ℕ, zero, suc, ◌+◌, ◌*◌, ◌-◌, ◌<◌, ◌≤◌, Bool, true, false, IsTrue, ◌==◌, ◌&&◌, nat_lt, nat_le, List, [], ◌∷◌, ◌++◌, length, take, drop, get_or, slice_index, slice_set, Option, Some, None, ◌⊎◌, inl, inr, refl, sym, ap, ◌∙◌, subst, arith, cond, append_assoc, append-nil, length-append, zero-add}
+use Rattle.std.proofs.Common.{◌≡◌, ℕ, zero, suc, ◌+◌, ◌*◌, ◌-◌, ◌<◌, ◌≤◌, Bool, true, false, ◌==◌, ◌&&◌, nat_lt, List, [], ◌∷◌, ◌++◌, length, slice_index, slice_set, Option, Some, None, refl, sym, ap, ◌∙◌, subst, arith, cond, append_assoc, append-nil, length-append, zero-add}
 use Rattle.std.proofs.lemmas.Grind.{common_steps}
 use Rattle.theory.specs.Word.{Word}
-use Rattle.words.specs.Powers.{IsExponent, power}
-use Rattle.words.specs.PowerSteps.{State, value, done, outset, enter, entered, next, after_digit, after_caret, depth_after, copies, copies_of_digit, joined, written, head_word, tail_words, step, run, go, sign_of, is_ready, is_full}
-use Rattle.words.specs.PowerMarks.{outset_marks, opened_marks, closed_marks, marks_of, marks_after, IsSmall}
+use Rattle.words.specs.Powers.{power}
+use Rattle.words.specs.PowerSteps.{State, value, done, outset, enter, entered, next, after_digit, after_caret, copies_of_digit, joined, written, head_word, tail_words, step, run, sign_of, is_ready, is_full}
+use Rattle.words.specs.PowerMarks.{outset_marks, marks_of}
 use Rattle.words.specs.declared.powers.Marks.{Marks}
 use Rattle.words.specs.declared.powers.Sign.{Sign}
 use Rattle.words.specs.declared.powers.Sign.TheVariants as sign

@@ -1,12 +1,12 @@
 -- Each refusal excludes the others.
-use Rattle.std.proofs.Common.{◌≡◌, ◌↔◌, ℕ, zero, suc, ◌+◌, ◌*◌, ◌-◌, ◌<◌, ◌≤◌, Bool, true, false, IsTrue, IsFalse, ◌==◌, ◌&&◌, nat_le, nat_lt, get_or, slice_get, List, [], ◌∷◌, ◌++◌, length, Option, Some, None, ◌⊎◌, inl, inr, Result, Ok, Err, IfOk, refl, sym, ap, ◌∙◌, subst, arith, cond, length-append}
+use Rattle.std.proofs.Common.{◌≡◌, ◌↔◌, ℕ, zero, suc, ◌-◌, ◌<◌, ◌≤◌, Bool, true, false, IsTrue, IsFalse, ◌==◌, ◌&&◌, nat_le, nat_lt, get_or, slice_get, List, [], ◌∷◌, ◌++◌, length, Some, None, ◌⊎◌, inl, inr, Result, Ok, Err, IfOk, refl, sym, ap, ◌∙◌, subst, arith, cond, length-append}
 use Rattle.std.proofs.lemmas.Grind.{common_steps}
 use Rattle.std.proofs.lemmas.Option.{slice_get-get_or}
 use Rattle.std.specs.Result.{IsErrAnd}
 use Rattle.theory.specs.Word.{Word, IsOver}
-use Rattle.words.specs.Alphabet.{IsAlphabet, place_of}
+use Rattle.words.specs.Alphabet.{IsAlphabet}
 use Rattle.words.specs.WordText.{is_empty_text}
-use Rattle.words.specs.Powers.{IsBase, IsItem, IsItems, IsExponent, IsWordText, HasWord, StandsFor, IsLong, IsShort, IsReadable, IsFaultAt, IsStranger, IsStrangeByte, IsOutcome, IsPowerFault, power, Letter, Group, Alone, Power, One, More}
+use Rattle.words.specs.Powers.{IsBase, IsItem, IsItems, IsWordText, StandsFor, IsLong, IsShort, IsReadable, IsFaultAt, IsStranger, IsStrangeByte, IsOutcome, IsPowerFault, power, Letter, Group, Alone, Power, One, More}
 use Rattle.words.specs.PowerSteps.{sign_of, plain_sign, letter_sign}
 use Rattle.words.specs.declared.fault.PowerFault.{PowerFault}
 use Rattle.words.specs.declared.fault.PowerFault.TheVariants.{EmptyWord, NotInAlphabet, BadPower, TooLong, NoMemory}
@@ -15,7 +15,6 @@ use Rattle.words.specs.declared.powers.Sign.TheVariants as sign
 use Rattle.words.proofs.TextLaws.{place_below}
 use Rattle.words.proofs.PowerFaults.{one_word, one_place}
 use Rattle.words.proofs.PowerReads.{IsSign, Spells, Opens, Closes, Raises, Counts, Strange, signs}
-use Rattle.words.proofs.PowerMarked.{length-power}
 use Rattle.words.proofs.PowerKept.{exponent_bounds}
 
 -- ---- words of items

@@ -1,16 +1,16 @@
 -- What the reader knows at each byte.
-use Rattle.std.proofs.Common.{◌≡◌, ℕ, zero, suc, ◌+◌, ◌*◌, ◌-◌, ◌<◌, ◌≤◌, Bool, true, false, IsTrue, ◌==◌, ◌&&◌, nat_lt, nat_le, List, [], ◌∷◌, ◌++◌, length, take, drop, get_or, Option, Some, None, ◌⊎◌, inl, inr, refl, sym, ap, ◌∙◌, subst, arith, cond, append_assoc, append-nil}
+use Rattle.std.proofs.Common.{◌≡◌, ℕ, ◌+◌, ◌-◌, ◌<◌, ◌≤◌, true, false, List, [], ◌∷◌, length, take, get_or, Option, Some, None, refl, sym, ap, ◌∙◌, arith}
 use Rattle.std.proofs.lemmas.List.{take_all}
 use Rattle.theory.specs.Word.{Word}
-use Rattle.words.specs.Alphabet.{IsAlphabet, place_of}
+use Rattle.words.specs.Alphabet.{IsAlphabet}
 use Rattle.words.specs.Powers.{IsWordText, IsFaultAt}
-use Rattle.words.specs.PowerSteps.{State, value, done, outset, enter, entered, next, depth_after, tail_words, step, go, run, sign_of, is_ready, is_full, is_ended, is_whole}
+use Rattle.words.specs.PowerSteps.{State, done, outset, enter, entered, next, depth_after, tail_words, step, run, sign_of, is_whole}
 use Rattle.words.specs.declared.powers.Sign.{Sign}
 use Rattle.words.specs.declared.powers.Sign.TheVariants as sign
 use Rattle.words.specs.declared.powers.Last.{Last}
 use Rattle.words.specs.declared.powers.Last.TheVariants as last
 use Rattle.words.proofs.PowerTexts.{IsRead, front_room}
-use Rattle.words.proofs.PowerReads.{reads_none, reads_run, both, cond_some, less}
+use Rattle.words.proofs.PowerReads.{reads_none, reads_run}
 use Rattle.words.proofs.PowerFaults.{runs_more_bytes, fault_here, fault_end, word_end}
 
 pub is_read : (alphabet text : List ℕ) (s : State) → run alphabet (Some outset) text ≡ Some s → IsRead alphabet text s

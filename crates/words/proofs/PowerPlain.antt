@@ -1,5 +1,5 @@
 -- Words without powers are words with powers.
-use Rattle.std.proofs.Common.{◌≡◌, ℕ, ◌+◌, ◌<◌, ◌≤◌, Bool, true, false, IsTrue, nat_le, List, [], ◌∷◌, ◌++◌, length, Option, Some, None, is_none, position, Result, Ok, Err, inl, inr, refl, sym, ap, ◌∙◌, subst, arith, cond, append_assoc, append-nil}
+use Rattle.std.proofs.Common.{◌≡◌, ℕ, ◌+◌, ◌≤◌, Bool, true, false, nat_le, List, [], ◌∷◌, ◌++◌, length, Option, Some, None, is_none, position, Ok, Err, inl, inr, refl, sym, ap, ◌∙◌, subst, arith, cond, append_assoc, append-nil}
 use Rattle.std.specs.List.{cons_option, position_from}
 use Rattle.std.proofs.lemmas.Grind.{common_steps}
 use Rattle.std.proofs.lemmas.List.{take_all}
@@ -8,7 +8,6 @@ use Rattle.theory.specs.Word.{Word}
 use Rattle.words.specs.Alphabet.{place_of}
 use Rattle.words.specs.WordText.{most_letters, is_empty_text, first_stranger, letters_of, word_of, word_unless}
 use Rattle.words.specs.Powers.{IsWordText, Letter, Alone}
-use Rattle.words.specs.declared.fault.WordFault.{WordFault}
 use Rattle.words.specs.declared.fault.WordFault.TheVariants.{EmptyWord}
 use Rattle.words.proofs.PowerTexts.{IsSeq, Nothing, Something, seq_item}
 

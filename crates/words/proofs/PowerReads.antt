@@ -1,16 +1,15 @@
 -- One byte more, as a text.
-use Rattle.std.proofs.Common.{◌≡◌, ℕ, zero, suc, ◌+◌, ◌*◌, ◌-◌, ◌<◌, ◌≤◌, Bool, true, false, IsTrue, ◌==◌, ◌&&◌, nat_lt, nat_le, List, [], ◌∷◌, ◌++◌, length, Option, Some, None, ◌⊎◌, inl, inr, refl, sym, ap, ◌∙◌, subst, arith, cond, append_assoc, append-nil}
+use Rattle.std.proofs.Common.{◌≡◌, ℕ, zero, suc, ◌+◌, ◌*◌, ◌-◌, ◌<◌, ◌≤◌, Bool, true, false, ◌==◌, ◌&&◌, nat_lt, nat_le, List, [], ◌∷◌, ◌++◌, length, Option, Some, None, ◌⊎◌, inl, inr, refl, sym, ap, ◌∙◌, subst, arith, cond, append_assoc, append-nil}
 use Rattle.std.proofs.lemmas.Grind.{common_steps}
 use Rattle.theory.specs.Word.{Word}
 use Rattle.words.specs.Alphabet.{place_of}
-use Rattle.words.specs.Powers.{IsBase, IsItem, IsItems, IsExponent, IsStrangeByte, IsWordText, power, Letter, Group, First, Next}
-use Rattle.words.specs.WordText.{is_empty_text}
-use Rattle.words.specs.PowerSteps.{State, value, done, outset, enter, entered, next, step, go, run, sign_of, plain_sign, letter_sign, is_ready, is_full, is_ended, is_whole, after_digit, after_caret, head_word, tail_words}
+use Rattle.words.specs.Powers.{IsItems, IsExponent, IsStrangeByte, IsWordText, Letter, Group, First, Next}
+use Rattle.words.specs.PowerSteps.{State, value, done, outset, enter, entered, next, step, run, sign_of, plain_sign, letter_sign, is_ready, is_full, is_ended, is_whole, after_digit, after_caret, head_word, tail_words}
 use Rattle.words.specs.declared.powers.Sign.{Sign}
 use Rattle.words.specs.declared.powers.Sign.TheVariants as sign
 use Rattle.words.specs.declared.powers.Last.{Last}
 use Rattle.words.specs.declared.powers.Last.TheVariants as last
-use Rattle.words.proofs.PowerTexts.{IsSeq, IsFront, IsLast, IsRead, Nothing, Something, Top, Opened, Begun, Unit_word, Whole, Raised, Counted, exponent_short, full_items, ready_seq, front_room}
+use Rattle.words.proofs.PowerTexts.{IsSeq, IsFront, IsLast, IsRead, Top, Opened, Begun, Unit_word, Whole, Raised, Counted, exponent_short, full_items, ready_seq, front_room}
 
 pub same : (x y : ℕ) → (x == y) ≡ true → x ≡ y
 same x y e = grind (arith, common_steps)

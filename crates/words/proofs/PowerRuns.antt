@@ -1,11 +1,10 @@
 -- A word's text, byte by byte.
-use Rattle.std.proofs.Common.{◌≡◌, ℕ, zero, suc, ◌+◌, ◌*◌, ◌-◌, ◌<◌, ◌≤◌, Bool, true, false, IsTrue, ◌==◌, ◌&&◌, nat_lt, nat_le, List, [], ◌∷◌, ◌++◌, length, Option, Some, None, ◌⊎◌, inl, inr, refl, sym, ap, ◌∙◌, subst, arith, cond, append_assoc, append-nil}
+use Rattle.std.proofs.Common.{◌≡◌, ℕ, suc, ◌+◌, ◌*◌, ◌-◌, ◌<◌, ◌≤◌, Bool, true, false, IsTrue, ◌==◌, ◌&&◌, nat_lt, nat_le, List, [], ◌∷◌, ◌++◌, length, Option, Some, None, ◌⊎◌, inl, inr, refl, sym, ap, ◌∙◌, subst, arith, cond, append_assoc}
 use Rattle.std.proofs.lemmas.Grind.{common_steps}
 use Rattle.theory.specs.Word.{Word}
 use Rattle.words.specs.Alphabet.{IsAlphabet, place_of}
-use Rattle.words.specs.WordText.{is_empty_text}
 use Rattle.words.specs.Powers.{IsBase, IsItem, IsItems, IsExponent, IsWordText, power, Letter, Group, Alone, Power, One, More, First, Next}
-use Rattle.words.specs.PowerSteps.{State, value, done, outset, enter, entered, next, step, go, run, sign_of, plain_sign, letter_sign, is_ready, is_full, is_ended, is_whole, after_digit, after_caret, head_word, tail_words}
+use Rattle.words.specs.PowerSteps.{State, value, done, outset, enter, entered, next, step, go, run, sign_of, plain_sign, letter_sign, is_ready, is_full, is_ended, is_whole, head_word, tail_words}
 use Rattle.words.specs.declared.powers.Sign.{Sign}
 use Rattle.words.specs.declared.powers.Sign.TheVariants as sign
 use Rattle.words.specs.declared.powers.Last.{Last}

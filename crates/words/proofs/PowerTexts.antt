@@ -1,12 +1,8 @@
 -- What was read so far, as a text: the open groups and the last item of the innermost.
-use Rattle.std.proofs.Common.{◌≡◌, ℕ, zero, suc, ◌+◌, ◌*◌, ◌-◌, ◌<◌, ◌≤◌, Bool, true, false, IsTrue, ◌==◌, ◌&&◌, nat_lt, nat_le, List, [], ◌∷◌, ◌++◌, length, Option, Some, None, ◌⊎◌, inl, inr, refl, sym, ap, ◌∙◌, subst, arith, cond, append_assoc, append-nil}
-use Rattle.std.proofs.lemmas.Grind.{common_steps}
+use Rattle.std.proofs.Common.{◌≡◌, ℕ, suc, ◌+◌, ◌*◌, ◌-◌, ◌≤◌, true, List, [], ◌∷◌, ◌++◌, length, ◌⊎◌, inl, inr, refl, arith}
 use Rattle.theory.specs.Word.{Word}
-use Rattle.words.specs.Alphabet.{place_of}
-use Rattle.words.specs.Powers.{IsBase, IsItem, IsItems, IsExponent, IsWordText, power, Letter, Group, Alone, Power, One, More, First, Next}
-use Rattle.words.specs.PowerSteps.{State, value, done, outset, enter, entered, next, step, go, run, sign_of, plain_sign, letter_sign, is_ready, is_full, is_whole, after_digit, after_caret, head_word, tail_words}
-use Rattle.words.specs.declared.powers.Sign.{Sign}
-use Rattle.words.specs.declared.powers.Sign.TheVariants as sign
+use Rattle.words.specs.Powers.{IsBase, IsItem, IsItems, IsExponent, power, Alone, Power, One, More, First, Next}
+use Rattle.words.specs.PowerSteps.{State, value, is_ready, is_full}
 use Rattle.words.specs.declared.powers.Last.{Last}
 use Rattle.words.specs.declared.powers.Last.TheVariants as last
 

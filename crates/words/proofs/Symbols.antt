@@ -1,5 +1,5 @@
 -- How many letters an alphabet has.
-use Rattle.std.proofs.Common.{◌≡◌, ℕ, zero, suc, ◌-◌, ◌+◌, ◌<◌, ◌≤◌, Bool, true, false, nat_le, eqb, List, [], ◌∷◌, ◌++◌, length, map, All, Contains, Some, refl, sym, ◌∙◌, ap, arith, cond, ◌⊎◌, inl, inr}
+use Rattle.std.proofs.Common.{◌≡◌, ℕ, zero, suc, ◌-◌, ◌+◌, ◌<◌, ◌≤◌, Bool, true, false, nat_le, eqb, List, [], ◌∷◌, ◌++◌, length, map, All, Contains, Some, refl, ◌∙◌, ap, arith, cond, ◌⊎◌, inl, inr}
 use Rattle.std.specs.List.{list_any, IsDistinct, AllByRecursion}
 use Rattle.std.proofs.lemmas.Grind.{common_steps}
 use Rattle.std.proofs.lemmas.Cmp.{nat_eq_equiv}
@@ -8,7 +8,7 @@ use Rattle.std.proofs.lemmas.Map.Keys.{IsDistinct-push}
 use Rattle.std.proofs.lemmas.Map.Views.{Contains-from_any}
 use Rattle.std.proofs.lemmas.List.Quantifiers.{position-Some}
 use Rattle.std.proofs.lemmas.Map.Steps.{length-le_from_distinct_below}
-use Rattle.words.specs.Alphabet.{IsAlphabet, IsAlphabetOf, IsLetterByte, IsSymbol, IsSound, marker, place_of}
+use Rattle.words.specs.Alphabet.{IsAlphabet, IsAlphabetOf, IsLetterByte, IsSymbol, place_of}
 
 -- symbols as numbers below 53: lower case, upper case, the marker
 abbrev code : ℕ → ℕ

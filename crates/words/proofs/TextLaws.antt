@@ -1,5 +1,5 @@
 -- Words that are read and printed.
-use Rattle.std.proofs.Common.{◌≡◌, ℕ, ◌+◌, ◌<◌, ◌≤◌, Bool, true, false, ◌==◌, eqb, nat_le, nat_lt, List, [], ◌∷◌, length, get_or, slice_index, Option, Some, None, is_none, position, Ok, Err, refl, sym, ap, ◌∙◌, arith, cond, ◌⊎◌, inl, inr}
+use Rattle.std.proofs.Common.{◌≡◌, ℕ, ◌+◌, ◌<◌, ◌≤◌, Bool, true, false, ◌==◌, eqb, nat_le, nat_lt, List, [], ◌∷◌, length, get_or, slice_index, Option, Some, None, is_none, position, Ok, Err, refl, sym, ap, ◌∙◌, arith, cond, inl, inr}
 use Rattle.std.specs.List.{cons_option, position_from, position_or_len, IsDistinct}
 use Rattle.std.proofs.lemmas.Grind.{common_steps}
 use Rattle.std.proofs.lemmas.Cmp.{nat_eq_equiv}

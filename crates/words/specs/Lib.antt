@@ -3,3 +3,4 @@ pub mod PowerMarks
 pub mod PowerSteps
 pub mod Powers
 pub mod WordText
+pub mod Pieces

@@ -1,5 +1,5 @@
 -- Where the words lie that the reader of words with powers writes.
-use Rattle.std.specs.Prelude.{ℕ, ◌+◌, ◌*◌, ◌-◌, ◌<◌, List, [], ◌∷◌, slice_index, slice_range, slice_set, Option, Some, None, ◌≡◌}
+use Rattle.std.specs.Prelude.{ℕ, ◌+◌, ◌*◌, ◌-◌, ◌<◌, [], ◌∷◌, slice_index, slice_range, slice_set, Option, Some, None}
 use Rattle.theory.specs.Word.{Word}
 use Rattle.words.specs.Powers.{power}
 use Rattle.words.specs.PowerSteps.{copies_of_digit}

@@ -1,5 +1,5 @@
 -- Words with powers, as texts: letters, groups in parentheses, and exponents behind `^`.
-use Rattle.std.specs.Prelude.{ℕ, zero, suc, ◌+◌, ◌*◌, ◌-◌, ◌<◌, ◌≤◌, Bool, IsTrue, IsFalse, List, [], ◌∷◌, ◌++◌, length, take, slice_get, Option, Some, None, Result, Ok, Err, ◌⊎◌, ◌≡◌}
+use Rattle.std.specs.Prelude.{ℕ, zero, suc, ◌+◌, ◌*◌, ◌-◌, ◌<◌, ◌≤◌, Bool, IsTrue, IsFalse, List, [], ◌∷◌, ◌++◌, length, take, slice_get, Some, None, Result, Ok, Err, ◌⊎◌, ◌≡◌}
 use Rattle.theory.specs.Word.{Word}
 use Rattle.words.specs.Alphabet.{place_of}
 use Rattle.words.specs.WordText.{most_letters, is_empty_text}

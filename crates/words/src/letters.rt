@@ -1,9 +1,16 @@
 // Letters and words.
-ghost use Rattle.std.specs.Prelude.{◌≡◌, ℕ, ◌<◌, ◌≤◌, List, [], ◌∷◌, ◌++◌, length, reverse, slice_get, slice_range, IfOk, OnOk, OnErr, IsTrue, ◌↔◌};
+ghost use Rattle.std.specs.Prelude.{◌≡◌, ℕ, ◌<◌, ◌≤◌, List, [], ◌∷◌, ◌++◌, fold, length, nat_eq, reverse, slice_get, slice_range, take, IfOk, OnOk, OnErr, IsTrue, ◌↔◌};
+ghost use Rattle.std.specs.Cmp as Cmp;
+ghost use Rattle.std.specs.Cmp.Lexicographic.{pointwise, nat_list_eq_equiv};
+ghost use Rattle.words.specs.Pieces.{letters_hash, same_letters_hash};
 
 use ports::NoMemory;
 use std::alloc::Global;
+use std::hash::{Hash, Hasher};
 use std::marker::Model;
+
+// So many letters are hashed in one piece.
+const PIECE: usize = 32;
 
 /// A letter: the number of its place in its alphabet, from 0 (libsemigroups, `letter_type`).
 #[derive(Clone, Copy, Debug, PartialEq, Eq, PartialOrd, Ord)]
@@ -112,6 +119,13 @@ impl Word {
         Ok(())
     }
 
+    /// Takes all letters out, and keeps the room that they had.
+    pub fn clear(&mut self)
+        ensures { self.new ≡ [] }
+    {
+        self.letters.clear();
+    }
+
     /// The letters, in order.
     pub fn letters(&self) -> &[Letter]
         ensures { result.now ≡ self.now }
@@ -156,5 +170,51 @@ impl Word {
         let mut letters = Vec::from_slice(alloc, self.letters.as_slice())?;
         letters.extend_from_slice(other.letters.as_slice())?;
         Ok(Word { letters })
+    }
+}
+
+impl PartialEq for Word {
+    ghost eq = { pointwise nat_eq };
+
+    ghost laws = { Cmp.partial_equiv_from_equiv nat_list_eq_equiv };
+
+    fn eq(&self, other: &Word) -> bool {
+        self.letters == other.letters
+    }
+}
+
+impl Eq for Word {
+    ghost laws = { nat_list_eq_equiv };
+}
+
+// Hashes the first letters, as many as a piece has, as bytes.
+fn hash_piece<H: Hasher>(letters: &[Letter], state: &mut H)
+    ensures { state.new ≡ H.write state.old (take 32 letters.now) }
+{
+    let mut bytes = [0; PIECE];
+    let count = letters.len().min(PIECE);
+    for place in 0..count {
+        let letter = letters[place];
+        bytes[place] = letter.number;
+    }
+    state.write(&bytes[..count]);
+}
+
+// Hashes the letters, piece by piece.
+fn hash_letters<H: Hasher>(letters: &[Letter], state: &mut H)
+    ensures { state.new ≡ fold H.write state.old (letters_hash letters.now) }
+{
+    for piece in 0..letters.len() / PIECE + 1 {
+        hash_piece(&letters[piece * PIECE..], state);
+    }
+}
+
+impl Hash for Word {
+    ghost hash_input = { letters_hash };
+
+    ghost respects_eq = { same_letters_hash };
+
+    fn hash<H: Hasher>(&self, state: &mut H) {
+        hash_letters(self.letters.as_slice(), state);
     }
 }

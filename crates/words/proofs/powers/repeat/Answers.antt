@@ -1,4 +1,4 @@
-use Rattle.std.proofs.Common.{sym, ap, ◌∙◌, length, length-append, slice_range, append-nil, arith}
+use Rattle.std.proofs.Common.{sym, ap, length, length-append, slice_range, append-nil, arith}
 use Rattle.words.specs.Powers.{power}
 use Rattle.words.proofs.PowerKept.{one_copy_more}
 use Rattle.words.proofs.powers.repeat.Goals as goal

@@ -1,4 +1,4 @@
-use Rattle.std.proofs.Common.{subst, sym, ap, ◌∙◌, ◌+◌, ◌<◌, ◌≤◌, [], length, arith}
+use Rattle.std.proofs.Common.{subst, sym, ap, ◌∙◌, length, arith}
 use Rattle.words.specs.PowerMarks.{marks_after, outset_marks}
 use Rattle.words.specs.PowerSteps.{next}
 use Rattle.words.proofs.PowerKept.{IsBuilt, built_start, built_few, built_next, built_end, kept_depth, kept_small, kept_base}

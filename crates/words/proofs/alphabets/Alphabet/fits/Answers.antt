@@ -1,4 +1,4 @@
-use Rattle.std.proofs.Common.{subst, sym, ap, ◌∙◌, ◌+◌, ◌<◌, ◌≤◌, arith}
+use Rattle.std.proofs.Common.{subst, sym, ap, ◌+◌, arith}
 use Rattle.words.proofs.PowerKept.{IsKept, kept_start, kept_depth, kept_small, kept_base, kept_next, kept_long, kept_short}
 use Rattle.words.proofs.alphabets.Alphabet.fits.Goals as goal
 

@@ -1,4 +1,4 @@
-use Rattle.std.proofs.Common.{sym, ◌∙◌}
+use Rattle.std.proofs.Common.{◌∙◌}
 use Rattle.words.proofs.PowerOutcomes.{no_stranger, no_byte}
 use Rattle.words.proofs.alphabets.Alphabet.is_stranger.Goals as goal
 

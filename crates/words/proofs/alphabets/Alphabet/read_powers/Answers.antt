@@ -1,5 +1,5 @@
 use Rattle.words.proofs.PowerOutcomes.{ok_over, told, tells_empty, tells_stranger, tells_place, tells_long}
-use Rattle.words.specs.declared.fault.PowerFault.TheVariants.{EmptyWord, NotInAlphabet, BadPower, TooLong, NoMemory}
+use Rattle.words.specs.declared.fault.PowerFault.TheVariants.{EmptyWord, NotInAlphabet, BadPower, TooLong}
 use Rattle.words.proofs.alphabets.Alphabet.read_powers.Goals as goal
 
 pub returns-clause-over : goal.returns-clause-over
