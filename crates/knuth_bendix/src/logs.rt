@@ -22,29 +22,16 @@ use words::Word;
 #[derive(Drop)]
 struct Facts {
     derivations: Derivations,
-    likely: HashMap<Vec<u8>, usize>,
-}
-
-// The letters of the two words with a byte between them that is none.
-fn key_of(alloc: Global, left: &Word, right: &Word) -> Result<Vec<u8>, NoMemory> {
-    let mut key = Vec::new(alloc);
-    for letter in left.letters() {
-        key.push(u8::try_from(letter.number()).unwrap_or(0))?;
-    }
-    key.push(u8::MAX)?;
-    for letter in right.letters() {
-        key.push(u8::try_from(letter.number()).unwrap_or(0))?;
-    }
-    Ok(key)
+    likely: HashMap<(Word, Word), usize>,
 }
 
 impl Facts {
-    // The number of the relation or fact of the two words, which have the key.
-    fn number_of(&self, key: &Vec<u8>, pair: &(Word, Word)) -> usize
+    // The number of the relation or fact of the two words.
+    fn number_of(&self, pair: &(Word, Word)) -> usize
         requires { Contains (all_of self.now.derivations).relations pair.now }
         ensures { slice_get (all_of self.now.derivations).relations result ≡ Some pair.now }
     {
-        let likely = match self.likely.get(key) {
+        let likely = match self.likely.get(pair) {
             Some(number) => *number,
             None => 0,
         };
@@ -54,29 +41,30 @@ impl Facts {
         }
     }
 
-    // Whether the key leads to the relation or fact of the two words.
-    fn is_found(&self, key: &Vec<u8>, left: &Word, right: &Word) -> bool
-        ensures { IsTrue result → IsLogged (Some self.now.derivations) (left.now, right.now) }
+    // Whether the two words are those of a relation or fact that was put among those likely.
+    fn is_found(&self, pair: &(Word, Word)) -> bool
+        ensures { IsTrue result → IsLogged (Some self.now.derivations) pair.now }
     {
-        match self.likely.get(key) {
-            Some(number) => self.derivations.number_of(*number, left, right).is_some(),
+        match self.likely.get(pair) {
+            Some(number) => {
+                let found = self.derivations.number_of(*number, &pair.0, &pair.1);
+                found.is_some()
+            }
             None => false,
         }
     }
 
     // The step of a rule that is applied.
-    fn step_of(&self, alloc: Global, rules: &KeptRules, at: Applied) -> Result<ChainStep, NoMemory>
+    fn step_of(&self, rules: &KeptRules, at: Applied) -> ChainStep
         requires within { at.rule < length rules.now }
         requires logged { AreLogged (Some self.now.derivations) rules.now }
-        ensures { IfOk result (IsFor rules.now (all_of self.now.derivations).relations at) }
+        ensures { IsFor rules.now (all_of self.now.derivations).relations at result }
     {
-        let rule = rules.rule(at.rule);
-        let key = key_of(alloc, &rule.0, &rule.1)?;
-        Ok(ChainStep {
+        ChainStep {
             place: at.place,
-            relation: self.number_of(&key, rule),
+            relation: self.number_of(rules.rule(at.rule)),
             forward: true,
-        })
+        }
     }
 
     // The steps of rules that are applied.
@@ -93,7 +81,7 @@ impl Facts {
     {
         let mut steps = Vec::new(alloc);
         for at in trace {
-            steps.push(self.step_of(alloc, rules, *at)?)?;
+            steps.push(self.step_of(rules, *at))?;
         }
         Ok(steps)
     }
@@ -112,8 +100,8 @@ impl Facts {
         ensures logged { OnOk result
             (IsLogged (Some self.new.derivations) (left.now, right.now)) }
     {
-        let key = key_of(alloc, left, right)?;
-        if self.is_found(&key, left, right) {
+        let pair = (left.copy(alloc)?, right.copy(alloc)?);
+        if self.is_found(&pair) {
             return Ok(());
         }
         let number = self.derivations.len();
@@ -123,7 +111,7 @@ impl Facts {
             steps,
         };
         self.derivations.push(fact)?;
-        let _none = self.likely.insert(key, number)?;
+        let _none = self.likely.insert(pair, number)?;
         Ok(())
     }
 }
@@ -163,7 +151,8 @@ impl Log {
         let mut likely = HashMap::new(alloc);
         for number in 0..relations.len() {
             let pair = relations.pair(number);
-            let _old = likely.insert(key_of(alloc, &pair.0, &pair.1)?, number)?;
+            let words = (pair.0.copy(alloc)?, pair.1.copy(alloc)?);
+            let _old = likely.insert(words, number)?;
         }
         Ok(Log {
             facts: Some(Facts {
@@ -241,10 +230,9 @@ impl Log {
         let Some(facts) = &self.facts else {
             return Ok(Vec::new(alloc));
         };
-        let key = key_of(alloc, &pair.0, &pair.1)?;
         let step = ChainStep {
             place: 0,
-            relation: facts.number_of(&key, pair),
+            relation: facts.number_of(pair),
             forward,
         };
         around(alloc, back, &[step], on)
@@ -275,16 +263,14 @@ impl Log {
         let Some(facts) = &self.facts else {
             return Ok(Vec::new(alloc));
         };
-        let first_key = key_of(alloc, &first.0, &first.1)?;
-        let second_key = key_of(alloc, &second.0, &second.1)?;
         let up = ChainStep {
             place: 0,
-            relation: facts.number_of(&first_key, first),
+            relation: facts.number_of(first),
             forward: false,
         };
         let down = ChainStep {
             place: first.0.len() - shared,
-            relation: facts.number_of(&second_key, second),
+            relation: facts.number_of(second),
             forward: true,
         };
         around(alloc, back, &[up, down], on)

@@ -21,7 +21,7 @@ loop-at-preserved c =
     let relations = (all_of c.args.self.now.derivations).relations in
     subst₂ (λ (t : List Applied) (s : List ChainStep). AreFor c.args.rules.now relations t s)
     (sym (take_next c.args.trace.now c.loop-at.at-index next (slice_get-get_or c.args.trace.now c.loop-at.at-index none (omega arith)))) (sym c.in_ok-push.ensures.items)
-    (for_more c.args.rules.now relations (take c.loop-at.at-index c.args.trace.now) c.loop-at.steps.items next c.in_ok-step_of.field-0 c.loop-at.invariant c.in_ok-step_of.ensures)
+    (for_more c.args.rules.now relations (take c.loop-at.at-index c.args.trace.now) c.loop-at.steps.items next c.step_of.result c.loop-at.invariant c.step_of.ensures)
 
 pub returns : goal.returns
 returns c =
