@@ -65,6 +65,12 @@ module _ {V : Type 0} (shape : V → ℕ × ℕ) (product : V → V → V) (equa
   listed_less tables said h e = let l = subst (λ p. AreListed product equal task.generators (some_value task.generators is.some) task.bound tables p) e (h (some_value task.generators is.some)) in
       subst (λ p. left_in p tables < 2) (sym e) (subst (λ o. left_in More o < 2) (sym l.1) (omega arith))
 
+  -- and does not decide
+  pub listed_undecided : (tables : Option CayleyTables) (said : Progress) → ((unused : V) → AreListed product equal task.generators unused task.bound tables said)
+      → said ≡ Decided → ⊥
+  listed_undecided tables said h e =
+      subst (λ p. AreListed product equal task.generators (some_value task.generators is.some) task.bound tables p) e (h (some_value task.generators is.some))
+
   module _ (classes : Option (List ℕ)) (t : CayleyTables) (run : IsRun shape product equal (record { task = task; tables = Some t; classes = classes; said = More })) where
     own_tables : AreTablesOf product equal task.generators (some_value task.generators is.some) t
     own_tables = run.tables t refl (some_value task.generators is.some)

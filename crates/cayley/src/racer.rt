@@ -1,5 +1,5 @@
 // An engine that lists the elements of a semigroup, and then finds their classes.
-ghost use Rattle.std.specs.Prelude.{◌≡◌, ℕ, ◌<◌, ◌≤◌, ◌↔◌, false, length, IfOk, MatchOption, IsTrue, Option, None, Some};
+ghost use Rattle.std.specs.Prelude.{◌≡◌, ◌≢◌, ℕ, ◌<◌, ◌≤◌, ◌↔◌, false, length, IfOk, MatchOption, IsTrue, Option, None, Some};
 ghost use Rattle.theory.specs.Congruence.{AreElements};
 ghost use Rattle.theory.specs.Value.{HasAtMostValues, HasMoreValues};
 ghost use Rattle.elements.specs.Generators.{HaveOneShape, value_by};
@@ -159,7 +159,7 @@ fn find_classes(
 }
 
 impl<E: Element> Racer for PairsRacer<E> {
-    ghost use Rattle.std.specs.Prelude.{◌≡◌, ℕ, ◌<◌};
+    ghost use Rattle.std.specs.Prelude.{◌≡◌, ◌≢◌, ℕ, ◌<◌};
     ghost use Rattle.race.specs.declared.engines.Progress.{Progress as Answer};
     ghost use Rattle.cayley.specs.Run.{PairsTask as TaskOf, HasFew as IsFew, left_of as turns_left};
 
@@ -182,6 +182,8 @@ impl<E: Element> Racer for PairsRacer<E> {
         ensures decided { result ≡ Answer.Decided → IsFew E.product E.eq self.new.task }
         ensures spent { result ≡ Answer.Spent → ¬ (IsFew E.product E.eq self.new.task) }
         ensures more { result ≡ Answer.More → turns_left self.new < turns_left self.old }
+        ensures lists_first { self.old.said ≡ Answer.More → self.old.tables ≡ None
+            → result ≢ Answer.Decided }
         ensures stays_decided { self.old.said ≡ Answer.Decided
             → (result ≡ Answer.Decided) × (self.new ≡ self.old) }
         ensures stays_spent { self.old.said ≡ Answer.Spent

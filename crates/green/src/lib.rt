@@ -15,5 +15,5 @@ mod relations;
 mod states;
 
 pub use collector::Collector;
-pub use relations::ClassNames;
+pub use relations::{ClassNames, classes, idempotents};
 pub use theory::Relation;

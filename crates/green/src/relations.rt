@@ -12,7 +12,7 @@ ghost use Rattle.green.specs.Related.{AreOfLetters, AreRelated, DoAgree, DoCommu
 use crate::collector::{Collector, Lists};
 use crate::edges::Edges;
 use crate::grouping::collect;
-use crate::idempotent::idempotents;
+use crate::idempotent;
 use crate::joining::joined_names;
 use crate::naming::component_names;
 use crate::pairing::names_of_pairs;
@@ -208,6 +208,33 @@ impl ClassNames {
             IsListOf (IsIdempotentAt tables.now) ◌<◌ None found.items) }
     {
         self.find_all(alloc, tables)?;
-        idempotents(alloc, tables, names(&self.left), names(&self.both))
+        idempotent::idempotents(alloc, tables, names(&self.left), names(&self.both))
     }
+}
+
+/// The classes of the elements of a semigroup under one of Green's relations, for who asks once:
+/// as `ClassNames::classes` finds them. Refused only for want of memory.
+pub fn classes(
+    alloc: Global,
+    tables: &CayleyTables,
+    relation: Relation,
+) -> Result<Vec<Vec<usize>>, NoMemory>
+    requires fit { FitTogether tables.now }
+    requires commute { DoCommute tables.now }
+    ensures { IfOk result (λ found. AreClasses (length tables.now.words)
+        (AreRelated relation tables.now) (map (λ c. c.items) found.items)) }
+{
+    ClassNames::new().classes(alloc, tables, relation)
+}
+
+/// The numbers of the idempotents of a semigroup, ascending, for who asks once: as
+/// `ClassNames::idempotents` finds them. Refused only for want of memory.
+pub fn idempotents(alloc: Global, tables: &CayleyTables) -> Result<Vec<usize>, NoMemory>
+    requires fit { FitTogether tables.now }
+    requires commute { DoCommute tables.now }
+    requires words { AreOfLetters tables.now }
+    requires agree { DoAgree tables.now }
+    ensures { IfOk result (λ found. IsListOf (IsIdempotentAt tables.now) ◌<◌ None found.items) }
+{
+    ClassNames::new().idempotents(alloc, tables)
 }

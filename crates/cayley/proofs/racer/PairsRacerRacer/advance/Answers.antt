@@ -3,7 +3,7 @@ use Rattle.race.specs.declared.engines.Progress.{Progress}
 use Rattle.race.specs.declared.engines.Progress.TheVariants.{More}
 use Rattle.froidure_pin.specs.declared.tables.CayleyTables.{CayleyTables}
 use Rattle.cayley.specs.Run.{PairsTask, PairsRun, IsRun, left_in, left_of}
-use Rattle.cayley.proofs.RunLaws.{listed_run, listed_less, tables_fit, tables_elements, decided_few, spent_many}
+use Rattle.cayley.proofs.RunLaws.{listed_run, listed_less, listed_undecided, tables_fit, tables_elements, decided_few, spent_many}
 use Rattle.cayley.proofs.racer.PairsRacerRacer.advance.Goals as goal
 
 pub returns-in_default : goal.returns-in_default
@@ -16,6 +16,7 @@ returns-in_default g c =
       decided = λ e. decided_few g.E.Values.shape g.E.Values.product g.E.PartialEq.eq g.met.E.Values.products c.args.self.now is (said ∙ e);
       spent = λ e. spent_many g.E.Values.shape g.E.Values.product g.E.PartialEq.eq g.met.E.Values.products c.args.self.now is (said ∙ e);
       more = λ e. absurd (c.in_default.not-More e);
+      lists_first = λ e. absurd (c.in_default.not-More (sym said ∙ e));
       stays_decided = λ e. (sym said ∙ e, refl);
       stays_spent = λ e. (sym said ∙ e, refl);
       stays_out_of_memory = λ e. sym said ∙ e;
@@ -32,6 +33,12 @@ returns-in_default-tables-clause-decided g c = decided_few g.E.Values.shape g.E.
 
 pub returns-in_default-tables-clause-spent : goal.returns-in_default-tables-clause-spent
 returns-in_default-tables-clause-spent g c = spent_many g.E.Values.shape g.E.Values.product g.E.PartialEq.eq g.met.E.Values.products _ (invariant_of-self g c)
+
+pub returns-in_default-tables-clause-lists_first : goal.returns-in_default-tables-clause-lists_first
+returns-in_default-tables-clause-lists_first g c = λ _ _.
+    listed_undecided g.E.Values.shape g.E.Values.product g.E.PartialEq.eq
+    (record { generators = c.self.inside.generators.items; kind = c.self.inside.kind; pairs = c.self.inside.pairs; bound = c.self.inside.bound }) c.self.invariant.task
+    c.list_elements-self-inside.new.tables c.list_elements-self-inside.result c.list_elements-self-inside.ensures
 
 pub returns-in_default-tables-clause-more : goal.returns-in_default-tables-clause-more
 returns-in_default-tables-clause-more g c = λ e.
