@@ -1,9 +1,9 @@
 -- What a state keeps of a problem.
-use Rattle.std.specs.Prelude.{◌≡◌, IfSome}
+use Rattle.std.specs.Prelude.{◌≡◌, IfSome, Some}
 use Rattle.problem.specs.declared.kinds.Problem.{Problem}
 use Rattle.congruence.specs.Verdicts.{IsVerdictOf}
 use Rattle.report.specs.Chains.{IsLogOf}
-use Rattle.report.specs.Known.{AreKnownOf}
+use Rattle.report.specs.Known.{AreKnownOf, KeepsKnown}
 use Rattle.report.specs.declared.state.State.{State}
 
 -- the verdict is of the problem, and so are the completion, which logs and is at its end, and what
@@ -18,3 +18,9 @@ pub record KeepsSettings (old new : State) : Type 0 where
   pub budgets : new.budgets ≡ old.budgets
   pub classes : new.classes ≡ old.classes
   pub workers : new.workers ≡ old.workers
+
+-- what was found of the problem stays
+pub record KeepsFound (old new : State) : Type 0 where
+  pub verdict : IfSome old.verdict (λ verdict. new.verdict ≡ Some verdict)
+  pub completion : IfSome old.completion (λ completion. new.completion ≡ Some completion)
+  pub elements : KeepsKnown old.elements new.elements

@@ -1,10 +1,10 @@
 -- What is known of the elements of a problem.
-use Rattle.std.specs.Prelude.{◌≡◌, length, IfSome}
+use Rattle.std.specs.Prelude.{◌≡◌, length, IfSome, Some}
 use Rattle.froidure_pin.specs.declared.tables.CayleyTables.{CayleyTables}
 use Rattle.problem.specs.declared.kinds.Problem.{Problem}
 use Rattle.problem.specs.Problem.{letters_of}
 use Rattle.congruence.specs.CayleyGraphs.{AreTablesFor}
-use Rattle.green.specs.Known.{AreNamesIn}
+use Rattle.green.specs.Known.{AreNamesIn, KeepsNames}
 use Rattle.report.specs.Texts.{AreTexts, JoinedTexts}
 use Rattle.report.specs.declared.known.KnownElements.{KnownElements}
 
@@ -16,3 +16,8 @@ AreTextsOf p t texts = (texts.count ≡ length t.words) × AreTexts (letters_of 
 pub record AreKnownOf (p : Problem) (known : KnownElements) : Type 0 where
   pub names : (t : CayleyTables) → AreTablesFor p t → AreNamesIn t known.names
   pub texts : (t : CayleyTables) → AreTablesFor p t → IfSome known.texts (AreTextsOf p t)
+
+-- what was known stays known
+pub record KeepsKnown (old new : KnownElements) : Type 0 where
+  pub names : KeepsNames old.names new.names
+  pub texts : IfSome old.texts (λ texts. new.texts ≡ Some texts)

@@ -7,7 +7,7 @@ ghost use Rattle.query_lang.specs.Query.{IsQueryOf};
 ghost use Rattle.report.specs.Answer.{awaited_by};
 ghost use Rattle.report.specs.Chains.{IsLogOf};
 ghost use Rattle.report.specs.Gains.{AreAnswerBytes};
-ghost use Rattle.report.specs.Kept.{KeepsOf, KeepsSettings};
+ghost use Rattle.report.specs.Kept.{KeepsFound, KeepsOf, KeepsSettings};
 
 use crate::awaited::{Awaited, awaited_by};
 use crate::logged::write_logged;
@@ -45,6 +45,7 @@ fn write_decided<O: Sink>(
     requires waits { awaited_by query.now ≡ Awaited.Decision }
     ensures kept { KeepsOf problem.now state.new }
     ensures settings { KeepsSettings state.old state.new }
+    ensures stays { KeepsFound state.old state.new }
     ensures written { Writes O.Sink (AreAnswerBytes problem.now state.old.budgets state.old.classes
         query.now) sink.old sink.new result }
 {
@@ -102,7 +103,7 @@ fn write_completed<O: Sink>(
 ///
 /// `Failed` comes only where the sink failed, and `NoMemory` for want of memory; the sink has then
 /// gained a prefix of the answer. What the state keeps is of this script's problem, and what it
-/// keeps afterwards too; nothing else in it changes.
+/// keeps afterwards too: what was found before stays, and nothing else in it changes.
 pub fn write_answer<R: Threads + Sync, O: Sink, G: Gate + Sync>(
     rt: &R,
     alloc: Global,
@@ -117,6 +118,7 @@ pub fn write_answer<R: Threads + Sync, O: Sink, G: Gate + Sync>(
     requires workers { 0 < state.old.workers }
     ensures kept { KeepsOf script.now.problem state.new }
     ensures settings { KeepsSettings state.old state.new }
+    ensures stays { KeepsFound state.old state.new }
     ensures written { Writes O.Sink (AreAnswerBytes script.now.problem state.old.budgets
         state.old.classes query.now) sink.old sink.new result }
 {

@@ -3,7 +3,7 @@ ghost use Rattle.std.specs.Prelude.{◌≡◌, ◌<◌, ◌≤◌, ◌++◌, ◌
 ghost use Rattle.ports.specs.Writes.{Writes, WritesBytes};
 ghost use Rattle.theory.specs.Green.{AreClasses};
 ghost use Rattle.cayley.specs.Tables.{FitTogether};
-ghost use Rattle.green.specs.Known.{AreNamesIn};
+ghost use Rattle.green.specs.Known.{AreNamesIn, KeepsNames};
 ghost use Rattle.green.specs.Related.{AreRelated, DoCommute};
 ghost use Rattle.congruence.specs.CayleyGraphs.{AreTablesFor};
 ghost use Rattle.problem.specs.Problem.{HasOneShape, letters_of, pairs_of};
@@ -11,7 +11,7 @@ ghost use Rattle.report.specs.Collected.{AreLinesOf, AreOfWords};
 ghost use Rattle.report.specs.Gains.{AreBytesOf, bytes_of};
 ghost use Rattle.report.specs.Greens.{AreGreenLines, AreIdempotentLines};
 ghost use Rattle.report.specs.Lines.{end_line, word_line};
-ghost use Rattle.report.specs.Known.{AreKnownOf};
+ghost use Rattle.report.specs.Known.{AreKnownOf, KeepsKnown};
 
 use crate::class_lines::ClassLines;
 use crate::known::KnownElements;
@@ -37,6 +37,7 @@ fn class_lines<'a>(
     requires texts { AreOfWords texts.now }
     requires count { length tables.now.words ≤ texts.now.count }
     ensures known { AreNamesIn tables.now names.new }
+    ensures kept { KeepsNames names.old names.new }
     ensures texts { IfOk result (λ c. c.texts ≡ texts.now) }
     ensures lines { IfOk result (λ c. (classes : List (List ℕ))
         × AreClasses (length tables.now.words) (AreRelated relation tables.now) classes
@@ -83,6 +84,7 @@ pub fn write_green<O: Sink>(
     requires unpaired { pairs_of problem.now ≡ [] }
     requires known { AreKnownOf problem.now elements.old }
     ensures known { AreKnownOf problem.now elements.new }
+    ensures kept { KeepsKnown elements.old elements.new }
     ensures written { Writes O.Sink (λ _. AreBytesOf (AreGreenLines relation problem.now))
         sink.old sink.new result }
 {
@@ -106,6 +108,7 @@ pub fn write_idempotents<O: Sink>(
     requires unpaired { pairs_of problem.now ≡ [] }
     requires known { AreKnownOf problem.now elements.old }
     ensures known { AreKnownOf problem.now elements.new }
+    ensures kept { KeepsKnown elements.old elements.new }
     ensures written { Writes O.Sink (λ _. AreBytesOf (AreIdempotentLines problem.now))
         sink.old sink.new result }
 {

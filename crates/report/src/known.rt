@@ -6,7 +6,7 @@ ghost use Rattle.problem.specs.declared.kinds.Problem.{Problem as Posed};
 ghost use Rattle.problem.specs.Problem.{HasOneShape, pairs_of};
 ghost use Rattle.congruence.specs.CayleyGraphs.{AreTablesFor};
 ghost use Rattle.green.specs.Related.{IsIdempotentAt};
-ghost use Rattle.report.specs.Known.{AreKnownOf};
+ghost use Rattle.report.specs.Known.{AreKnownOf, KeepsKnown};
 
 use crate::texts::Texts;
 use froidure_pin::CayleyTables;
@@ -46,6 +46,7 @@ impl KnownElements {
         requires unpaired { pairs_of problem.now ≡ [] }
         requires known { AreKnownOf problem.now self.old }
         ensures known { AreKnownOf problem.now self.new }
+        ensures kept { KeepsKnown self.old self.new }
         ensures idempotents { IfOk result (λ found.
             IsListOf (IsIdempotentAt tables.now) ◌<◌ None found.items) }
     {
@@ -66,6 +67,7 @@ impl KnownElements {
         requires unpaired { pairs_of problem.now ≡ [] }
         requires known { AreKnownOf problem.now self.old }
         ensures known { AreKnownOf problem.now self.new }
+        ensures kept { KeepsKnown self.old self.new }
         ensures some { OnOk result (IsSome self.new.texts) }
     {
         if self.texts.is_none() {

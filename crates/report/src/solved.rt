@@ -8,7 +8,7 @@ ghost use Rattle.problem.specs.Problem.{SameClassOf, count_of, letters_of};
 ghost use Rattle.query_lang.specs.Query.{IsQueryOf};
 ghost use Rattle.report.specs.Answer.{AreLines, awaited_by};
 ghost use Rattle.report.specs.Gains.{AreBytesOf};
-ghost use Rattle.report.specs.Known.{AreKnownOf};
+ghost use Rattle.report.specs.Known.{AreKnownOf, KeepsKnown};
 ghost use Rattle.report.specs.Lines.{word_line};
 ghost use Rattle.report.specs.Pages.{ArePageLines};
 
@@ -83,6 +83,7 @@ pub fn write_solved<O: Sink>(
     requires waits { awaited_by query.now ≡ Awaited.Decision }
     ensures kept { solved.new ≡ solved.old }
     ensures known { AreKnownOf problem.now elements.new }
+    ensures keeps { KeepsKnown elements.old elements.new }
     ensures written { Writes O.Sink (λ _. AreBytesOf (AreLines problem.now bound query.now))
         sink.old sink.new result }
 {

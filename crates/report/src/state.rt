@@ -2,7 +2,7 @@
 ghost use Rattle.std.specs.Prelude.{◌≡◌, ◌<◌, true, None, Some, OnOk, MatchOption};
 ghost use Rattle.problem.specs.declared.kinds.Problem.{Problem as Posed};
 ghost use Rattle.problem.specs.Problem.{IsPosable, is_presented};
-ghost use Rattle.report.specs.Kept.{KeepsOf, KeepsSettings};
+ghost use Rattle.report.specs.Kept.{KeepsFound, KeepsOf, KeepsSettings};
 
 use crate::completing::logged_completion;
 use crate::known::KnownElements;
@@ -58,6 +58,7 @@ impl State {
         requires kept { KeepsOf problem.now self.old }
         ensures kept { KeepsOf problem.now self.new }
         ensures settings { KeepsSettings self.old self.new }
+        ensures stays { KeepsFound self.old self.new }
         ensures found { OnOk result (MatchOption self.new.verdict ⊥ (λ _. Unit {0})) }
     {
         if self.verdict.is_none() {
@@ -74,6 +75,7 @@ impl State {
         requires kept { KeepsOf problem.now self.old }
         ensures kept { KeepsOf problem.now self.new }
         ensures settings { KeepsSettings self.old self.new }
+        ensures stays { KeepsFound self.old self.new }
         ensures found { OnOk result (MatchOption self.new.completion ⊥ (λ _. Unit {0})) }
     {
         if self.completion.is_none() {
