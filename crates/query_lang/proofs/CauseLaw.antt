@@ -11,12 +11,12 @@ use Rattle.query_lang.specs.Outcome.{and_then}
 use Rattle.query_lang.specs.Token.{Token, Line, is_kept, is_word}
 use Rattle.query_lang.specs.declared.version.Version.{Version}
 use Rattle.query_lang.specs.declared.version.Version.TheVariants.{One}
-use Rattle.query_lang.specs.Script.{ProgressOf, ReaderOf, Reading, Versioned, element_line, finished, first_line, header_line, presentation_line, read_line, whole_of, with_line}
+use Rattle.query_lang.specs.Script.{ProgressOf, ReaderOf, Reading, Versioned, element_line, finished, first_line, header_line, presentation_line, read_line, whole_of, with_line, take_tokens}
 use Rattle.query_lang.specs.Versions.{version_of}
 use Rattle.query_lang.specs.Grammar.{Head, Partial, Said, lacks_generator}
 use Rattle.query_lang.specs.Grammar as grammar
 use Rattle.query_lang.specs.LineCauses.{first_of, cause_in, line_causes, causes_after, cause_of_line, cause_at_end, first_line_causes, header_causes, version_causes, when}
-use Rattle.query_lang.proofs.FoldLemmas.{partial, reader_of, readers, take_tokens}
+use Rattle.query_lang.proofs.FoldLemmas.{partial, reader_of, readers}
 use Rattle.query_lang.proofs.ReaderLemmas.{Come, asking, posed, lacking, come_of, presentation_kept}
 use Rattle.query_lang.proofs.FormLemmas.{presentation_cause, same-cause}
 use Rattle.query_lang.proofs.GeneratorLemmas.{transf_cause, pperm_cause, bmat_cause, mpt_cause}

@@ -9,8 +9,8 @@ use Rattle.problem.specs.declared.kinds.Problem.TheVariants.{Presented, Transf, 
 use Rattle.problem.specs.Problem.{pairs_of}
 use Rattle.query_lang.specs.declared.script.Query.{Query}
 use Rattle.query_lang.specs.Outcome.{and_then}
-use Rattle.query_lang.specs.Token.{Line, tokens_of, is_kept}
-use Rattle.query_lang.specs.Script.{read_line, take_line, at_line, read_lines}
+use Rattle.query_lang.specs.Token.{Line, tokens_of}
+use Rattle.query_lang.specs.Script.{take_line, take_tokens, at_line, read_lines}
 use Rattle.query_lang.specs.Grammar.{Head, Partial, Said, is_empty, Step, script_in}
 use Rattle.query_lang.specs.Grammar as grammar
 
@@ -37,10 +37,6 @@ abbrev pub readers : Said → ProgressOf
 readers grammar.Nothing = Nothing
 readers (grammar.OfVersion version) = Versioned version
 readers (grammar.Begun p) = Reading p.head.version (reader_of p)
-
--- a line by its tokens
-abbrev pub take_tokens : ProgressOf → Line → Result ProgressOf Cause
-take_tokens s line = if is_kept line then read_line s line else Ok s
 
 abbrev pub read_tokens : ℕ → ProgressOf → List Line → Result ProgressOf (ℕ × Cause)
 read_tokens n s [] = Ok s

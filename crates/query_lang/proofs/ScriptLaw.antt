@@ -6,11 +6,11 @@ use Rattle.query_lang.specs.declared.cause.Cause.TheVariants as cause
 use Rattle.query_lang.specs.Asked.{ScriptOf}
 use Rattle.query_lang.specs.Outcome.{and_then}
 use Rattle.query_lang.specs.Token.{Line, cut_lines, tokens_of}
-use Rattle.query_lang.specs.Script.{at_line, script_of, whole_of}
+use Rattle.query_lang.specs.Script.{at_line, script_of, whole_of, take_tokens}
 use Rattle.query_lang.specs.Script as progress
 use Rattle.query_lang.specs.Grammar.{Partial, Said, Nothing, OfVersion, Begun, Step, Reads, none, more, lacks_generator, lines_of, script_in}
 use Rattle.query_lang.specs.LineCauses.{AreScript, IsFirstFault, cause_at_end, cause_in, cause_of_line, when}
-use Rattle.query_lang.proofs.FoldLemmas.{by_tokens, read_tokens, readers, take_tokens}
+use Rattle.query_lang.proofs.FoldLemmas.{by_tokens, read_tokens, readers}
 use Rattle.query_lang.proofs.CauseLaw.{causes_agree, ends_agree}
 use Rattle.query_lang.proofs.SoundLaw.{sound, finished_read}
 use Rattle.query_lang.proofs.TotalLaw.{total}

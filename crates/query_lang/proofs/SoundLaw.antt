@@ -19,7 +19,7 @@ use Rattle.query_lang.specs.declared.cause.Cause.{Cause}
 use Rattle.query_lang.specs.declared.cause.Cause.TheVariants as cause
 use Rattle.query_lang.specs.Draft as draft
 use Rattle.query_lang.specs.QueryLines as name
-use Rattle.query_lang.specs.Script.{ReaderOf}
+use Rattle.query_lang.specs.Script.{ReaderOf, take_tokens}
 use Rattle.query_lang.specs.Script.{Posing, Relating, Pairing, Asking, Nothing, Versioned, Reading}
 use Rattle.query_lang.specs.declared.version.Version.{Version}
 use Rattle.query_lang.specs.declared.version.Version.TheVariants.{One, Two}
@@ -48,7 +48,7 @@ use Rattle.query_lang.specs.Token.{Token, Line, is_kept, is_word, letter_of, num
 use Rattle.query_lang.specs.Forms.{LowIndex, Pair, name_of}
 use Rattle.query_lang.specs.Grammar.{AreEntries, HasGenerator, HasRoleRelations, Head, HeaderReads, IsCongruenceTableOf, IsQuery, LineReads, Partial, Step, begin_with, has_sign, is_generator_line, lacks_generator, script_in, section_reached}
 use Rattle.query_lang.specs.Grammar as grammar
-use Rattle.query_lang.proofs.FoldLemmas.{Sound, opened, partial, reader_of, readers, take_tokens}
+use Rattle.query_lang.proofs.FoldLemmas.{Sound, opened, partial, reader_of, readers}
 use Rattle.query_lang.proofs.PairingLemmas.{has_pairs}
 use Rattle.query_lang.proofs.TableLemmas.{congruence_is_taken, low_is_taken}
 use Rattle.query_lang.proofs.ReaderLemmas.{come_of, finished_by, pair_in_order, paired_by, presentation_kept}

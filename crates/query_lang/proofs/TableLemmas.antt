@@ -1,7 +1,7 @@
 -- What the tests of tables tell.
 use Rattle.std.proofs.Common.{◌≡◌, ◌≢◌, ℕ, zero, suc, ◌+◌, ◌*◌, ◌<◌, ◌≤◌, ◌==◌, nat_le, max, min, Bool, true, false, not, ◌&&◌, ◌||◌, ◌⊎◌, inl, inr, List, [], ◌∷◌, ◌++◌, length, map, drop, get_or, slice_get, All, Contains, Option, Some, None, is_none, Result, Ok, Err, if◌then◌else◌, refl, sym, ap, ap₂, ◌∙◌, subst, arith, true≢false}
 use Rattle.std.specs.Bool.{Decides}
-use Rattle.std.specs.List.{flat_map, list_all}
+use Rattle.std.specs.List.{flat_map, list_all, list_any}
 use Rattle.std.specs.Option.{option_eq, option_to_list, unwrap_or}
 use Rattle.std.proofs.lemmas.Bool.{and_parts, cases_lt, cases_eq, eq-eqb, eqb-true, le-leb, leb-true}
 use Rattle.std.proofs.lemmas.Bool.Decides.{Decides-and, Decides-below_and, Decides-eqb, Decides-like, Decides-not}
@@ -201,7 +201,16 @@ no_root targets = (
   λ h. list_all-from_AllPass (λ m. not (m == 0)) targets (λ i d l. (Decides-not (get_or targets i d == 0) (Decides-eqb (get_or targets i d) 0)).1 (h i d l)),
 )
 
-root_decides : (g : Graph) → Decides (avoids_root g) (HasFreeRoot g)
+-- none is the root, where the root is not among them
+pub root_not_among : (targets : List ℕ) → list_all (λ m. not (m == 0)) targets ≡ not (list_any (λ m. m == 0) targets)
+root_not_among [] = refl
+root_not_among (m ∷ ms) = by (m == 0) (root_not_among ms)
+  where
+    by : (b : Bool) → list_all (λ m. not (m == 0)) ms ≡ not (list_any (λ m. m == 0) ms) → (not b && list_all (λ m. not (m == 0)) ms) ≡ not (b || list_any (λ m. m == 0) ms)
+    by true h = refl
+    by false h = h
+
+pub root_decides : (g : Graph) → Decides (avoids_root g) (HasFreeRoot g)
 root_decides g = Decides-like (avoids_root g) (free_by_targets g) (targets_by_free g) (no_root (targets_of g))
 
 free_decides : (is_monoid : Bool) (g : Graph) → Decides (is_monoid || avoids_root g) (is_monoid ≡ false → HasFreeRoot g)

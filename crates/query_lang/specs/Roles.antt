@@ -1,5 +1,5 @@
 -- Letters that are an identity or a zero, or inverse, as lines say of them.
-use Rattle.std.specs.Prelude.{ℕ, ◌+◌, ◌*◌, ◌-◌, Bool, true, false, List, [], ◌∷◌, length, nat_lt, codes, if◌then◌else◌, is_none, Option, Some, None, Result, Ok, Err}
+use Rattle.std.specs.Prelude.{◌≡◌, ◌<◌, ◌≤◌, ℕ, ◌+◌, ◌*◌, ◌-◌, Bool, true, false, List, [], ◌∷◌, length, nat_lt, codes, if◌then◌else◌, is_none, IfSome, Option, Some, None, Result, Ok, Err}
 use Rattle.std.specs.Option.{ok_or}
 use Rattle.theory.specs.Word.{Word}
 use Rattle.words.specs.Alphabet.{place_of}
@@ -84,6 +84,22 @@ with_inverse version o t =
     Ok (add_relations o (inverse_relations x y e)))
     (letter_if version o.alphabet t.2)) (letter_in version o.alphabet t.1))
     (letter_in version o.alphabet t.0)
+
+-- the same, where there is one token
+abbrev pub with_one : Version → Posed → (ℕ → ℕ → List (Word × Word)) → List Token
+    → Result Posed Cause
+with_one version o relations_with tokens =
+    and_then (with_letter version o relations_with) (one_token tokens)
+
+-- the letters may be made inverse: the third one is there unless this is a monoid, and the
+-- relations are not too many
+pub record AreInverses (o : Posed) (x y : ℕ) (e : Option ℕ) : Type 0 where
+  pub left : x < length o.alphabet
+  pub right : y < length o.alphabet
+  pub unit : IfSome e (λ e. e < length o.alphabet)
+  pub some : e ≡ None → o.congruence.presentation.is_monoid ≡ true
+  pub few : length o.congruence.presentation.relations + length (inverse_relations x y e)
+      ≤ most_relations
 
 -- the relations of a role, whose letters these tokens are, if there may be so many more
 abbrev pub with_role : Version → Posed → Role → List Token → Result Posed Cause

@@ -62,13 +62,19 @@ finished (Relating outline) = Ok (record { problem = Presented outline; queries 
 finished (Pairing problem) = Ok (record { problem = problem; queries = [] })
 finished (Asking script) = Ok script
 
--- the generator line `x = ENTRIES`, which may stand before the pairs
+-- the generators so far, which stand before the pairs
+abbrev pub draft_so_far : ReaderOf → Result AnyDraft Cause
+draft_so_far (Posing draft) = Ok draft
+draft_so_far (Relating outline) = Err UnknownLine
+draft_so_far (Pairing problem) = Err LineOutOfOrder
+draft_so_far (Asking script) = Err LineOutOfOrder
+
+-- the generator line `x = ENTRIES`
 abbrev pub generator_line : Version → ReaderOf → Token → List Token → Result ReaderOf Cause
-generator_line version (Posing draft) name entries = and_then (λ d. Ok (Posing d))
-    (draft_with (is_wide version) draft name (map field_of entries))
-generator_line version (Relating outline) name entries = Err UnknownLine
-generator_line version (Pairing problem) name entries = Err LineOutOfOrder
-generator_line version (Asking script) name entries = Err LineOutOfOrder
+generator_line version r name entries = and_then
+    (λ draft. and_then (λ d. Ok (Posing d))
+    (draft_with (is_wide version) draft name (map field_of entries)))
+    (draft_so_far r)
 
 -- the relations so far, which stand before the pairs
 abbrev pub outline_so_far : ReaderOf → Result Posed Cause
@@ -102,11 +108,14 @@ pair_line version r kind tokens = and_then
     (λ problem. and_then (λ p. Ok (Pairing p)) (add_pair version problem kind tokens))
     (paired_so_far r)
 
--- a query, which may stand after whatever is posed
+-- the query of this name, which may stand after whatever is posed
+abbrev pub named_query : Version → ReaderOf → List Token → NameOf → Result ReaderOf Cause
+named_query version r tokens name = and_then (λ script.
+    and_then (λ s. Ok (Asking s)) (asked version script name tokens)) (finished r)
+
+-- a query, by its first token
 abbrev pub query_line : Version → ReaderOf → Token → List Token → Result ReaderOf Cause
-query_line version r first tokens =
-    and_then (λ name. and_then (λ script.
-    and_then (λ s. Ok (Asking s)) (asked version script name tokens)) (finished r))
+query_line version r first tokens = and_then (named_query version r tokens)
     (ok_or (query_name_of (is_presentation r) first) UnknownLine)
 
 -- a pair of this kind, if there is one, or else a query
@@ -145,15 +154,22 @@ abbrev pub with_line : Version → ReaderOf → Line → Result ReaderOf Cause
 with_line version r line =
     if is_presentation r then presentation_line version r line else element_line version r line
 
+-- the header of a monoid or a semigroup, by the tokens behind its name
+abbrev pub outline_line : Version → Bool → List Token → Result ReaderOf Cause
+outline_line version is_monoid tokens = and_then (λ o. Ok (Relating o))
+    (outline_of (is_wide version) is_monoid tokens)
+
+-- the header of generators
+abbrev pub draft_line : Line → Result ReaderOf Cause
+draft_line line = and_then (λ d. Ok (Posing d)) (header_of line)
+
 -- `monoid LETTERS`, `semigroup LETTERS`, or a header of generators
 abbrev pub header_line : Version → Line → Result ReaderOf Cause
 header_line version [] = Err UnknownHeader
 header_line version (name ∷ tokens) =
-    if is_word (codes "monoid") name then and_then (λ o. Ok (Relating o))
-    (outline_of (is_wide version) true tokens)
-    else if is_word (codes "semigroup") name then and_then (λ o. Ok (Relating o))
-    (outline_of (is_wide version) false tokens)
-    else and_then (λ d. Ok (Posing d)) (header_of (name ∷ tokens))
+    if is_word (codes "monoid") name then outline_line version true tokens
+    else if is_word (codes "semigroup") name then outline_line version false tokens
+    else draft_line (name ∷ tokens)
 
 -- what the lines so far have given: nothing, the version alone, or more
 pub data ProgressOf : Type 0 where
@@ -175,8 +191,12 @@ read_line (Versioned v) line = and_then (λ r. Ok (Reading v r)) (header_line v 
 read_line (Reading v r) line = and_then (λ next. Ok (Reading v next)) (with_line v r line)
 
 -- a line, which may be skipped
+abbrev pub take_tokens : ProgressOf → Line → Result ProgressOf Cause
+take_tokens s line = if is_kept line then read_line s line else Ok s
+
+-- the same, by its bytes
 abbrev pub take_line : ProgressOf → List ℕ → Result ProgressOf Cause
-take_line s bytes = if is_kept (tokens_of bytes) then read_line s (tokens_of bytes) else Ok s
+take_line s bytes = take_tokens s (tokens_of bytes)
 
 -- the fault of a line: its number and its cause
 abbrev pub at_line : {A : Type 0} → ℕ → Result A Cause → Result A (ℕ × Cause)

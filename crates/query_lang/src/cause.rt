@@ -3,7 +3,7 @@ ghost use Rattle.std.specs.Prelude.{◌≡◌};
 ghost use Rattle.query_lang.specs.Causes.{cause_text, number_of_cause};
 
 /// Why a line of a script is refused. Each cause has a number and a text of its own.
-#[derive(Clone, Copy, Debug, PartialEq, Eq)]
+#[derive(Clone, Copy)]
 pub enum Cause {
     /// The script ends without a header.
     HeaderMissing = 1,

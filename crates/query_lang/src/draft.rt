@@ -181,6 +181,37 @@ impl Draft {
         }
     }
 
+    // The same, by the entries as they are written.
+    fn with_fields(
+        self,
+        alloc: Global,
+        wide: bool,
+        name: &[u8],
+        fields: &[Field],
+    ) -> Result<Draft, LineFault>
+        ensures ok { IfOk result (λ next. draft_with wide self name.now fields.now ≡ Ok next) }
+        ensures err { IfErr result (IsLineFault (draft_with wide self name.now fields.now)) }
+    {
+        match self.listed {
+            AnyListed::Transf(draft) => {
+                let listed = AnyListed::Transf(draft.with_generator(alloc, wide, name, fields)?);
+                Ok(Draft { listed })
+            }
+            AnyListed::PPerm(draft) => {
+                let listed = AnyListed::PPerm(draft.with_generator(alloc, wide, name, fields)?);
+                Ok(Draft { listed })
+            }
+            AnyListed::BMat(draft) => {
+                let listed = AnyListed::BMat(draft.with_generator(alloc, wide, name, fields)?);
+                Ok(Draft { listed })
+            }
+            AnyListed::MaxPlus(draft) => {
+                let listed = AnyListed::MaxPlus(draft.with_generator(alloc, wide, name, fields)?);
+                Ok(Draft { listed })
+            }
+        }
+    }
+
     /// The generator with this name and these entries behind the others; the name is a letter, of
     /// both cases where letters are wide. Refused with the cause of its line, or for want of memory.
     pub fn with_generator(
@@ -195,23 +226,11 @@ impl Draft {
         ensures err { IfErr result (IsLineFault
             (draft_with wide self name.now (map field_of (texts entries.now)))) }
     {
-        let fields = fields_of(alloc, entries)?;
-        match self.listed {
-            AnyListed::Transf(draft) => {
-                let listed = AnyListed::Transf(draft.with_generator(alloc, wide, name, &fields)?);
-                Ok(Draft { listed })
-            }
-            AnyListed::PPerm(draft) => {
-                let listed = AnyListed::PPerm(draft.with_generator(alloc, wide, name, &fields)?);
-                Ok(Draft { listed })
-            }
-            AnyListed::BMat(draft) => {
-                let listed = AnyListed::BMat(draft.with_generator(alloc, wide, name, &fields)?);
-                Ok(Draft { listed })
-            }
-            AnyListed::MaxPlus(draft) => {
-                let listed = AnyListed::MaxPlus(draft.with_generator(alloc, wide, name, &fields)?);
-                Ok(Draft { listed })
+        match fields_of(alloc, entries) {
+            Ok(fields) => self.with_fields(alloc, wide, name, &fields),
+            Err(_) => {
+                drop(self);
+                Err(LineFault::no_memory())
             }
         }
     }

@@ -12,7 +12,7 @@ use word_graph::TableFault;
 use words::{AlphabetFault, PowerFault, WordFault};
 
 /// Why bytes make no script.
-#[derive(Clone, Copy, Debug, PartialEq, Eq, Error)]
+#[derive(Clone, Copy, Debug, Error)]
 pub enum ScriptFault {
     /// The first line, counted from 1, that is out of form or out of place, and the number of its
     /// cause.
@@ -45,6 +45,14 @@ impl LineFault {
         ensures { result ≡ Some cause }
     {
         LineFault { cause: Some(cause) }
+    }
+
+    /// The fault of a line that has this cause; what the lines before it gave is let go.
+    pub fn refused_after<T: Drop>(given: T, cause: Cause) -> LineFault
+        ensures { result ≡ Some cause }
+    {
+        drop(given);
+        LineFault::refused(cause)
     }
 
     /// Memory is wanting.

@@ -1,5 +1,5 @@
 // The header of a script.
-ghost use Rattle.std.specs.Prelude.{◌≡◌, IfOk, IfErr, None, Ok, Contains};
+ghost use Rattle.std.specs.Prelude.{◌≡◌, ◌∷◌, IfOk, IfErr, None, Ok, Contains};
 ghost use Rattle.words.specs.Alphabet.{IsAlphabetFault, alphabet_fault, marker};
 ghost use Rattle.query_lang.specs.Faults.{IsLineFault};
 ghost use Rattle.query_lang.specs.Header.{header_of, outline_of, size_of, sizes_of};
@@ -70,23 +70,19 @@ pub fn outline_of(
     Ok(Outline::new(alloc, alphabet, monoid))
 }
 
-/// What the header of generators gives: no generator yet.
-pub fn header_of(alloc: Global, header: &[&[u8]]) -> Result<Draft, Cause>
-    ensures { result ≡ header_of (texts header.now) }
+/// What the header of generators gives, by its name and the tokens behind it: no generator yet.
+pub fn header_of(alloc: Global, name: &[u8], tokens: &[&[u8]]) -> Result<Draft, Cause>
+    ensures { result ≡ header_of (name.now ∷ texts tokens.now) }
 {
-    match header {
-        [name, tokens @ ..] if is_word(b"trans", name) => {
-            Ok(Draft::transf(alloc, size_of(64, tokens)?))
-        }
-        [name, tokens @ ..] if is_word(b"pperm", name) => {
-            Ok(Draft::pperm(alloc, size_of(64, tokens)?))
-        }
-        [name, tokens @ ..] if is_word(b"bmat", name) => {
-            Ok(Draft::bmat(alloc, size_of(16, tokens)?))
-        }
-        [name, tokens @ ..] if is_word(b"mpt", name) => {
-            Ok(Draft::max_plus(alloc, sizes_of(tokens)?))
-        }
-        _ => Err(Cause::UnknownHeader),
+    if is_word(b"trans", name) {
+        Ok(Draft::transf(alloc, size_of(64, tokens)?))
+    } else if is_word(b"pperm", name) {
+        Ok(Draft::pperm(alloc, size_of(64, tokens)?))
+    } else if is_word(b"bmat", name) {
+        Ok(Draft::bmat(alloc, size_of(16, tokens)?))
+    } else if is_word(b"mpt", name) {
+        Ok(Draft::max_plus(alloc, sizes_of(tokens)?))
+    } else {
+        Err(Cause::UnknownHeader)
     }
 }

@@ -1,12 +1,13 @@
 // Relations that lines give, one after another.
-ghost use Rattle.std.specs.Prelude.{◌≡◌, ◌≢◌, ◌<◌, ◌≤◌, ◌+◌, IfOk, IfErr, IfSome, true, None, Ok, length, Contains};
+ghost use Rattle.std.specs.Prelude.{◌≡◌, ◌≢◌, ◌<◌, ◌≤◌, ◌+◌, ℕ, List, IfOk, IfErr, IfSome, OnOk, true, None, Ok, length, Contains};
 ghost use Rattle.std.specs.Option.{option_copied};
+ghost use Rattle.theory.specs.Word.{Word as Letters};
 ghost use Rattle.words.specs.Alphabet.{marker};
-ghost use Rattle.presentation.specs.Added.{identity_relations, zero_relations, inverse_relations};
+ghost use Rattle.presentation.specs.Added.{identity_relations, zero_relations, inverse_relations, products_with};
 ghost use Rattle.query_lang.specs.Faults.{IsLineFault};
 ghost use Rattle.query_lang.specs.Relations.{IsSide, add_relation, add_relations, free_over, most_relations};
-ghost use Rattle.query_lang.specs.Roles.{is_too_many, letter_if, letter_in, with_inverse, with_letter, with_role};
-ghost use Rattle.query_lang.specs.Outline.{related, sides_of, with_relation};
+ghost use Rattle.query_lang.specs.Roles.{AreInverses, is_too_many, letter_if, letter_in, with_inverse, with_one, with_role};
+ghost use Rattle.query_lang.specs.Outline.{sides_of, with_relation};
 ghost use Rattle.query_lang.specs.Pairing.{IsPairable};
 ghost use Rattle.query_lang.specs.Texts.{texts};
 
@@ -89,6 +90,29 @@ impl Outline {
         }
     }
 
+    // The relation of these two words, which may stand behind the others.
+    fn relation_of(
+        &self,
+        alloc: Global,
+        version: Version,
+        tokens: &[&[u8]],
+    ) -> Result<(Word, Word), LineFault>
+        ensures ok { IfOk result (λ sides. with_relation version self.now (texts tokens.now)
+            ≡ Ok (add_relation self.now sides)) }
+        ensures few { OnOk result
+            (length self.now.congruence.presentation.relations ≢ most_relations) }
+        ensures left { IfOk result (λ sides. IsSide self.now sides.0) }
+        ensures right { IfOk result (λ sides. IsSide self.now sides.1) }
+        ensures err { IfErr result (IsLineFault
+            (with_relation version self.now (texts tokens.now))) }
+    {
+        let (left, right) = two_tokens(tokens)?;
+        if self.presentation.relations().len() == MOST_RELATIONS {
+            return Err(LineFault::refused(Cause::TooManyRelations));
+        }
+        self.sides(alloc, version, left, right)
+    }
+
     /// The relation of these two words behind the others. Refused with the cause of its line, or
     /// for want of memory.
     pub fn with_relation(
@@ -100,11 +124,7 @@ impl Outline {
         ensures ok { IfOk result (λ next. with_relation version self (texts tokens.now) ≡ Ok next) }
         ensures err { IfErr result (IsLineFault (with_relation version self (texts tokens.now))) }
     {
-        let (left, right) = two_tokens(tokens)?;
-        if self.presentation.relations().len() == MOST_RELATIONS {
-            return Err(LineFault::refused(Cause::TooManyRelations));
-        }
-        let (left, right) = self.sides(alloc, version, left, right)?;
+        let (left, right) = self.relation_of(alloc, version, tokens)?;
         Ok(self.add_relation(left, right)?)
     }
 
@@ -160,12 +180,7 @@ impl Outline {
 
     // The relations by which the letters are inverse behind the others.
     fn add_inverse(self, x: Letter, y: Letter, e: Option<Letter>) -> Result<Outline, NoMemory>
-        requires left { x < length self.alphabet }
-        requires right { y < length self.alphabet }
-        requires unit { IfSome e (λ e. e < length self.alphabet) }
-        requires some { e ≡ None → self.congruence.presentation.is_monoid ≡ true }
-        requires few { length self.congruence.presentation.relations
-            + length (inverse_relations x y e) ≤ most_relations }
+        requires { AreInverses self x y e }
         ensures { IfOk result (λ next. next ≡ add_relations self (inverse_relations x y e)) }
     {
         let Outline { mut presentation } = self;
@@ -176,31 +191,44 @@ impl Outline {
         }
     }
 
-    // The letter that the token is, with the relations of an identity.
-    fn with_identity(self, version: Version, token: &[u8]) -> Result<Outline, LineFault>
-        ensures ok { IfOk result (λ next. with_letter version self identity_relations token.now
-            ≡ Ok next) }
-        ensures err { IfErr result (IsLineFault
-            (with_letter version self identity_relations token.now)) }
+    // The letter that the tokens name, where its relations in a role are not too many.
+    fn letter_for(&self, version: Version, tokens: &[&[u8]]) -> Result<Letter, LineFault>
+        ensures ok { (relations_with : ℕ → ℕ → List (Letters × Letters)) → IfOk result
+            (λ letter. with_one version self.now relations_with (texts tokens.now)
+            ≡ Ok (add_relations self.now (relations_with (length self.now.alphabet) letter))) }
+        ensures within { IfOk result (λ letter. letter < length self.now.alphabet) }
+        ensures few { (word : ℕ → Letters) → IfOk result
+            (λ letter. length self.now.congruence.presentation.relations
+            + length (products_with letter word (length self.now.alphabet)) ≤ most_relations) }
+        ensures err { (relations_with : ℕ → ℕ → List (Letters × Letters)) → IfErr result
+            (IsLineFault (with_one version self.now relations_with (texts tokens.now))) }
     {
+        let token = one_token(tokens)?;
         if self.is_too_many(count_for(self.presentation.alphabet(), token)) {
             return Err(LineFault::refused(Cause::TooManyRelations));
         }
-        let letter = self.letter(version, token)?;
+        Ok(self.letter(version, token)?)
+    }
+
+    // The letter that the tokens name, with the relations of an identity.
+    fn with_identity(self, version: Version, tokens: &[&[u8]]) -> Result<Outline, LineFault>
+        ensures ok { IfOk result (λ next. with_one version self identity_relations
+            (texts tokens.now) ≡ Ok next) }
+        ensures err { IfErr result (IsLineFault
+            (with_one version self identity_relations (texts tokens.now))) }
+    {
+        let letter = self.letter_for(version, tokens)?;
         Ok(self.add_identity(letter)?)
     }
 
-    // The letter that the token is, with the relations of a zero.
-    fn with_zero(self, version: Version, token: &[u8]) -> Result<Outline, LineFault>
-        ensures ok { IfOk result (λ next. with_letter version self zero_relations token.now
-            ≡ Ok next) }
+    // The letter that the tokens name, with the relations of a zero.
+    fn with_zero(self, version: Version, tokens: &[&[u8]]) -> Result<Outline, LineFault>
+        ensures ok { IfOk result (λ next. with_one version self zero_relations
+            (texts tokens.now) ≡ Ok next) }
         ensures err { IfErr result (IsLineFault
-            (with_letter version self zero_relations token.now)) }
+            (with_one version self zero_relations (texts tokens.now))) }
     {
-        if self.is_too_many(count_for(self.presentation.alphabet(), token)) {
-            return Err(LineFault::refused(Cause::TooManyRelations));
-        }
-        let letter = self.letter(version, token)?;
+        let letter = self.letter_for(version, tokens)?;
         Ok(self.add_zero(letter)?)
     }
 
@@ -217,19 +245,21 @@ impl Outline {
         }
     }
 
-    // The letters that the tokens are, with the relations of inverses.
-    fn with_inverse(
-        self,
+    // The letters that these tokens are, where their relations of inverses are not too many.
+    fn letters_for(
+        &self,
         version: Version,
         x: &[u8],
         y: &[u8],
         e: Option<&[u8]>,
-    ) -> Result<Outline, LineFault>
-        requires { e ≡ None → self.congruence.presentation.is_monoid ≡ true }
-        ensures ok { IfOk result (λ next.
-            with_inverse version self (x.now, y.now, option_copied e.entry) ≡ Ok next) }
+    ) -> Result<(Letter, Letter, Option<Letter>), LineFault>
+        requires { e ≡ None → self.now.congruence.presentation.is_monoid ≡ true }
+        ensures ok { IfOk result (λ t.
+            with_inverse version self.now (x.now, y.now, option_copied e.entry)
+            ≡ Ok (add_relations self.now (inverse_relations t.0 t.1 t.2))) }
+        ensures fit { IfOk result (λ t. AreInverses self.now t.0 t.1 t.2) }
         ensures err { IfErr result (IsLineFault
-            (with_inverse version self (x.now, y.now, option_copied e.entry))) }
+            (with_inverse version self.now (x.now, y.now, option_copied e.entry))) }
     {
         if self.is_too_many(count_for_both(x, y)) {
             return Err(LineFault::refused(Cause::TooManyRelations));
@@ -237,6 +267,33 @@ impl Outline {
         let x = self.letter(version, x)?;
         let y = self.letter(version, y)?;
         let e = self.letter_if(version, e)?;
+        Ok((x, y, e))
+    }
+
+    // The letters that the tokens name, where their relations of inverses are not too many.
+    fn inverse_letters(
+        &self,
+        version: Version,
+        tokens: &[&[u8]],
+    ) -> Result<(Letter, Letter, Option<Letter>), LineFault>
+        ensures ok { IfOk result (λ t. with_role version self.now Role.Inverse (texts tokens.now)
+            ≡ Ok (add_relations self.now (inverse_relations t.0 t.1 t.2))) }
+        ensures fit { IfOk result (λ t. AreInverses self.now t.0 t.1 t.2) }
+        ensures err { IfErr result (IsLineFault
+            (with_role version self.now Role.Inverse (texts tokens.now))) }
+    {
+        let (x, y, e) = inverse_tokens(self.presentation.is_monoid(), tokens)?;
+        self.letters_for(version, x, y, e)
+    }
+
+    // The letters that the tokens name, with the relations of inverses.
+    fn with_inverse(self, version: Version, tokens: &[&[u8]]) -> Result<Outline, LineFault>
+        ensures ok { IfOk result (λ next. with_role version self Role.Inverse (texts tokens.now)
+            ≡ Ok next) }
+        ensures err { IfErr result (IsLineFault
+            (with_role version self Role.Inverse (texts tokens.now))) }
+    {
+        let (x, y, e) = self.inverse_letters(version, tokens)?;
         Ok(self.add_inverse(x, y, e)?)
     }
 
@@ -254,12 +311,9 @@ impl Outline {
             (with_role version self role (texts tokens.now))) }
     {
         match role {
-            Role::Identity => self.with_identity(version, one_token(tokens)?),
-            Role::Zero => self.with_zero(version, one_token(tokens)?),
-            Role::Inverse => {
-                let (x, y, e) = inverse_tokens(self.presentation.is_monoid(), tokens)?;
-                self.with_inverse(version, x, y, e)
-            }
+            Role::Identity => self.with_identity(version, tokens),
+            Role::Zero => self.with_zero(version, tokens),
+            Role::Inverse => self.with_inverse(version, tokens),
         }
     }
 

@@ -153,8 +153,13 @@ impl Paired {
         ensures ok { IfOk result (λ next. add_pair version self kind (texts tokens.now) ≡ Ok next) }
         ensures err { IfErr result (IsLineFault (add_pair version self kind (texts tokens.now))) }
     {
-        let (left, right) = self.pair_of(alloc, version, kind, tokens)?;
-        Ok(self.with_sides(kind, left, right)?)
+        match self.pair_of(alloc, version, kind, tokens) {
+            Ok((left, right)) => Ok(self.with_sides(kind, left, right)?),
+            Err(fault) => {
+                drop(self);
+                Err(fault)
+            }
+        }
     }
 
     /// The problem.

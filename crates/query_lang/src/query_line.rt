@@ -145,12 +145,14 @@ pub fn query_name_of(is_presentation: bool, first: &[u8]) -> Option<QueryName>
 }
 
 // The query, which has no words.
-fn bare(query: Query, tokens: &[&[u8]]) -> Result<Query, Cause>
-    ensures { result ≡ bare query (texts tokens.now) }
+fn bare(query: Query, tokens: &[&[u8]]) -> Result<Query, LineFault>
+    ensures ok { IfOk result (λ same. bare query (texts tokens.now) ≡ Ok same) }
+    ensures same { IfOk result (λ same. same ≡ query) }
+    ensures err { IfErr result (IsLineFault (bare query (texts tokens.now))) }
 {
     match tokens {
         [] => Ok(query),
-        _ => Err(Cause::WrongNumberOfWords),
+        _ => Err(LineFault::refused_after(query, Cause::WrongNumberOfWords)),
     }
 }
 
@@ -317,14 +319,14 @@ pub fn query_of(
 {
     let letters = alphabet.len();
     match name.name {
-        Name::Index => Ok(bare(Query::Index, tokens)?),
+        Name::Index => bare(Query::Index, tokens),
         Name::Equal => {
             let (left, right) = two_words(alloc, version, alphabet, allow_empty, tokens)?;
             Ok(Query::Equal(left, right))
         }
         Name::Normal => Ok(Query::Normal(one_word(alloc, version, alphabet, allow_empty, tokens)?)),
         Name::Classes => page_of(alloc, version, alphabet, allow_empty, tokens),
-        Name::Rules => Ok(bare(Query::RuleList, tokens)?),
+        Name::Rules => bare(Query::RuleList, tokens),
         Name::Element => Ok(Query::ElementOf(one_word(
             alloc,
             version,
@@ -332,7 +334,7 @@ pub fn query_of(
             allow_empty,
             tokens,
         )?)),
-        Name::Cayley => Ok(bare(Query::Cayley, tokens)?),
+        Name::Cayley => bare(Query::Cayley, tokens),
         Name::LowIndex { two_sided } => {
             search_of(alloc, two_sided, alphabet, allow_empty, tokens)
         }
@@ -349,6 +351,6 @@ pub fn query_of(
             Ok(Query::Chain(from, to))
         }
         Name::Green => Ok(Query::Green(one_relation(tokens)?)),
-        Name::Idempotents => Ok(bare(Query::Idempotents, tokens)?),
+        Name::Idempotents => bare(Query::Idempotents, tokens),
     }
 }

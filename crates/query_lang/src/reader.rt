@@ -1,7 +1,9 @@
 // What the lines of a script give, one after another.
-ghost use Rattle.std.specs.Prelude.{◌≡◌, IfOk, IfErr, Ok};
+ghost use Rattle.std.specs.Prelude.{◌≡◌, [], ◌∷◌, true, IfOk, IfErr, Ok};
 ghost use Rattle.query_lang.specs.Faults.{IsLineFault};
-ghost use Rattle.query_lang.specs.Script.{common_line, element_line, finished, first_line, generator_line, header_line, is_presentation, outline_so_far, pair_line, paired_so_far, presentation_line, query_line, read_line, relation_line, role_line, role_or_common, take_line, whole_of, with_line};
+ghost use Rattle.query_lang.specs.Generators.{problem_of};
+ghost use Rattle.query_lang.specs.QueryLines.{is_name_there};
+ghost use Rattle.query_lang.specs.Script.{common_line, draft_line, draft_so_far, element_line, finished, first_line, generator_line, header_line, is_presentation, named_query, outline_line, outline_so_far, pair_line, paired_so_far, presentation_line, query_line, read_line, relation_line, role_line, role_or_common, take_line, take_tokens, whole_of, with_line};
 ghost use Rattle.query_lang.specs.Script as said;
 ghost use Rattle.query_lang.specs.Roles.{role_of};
 ghost use Rattle.query_lang.specs.Texts.{texts};
@@ -12,12 +14,13 @@ use crate::fault::LineFault;
 use crate::header::{header_of, outline_of};
 use crate::outline::Outline;
 use crate::pairing::{Paired, pair_kind_of};
-use crate::query_line::query_name_of;
+use crate::query_line::{QueryName, query_name_of};
 use crate::role::{Role, role_of};
 use crate::script::Script;
 use crate::tokens::{is_kept, is_word, tokens_of};
 use crate::version::{Version, version_of};
 use presentation::Kind;
+use problem::Problem;
 use std::alloc::Global;
 use std::marker::Model;
 
@@ -92,6 +95,36 @@ fn asking(script: Script) -> Reader
     }
 }
 
+// The problem of the generators, and no pair.
+fn posed(alloc: Global, draft: Draft) -> Result<Paired, LineFault>
+    ensures ok { IfOk result (λ paired. problem_of draft ≡ Ok paired) }
+    ensures err { IfErr result (IsLineFault (problem_of draft)) }
+{
+    Ok(Paired::new(draft.problem(alloc)?))
+}
+
+// The problem of the presentation, and no pair.
+fn outlined(alloc: Global, outline: Outline) -> Paired
+    ensures { result ≡ Problem.Presented outline }
+{
+    Paired::new(outline.problem(alloc))
+}
+
+// The script with this problem, and no query.
+fn unasked(alloc: Global, paired: Paired) -> Script
+    ensures { result ≡ record { problem = paired; queries = [] } }
+{
+    Script::new(alloc, paired.problem())
+}
+
+// The script of the generators, and no query.
+fn drafted(alloc: Global, draft: Draft) -> Result<Script, LineFault>
+    ensures ok { IfOk result (λ script. finished (said.Posing draft) ≡ Ok script) }
+    ensures err { IfErr result (IsLineFault (finished (said.Posing draft))) }
+{
+    Ok(unasked(alloc, posed(alloc, draft)?))
+}
+
 impl Reader {
     // Whether the script is a presentation.
     fn is_presentation(&self) -> bool
@@ -112,16 +145,29 @@ impl Reader {
         ensures err { IfErr result (IsLineFault (finished self)) }
     {
         match self.stage {
-            Stage::Posing(draft) => {
-                let paired = Paired::new(draft.problem(alloc)?);
-                Ok(Script::new(alloc, paired.problem()))
-            }
-            Stage::Relating(outline) => {
-                let paired = Paired::new(outline.problem(alloc));
-                Ok(Script::new(alloc, paired.problem()))
-            }
-            Stage::Pairing(paired) => Ok(Script::new(alloc, paired.problem())),
+            Stage::Posing(draft) => drafted(alloc, draft),
+            Stage::Relating(outline) => Ok(unasked(alloc, outlined(alloc, outline))),
+            Stage::Pairing(paired) => Ok(unasked(alloc, paired)),
             Stage::Asking(script) => Ok(script),
+        }
+    }
+
+    // The generators so far, which stand before the pairs.
+    fn into_draft(self) -> Result<Draft, LineFault>
+        ensures ok { IfOk result (λ draft. draft_so_far self ≡ Ok draft) }
+        ensures err { IfErr result (IsLineFault (draft_so_far self)) }
+    {
+        match self.stage {
+            Stage::Posing(draft) => Ok(draft),
+            Stage::Relating(outline) => {
+                Err(LineFault::refused_after(outline, Cause::UnknownLine))
+            }
+            Stage::Pairing(paired) => {
+                Err(LineFault::refused_after(paired, Cause::LineOutOfOrder))
+            }
+            Stage::Asking(script) => {
+                Err(LineFault::refused_after(script, Cause::LineOutOfOrder))
+            }
         }
     }
 
@@ -137,26 +183,24 @@ impl Reader {
         ensures err { IfErr result (IsLineFault
             (generator_line version self name.now (texts entries.now))) }
     {
-        match self.stage {
-            Stage::Posing(draft) => {
-                let wide = version.is_wide();
-                Ok(posing(draft.with_generator(alloc, wide, name, entries)?))
-            }
-            Stage::Relating(_) => Err(LineFault::refused(Cause::UnknownLine)),
-            Stage::Pairing(_) | Stage::Asking(_) => {
-                Err(LineFault::refused(Cause::LineOutOfOrder))
-            }
-        }
+        let draft = self.into_draft()?;
+        Ok(posing(draft.with_generator(alloc, version.is_wide(), name, entries)?))
     }
 
     // The relations so far, which stand before the pairs.
-    fn into_outline(self) -> Result<Outline, Cause>
-        ensures { result ≡ outline_so_far self }
+    fn into_outline(self) -> Result<Outline, LineFault>
+        ensures ok { IfOk result (λ outline. outline_so_far self ≡ Ok outline) }
+        ensures err { IfErr result (IsLineFault (outline_so_far self)) }
     {
         match self.stage {
-            Stage::Posing(_) => Err(Cause::UnknownLine),
+            Stage::Posing(draft) => Err(LineFault::refused_after(draft, Cause::UnknownLine)),
             Stage::Relating(outline) => Ok(outline),
-            Stage::Pairing(_) | Stage::Asking(_) => Err(Cause::LineOutOfOrder),
+            Stage::Pairing(paired) => {
+                Err(LineFault::refused_after(paired, Cause::LineOutOfOrder))
+            }
+            Stage::Asking(script) => {
+                Err(LineFault::refused_after(script, Cause::LineOutOfOrder))
+            }
         }
     }
 
@@ -188,10 +232,12 @@ impl Reader {
         ensures err { IfErr result (IsLineFault (paired_so_far self)) }
     {
         match self.stage {
-            Stage::Posing(draft) => Ok(Paired::new(draft.problem(alloc)?)),
-            Stage::Relating(outline) => Ok(Paired::new(outline.problem(alloc))),
+            Stage::Posing(draft) => posed(alloc, draft),
+            Stage::Relating(outline) => Ok(outlined(alloc, outline)),
             Stage::Pairing(paired) => Ok(paired),
-            Stage::Asking(_) => Err(LineFault::refused(Cause::LineOutOfOrder)),
+            Stage::Asking(script) => {
+                Err(LineFault::refused_after(script, Cause::LineOutOfOrder))
+            }
         }
     }
 
@@ -211,6 +257,24 @@ impl Reader {
         Ok(pairing(paired.with_pair(alloc, version, kind, tokens)?))
     }
 
+    // The query of this name. Scripts of this kind have it.
+    fn ask(
+        self,
+        alloc: Global,
+        version: Version,
+        name: QueryName,
+        tokens: &[&[u8]],
+    ) -> Result<Reader, LineFault>
+        requires { is_name_there (is_presentation self) name ≡ true }
+        ensures ok { IfOk result (λ next. named_query version self (texts tokens.now) name
+            ≡ Ok next) }
+        ensures err { IfErr result (IsLineFault
+            (named_query version self (texts tokens.now) name)) }
+    {
+        let script = self.finish(alloc)?;
+        Ok(asking(script.with_query(alloc, version, name, tokens)?))
+    }
+
     fn add_query(
         self,
         alloc: Global,
@@ -223,9 +287,10 @@ impl Reader {
         ensures err { IfErr result (IsLineFault
             (query_line version self first.now (texts tokens.now))) }
     {
-        let name = query_name_of(self.is_presentation(), first).ok_or(Cause::UnknownLine)?;
-        let script = self.finish(alloc)?;
-        Ok(asking(script.with_query(alloc, version, name, tokens)?))
+        match query_name_of(self.is_presentation(), first) {
+            Some(name) => self.ask(alloc, version, name, tokens),
+            None => Err(LineFault::refused_after(self, Cause::UnknownLine)),
+        }
     }
 
     // A pair or a query, which all scripts have.
@@ -266,6 +331,26 @@ impl Reader {
         }
     }
 
+    // A relation, or else a role, a pair or a query, by its first token.
+    fn add_relation_or_other(
+        self,
+        alloc: Global,
+        version: Version,
+        first: &[u8],
+        tokens: &[&[u8]],
+    ) -> Result<Reader, LineFault>
+        ensures ok { IfOk result (λ next. presentation_line version self
+            (first.now ∷ texts tokens.now) ≡ Ok next) }
+        ensures err { IfErr result (IsLineFault
+            (presentation_line version self (first.now ∷ texts tokens.now))) }
+    {
+        if is_word(b"rel", first) {
+            self.add_relation(alloc, version, tokens)
+        } else {
+            self.add_role_or_common_line(alloc, version, first, tokens)
+        }
+    }
+
     // A line after the header of a presentation.
     fn add_presentation_line(
         self,
@@ -278,11 +363,8 @@ impl Reader {
         ensures err { IfErr result (IsLineFault (presentation_line version self (texts line.now))) }
     {
         match line {
-            [first, tokens @ ..] if is_word(b"rel", first) => self.add_relation(
-                alloc, version, tokens,
-            ),
-            [first, tokens @ ..] => self.add_role_or_common_line(alloc, version, first, tokens),
-            [] => Err(LineFault::refused(Cause::UnknownLine)),
+            [first, tokens @ ..] => self.add_relation_or_other(alloc, version, first, tokens),
+            [] => Err(LineFault::refused_after(self, Cause::UnknownLine)),
         }
     }
 
@@ -301,7 +383,7 @@ impl Reader {
                 self.add_generator(alloc, version, name, entries)
             }
             [first, tokens @ ..] => self.add_common_line(alloc, version, first, tokens),
-            [] => Err(LineFault::refused(Cause::UnknownLine)),
+            [] => Err(LineFault::refused_after(self, Cause::UnknownLine)),
         }
     }
 
@@ -318,20 +400,56 @@ impl Reader {
     }
 }
 
+// The header of a monoid or a semigroup, by the tokens behind its name.
+fn outline_line(
+    alloc: Global,
+    version: Version,
+    monoid: bool,
+    tokens: &[&[u8]],
+) -> Result<Reader, LineFault>
+    ensures ok { IfOk result (λ next. outline_line version monoid (texts tokens.now) ≡ Ok next) }
+    ensures err { IfErr result (IsLineFault (outline_line version monoid (texts tokens.now))) }
+{
+    Ok(relating(outline_of(alloc, version.is_wide(), monoid, tokens)?))
+}
+
+// The header of generators, by its name and the tokens behind it.
+fn draft_line(alloc: Global, name: &[u8], tokens: &[&[u8]]) -> Result<Reader, LineFault>
+    ensures ok { IfOk result (λ next. draft_line (name.now ∷ texts tokens.now) ≡ Ok next) }
+    ensures err { IfErr result (IsLineFault (draft_line (name.now ∷ texts tokens.now))) }
+{
+    Ok(posing(header_of(alloc, name, tokens)?))
+}
+
+// The header, by its name and the tokens behind it.
+fn named_header(
+    alloc: Global,
+    version: Version,
+    name: &[u8],
+    tokens: &[&[u8]],
+) -> Result<Reader, LineFault>
+    ensures ok { IfOk result (λ next. header_line version (name.now ∷ texts tokens.now)
+        ≡ Ok next) }
+    ensures err { IfErr result (IsLineFault
+        (header_line version (name.now ∷ texts tokens.now))) }
+{
+    if is_word(b"monoid", name) {
+        outline_line(alloc, version, true, tokens)
+    } else if is_word(b"semigroup", name) {
+        outline_line(alloc, version, false, tokens)
+    } else {
+        draft_line(alloc, name, tokens)
+    }
+}
+
 // The header, in a script of this version.
 fn header_line(alloc: Global, version: Version, line: &[&[u8]]) -> Result<Reader, LineFault>
     ensures ok { IfOk result (λ next. header_line version (texts line.now) ≡ Ok next) }
     ensures err { IfErr result (IsLineFault (header_line version (texts line.now))) }
 {
-    let wide = version.is_wide();
     match line {
-        [name, tokens @ ..] if is_word(b"monoid", name) => {
-            Ok(relating(outline_of(alloc, wide, true, tokens)?))
-        }
-        [name, tokens @ ..] if is_word(b"semigroup", name) => {
-            Ok(relating(outline_of(alloc, wide, false, tokens)?))
-        }
-        _ => Ok(posing(header_of(alloc, line)?)),
+        [name, tokens @ ..] => named_header(alloc, version, name, tokens),
+        [] => Err(LineFault::refused(Cause::UnknownHeader)),
     }
 }
 
@@ -367,17 +485,6 @@ impl Model for Progress {
     ] };
 }
 
-// The version line, or else the header.
-fn first_line(alloc: Global, line: &[&[u8]]) -> Result<Progress, LineFault>
-    ensures ok { IfOk result (λ next. first_line (texts line.now) ≡ Ok next) }
-    ensures err { IfErr result (IsLineFault (first_line (texts line.now))) }
-{
-    match line {
-        [name, tokens @ ..] if is_word(b"version", name) => Ok(versioned(version_of(tokens)?)),
-        _ => Ok(reading(Version::One, header_line(alloc, Version::One, line)?)),
-    }
-}
-
 // The version alone.
 fn versioned(version: Version) -> Progress
     ensures { result ≡ said.Versioned version }
@@ -393,6 +500,57 @@ fn reading(version: Version, reader: Reader) -> Progress
 {
     Progress {
         begun: Begun::Reading(version, reader),
+    }
+}
+
+// The header behind the version.
+fn headed(alloc: Global, version: Version, line: &[&[u8]]) -> Result<Progress, LineFault>
+    ensures ok { IfOk result (λ next. read_line (said.Versioned version) (texts line.now)
+        ≡ Ok next) }
+    ensures err { IfErr result (IsLineFault
+        (read_line (said.Versioned version) (texts line.now))) }
+{
+    Ok(reading(version, header_line(alloc, version, line)?))
+}
+
+// A line behind the header.
+fn followed(
+    alloc: Global,
+    version: Version,
+    reader: Reader,
+    line: &[&[u8]],
+) -> Result<Progress, LineFault>
+    ensures ok { IfOk result (λ next. read_line (said.Reading version reader) (texts line.now)
+        ≡ Ok next) }
+    ensures err { IfErr result (IsLineFault
+        (read_line (said.Reading version reader) (texts line.now))) }
+{
+    Ok(reading(version, reader.add_line(alloc, version, line)?))
+}
+
+// The version line, or else the header, by its name and the tokens behind it.
+fn named_line(alloc: Global, name: &[u8], tokens: &[&[u8]]) -> Result<Progress, LineFault>
+    ensures ok { IfOk result (λ next. first_line (name.now ∷ texts tokens.now) ≡ Ok next) }
+    ensures err { IfErr result (IsLineFault (first_line (name.now ∷ texts tokens.now))) }
+{
+    if is_word(b"version", name) {
+        Ok(versioned(version_of(tokens)?))
+    } else {
+        Ok(reading(
+            Version::One,
+            named_header(alloc, Version::One, name, tokens)?,
+        ))
+    }
+}
+
+// The version line, or else the header.
+fn first_line(alloc: Global, line: &[&[u8]]) -> Result<Progress, LineFault>
+    ensures ok { IfOk result (λ next. first_line (texts line.now) ≡ Ok next) }
+    ensures err { IfErr result (IsLineFault (first_line (texts line.now))) }
+{
+    match line {
+        [name, tokens @ ..] => named_line(alloc, name, tokens),
+        [] => Err(LineFault::refused(Cause::UnknownHeader)),
     }
 }
 
@@ -413,12 +571,20 @@ impl Progress {
     {
         match self.begun {
             Begun::Nothing => first_line(alloc, line),
-            Begun::Versioned(version) => {
-                Ok(reading(version, header_line(alloc, version, line)?))
-            }
-            Begun::Reading(version, reader) => {
-                Ok(reading(version, reader.add_line(alloc, version, line)?))
-            }
+            Begun::Versioned(version) => headed(alloc, version, line),
+            Begun::Reading(version, reader) => followed(alloc, version, reader, line),
+        }
+    }
+
+    // A line, which may be skipped.
+    fn take_tokens(self, alloc: Global, line: &[&[u8]]) -> Result<Progress, LineFault>
+        ensures ok { IfOk result (λ next. take_tokens self (texts line.now) ≡ Ok next) }
+        ensures err { IfErr result (IsLineFault (take_tokens self (texts line.now))) }
+    {
+        if is_kept(line) {
+            self.read_line(alloc, line)
+        } else {
+            Ok(self)
         }
     }
 
@@ -428,11 +594,13 @@ impl Progress {
         ensures ok { IfOk result (λ next. take_line self line.now ≡ Ok next) }
         ensures err { IfErr result (IsLineFault (take_line self line.now)) }
     {
-        let tokens = tokens_of(alloc, line)?;
-        if !is_kept(&tokens) {
-            return Ok(self);
+        match tokens_of(alloc, line) {
+            Ok(tokens) => self.take_tokens(alloc, &tokens),
+            Err(_) => {
+                drop(self);
+                Err(LineFault::no_memory())
+            }
         }
-        self.read_line(alloc, &tokens)
     }
 
     /// The script of all lines. Refused where the header is missing, or every generator of a script

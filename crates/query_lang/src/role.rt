@@ -11,7 +11,7 @@ use words::{Alphabet, Letter};
 
 /// What a line says of letters: one is an identity or a zero, or two are inverse (libsemigroups,
 /// `add_identity_rules`, `add_zero_rules`, `add_inverse_rules`).
-#[derive(Clone, Copy, Debug, PartialEq, Eq)]
+#[derive(Clone, Copy)]
 pub enum Role {
     Identity,
     Zero,

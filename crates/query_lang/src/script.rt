@@ -160,8 +160,13 @@ impl Script {
             problem,
             mut queries,
         } = self;
-        queries.push(query)?;
-        Ok(Script { problem, queries })
+        match queries.push(query) {
+            Ok(()) => Ok(Script { problem, queries }),
+            Err(failed) => {
+                drop(problem);
+                Err(failed.into())
+            }
+        }
     }
 
     // The query of this name and these tokens behind the others. Scripts of this kind have it.
@@ -176,8 +181,13 @@ impl Script {
         ensures ok { IfOk result (λ next. asked version self name (texts tokens.now) ≡ Ok next) }
         ensures err { IfErr result (IsLineFault (asked version self name (texts tokens.now))) }
     {
-        let query = self.query(alloc, version, name, tokens)?;
-        Ok(self.with_asked(query)?)
+        match self.query(alloc, version, name, tokens) {
+            Ok(query) => Ok(self.with_asked(query)?),
+            Err(fault) => {
+                drop(self);
+                Err(fault)
+            }
+        }
     }
 
     /// What the script poses.

@@ -18,7 +18,7 @@ fn avoids_root(alloc: Global, table: &WordGraph) -> Result<bool, NoMemory>
     ensures { IfOk result (λ avoids. IsTrue avoids ↔ HasFreeRoot table.now) }
 {
     let targets = table.targets(alloc)?;
-    Ok(targets.iter().all(|target| *target != 0))
+    Ok(!targets.contains(&0))
 }
 
 // The standard table over so many letters that the token is; in a semigroup no edge leads into the

@@ -9,7 +9,7 @@ use crate::tokens::number_of;
 
 /// A version of the script language. Letters are of lower case in the first one, and of both cases
 /// in the second.
-#[derive(Clone, Copy, Debug, PartialEq, Eq)]
+#[derive(Clone, Copy)]
 pub enum Version {
     One,
     Two,
@@ -31,7 +31,10 @@ impl Version {
     pub fn is_wide(self) -> bool
         ensures { result ≡ is_wide self }
     {
-        self == Version::Two
+        match self {
+            Version::One => false,
+            Version::Two => true,
+        }
     }
 }
 

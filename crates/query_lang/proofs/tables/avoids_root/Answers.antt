@@ -1,9 +1,14 @@
-use Rattle.std.proofs.Common.{◌≢◌, ◌↔◌, All, IsTrue, rules}
+use Rattle.std.proofs.Common.{◌≡◌, ◌==◌, ℕ, List, not, ◌↔◌, IsTrue, sym, ap, ◌∙◌, subst}
+use Rattle.std.specs.List.{list_any}
+use Rattle.theory.specs.Lattice.{HasFreeRoot}
 use Rattle.word_graph.specs.Table.{targets_of}
-use Rattle.query_lang.proofs.TableLemmas.{free_by_targets, targets_by_free}
+use Rattle.query_lang.specs.Tables.{avoids_root}
+use Rattle.query_lang.proofs.TableLemmas.{root_decides, root_not_among}
 use Rattle.query_lang.proofs.tables.avoids_root.Goals as goal
 
 pub returns : goal.returns
 returns c =
-    let tells : IsTrue c.all.result ↔ All (λ m. m ≢ 0) (targets_of c.args.table.now) = search rules in
-    (λ avoids. free_by_targets c.args.table.now (tells.0 avoids), λ free. tells.1 (targets_by_free c.args.table.now free))
+    let table = c.args.table.now in
+    let told : not c.contains.result ≡ avoids_root table =
+    ap not (c.contains.ensures.value ∙ ap (list_any (λ (m : ℕ). m == 0)) (c.deref.ensures.value ∙ c.in_ok-targets.ensures)) ∙ sym (root_not_among (targets_of table)) in
+    subst (λ b. IsTrue b ↔ HasFreeRoot table) (sym told) (root_decides table)
