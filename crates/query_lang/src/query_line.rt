@@ -1,5 +1,5 @@
 // The lines of queries.
-ghost use Rattle.std.specs.Prelude.{◌≡◌, ◌≤◌, List, IfOk, IfErr, Ok, length};
+ghost use Rattle.std.specs.Prelude.{◌≡◌, ◌≤◌, List, [], ◌∷◌, IfOk, IfErr, Ok, length};
 ghost use Rattle.theory.specs.Word.{IsElement, Word as Letters};
 ghost use Rattle.query_lang.specs.Faults.{IsLineFault};
 ghost use Rattle.query_lang.specs.Query.{AreLimits, IsQueryOver};
@@ -186,6 +186,32 @@ fn cursor_of(
     }
 }
 
+// The page of classes behind the word that the last token is.
+fn page_after(
+    alloc: Global,
+    version: Version,
+    alphabet: &Alphabet,
+    allow_empty: bool,
+    count: &[u8],
+    after: &[u8],
+    token: &[u8],
+) -> Result<Query, LineFault>
+    ensures ok { IfOk result (λ query. page_of version alphabet.now allow_empty
+        (count.now ∷ after.now ∷ token.now ∷ []) ≡ Ok query) }
+    ensures over { (relations : List (Letters × Letters)) → IfOk result
+        (IsQueryOver allow_empty (length alphabet.now) relations) }
+    ensures name { IfOk result (λ query. query_name query ≡ said.Classes) }
+    ensures err { IfErr result (IsLineFault (page_of version alphabet.now allow_empty
+        (count.now ∷ after.now ∷ token.now ∷ []))) }
+{
+    let count = count_of(count)?;
+    let cursor = cursor_of(alloc, version, alphabet, allow_empty, after, token)?;
+    Ok(Query::Classes {
+        count,
+        after: Some(cursor),
+    })
+}
+
 // The page of classes that the tokens behind `classes` ask for.
 fn page_of(
     alloc: Global,
@@ -208,12 +234,7 @@ fn page_of(
             after: None,
         }),
         [count, after, cursor] => {
-            let count = count_of(count)?;
-            let cursor = cursor_of(alloc, version, alphabet, allow_empty, after, cursor)?;
-            Ok(Query::Classes {
-                count,
-                after: Some(cursor),
-            })
+            page_after(alloc, version, alphabet, allow_empty, count, after, cursor)
         }
         _ => Err(LineFault::refused(Cause::WrongNumberOfWords)),
     }
@@ -252,6 +273,35 @@ fn table_cursor_of(
     }
 }
 
+// The search for tables behind the one that the last token is.
+fn search_after(
+    alloc: Global,
+    two_sided: bool,
+    alphabet: &Alphabet,
+    is_monoid: bool,
+    classes: &[u8],
+    count: &[u8],
+    after: &[u8],
+    token: &[u8],
+) -> Result<Query, LineFault>
+    ensures ok { IfOk result (λ query. search_of two_sided alphabet.now is_monoid
+        (classes.now ∷ count.now ∷ after.now ∷ token.now ∷ []) ≡ Ok query) }
+    ensures over { (relations : List (Letters × Letters)) → IfOk result
+        (IsQueryOver is_monoid (length alphabet.now) relations) }
+    ensures name { IfOk result (λ query. query_name query ≡ said.LowIndex two_sided) }
+    ensures err { IfErr result (IsLineFault (search_of two_sided alphabet.now is_monoid
+        (classes.now ∷ count.now ∷ after.now ∷ token.now ∷ []))) }
+{
+    let (classes, count) = limits_of(classes, count)?;
+    let table = table_cursor_of(alloc, alphabet, is_monoid, classes, after, token)?;
+    Ok(Query::LowIndex {
+        two_sided,
+        classes,
+        count,
+        after: Some(table),
+    })
+}
+
 // The search for tables that the tokens behind `lowindex` or `lowindex2` ask for.
 fn search_of(
     alloc: Global,
@@ -278,16 +328,9 @@ fn search_of(
                 after: None,
             })
         }
-        [classes, count, after, table] => {
-            let (classes, count) = limits_of(classes, count)?;
-            let table = table_cursor_of(alloc, alphabet, is_monoid, classes, after, table)?;
-            Ok(Query::LowIndex {
-                two_sided,
-                classes,
-                count,
-                after: Some(table),
-            })
-        }
+        [classes, count, after, table] => search_after(
+            alloc, two_sided, alphabet, is_monoid, classes, count, after, table,
+        ),
         _ => Err(LineFault::refused(Cause::WrongNumberOfWords)),
     }
 }

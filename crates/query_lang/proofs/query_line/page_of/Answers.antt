@@ -3,15 +3,9 @@ use borrow.Author.Tests.{ltb-true, ltb-false}
 use Rattle.query_lang.specs.Faults.{IsLineFault}
 use Rattle.query_lang.specs.QueryLines.{page_of}
 use Rattle.query_lang.specs.Texts.{texts}
-use Rattle.query_lang.proofs.KindLemmas.{handed_on}
-use Rattle.query_lang.proofs.LineLemmas.{count_refused, no_page}
+use Rattle.query_lang.proofs.LineLemmas.{no_page}
 use Rattle.query_lang.proofs.query_line.page_of.Goals as goal
 use Rattle.query_lang.proofs.query_line.page_of.Goals.{in_default-via-then-tokens-lt1, in_default-via-else-tokens-lt1+else-tokens-lt2+then-tokens-lt3, in_default-via-else-tokens-lt1+else-tokens-lt2+else-tokens-lt3+else-tokens-lt4}
-
-pub returns-in_err-count-in-len3-clause-err : goal.returns-in_err-count-in-len3-clause-err
-returns-in_err-count-in-len3-clause-err c =
-    let three : length c.args.tokens.now ≡ 3 = omega arith in
-    handed_on _ _ _ c.from_residual-in_err-count-in-len3.ensures.1 (count_refused c.args.version c.args.alphabet.now c.args.allow_empty c.args.tokens.now _ c.in_err-count-in-len3.field-0.0 three (sym c.in_err-count-in-len3.ensures))
 
 pub returns-in_default-clause-err : goal.returns-in_default-clause-err
 returns-in_default-clause-err c =
