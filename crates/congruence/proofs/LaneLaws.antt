@@ -1,5 +1,5 @@
 -- What the lanes of a race for a problem know at its start and at its end.
-use Rattle.std.proofs.Common.{◌≡◌, ℕ, zero, suc, refl, sym, ◌∙◌, ap, ap₂, subst, inl, inr, List, [], ◌∷◌, ◌++◌, length, arith, ◌≤◌, Some}
+use Rattle.std.proofs.Common.{◌≡◌, ℕ, zero, suc, refl, sym, ◌∙◌, ap, ap₂, subst, inl, inr, List, [], ◌∷◌, ◌++◌, length, arith, ◌≤◌, Some, Result, Ok, Err, OnOk}
 use Rattle.std.specs.Prelude.{slice_get}
 use Rattle.theory.specs.Congruence.{Congruence, as_right}
 use Rattle.theory.specs.Marked.{completed}
@@ -16,6 +16,7 @@ use Rattle.race.specs.declared.lanes.LaneState.TheVariants.{Running}
 use Rattle.race.specs.declared.playing.Outcome.{Outcome}
 use Rattle.race.specs.declared.playing.Outcome.TheVariants.{Won, AllSpent}
 use Rattle.congruence.specs.declared.engine.Engine.{Engine}
+use Rattle.congruence.specs.Added.{IsAdded}
 use Rattle.congruence.specs.Engines.{EngineTask, Definitions, Rows, Rewriting, Transformations, PartialPermutations, BooleanMatrices, TruncatedMatrices, HasDecided, HasMoreElements, IsEndOf, IsTaskFor, as_racer, congruence_tasks, ends_within, pairs_task, said_of, task_of, tasks_for}
 
 -- a lane that has had no turn, at its place
@@ -38,6 +39,12 @@ pub three_added : (none one two three : List (Lane Engine)) (f h k : Engine) →
     → three ≡ fresh 0 f ∷ fresh 1 h ∷ fresh 2 k ∷ []
 three_added none one two three f h k begun first second third =
     third ∙ ap (λ ls. added ls k) (second ∙ ap (λ ls. added ls h) (first ∙ ap (λ ls. added ls f) begun))
+
+-- a lane with a task is added where one of an engine for it is
+pub with_task : {A E : Type 0} (r : Result A E) (old new : List (Lane Engine)) (e : Engine) (task : EngineTask) → task_of e ≡ task → OnOk r (new ≡ old ++ fresh (length old) e ∷ [])
+    → OnOk r (IsAdded old new task)
+with_task (Ok x) old new e task is added = record { engine = e; task_is = is; added = added }
+with_task (Err fault) old new e task is added = tt
 
 module _ (all : List (Lane Engine)) (f h k : Engine) (are : all ≡ fresh 0 f ∷ fresh 1 h ∷ fresh 2 k ∷ []) where
   pub three_begin : Starts as_racer all

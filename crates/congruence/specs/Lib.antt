@@ -1,3 +1,4 @@
+pub mod Added
 pub mod Engines
 pub mod Solution
 pub mod Indexes

@@ -1,10 +1,12 @@
 // The lanes of a race for a problem.
 ghost use Rattle.std.specs.Prelude.{◌≡◌, ◌<◌, ◌≤◌, [], ◌∷◌, ◌++◌, None, length, IfOk, OnOk};
-ghost use Rattle.theory.specs.Congruence.{as_right, IsWellFormed};
+ghost use Rattle.theory.specs.Congruence.{as_right, IsRightSided, IsWellFormed};
+ghost use Rattle.theory.specs.Marked.{completed};
 ghost use Rattle.problem.specs.Problem.{IsPosable, IsSolvable};
 ghost use Rattle.race.specs.Lanes.{fresh};
 ghost use Rattle.race.specs.Machine.{Starts, tasks};
-ghost use Rattle.congruence.specs.Engines.{as_racer, congruence_tasks, pairs_task, tasks_for, IsCompletionFor};
+ghost use Rattle.congruence.specs.Added.{IsAdded};
+ghost use Rattle.congruence.specs.Engines.{Definitions, Rewriting, Rows, as_racer, congruence_tasks, pairs_task, tasks_for, IsCompletionFor};
 
 use crate::engine::Engine;
 use cayley::PairsRacer;
@@ -71,6 +73,54 @@ fn add_lane(lanes: &mut Vec<Lane<Engine>>, engine: Engine) -> Result<(), NoMemor
     Ok(())
 }
 
+// Puts a lane of Felsch's strategy for a right congruence behind the others.
+fn add_felsch(
+    alloc: Global,
+    task: &Congruence,
+    defs: usize,
+    lanes: &mut Vec<Lane<Engine>>,
+) -> Result<(), NoMemory>
+    requires task { IsRightSided task.now.congruence }
+    requires few { length lanes.old.items < 64 }
+    ensures { OnOk result (IsAdded lanes.old.items lanes.new.items
+        (Definitions (record { congruence = task.now.congruence; budget = defs }))) }
+{
+    let felsch = Felsch::new(alloc, task, defs)?;
+    add_lane(lanes, Engine::Felsch(felsch))
+}
+
+// The same of the strategy of rows.
+fn add_hlt(
+    alloc: Global,
+    task: &Congruence,
+    rows: usize,
+    lanes: &mut Vec<Lane<Engine>>,
+) -> Result<(), NoMemory>
+    requires task { IsRightSided task.now.congruence }
+    requires few { length lanes.old.items < 64 }
+    ensures { OnOk result (IsAdded lanes.old.items lanes.new.items
+        (Rows (record { congruence = task.now.congruence; budget = rows }))) }
+{
+    let hlt = Hlt::new(alloc, task, rows)?;
+    add_lane(lanes, Engine::Hlt(hlt))
+}
+
+// The same of completion for the congruence.
+fn add_completion(
+    alloc: Global,
+    congruence: &Congruence,
+    longest: usize,
+    lanes: &mut Vec<Lane<Engine>>,
+) -> Result<(), NoMemory>
+    requires congruence { IsSolvable congruence.now }
+    requires few { length lanes.old.items < 64 }
+    ensures { OnOk result (IsAdded lanes.old.items lanes.new.items (Rewriting
+        (record { presentation = completed congruence.now.congruence; length = longest }))) }
+{
+    let completion = completion_of(alloc, congruence, longest)?;
+    add_lane(lanes, Engine::Completion(completion))
+}
+
 // The lanes for a congruence on a presentation: Felsch's strategy, the strategy of rows, and
 // completion.
 fn congruence_lanes(
@@ -86,12 +136,9 @@ fn congruence_lanes(
 {
     let task = as_right(alloc, congruence)?;
     let mut lanes = Vec::new(alloc);
-    let felsch = Felsch::new(alloc, &task, budgets.defs)?;
-    add_lane(&mut lanes, Engine::Felsch(felsch))?;
-    let hlt = Hlt::new(alloc, &task, budgets.rows)?;
-    add_lane(&mut lanes, Engine::Hlt(hlt))?;
-    let completion = completion_of(alloc, congruence, budgets.length)?;
-    add_lane(&mut lanes, Engine::Completion(completion))?;
+    add_felsch(alloc, &task, budgets.defs, &mut lanes)?;
+    add_hlt(alloc, &task, budgets.rows, &mut lanes)?;
+    add_completion(alloc, congruence, budgets.length, &mut lanes)?;
     Ok(lanes)
 }
 

@@ -1,33 +1,21 @@
-use Rattle.std.proofs.Common.{◌≡◌, ◌∷◌, [], ◌∙◌, ap, ap₂}
-use Rattle.theory.specs.Congruence.{Congruence, Presentation}
-use Rattle.congruence.specs.declared.engine.Engine.TheVariants.{Felsch, Hlt, Completion}
-use Rattle.congruence.specs.Engines.{Definitions, Rewriting, Rows, task_of}
+use Rattle.std.proofs.Common.{◌∙◌, ap}
+use Rattle.theory.specs.Congruence.{Congruence}
+use Rattle.congruence.specs.Engines.{Definitions, Rows}
 use Rattle.congruence.proofs.LaneLaws.{three_added, three_begin, three_few, three_tasks}
 use Rattle.congruence.proofs.lanes.congruence_lanes.Goals as goal
 
-pub returns-clause-starts : goal.returns-clause-starts
-returns-clause-starts c =
-    three_begin c.add_lane-3.new.lanes.items (Felsch c.in_ok-felsch.felsch) (Hlt c.in_ok-hlt.hlt) (Completion c.in_ok-completion.completion)
-    (three_added c.new-lanes.result.items c.add_lane.new.lanes.items c.add_lane-2.new.lanes.items c.add_lane-3.new.lanes.items
-    (Felsch c.in_ok-felsch.felsch) (Hlt c.in_ok-hlt.hlt) (Completion c.in_ok-completion.completion)
-    c.new-lanes.ensures.items c.in_ok-add_lane.ensures c.in_ok-add_lane-2.ensures c.in_ok-add_lane-3.ensures)
-
-pub returns-clause-count : goal.returns-clause-count
-returns-clause-count c =
-    three_few c.add_lane-3.new.lanes.items (Felsch c.in_ok-felsch.felsch) (Hlt c.in_ok-hlt.hlt) (Completion c.in_ok-completion.completion)
-    (three_added c.new-lanes.result.items c.add_lane.new.lanes.items c.add_lane-2.new.lanes.items c.add_lane-3.new.lanes.items
-    (Felsch c.in_ok-felsch.felsch) (Hlt c.in_ok-hlt.hlt) (Completion c.in_ok-completion.completion)
-    c.new-lanes.ensures.items c.in_ok-add_lane.ensures c.in_ok-add_lane-2.ensures c.in_ok-add_lane-3.ensures)
-
-pub returns-clause-tasks : goal.returns-clause-tasks
-returns-clause-tasks c =
-    three_tasks c.add_lane-3.new.lanes.items (Felsch c.in_ok-felsch.felsch) (Hlt c.in_ok-hlt.hlt) (Completion c.in_ok-completion.completion)
-    (three_added c.new-lanes.result.items c.add_lane.new.lanes.items c.add_lane-2.new.lanes.items c.add_lane-3.new.lanes.items
-    (Felsch c.in_ok-felsch.felsch) (Hlt c.in_ok-hlt.hlt) (Completion c.in_ok-completion.completion)
-    c.new-lanes.ensures.items c.in_ok-add_lane.ensures c.in_ok-add_lane-2.ensures c.in_ok-add_lane-3.ensures)
-    c.args.congruence.now.congruence c.args.budgets.now
-    (ap (λ f. task_of (Felsch f)) c.in_ok-felsch.ensures
-    ∙ ap (λ (r : Congruence). Definitions (record { congruence = r; budget = c.args.budgets.now.defs })) c.in_ok-task.ensures.congruence)
-    (ap (λ h. task_of (Hlt h)) c.in_ok-hlt.ensures
-    ∙ ap (λ (r : Congruence). Rows (record { congruence = r; budget = c.args.budgets.now.rows })) c.in_ok-task.ensures.congruence)
-    (ap₂ (λ (p : Presentation) L. Rewriting (record { presentation = p; length = L })) c.in_ok-completion.ensures.presentation c.in_ok-completion.ensures.length)
+pub returns : goal.returns
+returns c =
+    let one = c.in_ok-add_felsch.ensures in
+    let two = c.in_ok-add_hlt.ensures in
+    let three = c.in_ok-add_completion.ensures in
+    let all = three_added c.new-lanes.result.items c.add_felsch.new.lanes.items c.add_hlt.new.lanes.items c.add_completion.new.lanes.items
+    one.engine two.engine three.engine c.new-lanes.ensures.items one.added two.added three.added in
+    record {
+      starts = three_begin c.add_completion.new.lanes.items one.engine two.engine three.engine all;
+      count = three_few c.add_completion.new.lanes.items one.engine two.engine three.engine all;
+      tasks = three_tasks c.add_completion.new.lanes.items one.engine two.engine three.engine all c.args.congruence.now.congruence c.args.budgets.now
+          (one.task_is ∙ ap (λ (r : Congruence). Definitions (record { congruence = r; budget = c.args.budgets.now.defs })) c.in_ok-task.ensures.congruence)
+          (two.task_is ∙ ap (λ (r : Congruence). Rows (record { congruence = r; budget = c.args.budgets.now.rows })) c.in_ok-task.ensures.congruence)
+          three.task_is;
+    }
