@@ -10,28 +10,21 @@ use ports::{NoMemory, ReadFault, Sink, WriteFault, write_all};
 use query_lang::{ScriptFault, cause_text};
 use settings::SettingsFault;
 use std::alloc::AllocError;
-use thiserror::Error;
 
 /// Why a run ends without the whole report. Each has a status and a line of its own.
-#[derive(Clone, Copy, Debug, PartialEq, Eq, Error)]
+#[derive(Clone, Copy)]
 pub enum Fault {
     /// The input has more bytes than a script may have: status 2.
-    #[error("script too long")]
     TooLong,
     /// The first faulty line of the script, counted from 1, and the number of its cause: status 2.
-    #[error("line {line}: cause {cause}")]
     Script { line: usize, cause: u8 },
     /// The words of the command line are refused: status 3.
-    #[error("arguments refused")]
     Arguments,
     /// The source failed: status 4.
-    #[error("cannot read input")]
     Read,
     /// The sink of the report failed: status 5.
-    #[error("cannot write output")]
     Write,
     /// Memory is wanting: status 6.
-    #[error("out of memory")]
     NoMemory,
 }
 

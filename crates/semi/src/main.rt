@@ -67,14 +67,24 @@ fn run<R: Threads + Sync, S: Source, W: Write + Drop, E: Sink>(
     }
 }
 
+// The run by the words of the command line, where what the sink takes is kept back.
+fn run_words<R: Env + AllocGlobal + Threads + Sync, S: Source, W: Write + Drop, E: Sink>(
+    rt: &R,
+    source: &mut S,
+    writer: W,
+    err: &mut E,
+) -> Result<u8, Fault> {
+    let words = arguments(rt)?;
+    let mut out = buffered(rt.alloc(), writer)?;
+    Ok(run(rt, rt.alloc(), &words, source, &mut out, err))
+}
+
 fn main(rt: HostRuntime) -> ExitCode {
     let mut source = InputSource::new(rt.stdin());
     let mut err = OutputSink::new(rt.stderr());
-    let status = match (arguments(&rt), buffered(rt.alloc(), rt.stdout())) {
-        (Ok(words), Ok(mut out)) => {
-            run(&rt, rt.alloc(), &words, &mut source, &mut out, &mut err)
-        }
-        (Err(fault), _) | (_, Err(fault)) => fault.tell(&mut err),
+    let status = match run_words(&rt, &mut source, rt.stdout(), &mut err) {
+        Ok(status) => status,
+        Err(fault) => fault.tell(&mut err),
     };
     ExitCode::from(status)
 }

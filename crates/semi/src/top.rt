@@ -1,6 +1,7 @@
 // The whole program, over words, a source and two sinks.
-ghost use Rattle.std.specs.Prelude.{◌≡◌, ◌≤◌, ◌⊎◌, true, false, IfErr, IfOk, IsErrOf, MatchResult, OnOk, map, string_bytes};
+ghost use Rattle.std.specs.Prelude.{◌≡◌, ◌≤◌, ◌⊎◌, false, true, IfSome, map, string_bytes};
 ghost use Rattle.ports.specs.Bytes.{Rose};
+ghost use Rattle.semi.specs.Ends.{EndsBy, EndsUnder};
 ghost use Rattle.semi.specs.Report.{GainsBeginning, GainsLineOf, GainsReport, IsRefusal, IsRefused, IsScript};
 ghost use Rattle.query_lang.specs.Script.{ScriptOf};
 ghost use Rattle.semi.specs.Made.{OnInput};
@@ -14,11 +15,31 @@ use crate::fault::Fault;
 use crate::made::choose_script;
 use crate::whole::write_report;
 use ports::{Gate, Sink, Source};
-use settings::settings_of;
+use settings::{Settings, settings_of};
 use std::alloc::Global;
 use std::thread::Threads;
 
-// Makes or reads the script and writes its report, and tells whether an answer is undecided.
+// Makes or reads the script that the settings ask for and writes its report, and tells whether an
+// answer is undecided.
+fn run_under<R: Threads + Sync, S: Source, O: Sink, G: Gate + Sync>(
+    rt: &R,
+    alloc: Global,
+    settings: Settings,
+    source: &mut S,
+    out: &mut O,
+    gate: &G,
+) -> Result<bool, Fault>
+    requires workers { 1 ≤ settings.workers }
+    requires make { IfSome settings.make (λ k. (1 ≤ k) × (k ≤ 200)) }
+    ensures { EndsUnder S.Source O.Sink source.old source.new out.old out.new settings result }
+{
+    let script = choose_script(alloc, settings, source)?;
+    let written = write_report(rt, alloc, settings, &script, out, gate);
+    drop(script);
+    Ok(written?)
+}
+
+// The same under the settings of the words.
 fn run<R: Threads + Sync, S: Source, O: Sink, G: Gate + Sync>(
     rt: &R,
     alloc: Global,
@@ -27,41 +48,11 @@ fn run<R: Threads + Sync, S: Source, O: Sink, G: Gate + Sync>(
     out: &mut O,
     gate: &G,
 ) -> Result<bool, Fault>
-    ensures reported { IfOk result (λ undecided.
-        OnInput (map string_bytes words.now.items) (S.left source.old)
-        (λ settings input. GainsReport settings input undecided (O.taken out.old)
-        (O.taken out.new))) }
-    ensures arguments { IsErrOf result Fault.Arguments
-        → AreRefused (map string_bytes words.now.items) }
-    ensures rejected { AreRefused (map string_bytes words.now.items)
-        → IfErr result (λ fault. (fault ≡ Fault.Arguments) ⊎ (fault ≡ Fault.NoMemory)) }
-    ensures refused { IfErr result (λ fault. status_of fault ≡ 2
-        → OnInput (map string_bytes words.now.items) (S.left source.old)
-        (λ _ input. IsRefusal input fault)) }
-    ensures read { IsErrOf result Fault.Read → Rose (S.faults source.old) (S.faults source.new) }
-    ensures write { IsErrOf result Fault.Write → Rose (O.faults out.old) (O.faults out.new) }
-    ensures beginning { IsErrOf result Fault.Write
-        → OnInput (map string_bytes words.now.items) (S.left source.old)
-        (λ settings input. GainsBeginning settings input (O.taken out.old) (O.taken out.new)) }
-    ensures memory { IsErrOf result Fault.NoMemory
-        → (out.new ≡ out.old) ⊎ OnInput (map string_bytes words.now.items) (S.left source.old)
-        (λ settings input. GainsBeginning settings input (O.taken out.old) (O.taken out.new)) }
-    ensures out_untouched { IfErr result (λ fault. status_of fault ≤ 4 → out.new ≡ out.old) }
-    ensures source_untouched { IsErrOf result Fault.Arguments → source.new ≡ source.old }
-    ensures taken { UnlessMade (map string_bytes words.now.items) (MatchResult result
-        (λ undecided. IsTakenWhole (S.left source.old) (S.left source.new))
-        (λ fault. IsTakenAt fault (S.left source.old) (S.left source.new))) }
-    ensures made { AskToMake (map string_bytes words.now.items) → source.new ≡ source.old }
-    ensures made_fault { AskToMake (map string_bytes words.now.items)
-        → IfErr result (λ fault. 5 ≤ status_of fault) }
-    ensures quiet { OnOk result ((S.faults source.new ≡ S.faults source.old)
-        × (O.faults out.new ≡ O.faults out.old)) }
-    ensures quiet_refused { IfErr result
-        (λ fault. status_of fault ≡ 2 → S.faults source.new ≡ S.faults source.old) }
+    ensures { EndsBy S.Source O.Sink source.old source.new out.old out.new
+        (map string_bytes words.now.items) result }
 {
     let settings = settings_of(alloc, words)?;
-    let script = choose_script(alloc, settings, source)?;
-    Ok(write_report(rt, alloc, settings, &script, out, gate)?)
+    run_under(rt, alloc, settings, source, out, gate)
 }
 
 /// The program: reads the source as a script, of a presentation or of elements, or makes one where

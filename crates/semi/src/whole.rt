@@ -1,6 +1,7 @@
 // The report of a script.
 ghost use Rattle.std.specs.Prelude.{◌≡◌, ℕ, ◌≤◌, Bool, List, Option, [], ◌∷◌, IfErr, IfOk, IfSome, IsErrOf, MatchResult, OnOk};
 ghost use Rattle.ports.specs.Bytes.{Rose, TakesPrefix};
+ghost use Rattle.problem.specs.declared.kinds.Problem.{Problem};
 ghost use Rattle.query_lang.specs.Query.{IsQueryOf};
 ghost use Rattle.report.specs.Gains.{is_undecided};
 ghost use Rattle.settings.specs.declared.Settings.{Settings};
@@ -94,6 +95,19 @@ fn write_answers<R: Threads + Sync, O: Sink, G: Gate + Sync>(
     Ok(undecided)
 }
 
+// The state under the settings, which knows nothing yet.
+fn state_of(settings: Settings) -> State
+    ensures { (problem : Problem) → IsStateOf settings problem result }
+{
+    let budgets = Budgets {
+        defs: settings.defs,
+        rows: settings.rows,
+        length: settings.length,
+        elements: settings.elements,
+    };
+    State::new(budgets, settings.classes, settings.workers)
+}
+
 /// Writes the report of a script, and tells whether an answer is undecided. Refused with `Failed`
 /// where the sink failed, else with `NoMemory`; the sink has then gained a beginning of the report.
 pub fn write_report<R: Threads + Sync, O: Sink, G: Gate + Sync>(
@@ -108,14 +122,10 @@ pub fn write_report<R: Threads + Sync, O: Sink, G: Gate + Sync>(
     ensures { WritesLines O.Sink settings script.now.problem script.now.queries
         out.old out.new result }
 {
-    let budgets = Budgets {
-        defs: settings.defs,
-        rows: settings.rows,
-        length: settings.length,
-        elements: settings.elements,
-    };
-    let mut state = State::new(budgets, settings.classes, settings.workers);
-    write_answers(rt, alloc, settings, script, &mut state, out, gate)
+    let mut state = state_of(settings);
+    let written = write_answers(rt, alloc, settings, script, &mut state, out, gate);
+    drop(state);
+    written
 }
 
 /// The budgets, the bound of the index and the input have one status, whatever the number of
