@@ -11,6 +11,7 @@ use knuth_bendix::Completion;
 use ports::{Gate, NoMemory};
 use problem::{Budgets, Problem};
 use std::alloc::Global;
+use std::mem::replace;
 use std::thread::Threads;
 
 /// What the queries of one script are answered with: its budgets, the bound up to which an index is
@@ -63,7 +64,7 @@ impl State {
     {
         if self.verdict.is_none() {
             let verdict = solve(rt, alloc, problem, &self.budgets, self.workers, gate)?;
-            self.verdict = Some(verdict);
+            drop(replace(&mut self.verdict, Some(verdict)));
         }
         Ok(())
     }
@@ -80,7 +81,7 @@ impl State {
     {
         if self.completion.is_none() {
             let completion = logged_completion(alloc, problem, self.budgets.length)?;
-            self.completion = Some(completion);
+            drop(replace(&mut self.completion, Some(completion)));
         }
         Ok(())
     }
