@@ -8,7 +8,7 @@ ghost use Rattle.green.specs.Related.{AreOfLetters, DoAgree, DoCommute};
 use crate::helpers::{maps_of, table_of};
 use elements::Transf;
 use froidure_pin::CayleyTables;
-use green::{ClassNames, Relation, facts};
+use green::{ClassNames, Relation, classes, facts, idempotents};
 use ports::NoMemory;
 use std::alloc::Global;
 use std::process::Abort;
@@ -102,7 +102,7 @@ fn sizes(
 ) -> Result<Vec<usize>, Fail> {
     let tables = tables_of(rt, alloc, images)?;
     let mut sizes = Vec::new(alloc);
-    for class in &ClassNames::new().classes(alloc, &tables, relation)? {
+    for class in &classes(alloc, &tables, relation)? {
         sizes.push(class.len())?;
     }
     Ok(sizes)
@@ -111,7 +111,7 @@ fn sizes(
 // The numbers of the idempotents.
 fn squares(rt: &impl Abort, alloc: Global, images: &[&[u32]]) -> Result<Vec<usize>, Fail> {
     let tables = tables_of(rt, alloc, images)?;
-    Ok(ClassNames::new().idempotents(alloc, &tables)?)
+    Ok(idempotents(alloc, &tables)?)
 }
 
 // The Brandt semigroup with the elements a, b, zero, ab and ba.
