@@ -1,7 +1,8 @@
 #!/bin/sh
 # documents.sh PROGRAM: runs each script that README.md and docs/LANGUAGE.md show with its report, and
 # tells of each that gives another one. A report stands in the block behind its script, with nothing
-# between them but a line `gives`.
+# between them but a line `gives`. What LANGUAGE tells otherwise, by words, a status or a cause, is in a
+# transcript.
 set -eu
 semi=$1
 top=$(cd "$(dirname "$0")/.." && pwd)
@@ -38,3 +39,4 @@ for document in README.md docs/LANGUAGE.md; do
     echo "$document: $shown scripts with their reports"
     rm -f "$room"/*
 done
+"$top/tests/run" "$semi" language.txt
