@@ -1,3 +1,8 @@
+pub mod Compared
+pub mod OptionalDigits
+pub mod Digits
+pub mod PackedMatrices
+pub mod Bits
 pub mod Composed
 pub mod PartialProducts
 pub mod Marks

@@ -1,8 +1,9 @@
 -- What a hasher is fed for an element: a few numbers. The elements of a set have one shape, so it
 -- is left out.
-use Rattle.std.specs.Prelude.{ℕ, ◌+◌, ◌*◌, ◌%◌, ◌^◌, min, bit_or, Bool, List, length, map, fold, Option, Some, None, slice_index_or}
+use Rattle.std.specs.Prelude.{ℕ, ◌+◌, ◌*◌, ◌%◌, ◌^◌, min, bit_or, Bool, List, length, nat_le, map, fold, Option, Some, None, slice_index_or}
 use Rattle.std.specs.Hash as fed
 use Rattle.std.specs.Int.{div_ceil}
+use Rattle.std.specs.Int.Digits.{number_from_digits}
 use Rattle.std.specs.Bool.{if◌then◌else◌}
 use Rattle.std.specs.List.{between, flat_map, range_with_len}
 
@@ -19,14 +20,24 @@ entry_number (Some y) = y + 1
 abbrev pub entries_hash : List (Option ℕ) → fed.HashWrites
 entries_hash x = numbers_hash (map entry_number x)
 
+-- up to fifteen entries as the digits of one number in base 16, and else one number for each
+abbrev pub partial_hash : List (Option ℕ) → fed.HashWrites
+partial_hash x =
+    if nat_le (length x) 15 then fed.u64 (number_from_digits 16 (map entry_number x))
+    else entries_hash x
+
 -- the images at i and i + 1 as one number, with 0 past the end
 abbrev pub image_pair : List ℕ → ℕ → ℕ
 image_pair x i = slice_index_or x i 0 + slice_index_or x (i + 1) 0 * 2 ^ 32
 
 -- one number for each two images
-abbrev pub images_hash : List ℕ → fed.HashWrites
-images_hash x =
+abbrev pub pairs_hash : List ℕ → fed.HashWrites
+pairs_hash x =
     numbers_hash (map (λ k. image_pair x (2 * k)) (range_with_len 0 (div_ceil (length x) 2)))
+
+-- up to sixteen images as the digits of one number in base 16, and else one number for each two
+abbrev pub images_hash : List ℕ → fed.HashWrites
+images_hash x = if nat_le (length x) 16 then fed.u64 (number_from_digits 16 x) else pairs_hash x
 
 -- the last 64 of these bits as a number
 abbrev pub bits_number : List Bool → ℕ

@@ -8,7 +8,7 @@ use Rattle.std.specs.Cmp.Lexicographic.{pointwise, pointwise_decides, slice_cmp,
 use Rattle.std.proofs.Common.{sym, ap, ◌∙◌, refl, inl, inr, arith}
 use Rattle.std.proofs.lemmas.List.{length-map, get_or-map, get_or_past}
 use Rattle.theory.specs.Value.{IsProduct}
-use Rattle.elements.specs.Hashes.{entries_hash}
+use Rattle.elements.specs.Hashes.{partial_hash}
 use Rattle.elements.specs.PPerm.{partial_image, partially_composed}
 
 option_Decides : (x y : Option ℕ) → Decides (option_eq ◌==◌ x y) (x ≡ y)
@@ -42,8 +42,8 @@ pub entries_order : IsPartialOrder (pointwise (option_eq ◌==◌))
 entries_order = po (lists_total (options_total nat_cmp_total)) entries_ties
 
 pub entries_alike : (x y : List (Option ℕ)) → IsTrue (pointwise (option_eq ◌==◌) x y)
-    → entries_hash x ≡ entries_hash y
-entries_alike x y h = ap entries_hash (same_entries x y h)
+    → partial_hash x ≡ partial_hash y
+entries_alike x y h = ap partial_hash (same_entries x y h)
 
 pub equal_entries : (x y : List (Option ℕ)) → x ≡ y → IsTrue (pointwise (option_eq ◌==◌) x y)
 equal_entries x y e = (options_Decides x y).1 e

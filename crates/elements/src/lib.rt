@@ -1,6 +1,7 @@
 //! Elements of finite semigroups, and what their products keep (Froidure and Pin 1997).
 #![tactic(auto)]
 
+mod base_sixteen;
 mod bmat;
 mod element;
 mod entries;

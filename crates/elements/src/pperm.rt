@@ -1,5 +1,5 @@
 // Partial permutations.
-ghost use Rattle.std.specs.Prelude.{◌≡◌, ◌≢◌, ℕ, ◌<◌, ◌≤◌, ◌⊎◌, IfOk, IsErrOf, IsTrue, ◌↔◌, length, map, All, List, Option, None, Some, MatchOption, ◌==◌, codes};
+ghost use Rattle.std.specs.Prelude.{◌≡◌, ◌≢◌, ℕ, ◌<◌, ◌≤◌, ◌⊎◌, IfOk, IsErrOf, IsTrue, ◌↔◌, length, map, All, List, Option, None, Some, MatchOption, ◌==◌, codes, slice_index_or};
 ghost use Rattle.std.specs.List.{join_by};
 ghost use Rattle.std.specs.Option.{option_eq, option_cmp};
 ghost use Rattle.std.proofs.Common.{rules};
@@ -7,36 +7,49 @@ ghost use Rattle.std.specs.Cmp.Lexicographic.{pointwise, slice_cmp};
 ghost use Rattle.std.specs.Cmp.Rules.{comparing};
 ghost use Rattle.std.specs.Ordering.{nat_cmp, as_partial_cmp};
 ghost use Rattle.elements.specs.Fields.{IsBelow, field_of, IsBelowOrDash, IsFirstRefused, decimal_or_dash};
-ghost use Rattle.elements.specs.Hashes.{entries_hash};
+ghost use Rattle.elements.specs.Hashes.{partial_hash};
 ghost use Rattle.elements.specs.PPerm.{partial_image, partially_composed, IsInjective, ArePartialImages, IsFirstRepeat, IsFirstAgain};
 ghost use Rattle.elements.specs.PPermLaws.{partial_products, one_partial_degree, entries_alike, entries_ties, entries_order};
 
 use super::element::Element;
 use super::entries::{hash_entries, print_optional, read_optional};
 use super::field::{ElementFault, Field};
+use packed::{image_at, pack, packed_product, unpack};
 use ports::NoMemory;
 use std::alloc::{AllocError, Global};
-use std::cmp::Ordering;
+use std::cmp::{Ordering, min};
 use std::hash::{Hash, Hasher};
 use std::marker::Model;
 use theory::values::Values;
 
+mod packed;
+
+// Up to fifteen images are the digits of one number in base 16, the first image the highest one: 0
+// for none, and else the image plus one.
+#[derive(Drop)]
+enum Form {
+    Packed(u32, u64),
+    Long(Box<Vec<Option<u32>>>),
+}
+
 /// A partial permutation of the points 0 to n - 1: each point has an image or none, and no image
-/// twice (libsemigroups, `PPerm`). Contracts see the list of the images. Its shape is the degree n.
+/// twice (libsemigroups, `PPerm` and `PPerm16`). Contracts see the list of the images. Its shape is
+/// the degree n.
 #[derive(Drop)]
 pub struct PPerm {
-    images: Vec<Option<u32>>,
+    form: Form,
 }
 
 impl Model for PPerm {
     ghost use Rattle.std.specs.Prelude.{ℕ, List, Option};
-    ghost use Rattle.elements.specs.PPerm.{ArePartialImages};
 
     ghost Value = { List (Option ℕ) };
 
-    ghost view = { λ p. p.images.items };
+    ghost use Rattle.elements.specs.PPermForms.{images_of, IsForm};
 
-    ghost invariant = { λ p. ArePartialImages p.images.items };
+    ghost view = { λ p. images_of p.form };
+
+    ghost invariant = { λ p. IsForm p.form };
 }
 
 impl PartialEq for PPerm {
@@ -45,7 +58,16 @@ impl PartialEq for PPerm {
     ghost laws = { Prim.search (comparing, rules) };
 
     fn eq(&self, other: &PPerm) -> bool {
-        self.images == other.images
+        match &self.form {
+            Form::Packed(n, x) => match &other.form {
+                Form::Packed(m, y) => *n == *m && *x == *y,
+                Form::Long(_) => false,
+            },
+            Form::Long(images) => match &other.form {
+                Form::Packed(_, _) => false,
+                Form::Long(more) => **images == **more,
+            },
+        }
     }
 }
 
@@ -73,17 +95,26 @@ impl Ord for PPerm {
     ghost matches_eq = { entries_ties };
 
     fn cmp(&self, other: &PPerm) -> Ordering {
-        self.images.cmp(&other.images)
+        for point in 0..min(self.degree(), other.degree()) {
+            let order = self.image(point).cmp(&other.image(point));
+            if order != Ordering::Equal {
+                return order;
+            }
+        }
+        self.degree().cmp(&other.degree())
     }
 }
 
 impl Hash for PPerm {
-    ghost hash_input = { entries_hash };
+    ghost hash_input = { partial_hash };
 
     ghost respects_eq = { entries_alike };
 
     fn hash<H: Hasher>(&self, state: &mut H) {
-        hash_entries(&self.images, state);
+        match &self.form {
+            Form::Packed(_, x) => state.write_u64(*x),
+            Form::Long(images) => hash_entries(images, state),
+        }
     }
 }
 
@@ -95,7 +126,7 @@ impl Values for PPerm {
     ghost products = { partial_products };
 
     fn same_shape(&self, other: &PPerm) -> bool {
-        self.images.len() == other.images.len()
+        self.degree() == other.degree()
     }
 }
 
@@ -103,13 +134,37 @@ impl Element for PPerm {
     ghost one_shape = { one_partial_degree };
 
     fn product(&self, alloc: Global, other: &PPerm) -> Result<PPerm, NoMemory> {
-        let images = compose_partial(alloc, &self.images, &other.images)?;
-        Ok(PPerm { images })
+        match &self.form {
+            Form::Packed(n, x) => match &other.form {
+                Form::Packed(_, y) => {
+                    let form = Form::Packed(*n, packed_product(*n, *x, *y));
+                    Ok(PPerm { form })
+                }
+                Form::Long(_) => unreachable!(),
+            },
+            Form::Long(left) => match &other.form {
+                Form::Packed(_, _) => unreachable!(),
+                Form::Long(right) => {
+                    let images = compose_partial(alloc, left, right)?;
+                    let form = Form::Long(Box::new(alloc, images)?);
+                    Ok(PPerm { form })
+                }
+            },
+        }
     }
 
     fn copy(&self, alloc: Global) -> Result<PPerm, NoMemory> {
-        let images = Vec::from_slice(alloc, self.images.as_slice())?;
-        Ok(PPerm { images })
+        match &self.form {
+            Form::Packed(n, x) => {
+                let form = Form::Packed(*n, *x);
+                Ok(PPerm { form })
+            }
+            Form::Long(images) => {
+                let images = Vec::from_slice(alloc, images.as_slice())?;
+                let form = Form::Long(Box::new(alloc, images)?);
+                Ok(PPerm { form })
+            }
+        }
     }
 }
 
@@ -158,13 +213,40 @@ fn first_repeat(alloc: Global, images: &[Option<u32>]) -> Result<Option<usize>, 
     Ok(None)
 }
 
+// The partial permutation with these images, packed if they are up to fifteen.
+fn from_images(alloc: Global, images: Vec<Option<u32>>) -> Result<PPerm, NoMemory>
+    requires { ArePartialImages images.items }
+    ensures { IfOk result (λ p. p ≡ images.items) }
+{
+    if images.len() <= 15 {
+        let form = Form::Packed(images.len() as u32, pack(&images));
+        return Ok(PPerm { form });
+    }
+    let form = Form::Long(Box::new(alloc, images)?);
+    Ok(PPerm { form })
+}
+
 impl PPerm {
     /// The number of points.
     pub fn degree(&self) -> usize
         ensures degree { result ≡ length self.now }
         ensures images { ArePartialImages self.now }
     {
-        self.images.len()
+        match &self.form {
+            Form::Packed(n, _) => *n as usize,
+            Form::Long(images) => images.len(),
+        }
+    }
+
+    // The image of a point, if it has one.
+    fn image(&self, point: usize) -> Option<u32>
+        requires { point < length self.now }
+        ensures { result ≡ slice_index_or self.now point None }
+    {
+        match &self.form {
+            Form::Packed(n, x) => image_at(*n, *x, point as u32),
+            Form::Long(images) => images[point],
+        }
     }
 
     /// The partial permutation of `degree` points with these images, in their order; a dash is no
@@ -196,13 +278,19 @@ impl PPerm {
         if let Some(place) = first_repeat(alloc, &images)? {
             return Err(ElementFault::NotInjective(place));
         }
-        Ok(PPerm { images })
+        match from_images(alloc, images) {
+            Ok(made) => Ok(made),
+            Err(_) => Err(ElementFault::NoMemory),
+        }
     }
 
     /// The images in decimal, with one space between each two; `-` for none.
     pub fn print(&self, alloc: Global) -> Result<Vec<u8>, NoMemory>
         ensures { IfOk result (λ text. text.items ≡ join_by decimal_or_dash (codes " ") self.now) }
     {
-        print_optional(alloc, &self.images)
+        match &self.form {
+            Form::Packed(n, x) => print_optional(alloc, &unpack(alloc, *n, *x)?),
+            Form::Long(images) => print_optional(alloc, images),
+        }
     }
 }

@@ -1,5 +1,5 @@
 // Transformations.
-ghost use Rattle.std.specs.Prelude.{◌≡◌, ◌≢◌, ℕ, ◌<◌, ◌≤◌, ◌⊎◌, IfOk, IsErrOf, IsTrue, ◌↔◌, length, map, All, List, MatchOption, ◌==◌, codes, decimal, fold};
+ghost use Rattle.std.specs.Prelude.{◌≡◌, ◌≢◌, ℕ, ◌<◌, ◌≤◌, ◌⊎◌, IfOk, IsErrOf, IsTrue, ◌↔◌, length, map, All, List, MatchOption, ◌==◌, codes, decimal, fold, slice_index_or};
 ghost use Rattle.std.specs.List.{join_by};
 ghost use Rattle.std.proofs.Common.{rules};
 ghost use Rattle.std.specs.Cmp.Lexicographic.{pointwise, slice_cmp};
@@ -7,35 +7,47 @@ ghost use Rattle.std.specs.Cmp.Rules.{comparing};
 ghost use Rattle.std.specs.Ordering.{nat_cmp, as_partial_cmp};
 ghost use Rattle.elements.specs.Fields.{IsImage, IsFirstBad};
 ghost use Rattle.elements.specs.Transf.{composed, AreImages};
-ghost use Rattle.elements.specs.Hashes.{image_pair, images_hash};
+ghost use Rattle.elements.specs.Hashes.{image_pair, pairs_hash, images_hash};
 ghost use Rattle.elements.specs.TransfLaws.{images_alike, composed_products, one_degree};
 
+use super::base_sixteen::digit;
 use super::element::Element;
 use super::field::{ElementFault, Field};
 use itoa::Buffer;
+use packed::{pack, packed_product, unpack};
 use ports::NoMemory;
 use std::alloc::Global;
-use std::cmp::Ordering;
+use std::cmp::{Ordering, min};
 use std::hash::{Hash, Hasher};
 use std::marker::Model;
 use theory::values::Values;
 
-/// A transformation of the points 0 to n - 1: the list of their images (libsemigroups, `Transf`).
-/// Contracts see that list. Its shape is the degree n.
+mod packed;
+
+// Up to sixteen images are the digits of one number in base 16, the first image the highest one.
+#[derive(Drop)]
+enum Form {
+    Packed(u32, u64),
+    Long(Box<Vec<u32>>),
+}
+
+/// A transformation of the points 0 to n - 1: the list of their images (libsemigroups, `Transf` and
+/// `Transf16`). Contracts see that list. Its shape is the degree n.
 #[derive(Drop)]
 pub struct Transf {
-    images: Vec<u32>,
+    form: Form,
 }
 
 impl Model for Transf {
     ghost use Rattle.std.specs.Prelude.{ℕ, List};
-    ghost use Rattle.elements.specs.Transf.{AreImages};
 
     ghost Value = { List ℕ };
 
-    ghost view = { λ t. t.images.items };
+    ghost use Rattle.elements.specs.TransfForms.{images_of, IsForm};
 
-    ghost invariant = { λ t. AreImages t.images.items };
+    ghost view = { λ t. images_of t.form };
+
+    ghost invariant = { λ t. IsForm t.form };
 }
 
 impl PartialEq for Transf {
@@ -44,7 +56,16 @@ impl PartialEq for Transf {
     ghost laws = { Prim.search (comparing, rules) };
 
     fn eq(&self, other: &Transf) -> bool {
-        self.images == other.images
+        match &self.form {
+            Form::Packed(n, x) => match &other.form {
+                Form::Packed(m, y) => *n == *m && *x == *y,
+                Form::Long(_) => false,
+            },
+            Form::Long(images) => match &other.form {
+                Form::Packed(_, _) => false,
+                Form::Long(more) => **images == **more,
+            },
+        }
     }
 }
 
@@ -72,7 +93,13 @@ impl Ord for Transf {
     ghost matches_eq = { Prim.search (comparing, rules) };
 
     fn cmp(&self, other: &Transf) -> Ordering {
-        self.images.cmp(&other.images)
+        for point in 0..min(self.degree(), other.degree()) {
+            let order = self.image(point).cmp(&other.image(point));
+            if order != Ordering::Equal {
+                return order;
+            }
+        }
+        self.degree().cmp(&other.degree())
     }
 }
 
@@ -82,7 +109,10 @@ impl Hash for Transf {
     ghost respects_eq = { images_alike };
 
     fn hash<H: Hasher>(&self, state: &mut H) {
-        hash_images(&self.images, state);
+        match &self.form {
+            Form::Packed(_, x) => state.write_u64(*x),
+            Form::Long(images) => hash_images(images, state),
+        }
     }
 }
 
@@ -94,7 +124,7 @@ impl Values for Transf {
     ghost products = { composed_products };
 
     fn same_shape(&self, other: &Transf) -> bool {
-        self.images.len() == other.images.len()
+        self.degree() == other.degree()
     }
 }
 
@@ -102,13 +132,37 @@ impl Element for Transf {
     ghost one_shape = { one_degree };
 
     fn product(&self, alloc: Global, other: &Transf) -> Result<Transf, NoMemory> {
-        let images = compose(alloc, &self.images, &other.images)?;
-        Ok(Transf { images })
+        match &self.form {
+            Form::Packed(n, x) => match &other.form {
+                Form::Packed(_, y) => {
+                    let form = Form::Packed(*n, packed_product(*n, *x, *y));
+                    Ok(Transf { form })
+                }
+                Form::Long(_) => unreachable!(),
+            },
+            Form::Long(left) => match &other.form {
+                Form::Packed(_, _) => unreachable!(),
+                Form::Long(right) => {
+                    let images = compose(alloc, left, right)?;
+                    let form = Form::Long(Box::new(alloc, images)?);
+                    Ok(Transf { form })
+                }
+            },
+        }
     }
 
     fn copy(&self, alloc: Global) -> Result<Transf, NoMemory> {
-        let images = Vec::from_slice(alloc, self.images.as_slice())?;
-        Ok(Transf { images })
+        match &self.form {
+            Form::Packed(n, x) => {
+                let form = Form::Packed(*n, *x);
+                Ok(Transf { form })
+            }
+            Form::Long(images) => {
+                let images = Vec::from_slice(alloc, images.as_slice())?;
+                let form = Form::Long(Box::new(alloc, images)?);
+                Ok(Transf { form })
+            }
+        }
     }
 }
 
@@ -127,7 +181,7 @@ fn compose(alloc: Global, left: &[u32], right: &[u32]) -> Result<Vec<u32>, NoMem
 // Feeds a hasher one number for each two images. The degree is left out, since the transformations
 // of a set have the same one.
 fn hash_images<H: Hasher>(images: &[u32], state: &mut H)
-    ensures { state.new ≡ fold H.write state.old (images_hash images.now) }
+    ensures { state.new ≡ fold H.write state.old (pairs_hash images.now) }
 {
     for k in 0..images.len().div_ceil(2) {
         state.write_u64(pair_at(images, 2 * k));
@@ -158,13 +212,77 @@ fn image_below(field: Field, degree: u32) -> Option<u32>
     }
 }
 
+// The images that the fields name.
+fn read_images(alloc: Global, degree: u32, fields: &[Field]) -> Result<Vec<u32>, ElementFault>
+    ensures images { IfOk result (λ v. map Field.Number v.items ≡ fields.now) }
+    ensures in_range { IfOk result (λ v. All (λ y. y < degree) v.items) }
+    ensures count { IsErrOf result ElementFault.BadCount → ⊥ }
+    ensures entry { (place : ℕ) → IsErrOf result (ElementFault.BadEntry place)
+        → IsFirstBad degree fields.now place }
+    ensures refused { (place : ℕ) → IsFirstBad degree fields.now place
+        → IsErrOf result (ElementFault.BadEntry place) ⊎ IsErrOf result ElementFault.NoMemory }
+    ensures injective { (place : ℕ) → IsErrOf result (ElementFault.NotInjective place) → ⊥ }
+{
+    let mut images = Vec::with_capacity(alloc, fields.len())?;
+    for (i, field) in fields.iter().enumerate() {
+        match image_below(*field, degree) {
+            Some(y) => images.push(y)?,
+            None => return Err(ElementFault::BadEntry(i)),
+        }
+    }
+    Ok(images)
+}
+
+// The images in decimal, with one space between each two.
+fn print_images(alloc: Global, images: &[u32]) -> Result<Vec<u8>, NoMemory>
+    ensures { IfOk result (λ text. text.items ≡ join_by decimal (codes " ") images.now) }
+{
+    let mut text = Vec::new(alloc);
+    let mut buffer = Buffer::new();
+    for (i, y) in images.iter().enumerate() {
+        if 0 < i {
+            text.push(b' ')?;
+        }
+        text.extend_from_slice(buffer.format(*y).as_bytes())?;
+    }
+    Ok(text)
+}
+
+// The transformation with these images, packed if they are up to sixteen.
+fn from_images(alloc: Global, degree: u32, images: Vec<u32>) -> Result<Transf, NoMemory>
+    requires degree { length images.items ≡ degree }
+    requires images { AreImages images.items }
+    ensures { IfOk result (λ t. t ≡ images.items) }
+{
+    if degree <= 16 {
+        let form = Form::Packed(degree, pack(&images));
+        return Ok(Transf { form });
+    }
+    let form = Form::Long(Box::new(alloc, images)?);
+    Ok(Transf { form })
+}
+
 impl Transf {
     /// The number of points.
     pub fn degree(&self) -> usize
         ensures degree { result ≡ length self.now }
         ensures images { AreImages self.now }
     {
-        self.images.len()
+        match &self.form {
+            Form::Packed(n, _) => *n as usize,
+            Form::Long(images) => images.len(),
+        }
+    }
+
+    // The image of a point.
+    fn image(&self, point: usize) -> u32
+        requires { point < length self.now }
+        ensures { result ≡ slice_index_or self.now point 0 }
+    {
+        match &self.form {
+            Form::Packed(n, x) => digit(*x, *n - 1 - point as u32) as u32,
+            Form::Long(images) => images[point],
+        }
     }
 
     /// The transformation of `degree` points with these images, in their order. Refused with
@@ -185,28 +303,20 @@ impl Transf {
         if fields.len() != degree as usize {
             return Err(ElementFault::BadCount);
         }
-        let mut images = Vec::with_capacity(alloc, fields.len())?;
-        for (i, field) in fields.iter().enumerate() {
-            match image_below(*field, degree) {
-                Some(y) => images.push(y)?,
-                None => return Err(ElementFault::BadEntry(i)),
-            }
+        let images = read_images(alloc, degree, fields)?;
+        match from_images(alloc, degree, images) {
+            Ok(made) => Ok(made),
+            Err(_) => Err(ElementFault::NoMemory),
         }
-        Ok(Transf { images })
     }
 
     /// The images in decimal, with one space between each two.
     pub fn print(&self, alloc: Global) -> Result<Vec<u8>, NoMemory>
         ensures { IfOk result (λ text. text.items ≡ join_by decimal (codes " ") self.now) }
     {
-        let mut text = Vec::new(alloc);
-        let mut buffer = Buffer::new();
-        for (i, y) in self.images.iter().enumerate() {
-            if 0 < i {
-                text.push(b' ')?;
-            }
-            text.extend_from_slice(buffer.format(*y).as_bytes())?;
+        match &self.form {
+            Form::Packed(n, x) => print_images(alloc, &unpack(alloc, *n, *x)?),
+            Form::Long(images) => print_images(alloc, images),
         }
-        Ok(text)
     }
 }

@@ -19,16 +19,16 @@ returns-in-Some-clause-repeated c = λ place _ _ p.
     let same : found ≡ place = one_first_repeat fields found place (subst (λ f. IsFirstRepeat f found) named again) p in
     inl (ap (λ k. Err (NotInjective k)) same)
 
-pub returns-clause-repeated : goal.returns-clause-repeated
-returns-clause-repeated c = λ place _ _ p.
+pub returns-in-Ok-clause-repeated : goal.returns-in-Ok-clause-repeated
+returns-in-Ok-clause-repeated c = λ place _ _ p.
     let images : List (Option ℕ) = c.deref.result.now in
     let fields : List Field = c.args.fields.now in
     let once : IsInjective images = MatchOption-at_none (IsInjective images) (IsFirstAgain images) c.in_default.is c.in_ok-place.ensures in
     let named : map field_of images ≡ fields = ap (map field_of) c.deref.ensures.value ∙ c.in_ok-images.ensures.entries in
     absurd (no_repeat images place once (subst (λ f. IsFirstRepeat f place) (sym named) p))
 
-pub invariant_of-result : goal.invariant_of-result
-invariant_of-result c =
+pub from_images-requires : goal.from_images-requires
+from_images-requires c =
     let images : List (Option ℕ) = c.in_ok-images.images.items in
     let seen : List (Option ℕ) = c.deref.result.now in
     let once : IsInjective seen = MatchOption-at_none (IsInjective seen) (IsFirstAgain seen) c.in_default.is c.in_ok-place.ensures in

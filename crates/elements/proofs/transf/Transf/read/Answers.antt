@@ -1,23 +1,5 @@
-use Rattle.std.proofs.Common.{◌≡◌, ℕ, List, [], ◌∷◌, ◌++◌, ◌<◌, take, slice_get, Some, arith, sym, ap, ◌∙◌, below_more}
-use Rattle.std.proofs.lemmas.Grind.{common_steps}
-use Rattle.std.proofs.lemmas.List.{take_more, map-append}
-use Rattle.std.proofs.lemmas.List.Elements.{All-append}
-use Rattle.std.proofs.lemmas.Option.{slice_get-get_or}
-use Rattle.elements.specs.declared.field.Field.{Field}
-use Rattle.elements.specs.declared.field.Field.TheVariants.{Number}
+use Rattle.std.proofs.Common.{inl, inr}
 use Rattle.elements.proofs.transf.Transf.read.Goals as goal
 
-pub loop-i-preserved : goal.loop-i-preserved
-loop-i-preserved c =
-    let pushed = c.in_ok-push-in-Some.ensures.items in
-    let read = c.in-Some.ensures in
-    let inv = c.loop-i.invariant in
-    let fields : List Field = c.args.fields.now in
-    let y : ℕ = c.in-Some.y in
-    let at : slice_get fields c.loop-i.i ≡ Some (Number y) = slice_get-get_or fields c.loop-i.i _ c.loop-i-test.true ∙ ap Some read.0 in
-    record {
-      images = rw (pushed, map-append) (ap (λ t. t ++ Number y ∷ []) inv.images ∙ ap (λ f. take c.loop-i.i fields ++ f ∷ []) (sym read.0) ∙ sym (take_more fields c.loop-i.i _ c.loop-i-test.true));
-      in_range = rw pushed (All-append (λ k. k < c.args.degree) c.loop-i.images.items (y ∷ []) inv.in_range (grind (arith, common_steps)));
-      count = grind (arith, common_steps);
-      before = below_more _ _ inv.before (rw at read.1);
-    }
+pub returns-in-Ok-clause-refused : goal.returns-in-Ok-clause-refused
+returns-in-Ok-clause-refused c = λ place _ p. elim (c.in_ok-images.ensures.refused place p) [ inl h ↦ absurd (cc) | inr h ↦ absurd (cc) ]

@@ -1,0 +1,10 @@
+use Rattle.std.proofs.Common.{fold, sym, ap, subst, ◌∙◌}
+use Rattle.elements.specs.Hashes.{partial_hash}
+use Rattle.elements.specs.PPermForms.{images_of, IsForm}
+use Rattle.elements.proofs.OptionalDigits.{packed_partial_hash}
+use Rattle.elements.proofs.pperm.PPermHash.hash.Goals as goal
+
+pub returns-in-Packed : goal.returns-in-Packed
+returns-in-Packed g c =
+    let form = subst IsForm c.in-Packed.is c.self.invariant in
+    c.write_u64.ensures ∙ ap (fold g.H.Hasher.write c.args.state.now) (sym (packed_partial_hash c.in-Packed.field-0 c.in-Packed.x form.0 form.1) ∙ ap partial_hash (sym (ap images_of c.in-Packed.is) ∙ c.self.view_is))
