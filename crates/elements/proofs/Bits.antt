@@ -45,17 +45,6 @@ pub same_bits : (n x y : ℕ) → ((j : ℕ) → j < n → bit_at x j ≡ bit_at
 same_bits zero x y h = refl
 same_bits (suc n) x y h = λ t. (h n (omega arith) t == 1) ∷ same_bits n x y (λ j lt. h j (omega arith)) t
 
--- the digits of one number behind those of another
-pub bits_cat : (a b x y : ℕ) → y < 2 ^ b → bits (a + b) (x * 2 ^ b + y) ≡ bits a x ++ bits b y
-bits_cat zero b x y h =
-    let none : zero + b ≡ b = omega arith in
-    ap (λ n. bits n (x * 2 ^ b + y)) none ∙ same_bits b (x * 2 ^ b + y) y (λ j lt. bit_at_cat_low x b y j lt)
-bits_cat (suc a) b x y h =
-    let more : suc a + b ≡ suc (a + b) = omega arith in
-    let back : (a + b) - b ≡ a = omega arith in
-    let top : bit_at (x * 2 ^ b + y) (a + b) ≡ bit_at x a = bit_at_cat_high x b y (a + b) h (omega arith) ∙ ap (bit_at x) back in
-    ap (λ n. bits n (x * 2 ^ b + y)) more ∙ (λ t. (top t == 1) ∷ bits_cat a b x y h t)
-
 -- row i of n rows of n digits
 pub row_bits : (n x i m row : ℕ) → i + suc m ≡ n → row ≡ bit_and (x / 2 ^ (n * m)) (2 ^ n - 1) → bits n row ≡ between (i * n) (i * n + n) (bits (n * n) x)
 row_bits n x i m row e is =
@@ -75,24 +64,6 @@ row_bits n x i m row e is =
   where
     below_one : (a : ℕ) → a < 2 → min a 1 ≡ a
     below_one a h = omega arith
-
-or_of_ones : (a b : ℕ) → a < 2 → b < 2 → (max a b == 1) ≡ ((a == 1) || (b == 1))
-or_of_ones zero zero p q = refl
-or_of_ones zero (suc zero) p q = refl
-or_of_ones (suc zero) zero p q = refl
-or_of_ones (suc zero) (suc zero) p q = refl
-or_of_ones (suc (suc a)) b p q = absurd (omega arith)
-or_of_ones zero (suc (suc b)) p q = absurd (omega arith)
-or_of_ones (suc zero) (suc (suc b)) p q = absurd (omega arith)
-
-or_false : (b : Bool) → b ≡ (b || false)
-or_false true = refl
-or_false false = refl
-
--- a digit of a sum, to which a row is added where a bit is set
-pub digit_more : (sum row next q : ℕ) (bit : Bool) → next ≡ (if bit then bit_or sum row else sum) → (bit_at next q == 1) ≡ ((bit_at sum q == 1) || (bit && (bit_at row q == 1)))
-digit_more sum row next q true e = ap (λ z. bit_at z q == 1) e ∙ ap (λ z. z == 1) (bit_at_or sum row q) ∙ or_of_ones (bit_at sum q) (bit_at row q) (bit_at-lt sum q) (bit_at-lt row q)
-digit_more sum row next q false e = ap (λ z. bit_at z q == 1) e ∙ or_false (bit_at sum q == 1)
 
 one_of_two : (a b : ℕ) → a < 2 → b < 2 → (a == 1) ≡ (b == 1) → a ≡ b
 one_of_two zero zero p q e = refl
@@ -219,43 +190,6 @@ number_of_bits n x h below =
     let lower : bits_number (bits n x) < 2 ^ n = subst (λ k. bits_number (bits n x) < 2 ^ k) long back.1 in
     same_from_digits n (bits_number (bits n x)) x lower below (ap (λ k. bits k (bits_number (bits n x))) (sym long) ∙ back.0)
 
--- a row's product: a digit of the sum, with one row more
-module _ (n row right : ℕ) where
-  -- the terms of column j
-  abbrev pub term_of : ℕ → ℕ → Bool
-  term_of j k = get_or (bits n row) k false && get_or (bits (n * n) right) (k * n + j) false
-
-  -- each digit of the sum, as far as row k
-  abbrev pub AreSums : ℕ → ℕ → Type 0
-  AreSums k sum = (j q : ℕ) → j + suc q ≡ n → (bit_at sum q == 1) ≡ sum_below ◌||◌ ◌&&◌ false (term_of j) k
-
-  pub sums_none : AreSums 0 0
-  sums_none j q e = ap (λ z. z == 1) (bit_at-zero q)
-
-  pub sums_more : (k m sum next part : ℕ) (bit : Bool) → k + suc m ≡ n → bit ≡ (bit_at row m == 1) → bits n part ≡ between (k * n) (k * n + n) (bits (n * n) right) → next ≡ (if bit then bit_or sum part else sum) → AreSums k sum → AreSums (k + 1) next
-  sums_more k m sum next part bit e is row_is made so_far = λ j q last.
-      let whole : n * n ≡ (k + suc m) * n = ap (λ t. t * n) (sym e) in
-      let j_in : j < n = omega arith in
-      let first : bit ≡ get_or (bits n row) k false = is ∙ sym (bit_in n row k m false e) in
-      let second : (bit_at part q == 1) ≡ get_or (bits (n * n) right) (k * n + j) false =
-      sym (bit_in n part j q false last) ∙ ap (λ l. get_or l j false) row_is ∙ get_or-between (bits (n * n) right) (k * n) (k * n + n) j false (omega arith) in
-      sum_more ◌||◌ ◌&&◌ false (term_of j) k (bit_at sum q == 1) (bit_at next q == 1) (bit && (bit_at part q == 1)) (digit_more sum part next q bit made) (so_far j q last) (λ t. first t && second t)
-
-  pub sums_all : (sum : ℕ) → AreSums n sum → bits n sum ≡ map (row_by_column ◌||◌ ◌&&◌ false (bits n row) (bits (n * n) right)) (range_with_len 0 n)
-  sums_all sum all = fill_by_all (row_by_column ◌||◌ ◌&&◌ false (bits n row) (bits (n * n) right)) (bits n sum) n false (length-bits n sum) (λ j lt.
-      let q : ℕ = n - (j + 1) in
-      let last : j + suc q ≡ n = omega arith in
-      bit_in n sum j q false last ∙ all j q last
-      ∙ ap (λ h. sum_below ◌||◌ ◌&&◌ false (λ k. get_or (bits n row) k false && get_or (bits (n * n) right) (k * h + j) false) h) (sym (length-bits n row)))
-
--- the rows above, and one row more
-pub product_more : (n x y i row done part next : ℕ) → i < n → bits n row ≡ between (i * n) (i * n + n) (bits (n * n) x) → part < 2 ^ n → bits n part ≡ map (row_by_column ◌||◌ ◌&&◌ false (bits n row) (bits (n * n) y)) (range_with_len 0 n) → next ≡ done * 2 ^ n + part → bits (i * n) done ≡ map (λ p. product_entry ◌||◌ ◌&&◌ false n (bits (n * n) x) (bits (n * n) y) (p / n) (p % n)) (range_with_len 0 (i * n)) → bits ((i + 1) * n) next ≡ map (λ p. product_entry ◌||◌ ◌&&◌ false n (bits (n * n) x) (bits (n * n) y) (p / n) (p % n)) (range_with_len 0 ((i + 1) * n))
-product_more n x y i row done part next in_rows row_is below part_is made so_far =
-    let more : (i + 1) * n ≡ i * n + n = omega arith in
-    let pushed : bits ((i + 1) * n) next ≡ bits (i * n) done ++ map (row_by_column ◌||◌ ◌&&◌ false (bits n row) (bits (n * n) y)) (range_with_len 0 (length (bits n row))) =
-    (λ t. bits (more t) (made t)) ∙ bits_cat (i * n) n done part below ∙ ap (λ l. bits (i * n) done ++ l) (part_is ∙ ap (λ h. map (row_by_column ◌||◌ ◌&&◌ false (bits n row) (bits (n * n) y)) (range_with_len 0 h)) (sym (length-bits n row))) in
-    rows_more ◌||◌ ◌&&◌ false n (bits (n * n) x) (bits (n * n) y) i (bits (i * n) done) (bits ((i + 1) * n) next) (bits n row) (length-bits (n * n) x) in_rows row_is pushed so_far
-
 -- what a hasher is fed for a packed matrix that has a row
 pub packed_hash : (k x : ℕ) → 0 < k → k ≤ 64 → x < 2 ^ k → bits_hash (bits k x) ≡ fed.u64 x
 packed_hash k x some few below =
@@ -268,11 +202,6 @@ packed_hash k x some few below =
   where
     between_all : (xs : List Bool) → between 0 (length xs) xs ≡ xs
     between_all xs = between_from_start xs (length xs) ∙ take-length xs
-
--- a sum of rows stays as short as they are
-pub sum_below_power : (n sum part next : ℕ) (bit : Bool) → next ≡ (if bit then bit_or sum part else sum) → sum < 2 ^ n → part < 2 ^ n → next < 2 ^ n
-sum_below_power n sum part next true e p q = rw e (or_lt n sum part p q)
-sum_below_power n sum part next false e p q = rw e p
 
 -- a number with n digits more
 pub shifted_in : (n k x y : ℕ) → k + n ≤ 64 → x < 2 ^ k → y < 2 ^ n → bit_or (x * 2 ^ n % 2 ^ 64) y ≡ x * 2 ^ n + y

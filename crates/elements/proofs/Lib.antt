@@ -1,3 +1,4 @@
+pub mod Columns
 pub mod Compared
 pub mod OptionalDigits
 pub mod Digits

@@ -6,7 +6,7 @@ use Rattle.std.proofs.lemmas.List.FromFn.{get_or-map-range_with_len, length-map-
 use Rattle.std.proofs.lemmas.Nat.{mul-add-lt, div-mul-add, mod-mul-add, div_below, mod_below}
 use Rattle.elements.specs.Matrix.{table, sum_below, entry_at, product_entry, matrix_product, IsSemiring}
 
-above_zero : (n p : ℕ) → p < n * n → 0 < n
+pub above_zero : (n p : ℕ) → p < n * n → 0 < n
 above_zero zero p h = absurd (Prim.omega arith)
 above_zero (suc n) p h = Prim.omega arith
 

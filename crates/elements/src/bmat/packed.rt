@@ -1,11 +1,10 @@
 // Boolean matrices of up to eight rows as the binary digits of one number, the first entry the
 // highest one.
-ghost use Rattle.std.specs.Prelude.{◌≡◌, ◌*◌, ◌+◌, ◌<◌, ◌≤◌, ◌^◌, ◌||◌, ◌&&◌, ◌==◌, false, IfOk, bit_or, map, length};
-ghost use Rattle.std.specs.Bool.{if◌then◌else◌};
+ghost use Rattle.std.specs.Prelude.{◌≡◌, ◌*◌, ◌+◌, ◌<◌, ◌≤◌, ◌^◌, ◌||◌, ◌&&◌, ◌==◌, false, IfOk, length};
 ghost use Rattle.std.specs.Int.{bit_at};
-ghost use Rattle.std.specs.List.{between, range_with_len};
-ghost use Rattle.elements.specs.Bits.{bits};
-ghost use Rattle.elements.specs.Matrix.{row_by_column, matrix_product};
+ghost use Rattle.std.specs.List.{between};
+ghost use Rattle.elements.specs.Bits.{bits, column_of_ones};
+ghost use Rattle.elements.specs.Matrix.{matrix_product};
 
 use ports::NoMemory;
 use std::alloc::Global;
@@ -40,37 +39,31 @@ fn row_at(n: u32, x: u64, i: u32) -> u64
     x >> (n * (n - 1 - i)) & ((1 << n) - 1)
 }
 
-// A sum of rows, and one row more if its bit is set.
-fn add_if(sum: u64, bit: bool, row: u64) -> u64
-    ensures { result ≡ if bit then bit_or sum row else sum }
+// The matrix of n rows whose last column is ones, and all else zeros.
+fn last_column(n: u32) -> u64
+    requires { n ≤ 8 }
+    ensures { result ≡ column_of_ones n n }
 {
-    if bit { sum | row } else { sum }
-}
-
-// A row of the left matrix times the right matrix: the rows of the right one at its bits.
-fn row_product(n: u32, row: u64, right: u64) -> u64
-    requires few { n ≤ 8 }
-    ensures row { bits n result ≡ map
-        (row_by_column ◌||◌ ◌&&◌ false (bits n row) (bits (n * n) right)) (range_with_len 0 n) }
-    ensures below { result < 2 ^ n }
-{
-    let mut sum = 0;
-    for k in 0..n {
-        sum = add_if(sum, is_set(row, n - 1 - k), row_at(n, right, k));
+    let mut ones = 0;
+    for _ in 0..n {
+        ones = ones << n | 1;
     }
-    sum
+    ones
 }
 
-// The product of two matrices of n rows.
+// The product of two matrices of n rows: the sum of each column of the left one times the row of
+// the right one at the same place.
 pub(crate) fn packed_product(n: u32, left: u64, right: u64) -> u64
     requires few { n ≤ 8 }
     ensures product { bits (n * n) result ≡ matrix_product ◌||◌ ◌&&◌ false n
         (bits (n * n) left) (bits (n * n) right) }
     ensures below { result < 2 ^ (n * n) }
 {
+    let ones = last_column(n);
     let mut product = 0;
-    for i in 0..n {
-        product = product << n | row_product(n, row_at(n, left, i), right);
+    for k in 0..n {
+        let column = left >> (n - 1 - k) & ones;
+        product |= column * row_at(n, right, k);
     }
     product
 }
