@@ -30,7 +30,8 @@ struct LongMatrix {
     entries: Vec<bool>,
 }
 
-// Up to eight rows are the binary digits of one number, the first entry the highest one.
+// Up to eight rows are the binary digits of one number, the first entry the highest one. The
+// dimension stands before it.
 #[derive(Drop)]
 enum Form {
     Packed(u32, u64),

@@ -25,7 +25,7 @@ use theory::values::Values;
 mod packed;
 
 // Up to fifteen images are the digits of one number in base 16, the first image the highest one: 0
-// for none, and else the image plus one.
+// for none, and else the image plus one. The degree stands before it.
 #[derive(Drop)]
 enum Form {
     Packed(u32, u64),

@@ -25,6 +25,7 @@ use theory::values::Values;
 mod packed;
 
 // Up to sixteen images are the digits of one number in base 16, the first image the highest one.
+// The degree stands before it.
 #[derive(Drop)]
 enum Form {
     Packed(u32, u64),

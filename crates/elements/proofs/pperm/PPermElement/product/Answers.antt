@@ -1,10 +1,9 @@
 use Rattle.std.proofs.Common.{◌≡◌, map, ℕ, List, length, sym, ap, subst, ◌∙◌, arith}
 use Rattle.std.proofs.lemmas.Grind.{common_steps}
-use Rattle.elements.specs.Digits.{digits}
+use Rattle.elements.specs.Digits.{optional, optional_digits}
 use Rattle.std.proofs.lemmas.List.{length-map}
 use Rattle.std.specs.Prelude.{Option, All, None}
 use Rattle.elements.specs.Fields.{IsBelow}
-use Rattle.elements.specs.Optional.{optional}
 use Rattle.elements.specs.PPerm.{partial_image, partially_composed, ArePartialImages}
 use Rattle.elements.specs.PPermForms.{images_of, IsForm}
 use Rattle.elements.proofs.PartialProducts.{composed_partial_images}
@@ -15,28 +14,28 @@ pub invariant_of-result : goal.invariant_of-result
 invariant_of-result c =
     let n : ℕ = c.in-Packed.n in
     let m : ℕ = c.in-Packed-form.field-0 in
-    let x : List (Option ℕ) = map optional (digits n c.in-Packed.x) in
-    let y : List (Option ℕ) = map optional (digits m c.in-Packed-form.y) in
+    let x : List (Option ℕ) = optional_digits n c.in-Packed.x in
+    let y : List (Option ℕ) = optional_digits m c.in-Packed-form.y in
     let left : x ≡ c.args.self.now = sym (ap images_of c.in-Packed.is) ∙ c.self.view_is in
     let right : y ≡ c.args.other.now = sym (ap images_of c.in-Packed-form.is) ∙ c.other.view_is in
     let p = subst IsForm c.in-Packed.is c.self.invariant in
     let q = subst IsForm c.in-Packed-form.is c.other.invariant in
     let one_shape : length x ≡ length y = ap length left ∙ ap (λ s. s.0) c.requires ∙ sym (ap length right) in
     let same : n ≡ m = sym (length-optional n c.in-Packed.x) ∙ one_shape ∙ length-optional m c.in-Packed-form.y in
-    let made : map optional (digits n c.packed_product.result) ≡ partially_composed x y = c.packed_product.ensures.product ∙ ap (λ k. partially_composed x (map optional (digits k c.in-Packed-form.y))) same in
+    let made : optional_digits n c.packed_product.result ≡ partially_composed x y = c.packed_product.ensures.product ∙ ap (λ k. partially_composed x (optional_digits k c.in-Packed-form.y)) same in
     (p.0, c.packed_product.ensures.below, subst ArePartialImages (sym made) (composed_partial_images x y one_shape p.2 q.2))
 
 pub returns-in-Packed-form : goal.returns-in-Packed-form
 returns-in-Packed-form c =
     let n : ℕ = c.in-Packed.n in
     let m : ℕ = c.in-Packed-form.field-0 in
-    let x : List (Option ℕ) = map optional (digits n c.in-Packed.x) in
-    let y : List (Option ℕ) = map optional (digits m c.in-Packed-form.y) in
+    let x : List (Option ℕ) = optional_digits n c.in-Packed.x in
+    let y : List (Option ℕ) = optional_digits m c.in-Packed-form.y in
     let left : x ≡ c.args.self.now = sym (ap images_of c.in-Packed.is) ∙ c.self.view_is in
     let right : y ≡ c.args.other.now = sym (ap images_of c.in-Packed-form.is) ∙ c.other.view_is in
     let one_shape : length x ≡ length y = ap length left ∙ ap (λ s. s.0) c.requires ∙ sym (ap length right) in
     let same : n ≡ m = sym (length-optional n c.in-Packed.x) ∙ one_shape ∙ length-optional m c.in-Packed-form.y in
-    c.packed_product.ensures.product ∙ ap (λ k. partially_composed x (map optional (digits k c.in-Packed-form.y))) same ∙ (λ t. partially_composed (left t) (right t))
+    c.packed_product.ensures.product ∙ ap (λ k. partially_composed x (optional_digits k c.in-Packed-form.y)) same ∙ (λ t. partially_composed (left t) (right t))
 
 pub unreachable-requires : goal.unreachable-requires
 unreachable-requires c =
@@ -73,4 +72,4 @@ pub packed_product-requires-clause-images : goal.packed_product-requires-clause-
 packed_product-requires-clause-images c =
     let n : ℕ = c.in-Packed.n in
     let p = subst IsForm c.in-Packed.is c.self.invariant in
-    subst (λ k. All (IsBelow k) (map optional (digits n c.in-Packed.x))) (length-optional n c.in-Packed.x) p.2.in_range
+    subst (λ k. All (IsBelow k) (optional_digits n c.in-Packed.x)) (length-optional n c.in-Packed.x) p.2.in_range

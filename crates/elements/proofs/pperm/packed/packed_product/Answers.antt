@@ -1,6 +1,5 @@
 use Rattle.std.proofs.Common.{◌≡◌, ℕ, refl, ap, ◌∙◌, map, arith}
-use Rattle.elements.specs.Digits.{digits}
-use Rattle.elements.specs.Optional.{optional}
+use Rattle.elements.specs.Digits.{optional, optional_digits}
 use Rattle.elements.specs.PPerm.{partial_image}
 use Rattle.elements.proofs.OptionalDigits.{digit_within, product_more, product_all}
 use Rattle.elements.proofs.pperm.packed.packed_product.Goals as goal
@@ -10,7 +9,7 @@ image_digit-requires-clause-image c = omega (arith, c.digit.ensures.digit, digit
 
 pub loop-i-preserved : goal.loop-i-preserved
 loop-i-preserved c =
-    let right = map optional (digits c.args.n c.args.right) in
+    let right = optional_digits c.args.n c.args.right in
     let step = product_more c.args.n c.args.left c.args.right c.loop-i.i c.loop-i.product _ c.image_digit.result c.requires.few c.loop-i-test.true c.image_digit.ensures.below (c.image_digit.ensures.digit ∙ ap (λ d. partial_image right (optional d)) c.digit.ensures.digit) refl c.loop-i.invariant.images c.loop-i.invariant.below in
     record { images = step.0; below = step.1 }
 
