@@ -114,9 +114,6 @@ module _ (n left right : ℕ) where
   abbrev pub column_by_row : ℕ → ℕ → ℕ
   column_by_row k row = bit_and (left / 2 ^ (n - 1 - k)) (column_of_ones n n) * row
 
-  pub sums_none : AreSums 0 0
-  sums_none i j m q e f = ap (λ z. z == 1) (bit_at-zero (n * m + q))
-
   pub column_below : (k row : ℕ) → k < n → row < 2 ^ n → column_by_row k row < 2 ^ (n * n)
   column_below k row within small = (column_times n n (left / 2 ^ (n - 1 - k)) row (omega arith) small).below
 

@@ -13,7 +13,7 @@ use Rattle.std.specs.Bool.{if◌then◌else◌, nat_le}
 use Rattle.std.specs.Hash as fed
 use Rattle.std.proofs.Math.Seq.{take-length}
 use Rattle.std.proofs.lemmas.List.{take_more, map-append}
-use Rattle.elements.specs.Hashes.{images_hash, pairs_hash}
+use Rattle.elements.specs.Hashes.{images_hash, octets_hash}
 use Rattle.elements.specs.Digits.{digit_at, digits}
 use Rattle.elements.specs.Transf.{image, composed, AreImages}
 use Rattle.elements.proofs.Bits.{small, same_tests}
@@ -75,12 +75,6 @@ digits_equal n m x y e p q =
     (λ h. (unsigned_Decides x y).1 (same_from_digits n x y p (subst (λ k. y < 2 ^ (4 * k)) (sym e) q) ((pointwise_decides unsigned_Decides (digits n x) (digits n y)).0 h)))
     ∙ ap (λ k. pointwise ◌==◌ (digits n x) (digits k y)) e
 
--- digits so far, and one more
-pub unpack_more : (count x i m d : ℕ) (done items : List ℕ) → suc m ≡ count - i → d ≡ digit_at x m → items ≡ done ++ d ∷ [] → done ++ digits (count - i) x ≡ digits count x → items ++ digits (count - (i + 1)) x ≡ digits count x
-unpack_more count x i m d done items e is more so_far =
-    let rest : count - (i + 1) ≡ m = omega arith in
-    (λ t. more t ++ digits (rest t) x) ∙ append_assoc done (d ∷ []) (digits m x) ∙ ap (λ b. done ++ b ∷ digits m x) is ∙ ap (λ k. done ++ digits k x) e ∙ so_far
-
 -- up to sixteen images in the list, one of them after the others
 pub pack_more : (images : List ℕ) (x i next : ℕ) → length images ≤ 16 → All (λ y. y < 16) images → i < length images → next ≡ bit_or (x * 2 ^ 4 % 2 ^ 64) (get_or images i 0) → digits i x ≡ take i images → x < 2 ^ (4 * i) → (digits (i + 1) next ≡ take (i + 1) images) × (next < 2 ^ (4 * (i + 1)))
 pack_more images x i next few small_ones within is so_far below =
@@ -118,4 +112,4 @@ pub packed_images_hash : (n x : ℕ) → n ≤ 16 → x < 2 ^ (4 * n) → images
 packed_images_hash n x few below =
     let within : length (digits n x) ≤ 16 = omega (arith, length-digits n x) in
     let test : nat_le (length (digits n x)) 16 ≡ true = search rules in
-    ap (λ b. if b then fed.u64 (number_from_digits 16 (digits n x)) else pairs_hash (digits n x)) test ∙ ap fed.u64 (number_of_digits n x below)
+    ap (λ b. if b then fed.u64 (number_from_digits 16 (digits n x)) else octets_hash (digits n x)) test ∙ ap fed.u64 (number_of_digits n x below)

@@ -26,18 +26,18 @@ partial_hash x =
     if nat_le (length x) 15 then fed.u64 (number_from_digits 16 (map entry_number x))
     else entries_hash x
 
--- the images at i and i + 1 as one number, with 0 past the end
-abbrev pub image_pair : List ℕ → ℕ → ℕ
-image_pair x i = slice_index_or x i 0 + slice_index_or x (i + 1) 0 * 2 ^ 32
+-- the images from i on as one number, eight at most
+abbrev pub octet : List ℕ → ℕ → ℕ
+octet x i = fold (λ n y. bit_or (n * 2 ^ 8 % 2 ^ 64) y) 0 (between i (min (i + 8) (length x)) x)
 
--- one number for each two images
-abbrev pub pairs_hash : List ℕ → fed.HashWrites
-pairs_hash x =
-    numbers_hash (map (λ k. image_pair x (2 * k)) (range_with_len 0 (div_ceil (length x) 2)))
+-- one number for each eight images
+abbrev pub octets_hash : List ℕ → fed.HashWrites
+octets_hash x =
+    numbers_hash (map (λ k. octet x (8 * k)) (range_with_len 0 (div_ceil (length x) 8)))
 
--- up to sixteen images as the digits of one number in base 16, and else one number for each two
+-- up to sixteen images as the digits of one number in base 16, and else one number for each eight
 abbrev pub images_hash : List ℕ → fed.HashWrites
-images_hash x = if nat_le (length x) 16 then fed.u64 (number_from_digits 16 x) else pairs_hash x
+images_hash x = if nat_le (length x) 16 then fed.u64 (number_from_digits 16 x) else octets_hash x
 
 -- the last 64 of these bits as a number
 abbrev pub bits_number : List Bool → ℕ

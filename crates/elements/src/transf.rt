@@ -7,14 +7,15 @@ ghost use Rattle.std.specs.Cmp.Rules.{comparing};
 ghost use Rattle.std.specs.Ordering.{nat_cmp, as_partial_cmp};
 ghost use Rattle.elements.specs.Fields.{IsImage, IsFirstBad};
 ghost use Rattle.elements.specs.Transf.{composed, AreImages};
-ghost use Rattle.elements.specs.Hashes.{image_pair, pairs_hash, images_hash};
+ghost use Rattle.elements.specs.Hashes.{images_hash};
 ghost use Rattle.elements.specs.TransfLaws.{images_alike, composed_products, one_degree};
 
 use super::base_sixteen::digit;
 use super::element::Element;
 use super::field::{ElementFault, Field};
+use images::Images;
 use itoa::Buffer;
-use packed::{pack, packed_product, unpack};
+use packed::{pack, packed_product};
 use ports::NoMemory;
 use std::alloc::Global;
 use std::cmp::{Ordering, min};
@@ -22,6 +23,7 @@ use std::hash::{Hash, Hasher};
 use std::marker::Model;
 use theory::values::Values;
 
+mod images;
 mod packed;
 
 // Up to sixteen images are the digits of one number in base 16, the first image the highest one.
@@ -29,7 +31,7 @@ mod packed;
 #[derive(Drop)]
 enum Form {
     Packed(u32, u64),
-    Long(Box<Vec<u32>>),
+    Long(Box<Images>),
 }
 
 /// A transformation of the points 0 to n - 1: the list of their images (libsemigroups, `Transf` and
@@ -112,7 +114,7 @@ impl Hash for Transf {
     fn hash<H: Hasher>(&self, state: &mut H) {
         match &self.form {
             Form::Packed(_, x) => state.write_u64(*x),
-            Form::Long(images) => hash_images(images, state),
+            Form::Long(images) => images.feed(state),
         }
     }
 }
@@ -144,7 +146,7 @@ impl Element for Transf {
             Form::Long(left) => match &other.form {
                 Form::Packed(_, _) => unreachable!(),
                 Form::Long(right) => {
-                    let images = compose(alloc, left, right)?;
+                    let images = left.compose(alloc, right)?;
                     let form = Form::Long(Box::new(alloc, images)?);
                     Ok(Transf { form })
                 }
@@ -159,47 +161,12 @@ impl Element for Transf {
                 Ok(Transf { form })
             }
             Form::Long(images) => {
-                let images = Vec::from_slice(alloc, images.as_slice())?;
+                let images = images.copy(alloc)?;
                 let form = Form::Long(Box::new(alloc, images)?);
                 Ok(Transf { form })
             }
         }
     }
-}
-
-// The images of the left list under the right one.
-fn compose(alloc: Global, left: &[u32], right: &[u32]) -> Result<Vec<u32>, NoMemory>
-    requires { All (λ y. y < length right.now) left.now }
-    ensures { IfOk result (λ images. images.items ≡ composed left.now right.now) }
-{
-    let mut images = Vec::with_capacity(alloc, left.len())?;
-    for y in left {
-        images.push(right[*y as usize])?;
-    }
-    Ok(images)
-}
-
-// Feeds a hasher one number for each two images. The degree is left out, since the transformations
-// of a set have the same one.
-fn hash_images<H: Hasher>(images: &[u32], state: &mut H)
-    ensures { state.new ≡ fold H.write state.old (pairs_hash images.now) }
-{
-    for k in 0..images.len().div_ceil(2) {
-        state.write_u64(pair_at(images, 2 * k));
-    }
-}
-
-// The images at i and i + 1 as one number, with 0 past the end.
-fn pair_at(images: &[u32], i: usize) -> u64
-    requires { i < length images.now }
-    ensures { result ≡ image_pair images.now i }
-{
-    let second = if i + 1 < images.len() {
-        images[i + 1]
-    } else {
-        0
-    };
-    images[i] as u64 + ((second as u64) << 32)
 }
 
 // The image that an entry names, if it is below the degree.
@@ -234,21 +201,6 @@ fn read_images(alloc: Global, degree: u32, fields: &[Field]) -> Result<Vec<u32>,
     Ok(images)
 }
 
-// The images in decimal, with one space between each two.
-fn print_images(alloc: Global, images: &[u32]) -> Result<Vec<u8>, NoMemory>
-    ensures { IfOk result (λ text. text.items ≡ join_by decimal (codes " ") images.now) }
-{
-    let mut text = Vec::new(alloc);
-    let mut buffer = Buffer::new();
-    for (i, y) in images.iter().enumerate() {
-        if 0 < i {
-            text.push(b' ')?;
-        }
-        text.extend_from_slice(buffer.format(*y).as_bytes())?;
-    }
-    Ok(text)
-}
-
 // The transformation with these images, packed if they are up to sixteen.
 fn from_images(alloc: Global, degree: u32, images: Vec<u32>) -> Result<Transf, NoMemory>
     requires degree { length images.items ≡ degree }
@@ -259,7 +211,7 @@ fn from_images(alloc: Global, degree: u32, images: Vec<u32>) -> Result<Transf, N
         let form = Form::Packed(degree, pack(&images));
         return Ok(Transf { form });
     }
-    let form = Form::Long(Box::new(alloc, images)?);
+    let form = Form::Long(Box::new(alloc, Images::from_vec(alloc, images)?)?);
     Ok(Transf { form })
 }
 
@@ -282,7 +234,7 @@ impl Transf {
     {
         match &self.form {
             Form::Packed(n, x) => digit(*x, *n - 1 - point as u32) as u32,
-            Form::Long(images) => images[point],
+            Form::Long(images) => images.at(point),
         }
     }
 
@@ -315,9 +267,14 @@ impl Transf {
     pub fn print(&self, alloc: Global) -> Result<Vec<u8>, NoMemory>
         ensures { IfOk result (λ text. text.items ≡ join_by decimal (codes " ") self.now) }
     {
-        match &self.form {
-            Form::Packed(n, x) => print_images(alloc, &unpack(alloc, *n, *x)?),
-            Form::Long(images) => print_images(alloc, images),
+        let mut text = Vec::new(alloc);
+        let mut buffer = Buffer::new();
+        for point in 0..self.degree() {
+            if 0 < point {
+                text.push(b' ')?;
+            }
+            text.extend_from_slice(buffer.format(self.image(point)).as_bytes())?;
         }
+        Ok(text)
     }
 }

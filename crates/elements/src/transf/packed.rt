@@ -4,8 +4,6 @@ ghost use Rattle.elements.specs.Digits.{digits};
 ghost use Rattle.elements.specs.Transf.{AreImages, composed};
 
 use super::super::base_sixteen::digit;
-use ports::NoMemory;
-use std::alloc::Global;
 
 // The number whose digits are these images.
 pub(crate) fn pack(images: &[u32]) -> u64
@@ -19,18 +17,6 @@ pub(crate) fn pack(images: &[u32]) -> u64
         number = number << 4 | *y as u64;
     }
     number
-}
-
-// The last `count` digits.
-pub(crate) fn unpack(alloc: Global, count: u32, x: u64) -> Result<Vec<u32>, NoMemory>
-    requires { count ≤ 16 }
-    ensures { IfOk result (λ v. v.items ≡ digits count x) }
-{
-    let mut images = Vec::with_capacity(alloc, count as usize)?;
-    for i in 0..count {
-        images.push(digit(x, count - 1 - i) as u32)?;
-    }
-    Ok(images)
 }
 
 // The images of the left number's digits under the right one, where each has n of them.

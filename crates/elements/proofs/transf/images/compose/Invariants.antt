@@ -1,6 +1,6 @@
 use Rattle.std.proofs.Common.{◌≡◌, map, take}
 use Rattle.elements.specs.Transf.{image}
-use Rattle.elements.proofs.transf.compose.Given as goal
+use Rattle.elements.proofs.transf.images.compose.Given as goal
 
 -- the images so far
 abbrev pub invariant-loop-y : goal.invariant-loop-y
