@@ -1,5 +1,5 @@
 -- The product of packed Boolean matrices: columns of the left one times rows of the right one.
-use Rattle.std.proofs.Common.{◌≡◌, ℕ, zero, suc, ◌+◌, ◌-◌, ◌*◌, ◌/◌, ◌%◌, ◌^◌, ◌<◌, ◌≤◌, Bool, true, false, ◌&&◌, ◌||◌, ◌==◌, List, length, get_or, refl, sym, ap, subst, ◌∙◌, arith, max, min}
+use Rattle.std.proofs.Common.{◌≡◌, ℕ, zero, suc, ◌+◌, ◌-◌, ◌*◌, ◌/◌, ◌%◌, ◌^◌, ◌<◌, ◌≤◌, Bool, false, ◌&&◌, ◌||◌, ◌==◌, get_or, refl, sym, ap, subst, ◌∙◌, arith, max, min}
 use Rattle.std.specs.Prelude.{bit_or, bit_and}
 use Rattle.std.specs.Int.{bit_at}
 use Rattle.std.specs.Int.Bits.{and_zero_r}
@@ -8,7 +8,7 @@ use Rattle.std.proofs.Math.Nat.{div-add-mod, pow-le-pow_right}
 use Rattle.std.proofs.lemmas.List.Edits.{get_or-between}
 use Rattle.std.proofs.lemmas.List.FromFn.{fill_by_all}
 use Rattle.std.proofs.lemmas.Nat.{and_block, and_mask, mod_below, div_below, pow_pos, pow-add, mul-le, row_fits, shr-shr}
-use Rattle.std.proofs.lemmas.Nat.Bits.{bit_at_and, bit_at_or, bit_at-lt, bit_at-zero, bit_at_lowest, bit_at_cat_low, bit_at_cat_high}
+use Rattle.std.proofs.lemmas.Nat.Bits.{bit_at_or, bit_at-lt, bit_at-zero, bit_at_lowest, bit_at_cat_low, bit_at_cat_high}
 use Rattle.elements.specs.Bits.{bits, column_of_ones}
 use Rattle.elements.specs.MatrixLaws.{above_zero}
 use Rattle.elements.specs.Matrix.{sum_below, product_entry, matrix_product}

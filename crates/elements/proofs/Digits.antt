@@ -1,14 +1,10 @@
 -- The digits of a number in base 16.
-use Rattle.std.proofs.Common.{◌≡◌, ℕ, zero, suc, ◌+◌, ◌-◌, ◌*◌, ◌/◌, ◌%◌, ◌^◌, ◌<◌, ◌≤◌, Bool, true, false, ◌==◌, List, [], ◌∷◌, ◌++◌, length, map, take, drop, min, get_or, refl, sym, ap, subst, ◌∙◌, append_assoc, rules, arith}
-use Rattle.std.specs.Prelude.{bit_or, IsTrue, All}
+use Rattle.std.proofs.Common.{◌≡◌, ℕ, zero, suc, ◌+◌, ◌-◌, ◌*◌, ◌/◌, ◌%◌, ◌^◌, ◌<◌, ◌≤◌, true, ◌==◌, List, [], ◌∷◌, ◌++◌, length, map, take, get_or, refl, sym, ap, subst, ◌∙◌, rules, arith}
+use Rattle.std.specs.Prelude.{bit_or, All}
 use Rattle.std.specs.Int.Digits.{number_from_digits_after, number_from_digits}
-use Rattle.std.specs.declared.cmp.Ordering.{Ordering}
-use Rattle.std.specs.declared.cmp.Ordering.TheVariants.{Less, Equal, Greater}
-use Rattle.std.specs.Ordering.{nat_cmp, ordering_then, MatchOrdering}
-use Rattle.std.specs.Cmp.{nat_cmp_is, unsigned_Decides}
-use Rattle.std.specs.Cmp.Lexicographic.{slice_cmp, pointwise, pointwise_decides}
-use Rattle.std.proofs.lemmas.Nat.{pow_pos, shr-shr, shr_high, mod-pow-add, mod_below, mod_low, mul-le, or_shifted, or_lt, shl_whole, pow-add}
-use Rattle.theory.proofs.Words.{nat_Equal, nat_Less, nat_from_Equal}
+use Rattle.std.specs.Cmp.{unsigned_Decides}
+use Rattle.std.specs.Cmp.Lexicographic.{pointwise, pointwise_decides}
+use Rattle.std.proofs.lemmas.Nat.{shr-shr, shr_high, mod-pow-add, or_shifted, shl_whole, pow-add}
 use Rattle.std.specs.Bool.{if◌then◌else◌, nat_le}
 use Rattle.std.specs.Hash as fed
 use Rattle.std.proofs.Math.Seq.{take-length}

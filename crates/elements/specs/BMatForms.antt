@@ -1,5 +1,5 @@
 -- Boolean matrices as they are kept: up to eight rows as one number.
-use Rattle.std.specs.Prelude.{◌≡◌, ℕ, ◌*◌, ◌<◌, ◌≤◌, ◌^◌, length}
+use Rattle.std.specs.Prelude.{◌≡◌, ◌*◌, ◌<◌, ◌≤◌, ◌^◌, length}
 use Rattle.elements.specs.declared.bmat.Form.{Form}
 use Rattle.elements.specs.declared.bmat.Form.TheVariants.{Packed, Long}
 use Rattle.elements.specs.Bits.{bits}

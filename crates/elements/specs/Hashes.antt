@@ -1,6 +1,6 @@
 -- What a hasher is fed for an element: a few numbers. The elements of a set have one shape, so it
 -- is left out.
-use Rattle.std.specs.Prelude.{ℕ, ◌+◌, ◌*◌, ◌%◌, ◌^◌, min, bit_or, Bool, List, length, nat_le, map, fold, Option, Some, None, slice_index_or}
+use Rattle.std.specs.Prelude.{ℕ, ◌+◌, ◌*◌, ◌%◌, ◌^◌, min, bit_or, Bool, List, length, nat_le, map, fold, Option, Some, None}
 use Rattle.std.specs.Hash as fed
 use Rattle.std.specs.Int.{div_ceil}
 use Rattle.std.specs.Int.Digits.{number_from_digits}

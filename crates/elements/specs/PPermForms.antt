@@ -1,5 +1,5 @@
 -- Partial permutations as they are kept: up to fifteen images as one number.
-use Rattle.std.specs.Prelude.{ℕ, zero, suc, ◌*◌, ◌<◌, ◌≤◌, ◌^◌, List, length, map, Option, Some, None}
+use Rattle.std.specs.Prelude.{ℕ, ◌*◌, ◌<◌, ◌≤◌, ◌^◌, List, length, Option}
 use Rattle.elements.specs.declared.pperm.Form.{Form}
 use Rattle.elements.specs.declared.pperm.Form.TheVariants.{Packed, Long}
 use Rattle.elements.specs.Digits.{optional_digits}

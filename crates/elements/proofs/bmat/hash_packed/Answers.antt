@@ -1,4 +1,4 @@
-use Rattle.std.proofs.Common.{◌≡◌, ℕ, ◌*◌, ◌<◌, ◌≤◌, fold, ap, ◌∙◌, sym, arith}
+use Rattle.std.proofs.Common.{ℕ, ◌*◌, ◌≤◌, fold, ap, ◌∙◌, sym, arith}
 use Rattle.std.proofs.lemmas.Nat.{mul-le}
 use Rattle.elements.proofs.Bits.{packed_hash}
 use Rattle.elements.proofs.bmat.hash_packed.Goals as goal

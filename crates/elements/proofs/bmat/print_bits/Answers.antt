@@ -1,4 +1,4 @@
-use Rattle.std.proofs.Common.{◌≡◌, ◌++◌, ◌<◌, List, ℕ, Bool, false, length, get_or, ap, ◌∙◌, codes, arith}
+use Rattle.std.proofs.Common.{◌++◌, ◌<◌, List, ℕ, Bool, false, length, ap, ◌∙◌, codes}
 use Rattle.elements.specs.BMat.{bit_text}
 use Rattle.theory.proofs.PieceLaws.{joined_first, joined_more}
 use Rattle.elements.proofs.bmat.print_bits.Goals as goal

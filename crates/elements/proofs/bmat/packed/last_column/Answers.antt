@@ -1,4 +1,4 @@
-use Rattle.std.proofs.Common.{◌≡◌, refl, arith, subst, ap, sym, ◌∙◌, ℕ}
+use Rattle.std.proofs.Common.{◌≡◌, refl, arith, ap, ◌∙◌}
 use Rattle.elements.specs.Bits.{column_of_ones}
 use Rattle.elements.proofs.Columns.{ones_more}
 use Rattle.elements.proofs.bmat.packed.last_column.Goals as goal

@@ -1,4 +1,4 @@
-use Rattle.std.proofs.Common.{◌≡◌, ◌-◌, ◌*◌, ◌<◌, ◌^◌}
+use Rattle.std.proofs.Common.{◌≡◌, ◌*◌, ◌<◌, ◌^◌}
 use Rattle.elements.specs.Bits.{column_of_ones}
 use Rattle.elements.proofs.bmat.packed.last_column.Given as goal
 

@@ -1,5 +1,4 @@
-use Rattle.std.proofs.Common.{◌≡◌, ℕ, suc, ◌+◌, ◌-◌, ◌∷◌, [], ◌++◌, ap, ◌∙◌, sym, append_assoc, arith}
-use Rattle.elements.specs.Bits.{bits}
+use Rattle.std.proofs.Common.{◌-◌, arith}
 use Rattle.elements.proofs.Bits.{unpack_more}
 use Rattle.elements.proofs.bmat.packed.unpacked.Goals as goal
 

@@ -1,4 +1,4 @@
-use Rattle.std.proofs.Common.{◌≡◌, ℕ, ◌-◌, ◌≤◌, length, get_or, sym, ap, subst, ◌∙◌, arith}
+use Rattle.std.proofs.Common.{length, sym, ap, subst, ◌∙◌, arith}
 use Rattle.elements.specs.PPermForms.{images_of, IsForm}
 use Rattle.elements.proofs.OptionalDigits.{length-optional}
 use Rattle.elements.proofs.pperm.PPerm.image.Goals as goal

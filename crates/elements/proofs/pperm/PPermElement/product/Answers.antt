@@ -1,8 +1,7 @@
-use Rattle.std.proofs.Common.{◌≡◌, map, ℕ, List, length, sym, ap, subst, ◌∙◌, arith}
-use Rattle.std.proofs.lemmas.Grind.{common_steps}
-use Rattle.elements.specs.Digits.{optional, optional_digits}
+use Rattle.std.proofs.Common.{◌≡◌, ℕ, List, length, sym, ap, subst, ◌∙◌, arith}
+use Rattle.elements.specs.Digits.{optional_digits}
 use Rattle.std.proofs.lemmas.List.{length-map}
-use Rattle.std.specs.Prelude.{Option, All, None}
+use Rattle.std.specs.Prelude.{Option, All}
 use Rattle.elements.specs.Fields.{IsBelow}
 use Rattle.elements.specs.PPerm.{partial_image, partially_composed, ArePartialImages}
 use Rattle.elements.specs.PPermForms.{images_of, IsForm}

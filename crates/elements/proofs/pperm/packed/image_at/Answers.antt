@@ -1,4 +1,4 @@
-use Rattle.std.proofs.Common.{ℕ, ◌-◌, sym, ap, ◌∙◌, arith}
+use Rattle.std.proofs.Common.{◌-◌, sym, ap, ◌∙◌, arith}
 use Rattle.elements.specs.Digits.{optional}
 use Rattle.elements.proofs.OptionalDigits.{optional_in}
 use Rattle.elements.proofs.pperm.packed.image_at.Goals as goal

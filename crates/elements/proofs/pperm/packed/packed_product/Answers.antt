@@ -1,4 +1,4 @@
-use Rattle.std.proofs.Common.{◌≡◌, ℕ, refl, ap, ◌∙◌, map, arith}
+use Rattle.std.proofs.Common.{refl, ap, ◌∙◌, arith}
 use Rattle.elements.specs.Digits.{optional, optional_digits}
 use Rattle.elements.specs.PPerm.{partial_image}
 use Rattle.elements.proofs.OptionalDigits.{digit_within, product_more, product_all}

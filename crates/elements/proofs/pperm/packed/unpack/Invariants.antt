@@ -1,4 +1,4 @@
-use Rattle.std.proofs.Common.{◌≡◌, map, take}
+use Rattle.std.proofs.Common.{◌≡◌, take}
 use Rattle.elements.specs.Digits.{optional_digits}
 use Rattle.elements.proofs.pperm.packed.unpack.Given as goal
 

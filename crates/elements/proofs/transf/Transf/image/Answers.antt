@@ -1,4 +1,4 @@
-use Rattle.std.proofs.Common.{◌≡◌, ℕ, ◌-◌, ◌≤◌, length, get_or, sym, ap, subst, ◌∙◌, arith}
+use Rattle.std.proofs.Common.{◌≡◌, ℕ, ◌-◌, length, get_or, sym, ap, subst, ◌∙◌, arith}
 use Rattle.elements.specs.TransfForms.{images_of, IsForm}
 use Rattle.elements.proofs.Digits.{length-digits, digit_in}
 use Rattle.elements.proofs.transf.Transf.image.Goals as goal

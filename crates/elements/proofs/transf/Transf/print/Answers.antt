@@ -1,4 +1,4 @@
-use Rattle.std.proofs.Common.{◌≡◌, ◌++◌, ◌<◌, List, ℕ, length, get_or, ap, ◌∙◌, codes, arith}
+use Rattle.std.proofs.Common.{◌++◌, ◌<◌, List, ℕ, length, ap, ◌∙◌, codes, arith}
 use Rattle.std.specs.Fmt.{decimal}
 use Rattle.theory.proofs.PieceLaws.{joined_first, joined_more}
 use Rattle.elements.proofs.transf.Transf.print.Goals as goal

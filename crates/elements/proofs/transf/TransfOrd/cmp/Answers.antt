@@ -1,4 +1,4 @@
-use Rattle.std.proofs.Common.{◌≡◌, ℕ, ◌≤◌, length, min, sym, ap, ◌∙◌, arith}
+use Rattle.std.proofs.Common.{ℕ, sym, ◌∙◌, arith}
 use Rattle.std.specs.Ordering.{nat_cmp}
 use Rattle.std.proofs.lemmas.Grind.{common_steps}
 use Rattle.elements.proofs.Compared.{ends_compared}

@@ -1,4 +1,4 @@
-use Rattle.std.proofs.Common.{◌≡◌, ℕ, refl, arith}
+use Rattle.std.proofs.Common.{refl, arith}
 use Rattle.elements.proofs.Digits.{image_below, product_more, product_all}
 use Rattle.elements.proofs.transf.packed.packed_product.Goals as goal
 
