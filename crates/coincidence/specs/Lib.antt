@@ -6,6 +6,7 @@ pub mod Live
 pub mod DueSpec
 pub mod Marks
 pub mod Table
+pub mod Holding
 pub mod Pending
 pub mod Cells
 pub mod Links

@@ -8,6 +8,7 @@ ghost use Rattle.theory.specs.Graph.{target as target_of, path, SameEnd, PathsRe
 ghost use Rattle.word_graph.specs.Standard.{IsStandardGraph};
 ghost use Rattle.word_graph.specs.Walk.{IsFirstMissing};
 ghost use Rattle.coincidence.specs.Closing.{ClosedThere};
+ghost use Rattle.coincidence.specs.Holding.{HoldWhereMarked};
 ghost use Rattle.coincidence.specs.Links.{IsSources};
 ghost use Rattle.coincidence.specs.Marks.{AllMarked, IsFirstUnmarked, KeepsMarks, KeepsNumbers};
 ghost use Rattle.coincidence.specs.Merged.{MergedNodes};
@@ -333,6 +334,44 @@ impl Table {
         ensures table { IsTable self.new }
     {
         self.gather()?;
+        self.close(None)
+    }
+
+    // All live nodes without a mark are pending, where more is.
+    fn gather_unmarked(&mut self) -> Result<(), NoMemory>
+        requires { HoldWhereMarked self.old }
+        ensures same { OnOk result (self.new ≡ self.old) }
+        ensures err { OnErr result (self.new.failed ≡ true) }
+        ensures failed { self.old.failed ≡ true → IsErr result }
+        ensures congruence { self.new.congruence ≡ self.old.congruence }
+        ensures table { IsTable self.new }
+    {
+        if self.failed {
+            return Err(NoMemory);
+        }
+        match self.pending.gather_unmarked(&self.live, &self.marked) {
+            Ok(()) => Ok(()),
+            Err(NoMemory) => Err(fail(&mut self.failed)),
+        }
+    }
+
+    /// As [`close_all`](Table::close_all), where both sides of each relation lead from each marked
+    /// node to one node: relations need be read at the other nodes alone.
+    pub fn close_unmarked(&mut self) -> Result<(), NoMemory>
+        requires { HoldWhereMarked self.old }
+        ensures relates { OnOk result (PathsRelate self.new.graph
+            (ClosedAll self.old.congruence (SameEnd self.old.graph))) }
+        ensures marks { OnOk result (KeepsMarks self.old.graph self.old.marked self.new.graph
+            self.new.marked) }
+        ensures numbers { OnOk result (KeepsNumbers self.old.graph self.new.graph) }
+        ensures nodes { OnOk result (length self.new.graph ≡ length self.old.graph) }
+        ensures ok { OnOk result (self.new.failed ≡ false) }
+        ensures err { OnErr result (self.new.failed ≡ true) }
+        ensures failed { self.old.failed ≡ true → IsErr result }
+        ensures congruence { self.new.congruence ≡ self.old.congruence }
+        ensures table { IsTable self.new }
+    {
+        self.gather_unmarked()?;
         self.close(None)
     }
 

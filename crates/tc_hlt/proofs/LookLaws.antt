@@ -67,6 +67,6 @@ module _ (old new : CosetTable) (made : ℕ) (row : HasLastRow old made)
 pub look_closed : {X Y : Type 0} (r : Result X Y) (old new : CosetTable) (made : ℕ) → IsLookahead made → new.congruence ≡ old.congruence
     → OnOk r (PathsRelate new.graph (ClosedAll old.congruence (SameEnd old.graph)))
     → OnOk r (KeepsMarks old.graph old.marked new.graph new.marked) → OnOk r (new.failed ≡ false)
-    → OnOk r (HasLastRow old made → HasRows new made)
-look_closed (Ok v) old new made due e closed marks failed = λ row. looked old new made row closed marks due e failed
-look_closed (Err f) old new made due e closed marks failed = tt
+    → HasLastRow old made → OnOk r (HasRows new made)
+look_closed (Ok v) old new made due e closed marks failed row = looked old new made row closed marks due e failed
+look_closed (Err f) old new made due e closed marks failed row = tt

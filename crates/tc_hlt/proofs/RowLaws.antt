@@ -7,14 +7,15 @@ use Rattle.theory.specs.Word.{Word, IsPrefix}
 use Rattle.theory.specs.Congruence.{Congruence, EitherWay}
 use Rattle.theory.specs.Graph.{Graph, path, SameEnd, PathsRelate}
 use Rattle.theory.specs.Facts.{ClosedAt, given, relation, symmetric}
-use Rattle.theory.specs.Hlt.{HltFacts, HltStage, HltEnds, IsInRow, IsLeastUnmet, IsMet, RowFacts, RowGiven, start, row}
+use Rattle.theory.specs.Hlt.{Drawn, FactsFrom, HltFacts, HltStage, HltEnds, IsInRow, IsLeastUnmet, IsMet, RowFacts, RowGiven, start, row}
 use Rattle.theory.proofs.Related.{none_contained}
 use Rattle.theory.proofs.Counting.{in_from_contains, contains_from_in}
 use Rattle.theory.proofs.FactsLaws.{last_letter}
-use Rattle.theory.proofs.GraphLaws.{same_end_trans}
+use Rattle.theory.proofs.GraphLaws.{path_append, same_end_trans}
 use Rattle.theory.proofs.HltLaws.{hlt_row_grows, hlt_row_within, hlt_ends_more, hlt_ends_next, hlt_not_ended}
 use Rattle.theory.proofs.TableSteps.{hlt_row_between}
 use Rattle.coincidence.specs.Live.{IsOn}
+use Rattle.coincidence.specs.Holding.{HoldWhereMarked}
 use Rattle.coincidence.specs.Marks.{KeepsMarks}
 use Rattle.coincidence.specs.Table.{CosetTable, IsTable}
 use Rattle.coincidence.proofs.TableLaws.{on_inside}
@@ -22,32 +23,42 @@ use Rattle.tc_hlt.specs.Tracing.{AreSidesAny, IsGrown, IsWithin}
 use Rattle.tc_hlt.specs.Stage.{HasLastRow, IsReady}
 use Rattle.tc_hlt.proofs.GrowLaws.{grown_same, grown_live}
 
--- a relation is a fact where a word has its row, before a lookahead
-relation_fact : (c : Congruence) (U : List Word) (w r s : Word) → EitherWay c.presentation.relations r s → RowFacts c U w (w ++ r) (w ++ s)
-relation_fact c U w r s sides = go (last_letter s) (last_letter r)
+-- a relation is a fact where a word has its row
+relation_fact : (c : Congruence) (G : Word → Word → Type 0) (U : List Word) (w r s : Word) → Contains U w → EitherWay c.presentation.relations r s → FactsFrom c G U (w ++ r) (w ++ s)
+relation_fact c G U w r s had sides = go (last_letter s) (last_letter r)
   where
     back : EitherWay c.presentation.relations s r
     back = elim sides [ inl m ↦ inr m | inr m ↦ inl m ]
 
     -- a prefix of a side is defined behind the word
-    there : (x y p : Word) → EitherWay c.presentation.relations x y → IsPrefix p x → RowFacts c U w (w ++ p) (w ++ p)
-    there x y p e h = given (inl (refl, inr (inr (w, (0, omega arith, refl), inr (record { side = x; of = (y, e); prefix = record { after = h.after; is = ap (λ z. w ++ z) h.is ∙ sym (append_assoc w p h.after) } })))))
+    there : (x y p : Word) → EitherWay c.presentation.relations x y → IsPrefix p x → FactsFrom c G U (w ++ p) (w ++ p)
+    there x y p e h = given (inl (refl, inr (inr (w, had, inr (record { side = x; of = (y, e); prefix = record { after = h.after; is = ap (λ z. w ++ z) h.is ∙ sym (append_assoc w p h.after) } })))))
 
-    whole : (x y : Word) → EitherWay c.presentation.relations x y → RowFacts c U w (w ++ x) (w ++ x)
+    whole : (x y : Word) → EitherWay c.presentation.relations x y → FactsFrom c G U (w ++ x) (w ++ x)
     whole x y e = there x y x e (record { after = []; is = sym (append-nil x) })
 
-    empty : RowFacts c U w w w
-    empty = subst₂ (RowFacts c U w) (append-nil w) (append-nil w) (there r s [] sides (record { after = r; is = refl }))
+    empty : FactsFrom c G U w w
+    empty = subst₂ (FactsFrom c G U) (append-nil w) (append-nil w) (there r s [] sides (record { after = r; is = refl }))
 
-    last : (x y z : Word) (a : ℕ) → EitherWay c.presentation.relations x y → EitherWay c.presentation.relations y x → y ≡ z ++ a ∷ [] → RowFacts c U w (w ++ x) (w ++ y)
+    last : (x y z : Word) (a : ℕ) → EitherWay c.presentation.relations x y → EitherWay c.presentation.relations y x → y ≡ z ++ a ∷ [] → FactsFrom c G U (w ++ x) (w ++ y)
     last x y z a one two e =
-        subst (λ v. RowFacts c U w (w ++ x) (w ++ v)) (sym e)
-        (relation w w x z a empty (0, omega arith, refl) (subst (λ v. EitherWay c.presentation.relations x v) e one) (whole x y one) (there y x z two (record { after = a ∷ []; is = e })))
+        subst (λ v. FactsFrom c G U (w ++ x) (w ++ v)) (sym e)
+        (relation w w x z a empty had (subst (λ v. EitherWay c.presentation.relations x v) e one) (whole x y one) (there y x z two (record { after = a ∷ []; is = e })))
 
-    go : (s ≡ []) ⊎ ((v : Word) × (a : ℕ) × (s ≡ v ++ a ∷ [])) → (r ≡ []) ⊎ ((v : Word) × (a : ℕ) × (r ≡ v ++ a ∷ [])) → RowFacts c U w (w ++ r) (w ++ s)
+    go : (s ≡ []) ⊎ ((v : Word) × (a : ℕ) × (s ≡ v ++ a ∷ [])) → (r ≡ []) ⊎ ((v : Word) × (a : ℕ) × (r ≡ v ++ a ∷ [])) → FactsFrom c G U (w ++ r) (w ++ s)
     go (inr h) k = last r s h.0 h.1 sides back h.2
     go (inl e) (inr k) = symmetric (last s r k.0 k.1 back sides k.2)
-    go (inl e) (inl d) = subst (λ v. RowFacts c U w (w ++ r) (w ++ v)) (d ∙ sym e) (whole r s sides)
+    go (inl e) (inl d) = subst (λ v. FactsFrom c G U (w ++ r) (w ++ v)) (d ∙ sym e) (whole r s sides)
+
+-- so the relations hold at each node with a mark
+pub row_holds : (t : CosetTable) (made : ℕ) → IsTable t → HasLastRow t made → HoldWhereMarked t
+row_holds t made is last n on r s sides =
+    let u = is.live.reached n (is.marked last.failed n on) in
+    let met = (last.marks u.0 n u.1).0 on in
+    let w : Word = met.0 in
+    let at : path t.graph 0 w ≡ Some n = met.2.2 ∙ sym met.2.1 ∙ u.1 in
+    let same = (last.shows (w ++ r) (w ++ s)).1 (relation_fact t.congruence (Drawn t.congruence last.words) (last.word ∷ last.words) w r s met.1 sides) in
+    (same.0, sym (path_append t.graph 0 n w r at) ∙ same.1, sym (path_append t.graph 0 n w s at) ∙ same.2)
 
 -- the words that had their row are defined, before a lookahead after the last one and after it
 pub stage_words : (c : Congruence) → {i : ℕ} {U : List Word} → HltStage c i U → (w : Word) → Contains U w → HltFacts c U w w
@@ -126,7 +137,7 @@ module _ (old mid new : CosetTable) (made node : ℕ) (was : IsTable old) (is : 
   within =
       g.within ready.rows.words (ready.first.word ∷ ready.rows.words) ready.first.word ready.first.leads
       (λ v r. given (inl (refl, inr (inr (ready.first.word, (0, omega arith, refl), r)))))
-      (λ u v d. subst₂ (RowFacts old.congruence ready.rows.words ready.first.word) (sym d.3) (sym d.4) (relation_fact old.congruence ready.rows.words ready.first.word d.0 d.1 d.2))
+      (λ u v d. subst₂ (RowFacts old.congruence ready.rows.words ready.first.word) (sym d.3) (sym d.4) (relation_fact old.congruence (Drawn old.congruence ready.rows.words) (ready.first.word ∷ ready.rows.words) ready.first.word d.0 d.1 (0, omega arith, refl) d.2))
       (λ u v h. hlt_row_grows old.congruence ready.rows.words ready.first.word u v ((ready.rows.shows u v).0 h))
 
   row_shows : PathsRelate new.graph (RowFacts old.congruence ready.rows.words ready.first.word)

@@ -4,6 +4,7 @@ ghost use Rattle.theory.specs.Congruence.{IsRightSided};
 ghost use Rattle.theory.specs.Facts.{AllDefined, ClosedAll};
 ghost use Rattle.theory.specs.Graph.{SameEnd, PathsRelate, Shows, IsGraph};
 ghost use Rattle.word_graph.specs.Standard.{IsStandardGraph};
+ghost use Rattle.coincidence.specs.Holding.{HoldWhereMarked};
 ghost use Rattle.coincidence.specs.Marks.{KeepsMarks};
 ghost use Rattle.coincidence.specs.Table.{IsTable};
 ghost use Rattle.theory.specs.Hlt.{IsLookahead};
@@ -95,9 +96,11 @@ fn is_lookahead(made: usize) -> bool
     0 < made && made % LOOKAHEAD_ROWS == 0
 }
 
-// Draws all facts at all words. Tells whether each word has a path then.
+// Draws all facts at all words; at those with a row the relations hold. Tells whether each word has
+// a path then.
 fn draw_all(table: &mut Table) -> Result<bool, NoMemory>
-    requires { IsTable table.old }
+    requires table { IsTable table.old }
+    requires rows { HoldWhereMarked table.old }
     ensures relates { OnOk result (PathsRelate table.new.graph
         (ClosedAll table.old.congruence (SameEnd table.old.graph))) }
     ensures marks { OnOk result (KeepsMarks table.old.graph table.old.marked table.new.graph
@@ -108,15 +111,16 @@ fn draw_all(table: &mut Table) -> Result<bool, NoMemory>
     ensures congruence { table.new.congruence ≡ table.old.congruence }
     ensures table { IsTable table.new }
 {
-    table.close_all()?;
+    table.close_unmarked()?;
     let missing = table.first_missing()?;
     Ok(missing.is_none())
 }
 
 // The lookahead after the last row, if one comes. Tells whether each word has a path after it.
 fn look_ahead(table: &mut Table, made: usize) -> Result<bool, NoMemory>
-    requires { IsTable table.old }
-    ensures rows { OnOk result (HasLastRow table.old made → HasRows table.new made) }
+    requires table { IsTable table.old }
+    requires row { HasLastRow table.old made }
+    ensures rows { OnOk result (HasRows table.new made) }
     ensures whole { IfOk result (λ whole. IsTrue whole ↔ IsWhole table.new made) }
     ensures congruence { table.new.congruence ≡ table.old.congruence }
     ensures table { IsTable table.new }
