@@ -2,7 +2,7 @@
 use Rattle.std.proofs.Common.{◌≡◌, refl, ℕ, ◌+◌, ◌<◌, arith, List, [], ◌∷◌, ◌++◌, sym, ◌∙◌, length, inl, inr, Bool, true, false, get_or, Some, subst}
 use Rattle.std.proofs.lemmas.Bool.{cases_eq}
 use Rattle.theory.specs.Word.{Word}
-use Rattle.theory.specs.Graph.{Graph, target, path, IsClosedAt}
+use Rattle.theory.specs.Graph.{Graph, target, IsClosedAt}
 use Rattle.coincidence.specs.Holding.{HoldAt}
 use Rattle.coincidence.specs.Live.{IsOn}
 use Rattle.coincidence.specs.Pending.{IsAmong, IsClosedBut}

@@ -1,16 +1,15 @@
 // Congruences whose relations are found by their letters.
 ghost use Rattle.std.specs.Prelude.{◌≡◌, false, true, length, IfOk};
 ghost use Rattle.presentation.specs.Presented.{IsPosed};
-ghost use Rattle.coincidence.specs.Uses.{AreUses, AreUsesOf};
+ghost use Rattle.coincidence.specs.Uses.{AreUses};
 
 use crate::uses::Uses;
 use ports::NoMemory;
 use presentation::{Congruence, Pairs, Presentation};
 use std::alloc::Global;
 use std::marker::Model;
-use words::Letter;
 
-// A congruence, and for each letter the relations in a side of which it stands.
+// A congruence, and the places of letters in the sides of its relations.
 #[derive(Drop)]
 pub struct Indexed {
     congruence: Congruence,
@@ -71,14 +70,10 @@ impl Indexed {
         self.congruence.presentation().relations()
     }
 
-    /// The places of the relations in whose first side, or second, the letter stands.
-    pub fn with_letter(&self, letter: Letter, second: bool) -> &[usize]
-        ensures { AreUsesOf second self.now.congruence.presentation.relations letter result.now }
+    /// The places of the first sides of the relations, or of the second ones.
+    pub fn uses(&self, second: bool) -> &Uses
+        ensures { AreUses second self.now.congruence.presentation.relations result.now }
     {
-        if second {
-            self.seconds.places(letter)
-        } else {
-            self.firsts.places(letter)
-        }
+        if second { &self.seconds } else { &self.firsts }
     }
 }

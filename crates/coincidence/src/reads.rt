@@ -1,17 +1,17 @@
 // What relations and pairs ask for, read along edges and back along lists of sources.
-ghost use Rattle.std.specs.Prelude.{◌≡◌, ℕ, ◌-◌, ◌<◌, ◌≤◌, false, List, Some, length, slice_get, take};
+ghost use Rattle.std.specs.Prelude.{◌≡◌, ℕ, ◌-◌, ◌<◌, ◌≤◌, false, List, None, Some, length, slice_get, take};
 ghost use Rattle.theory.specs.Word.{Word as Letters};
 ghost use Rattle.theory.specs.Graph.{path as path_of, target as target_of};
 ghost use Rattle.coincidence.specs.DueSpec.{IsDueFrom, IsDueAt};
 ghost use Rattle.coincidence.specs.Live.{IsLiveGraph, IsOn};
 ghost use Rattle.coincidence.specs.Reading.{IsCut, IsDueBoth, IsDueBehind, IsDueAlong, IsDueThrough};
-ghost use Rattle.coincidence.specs.Uses.{IsDueInSides};
+ghost use Rattle.coincidence.specs.Uses.{AreUses, ArePlaces, IsDueAtPlaces, IsDueInPowers, IsDueBefore, IsDueBeforeAny, IsDueInSides};
 
 use crate::due::Due;
 use crate::edges::Edges;
 use crate::indexed::Indexed;
 use crate::rings::comes_round;
-use crate::uses::{other_side, side};
+use crate::uses::{Uses, other_side, side};
 use presentation::Pairs;
 use words::{Letter, Word};
 
@@ -165,22 +165,48 @@ fn due_along(edges: &Edges, node: usize, letter: Letter, side: &Word, other: &Wo
     Due::Nothing
 }
 
-// What the first sides of the relations ask for, or the second, where they are read across the edge
-// of the letter from the node. Sides in which the letter does not stand are not looked at.
-fn due_in_sides(
+// What pairs ask for at places of the letter, read from the node on.
+fn due_at_places(
     edges: &Edges,
     node: usize,
     letter: Letter,
-    congruence: &Indexed,
+    pairs: &Pairs,
     second: bool,
+    places: &[(usize, usize)],
 ) -> Due
-    ensures { IsDueInSides second edges.now.graph
-        congruence.now.congruence.presentation.relations node letter result }
+    requires { ArePlaces second pairs.now places.now }
+    ensures { IsDueAtPlaces second edges.now.graph pairs.now node letter places.now result }
 {
-    let relations = congruence.relations();
-    let places = congruence.with_letter(letter, second);
-    for i in 0..places.len() {
-        let pair = relations.pair(places[i]);
+    for k in 0..places.len() {
+        let pair = pairs.pair(places[k].0);
+        match due_behind(
+            edges,
+            node,
+            side(pair, second),
+            places[k].1,
+            other_side(pair, second),
+        ) {
+            Due::Nothing => {}
+            due => return due,
+        }
+    }
+    Due::Nothing
+}
+
+// What powers ask for where they are read across the edge of the letter from the node.
+fn due_in_powers(
+    edges: &Edges,
+    node: usize,
+    letter: Letter,
+    pairs: &Pairs,
+    second: bool,
+    places: &[(usize, usize)],
+) -> Due
+    requires { ArePlaces second pairs.now places.now }
+    ensures { IsDueInPowers second edges.now.graph pairs.now node letter places.now result }
+{
+    for k in 0..places.len() {
+        let pair = pairs.pair(places[k].0);
         match due_along(
             edges,
             node,
@@ -193,6 +219,82 @@ fn due_in_sides(
         }
     }
     Due::Nothing
+}
+
+// What pairs ask for at places of the letter before another one, if both lead on.
+fn due_before(
+    edges: &Edges,
+    node: usize,
+    letter: Letter,
+    pairs: &Pairs,
+    second: bool,
+    uses: &Uses,
+    behind: Letter,
+) -> Due
+    requires { AreUses second pairs.now uses.now }
+    ensures { IsDueBefore second edges.now.graph pairs.now node letter uses.now behind result }
+{
+    let Some(next) = edges.target(node, letter) else {
+        return Due::Nothing;
+    };
+    let Some(_) = edges.target(next, behind) else {
+        return Due::Nothing;
+    };
+    due_at_places(
+        edges,
+        node,
+        letter,
+        pairs,
+        second,
+        uses.ahead_of(letter, behind),
+    )
+}
+
+// What pairs ask for at places of the letter before any other one.
+fn due_before_any(
+    edges: &Edges,
+    node: usize,
+    letter: Letter,
+    pairs: &Pairs,
+    second: bool,
+    uses: &Uses,
+) -> Due
+    requires { AreUses second pairs.now uses.now }
+    ensures { IsDueBeforeAny second edges.now.graph pairs.now node letter uses.now result }
+{
+    for number in 0..edges.letters() {
+        let behind = Letter::new(number as u8);
+        match due_before(edges, node, letter, pairs, second, uses, behind) {
+            Due::Nothing => {}
+            due => return due,
+        }
+    }
+    Due::Nothing
+}
+
+// What the first sides of the relations ask for, or the second, where they are read across the edge
+// of the letter from the node. Only places are looked at behind which the next letter leads on.
+fn due_in_sides(
+    edges: &Edges,
+    node: usize,
+    letter: Letter,
+    congruence: &Indexed,
+    second: bool,
+) -> Due
+    ensures { IsDueInSides second edges.now.graph
+        congruence.now.congruence.presentation.relations node letter result }
+{
+    let pairs = congruence.relations();
+    let uses = congruence.uses(second);
+    match due_at_places(edges, node, letter, pairs, second, uses.ends(letter)) {
+        Due::Nothing => {}
+        due => return due,
+    }
+    match due_in_powers(edges, node, letter, pairs, second, uses.powers(letter)) {
+        Due::Nothing => {}
+        due => return due,
+    }
+    due_before_any(edges, node, letter, pairs, second, uses)
 }
 
 /// What the relations ask for where a side is read across the edge of the letter from the node.

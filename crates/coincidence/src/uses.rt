@@ -1,95 +1,178 @@
-// For each letter, the pairs in a side of which it stands.
-ghost use Rattle.std.specs.Prelude.{◌≡◌, ℕ, ◌<◌, List, [], Bool, true, false, length, map, slice_index, slice_index_or, IfOk, OnOk};
-ghost use Rattle.theory.specs.Word.{Word as Letters};
+// The places of sides at which a letter stands, in lists by what follows.
+ghost use Rattle.std.specs.Prelude.{◌≡◌, ℕ, ◌<◌, List, [], Bool, true, false, length, map, slice_index, IfOk, OnOk};
 ghost use Rattle.coincidence.specs.Pending.{IsAmong};
-ghost use Rattle.coincidence.specs.Uses.{side_of, other_of, AreUses, IsNoted, AreNoted};
+ghost use Rattle.coincidence.specs.Uses.{side_of, other_of, of_powers, of_ends, before, list_of, told, list_at, AreUses, IsNoted, AreNoted, IsSideNoted};
 
+use crate::periods::period;
 use ports::NoMemory;
 use presentation::Pairs;
 use std::alloc::Global;
 use std::marker::Model;
 use words::{Letter, Word};
 
-// For each letter, in order, the places of the pairs in whose first side, or second, it stands.
+// How many letters there are at most.
+const LETTERS: usize = 256;
+
+// How many lists there are for each letter.
+const LISTS: usize = 258;
+
+// Lists of places of the sides of pairs, the first or the second ones: the number of the pair, and
+// the place in its side. A power of which the other side is empty stands once in the list of each
+// of its letters.
 #[derive(Drop)]
 pub struct Uses {
-    lists: Vec<Vec<usize>>,
+    lists: Vec<Vec<(usize, usize)>>,
 }
 
 impl Model for Uses {
-    ghost use Rattle.std.specs.Prelude.{List, ℕ, map};
+    ghost use Rattle.std.specs.Prelude.{List, map};
+    ghost use Rattle.coincidence.specs.Uses.{Places};
 
-    ghost Value = { List (List ℕ) };
+    ghost Value = { List Places };
 
     ghost view = { λ u. map (λ v. v.items) u.lists.items };
 }
 
-// Whether the list ends with the number.
-fn ends_with(list: &Vec<usize>, number: usize) -> bool
-    ensures { result ≡ true → IsAmong number list.now.items }
+// Whether the list ends with the entry.
+fn ends_with(list: &Vec<(usize, usize)>, entry: (usize, usize)) -> bool
+    ensures { result ≡ true → IsAmong entry list.now.items }
 {
     let count = list.len();
     if count == 0 {
         return false;
     }
-    list[count - 1] == number
+    list[count - 1].0 == entry.0 && list[count - 1].1 == entry.1
 }
 
-// There is a list for the letter. Refused only where memory is wanting.
-fn make_room(alloc: Global, lists: &mut Vec<Vec<usize>>, letter: usize) -> Result<(), NoMemory>
-    ensures room { OnOk result (letter < length lists.new.items) }
-    ensures same { OnOk result ((a : ℕ)
-        → slice_index_or (map (λ v. v.items) lists.new.items) a []
-        ≡ slice_index_or (map (λ v. v.items) lists.old.items) a []) }
+// There is a list of this number. Refused only where memory is wanting.
+fn make_room(
+    alloc: Global,
+    lists: &mut Vec<Vec<(usize, usize)>>,
+    number: usize,
+) -> Result<(), NoMemory>
+    ensures room { OnOk result (number < length lists.new.items) }
+    ensures same { OnOk result ((a : ℕ) → list_at (map (λ v. v.items) lists.new.items) a
+        ≡ list_at (map (λ v. v.items) lists.old.items) a) }
 {
-    while lists.len() <= letter {
+    while lists.len() <= number {
         lists.push(Vec::new(alloc))?;
     }
     Ok(())
 }
 
-// The place stands in the list, at its end if it is new. Refused only where memory is wanting.
-fn put(lists: &mut Vec<Vec<usize>>, letter: usize, place: usize) -> Result<(), NoMemory>
-    requires { letter < length lists.old.items }
+// The entry stands in the list, at its end if it is new. Refused only where memory is wanting.
+fn put(
+    lists: &mut Vec<Vec<(usize, usize)>>,
+    number: usize,
+    entry: (usize, usize),
+) -> Result<(), NoMemory>
+    requires { number < length lists.old.items }
     ensures { OnOk result (IsNoted (map (λ v. v.items) lists.old.items)
-        (map (λ v. v.items) lists.new.items) letter place) }
+        (map (λ v. v.items) lists.new.items) number entry) }
 {
-    if ends_with(&lists[letter], place) {
+    if ends_with(&lists[number], entry) {
         return Ok(());
     }
-    lists[letter].push(place)?;
+    lists[number].push(entry)?;
     Ok(())
 }
 
-// The place of a pair is in the list of a letter. Refused only where memory is wanting.
+// The entry is in the list of this number. Refused only where memory is wanting.
 fn note(
     alloc: Global,
-    lists: &mut Vec<Vec<usize>>,
-    letter: usize,
-    place: usize,
+    lists: &mut Vec<Vec<(usize, usize)>>,
+    number: usize,
+    entry: (usize, usize),
 ) -> Result<(), NoMemory>
     ensures { OnOk result (IsNoted (map (λ v. v.items) lists.old.items)
-        (map (λ v. v.items) lists.new.items) letter place) }
+        (map (λ v. v.items) lists.new.items) number entry) }
 {
-    make_room(alloc, lists, letter)?;
-    put(lists, letter, place)?;
+    make_room(alloc, lists, number)?;
+    put(lists, number, entry)?;
     Ok(())
 }
 
-// The place of a pair is in the list of each letter of the word.
+// The number of the list of powers in which the letter stands.
+fn powers_list(letter: Letter) -> usize
+    ensures { result ≡ of_powers letter }
+{
+    letter.number() % LETTERS * LISTS
+}
+
+// The number of the list of places of the letter with at most one letter behind.
+fn ends_list(letter: Letter) -> usize
+    ensures { result ≡ of_ends letter }
+{
+    letter.number() % LETTERS * LISTS + 1
+}
+
+// The number of the list of places of the letter before another.
+fn list_before(letter: Letter, next: Letter) -> usize
+    ensures { result ≡ before letter next }
+{
+    letter.number() % LETTERS * LISTS + 2 + next.number() % LETTERS
+}
+
+// The number of the list of a place of a power, or of another side.
+fn list_number(side: &Word, place: usize, power: bool) -> usize
+    requires { place < length side.now }
+    ensures { result ≡ list_of power side.now place }
+{
+    let letter = side.letter(place);
+    if power {
+        return powers_list(letter);
+    }
+    if side.len() - place < 3 {
+        return ends_list(letter);
+    }
+    list_before(letter, side.letter(place + 1))
+}
+
+// The place that the list tells.
+fn place_told(place: usize, power: bool) -> usize
+    ensures { result ≡ told power place }
+{
+    if power { 0 } else { place }
+}
+
+// Each place of the side of a pair is in its list. Refused only where memory is wanting.
 fn note_all(
     alloc: Global,
-    lists: &mut Vec<Vec<usize>>,
-    word: &Word,
-    place: usize,
+    lists: &mut Vec<Vec<(usize, usize)>>,
+    side: &Word,
+    pair: usize,
+    power: bool,
 ) -> Result<(), NoMemory>
-    ensures { OnOk result (AreNoted (map (λ v. v.items) lists.old.items)
-        (map (λ v. v.items) lists.new.items) word.now place) }
+    ensures { OnOk result (AreNoted power (map (λ v. v.items) lists.old.items)
+        (map (λ v. v.items) lists.new.items) side.now pair) }
 {
-    for i in 0..word.len() {
-        note(alloc, lists, word.letter(i).number(), place)?;
+    for place in 0..side.len() {
+        let number = list_number(side, place, power);
+        note(alloc, lists, number, (pair, place_told(place, power)))?;
     }
     Ok(())
+}
+
+// Whether the side is a power and the other one empty.
+fn is_power(side: &Word, other: &Word) -> bool {
+    other.is_empty() && period(side) < side.len()
+}
+
+// The places of a pair's first side, or of its second, are in their lists. Refused only where
+// memory is wanting.
+fn note_side(
+    alloc: Global,
+    lists: &mut Vec<Vec<(usize, usize)>>,
+    pair: &(Word, Word),
+    number: usize,
+    second: bool,
+) -> Result<(), NoMemory>
+    ensures { OnOk result (IsSideNoted (map (λ v. v.items) lists.old.items)
+        (map (λ v. v.items) lists.new.items) (side_of second pair.now) number) }
+{
+    let word = side(pair, second);
+    let power = is_power(word, other_side(pair, second));
+    note_all(alloc, lists, word, number, power)
 }
 
 /// The first side of the pair, or the second.
@@ -107,27 +190,47 @@ pub fn other_side(pair: &(Word, Word), second: bool) -> &Word
 }
 
 impl Uses {
-    /// The uses of letters in the first sides of the pairs, or in the second. Refused only where
-    /// memory is wanting.
+    /// The places of the first sides of the pairs, or of the second. Refused only where memory is
+    /// wanting.
     pub fn new(alloc: Global, pairs: &Pairs, second: bool) -> Result<Uses, NoMemory>
         ensures { IfOk result (AreUses second pairs.now) }
     {
         let mut lists = Vec::new(alloc);
-        for place in 0..pairs.len() {
-            note_all(alloc, &mut lists, side(pairs.pair(place), second), place)?;
+        for number in 0..pairs.len() {
+            note_side(alloc, &mut lists, pairs.pair(number), number, second)?;
         }
         Ok(Uses { lists })
     }
 
-    /// The places of the pairs in whose side the letter stands.
-    pub fn places(&self, letter: Letter) -> &[usize]
-        ensures { result.now ≡ slice_index_or self.now letter [] }
+    // The list of this number.
+    fn list(&self, number: usize) -> &[(usize, usize)]
+        ensures { result.now ≡ list_at self.now number }
     {
-        let number = letter.number();
         if number < self.lists.len() {
             self.lists[number].as_slice()
         } else {
             &[]
         }
+    }
+
+    /// The powers in which the letter stands.
+    pub fn powers(&self, letter: Letter) -> &[(usize, usize)]
+        ensures { result.now ≡ list_at self.now (of_powers letter) }
+    {
+        self.list(powers_list(letter))
+    }
+
+    /// The places of the letter with at most one letter behind.
+    pub fn ends(&self, letter: Letter) -> &[(usize, usize)]
+        ensures { result.now ≡ list_at self.now (of_ends letter) }
+    {
+        self.list(ends_list(letter))
+    }
+
+    /// The places of the letter before another one, with more behind.
+    pub fn ahead_of(&self, letter: Letter, next: Letter) -> &[(usize, usize)]
+        ensures { result.now ≡ list_at self.now (before letter next) }
+    {
+        self.list(list_before(letter, next))
     }
 }

@@ -1,30 +1,30 @@
-use Rattle.std.proofs.Common.{◌≡◌, ◌<◌, length, ◌∙◌, ap, arith, get_or, List}
+use Rattle.std.proofs.Common.{List, sym, subst}
 use Rattle.theory.specs.Word.{Word}
-use Rattle.coincidence.proofs.UsesLaws.{sides_step, sides_end, sides_found, place_within}
+use Rattle.coincidence.specs.Uses.{Places, ArePlaces, IsDueAtPlaces, IsDueBeforeAny, IsDueInPowers, of_ends, of_powers, list_at}
+use Rattle.coincidence.specs.declared.due.Due.TheVariants.{Nothing}
+use Rattle.coincidence.proofs.PlaceLaws.{sides_due}
 use Rattle.coincidence.proofs.reads.due_in_sides.Goals as goal
 
-pub pair-pair-requires : goal.pair-pair-requires
-pair-pair-requires c = rw (c.relations-relations.ensures) (place_within c.args.second c.args.congruence.now.congruence.presentation.relations c.args.letter c.with_letter-places.result.now c.loop-i.i (omega arith) c.with_letter-places.ensures)
+pub due_at_places-requires : goal.due_at_places-requires
+due_at_places-requires c =
+    subst (λ (z : List (Word × Word)). ArePlaces c.args.second z c.ends.result.now) (sym c.relations-pairs.ensures)
+    (subst (λ (z : Places). ArePlaces c.args.second c.args.congruence.now.congruence.presentation.relations z) (sym c.ends.ensures) (c.uses-uses.ensures.within (of_ends c.args.letter)))
 
-pub loop-i-preserved : goal.loop-i-preserved
-loop-i-preserved c =
-    let pairs = c.args.congruence.now.congruence.presentation.relations in
-    let places = c.with_letter-places.result.now in
-    let less : c.loop-i.i < length places = omega arith in
-    sides_step c.args.second c.args.edges.now.graph pairs c.args.node c.args.letter places c.loop-i.i c.pair-pair.result.now c.side.result.now c.other_side.result.now
-    (place_within c.args.second pairs c.args.letter places c.loop-i.i less c.with_letter-places.ensures)
-    (c.pair-pair.ensures ∙ ap (λ (z : List (Word × Word)). get_or z (get_or places c.loop-i.i 0) c.pair-pair.result.now) c.relations-relations.ensures) c.side.ensures c.other_side.ensures c.in-Nothing.ensures c.loop-i.invariant
+pub due_in_powers-requires : goal.due_in_powers-requires
+due_in_powers-requires c =
+    subst (λ (z : List (Word × Word)). ArePlaces c.args.second z c.powers.result.now) (sym c.relations-pairs.ensures)
+    (subst (λ (z : Places). ArePlaces c.args.second c.args.congruence.now.congruence.presentation.relations z) (sym c.powers.ensures) (c.uses-uses.ensures.within (of_powers c.args.letter)))
 
 pub returns : goal.returns
 returns c =
-    let end : c.loop-i.i ≡ length c.with_letter-places.result.now = omega arith in
-    sides_end c.args.second c.args.edges.now.graph c.args.congruence.now.congruence.presentation.relations c.args.node c.args.letter c.with_letter-places.result.now c.loop-i.i end c.with_letter-places.ensures c.loop-i.invariant
-
-pub returns-in_default : goal.returns-in_default
-returns-in_default c =
+    let g = c.args.edges.now.graph in
     let pairs = c.args.congruence.now.congruence.presentation.relations in
-    let places = c.with_letter-places.result.now in
-    let less : c.loop-i.i < length places = omega arith in
-    sides_found c.args.second c.args.edges.now.graph pairs c.args.node c.args.letter (get_or places c.loop-i.i 0) c.pair-pair.result.now c.side.result.now c.other_side.result.now c.due_along.result (λ e. c.in_default.not-Nothing e)
-    (place_within c.args.second pairs c.args.letter places c.loop-i.i less c.with_letter-places.ensures)
-    (c.pair-pair.ensures ∙ ap (λ (z : List (Word × Word)). get_or z (get_or places c.loop-i.i 0) c.pair-pair.result.now) c.relations-relations.ensures) c.side.ensures c.other_side.ensures c.due_along.ensures
+    let lists = c.uses-uses.result.now in
+    let ends : IsDueAtPlaces c.args.second g pairs c.args.node c.args.letter (list_at lists (of_ends c.args.letter)) Nothing =
+    subst (λ (z : List (Word × Word)). IsDueAtPlaces c.args.second g z c.args.node c.args.letter (list_at lists (of_ends c.args.letter)) Nothing) c.relations-pairs.ensures
+    (subst (λ (z : Places). IsDueAtPlaces c.args.second g c.relations-pairs.result.now c.args.node c.args.letter z Nothing) c.ends.ensures c.in-Nothing.ensures) in
+    let powers : IsDueInPowers c.args.second g pairs c.args.node c.args.letter (list_at lists (of_powers c.args.letter)) Nothing =
+    subst (λ (z : List (Word × Word)). IsDueInPowers c.args.second g z c.args.node c.args.letter (list_at lists (of_powers c.args.letter)) Nothing) c.relations-pairs.ensures
+    (subst (λ (z : Places). IsDueInPowers c.args.second g c.relations-pairs.result.now c.args.node c.args.letter z Nothing) c.powers.ensures c.in-Nothing-due_in_powers.ensures) in
+    sides_due c.args.second g pairs c.args.node c.args.letter lists c.due_before_any.result c.uses-uses.ensures ends powers
+    (subst (λ (z : List (Word × Word)). IsDueBeforeAny c.args.second g z c.args.node c.args.letter lists c.due_before_any.result) c.relations-pairs.ensures c.due_before_any.ensures)

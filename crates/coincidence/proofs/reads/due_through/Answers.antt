@@ -1,4 +1,4 @@
-use Rattle.coincidence.proofs.UsesLaws.{both_sides, first_sides}
+use Rattle.coincidence.proofs.PlaceLaws.{both_sides, first_sides}
 use Rattle.coincidence.proofs.reads.due_through.Goals as goal
 
 pub returns-in-Nothing : goal.returns-in-Nothing

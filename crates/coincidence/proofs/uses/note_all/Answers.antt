@@ -1,12 +1,14 @@
-use Rattle.std.proofs.Common.{◌≡◌, Vec, Global, ℕ, length, map, arith}
+use Rattle.std.proofs.Common.{◌≡◌, ◌<◌, Vec, Global, ℕ, length, map, arith}
 use Rattle.coincidence.proofs.UsesLaws.{noted_step, noted_end}
 use Rattle.coincidence.proofs.uses.note_all.Goals as goal
 
-pub loop-i-preserved : goal.loop-i-preserved
-loop-i-preserved c = noted_step (map (λ (v : Vec ℕ Global). v.items) c.args.lists.now.items) (map (λ (v : Vec ℕ Global). v.items) c.loop-i.lists.items) (map (λ (v : Vec ℕ Global). v.items) c.note.new.lists.items)
-    c.args.word.now c.args.place c.loop-i.i c.letter.result c.number.result c.letter.ensures c.number.ensures c.in_ok-note.ensures c.loop-i.invariant
+pub loop-place-preserved : goal.loop-place-preserved
+loop-place-preserved c =
+    let less : c.loop-place.place < length c.args.side.now = omega arith in
+    noted_step c.args.power (map (λ (v : Vec (ℕ × ℕ) Global). v.items) c.args.lists.now.items) (map (λ (v : Vec (ℕ × ℕ) Global). v.items) c.loop-place.lists.items) (map (λ (v : Vec (ℕ × ℕ) Global). v.items) c.note.new.lists.items)
+    c.args.side.now c.args.pair c.loop-place.place c.list_number-number.result c.place_told.result less c.list_number-number.ensures c.place_told.ensures c.in_ok-note.ensures c.loop-place.invariant
 
 pub returns : goal.returns
 returns c =
-    let end : c.loop-i.i ≡ length c.args.word.now = omega arith in
-    noted_end (map (λ (v : Vec ℕ Global). v.items) c.args.lists.now.items) (map (λ (v : Vec ℕ Global). v.items) c.loop-i.lists.items) c.args.word.now c.args.place c.loop-i.i end c.loop-i.invariant
+    let end : c.loop-place.place ≡ length c.args.side.now = omega arith in
+    noted_end c.args.power (map (λ (v : Vec (ℕ × ℕ) Global). v.items) c.args.lists.now.items) (map (λ (v : Vec (ℕ × ℕ) Global). v.items) c.loop-place.lists.items) c.args.side.now c.args.pair c.loop-place.place end c.loop-place.invariant

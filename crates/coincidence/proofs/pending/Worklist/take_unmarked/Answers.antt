@@ -1,4 +1,4 @@
-use Rattle.std.proofs.Common.{◌≡◌, ◌<◌, length, get_or, false, arith}
+use Rattle.std.proofs.Common.{◌≡◌, ◌<◌, length, false, arith}
 use Rattle.std.proofs.lemmas.List.{get_or_read}
 use Rattle.coincidence.proofs.HoldLaws.{taken_more, taken_all}
 use Rattle.coincidence.proofs.pending.Worklist.take_unmarked.Goals as goal
