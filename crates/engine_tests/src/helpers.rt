@@ -1,5 +1,5 @@
 // What several tests build.
-ghost use Rattle.std.specs.Prelude.{◌≡◌, ◌<◌, ◌≤◌, [], length, IfOk, IfSome};
+ghost use Rattle.std.specs.Prelude.{◌≡◌, ◌<◌, ◌≤◌, length, IfOk, IfSome};
 ghost use Rattle.theory.specs.Word.{IsOver};
 ghost use Rattle.elements.specs.Generators.{HaveOneShape};
 ghost use Rattle.froidure_pin.specs.Rules.{IsWholeTable};
@@ -7,26 +7,15 @@ ghost use Rattle.froidure_pin.specs.Rules.{IsWholeTable};
 use elements::{Element, Field, Transf};
 use froidure_pin::{FroidurePin, Run, Steps, Table, have_one_shape};
 use ports::NoMemory;
-use presentation::{Congruence, Kind, Pairs, Presentation};
+use presentation::Presentation;
 use race::{Progress, Racer};
 use std::alloc::Global;
 use std::marker::Brand;
 use std::process::Abort;
+use std::sync::atomic::{AtomicBool, Ordering};
 use std::sync::ledger::{Blank, Ledger};
 use std::test::Fail;
 use words::{Alphabet, Word};
-
-// The monoid of one letter of which three are the empty word.
-pub const CYCLIC: &[(&str, &str)] = &[("aaa", "")];
-
-// The monoid of one letter of which three and five are the empty word.
-pub const TRIVIAL: &[(&str, &str)] = &[("aaa", ""), ("aaaaa", "")];
-
-// The symmetric group of degree three: `a` has order two, and `b` order three.
-pub const SYMMETRIC: &[(&str, &str)] = &[("aa", ""), ("bbb", ""), ("abab", "")];
-
-// The free semilattice of two letters.
-pub const SEMILATTICE: &[(&str, &str)] = &[("aa", "a"), ("bb", "b"), ("ab", "ba")];
 
 // The word of a text with powers.
 pub fn word(alloc: Global, alphabet: &Alphabet, text: &str) -> Result<Word, Fail>
@@ -61,36 +50,6 @@ pub fn presented(
         add(alloc, &mut presentation, left, right)?;
     }
     Ok(presentation)
-}
-
-// The monoid of one letter of which three are the empty word.
-pub fn cyclic(alloc: Global) -> Result<Presentation, Fail> {
-    presented(alloc, "a", true, CYCLIC)
-}
-
-// The symmetric group.
-pub fn symmetric(alloc: Global) -> Result<Presentation, Fail> {
-    presented(alloc, "ab", true, SYMMETRIC)
-}
-
-// The congruence without pairs.
-pub fn without_pairs(alloc: Global, presentation: Presentation) -> Congruence
-    ensures kind { result.congruence.kind ≡ Kind.TwoSided }
-    ensures pairs { result.congruence.pairs ≡ [] }
-{
-    Congruence::new(presentation, Kind::TwoSided, Pairs::new(alloc))
-}
-
-// The congruence of the right pair of the letter `a` and the empty word on the symmetric group.
-pub fn collapsed(rt: &impl Abort, alloc: Global) -> Result<Congruence, Fail>
-    ensures { IfOk result (λ c. c.congruence.kind ≡ Kind.Right) }
-{
-    let presentation = symmetric(alloc)?;
-    assert!(rt; presentation.is_monoid());
-    let left = word(alloc, presentation.alphabet(), "a")?;
-    let mut pairs = Pairs::new(alloc);
-    pairs.push(left, Word::new(alloc))?;
-    Ok(Congruence::new(presentation, Kind::Right, pairs))
 }
 
 // The map of so many points with these images.
@@ -187,9 +146,16 @@ pub fn gives<R: Racer>(engine: &mut R, answers: &[Progress]) -> bool {
     true
 }
 
-// The value, as another thread may have it.
-pub fn sent<T: Send>(value: T) -> T
-    ensures { result ≡ value }
-{
-    value
+// How often a thread looks for a mark that is to come.
+pub const MANY: u32 = 200_000_000;
+
+// Sets a mark, and looks so often for another. Whether it was seen.
+pub fn meets(mine: &AtomicBool, other: &AtomicBool, looks: u32) -> bool {
+    mine.store(true, Ordering::SeqCst);
+    for _ in 0..looks {
+        if other.load(Ordering::SeqCst) {
+            return true;
+        }
+    }
+    false
 }

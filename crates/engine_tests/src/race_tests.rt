@@ -1,190 +1,208 @@
-// A race of two lanes by schedules.
-ghost use Rattle.std.specs.Prelude.{◌≡◌, ◌≢◌, length, IfOk};
+// Races of two lanes: on one thread by schedules, and over threads.
+ghost use Rattle.std.specs.Prelude.{◌≡◌, ◌≤◌, length, IfOk};
 ghost use Rattle.race.specs.Machine.{Starts};
-ghost use Rattle.race.specs.declared.engines.Progress.TheVariants as answer;
+ghost use Rattle.race.specs.Script.{IsScript};
 
-use race::{Lane, LaneState, Outcome, Progress, Racer, play};
-use std::alloc::{AllocError, Global};
+use crate::helpers::{MANY, meets};
+use ports::{NoMemory, Open};
+use race::Progress::{Decided, More, NoMemory as Starves, Spent};
+use race::{Lane, LaneState, Outcome, Progress, Racer, Scripted, play, race};
+use std::alloc::Global;
+use std::sync::atomic::AtomicBool;
 use std::test::Fail;
+use std::thread::Threads;
 
-// An engine that goes on for so many turns, and then gives one answer for good.
-#[derive(Drop)]
-struct Countdown {
-    left: u8,
-    end: Progress,
-    ended: bool,
-    ghost ends: { end ≢ answer.More },
-}
+// How a race of two lanes ends, and how each lane ends.
+type Ending = (Outcome, LaneState, LaneState);
 
-impl Countdown {
-    // It is spent where no other answer is given.
-    fn new(left: u8, end: Progress) -> Countdown {
-        let end = match end {
-            Progress::More => Progress::Spent,
-            _ => end,
-        };
-        Countdown {
-            left,
-            end,
-            ended: false,
-        }
-    }
-}
-
-impl Racer for Countdown {
-    ghost use Rattle.std.specs.Prelude.{◌≡◌, ℕ, ◌<◌, if◌then◌else◌};
-    ghost use Rattle.race.specs.declared.engines.Progress.{Progress as Answer};
-    ghost use Rattle.race.specs.declared.engines.Progress.TheVariants.{More, Decided};
-
-    ghost Task = { Answer };
-
-    ghost task = { λ c. c.end };
-
-    ghost condition = { λ end. end ≡ Decided };
-
-    ghost measure = { λ c. c.left };
-
-    ghost said = { λ c. if c.ended then c.end else More };
-
-    fn advance(&mut self) -> Progress {
-        if self.ended {
-            return self.end;
-        }
-        if self.left == 0 {
-            self.ended = true;
-            return self.end;
-        }
-        self.left -= 1;
-        Progress::More
-    }
-}
-
-// What a second turn gives.
-fn second_turn<R: Racer>(engine: &mut R) -> Progress {
-    let _first = engine.advance();
-    engine.advance()
-}
-
-#[test]
-fn engines_are_advanced_through_their_bound(rt: HostRuntime) -> Result<(), Fail> {
-    for (turns, want) in [
-        (0, Progress::Decided),
-        (1, Progress::Decided),
-        (2, Progress::More),
-    ] {
-        let mut engine = Countdown::new(turns, Progress::Decided);
-        assert_eq!(rt; second_turn(&mut engine), want);
-    }
-    Ok(())
-}
-
-// Two lanes whose engines end so.
+// Two lanes that give these answers.
 fn two(
     alloc: Global,
-    first: Countdown,
-    second: Countdown,
-) -> Result<Vec<Lane<Countdown>>, AllocError>
+    first: &[Progress],
+    second: &[Progress],
+) -> Result<Vec<Lane<Scripted>>, NoMemory>
+    requires { IsScript first.now × IsScript second.now }
     ensures { IfOk result (λ lanes. (length lanes.items ≡ 2)
-        × Starts ⟦<Countdown as Racer>⟧ lanes.items) }
+        × Starts ⟦<Scripted as Racer>⟧ lanes.items) }
 {
     let mut lanes = Vec::new(alloc);
-    lanes.push(Lane::new(0, first))?;
-    lanes.push(Lane::new(1, second))?;
+    lanes.push(Lane::new(0, Scripted::new(alloc, Vec::from_slice(alloc, first)?)?))?;
+    lanes.push(Lane::new(1, Scripted::new(alloc, Vec::from_slice(alloc, second)?)?))?;
     Ok(lanes)
 }
 
-// How the race of two lanes ends under a schedule, and how each lane ends.
-fn played(
-    alloc: Global,
-    first: Countdown,
-    second: Countdown,
-    schedule: &[usize],
-) -> Result<(Outcome, LaneState, LaneState), AllocError> {
-    let mut lanes = two(alloc, first, second)?;
-    let schedule = Vec::from_slice(alloc, schedule)?;
-    let outcome = play(&mut lanes, &schedule);
-    if lanes.len() != 2 {
-        return Ok((outcome, LaneState::Running, LaneState::Running));
-    }
-    Ok((outcome, lanes[0].state(), lanes[1].state()))
+fn ending(outcome: Outcome, lanes: &Vec<Lane<Scripted>>) -> Ending
+    requires { length lanes.now.items ≡ 2 }
+{
+    (outcome, lanes[0].state(), lanes[1].state())
 }
 
-// How a lane's engine ends, and after how many turns.
-type End = (u8, Progress);
+fn raced<T: Threads + Sync>(
+    rt: &T,
+    alloc: Global,
+    first: &[Progress],
+    second: &[Progress],
+    workers: usize,
+) -> Result<Ending, NoMemory>
+    requires { IsScript first.now × IsScript second.now × (1 ≤ workers) }
+{
+    let mut lanes = two(alloc, first, second)?;
+    let outcome = race(rt, alloc, &mut lanes, workers, &Open)?;
+    Ok(ending(outcome, &lanes))
+}
 
-const DECIDES: Progress = Progress::Decided;
-
-const GIVES_UP: Progress = Progress::Spent;
-
-const STARVES: Progress = Progress::NoMemory;
-
-// The ends of two engines, a schedule, and how the race and each lane ends.
-const RACES: [(End, End, &[usize], Outcome, LaneState, LaneState); 7] = [
-    (
-        (2, DECIDES),
-        (1, GIVES_UP),
-        &[0, 0, 0, 1],
-        Outcome::Won(0),
-        LaneState::Won,
-        LaneState::Cancelled(0),
-    ),
-    (
-        (2, DECIDES),
-        (1, GIVES_UP),
-        &[1, 1, 0, 0, 0],
-        Outcome::Won(0),
-        LaneState::Won,
-        LaneState::Spent,
-    ),
-    (
-        (2, DECIDES),
-        (1, GIVES_UP),
-        &[],
-        Outcome::Won(0),
-        LaneState::Won,
-        LaneState::Spent,
-    ),
-    (
-        (1, STARVES),
-        (1, GIVES_UP),
-        &[1, 5, 0],
-        Outcome::Starved(0),
-        LaneState::Starved,
-        LaneState::Spent,
-    ),
-    (
-        (0, STARVES),
-        (1, DECIDES),
-        &[1, 1],
-        Outcome::Won(1),
-        LaneState::Starved,
-        LaneState::Won,
-    ),
-    (
-        (0, DECIDES),
-        (0, DECIDES),
-        &[0, 1],
-        Outcome::Won(0),
-        LaneState::Won,
-        LaneState::Lost(0),
-    ),
-    (
-        (0, DECIDES),
-        (0, DECIDES),
-        &[1, 0],
-        Outcome::Won(1),
-        LaneState::Lost(1),
-        LaneState::Won,
-    ),
-];
+fn played(
+    alloc: Global,
+    first: &[Progress],
+    second: &[Progress],
+    schedule: &[usize],
+) -> Result<Ending, NoMemory>
+    requires { IsScript first.now × IsScript second.now }
+{
+    let mut lanes = two(alloc, first, second)?;
+    let outcome = play(&mut lanes, &Vec::from_slice(alloc, schedule)?);
+    Ok(ending(outcome, &lanes))
+}
 
 #[test]
-fn two_lanes_race_by_schedules(rt: HostRuntime) -> Result<(), Fail> {
-    for (first, second, schedule, outcome, one, other) in &RACES {
-        let first = Countdown::new(first.0, first.1);
-        let second = Countdown::new(second.0, second.1);
-        let ended = played(rt.alloc(), first, second, schedule)?;
-        assert!(rt; ended == (*outcome, *one, *other));
+fn two_lanes_race_by_schedules(rt: HostRuntime) {
+    let alloc = rt.alloc();
+    let cancelled = (Outcome::Won(0), LaneState::Won, LaneState::Cancelled(0));
+    let spent = (Outcome::Won(0), LaneState::Won, LaneState::Spent);
+    let (decides, gives_up) = ([More, More, Decided], [More, Spent]);
+    assert!(rt; played(alloc, &decides, &gives_up, &[0, 0, 0, 1]) == Ok(cancelled));
+    assert!(rt; played(alloc, &decides, &gives_up, &[1, 1, 0, 0, 0]) == Ok(spent));
+    assert!(rt; played(alloc, &decides, &gives_up, &[]) == Ok(spent));
+}
+
+#[test]
+fn the_first_of_two_decisions_wins(rt: HostRuntime) {
+    let alloc = rt.alloc();
+    let front = (Outcome::Won(0), LaneState::Won, LaneState::Lost(0));
+    let back = (Outcome::Won(1), LaneState::Lost(1), LaneState::Won);
+    assert!(rt; played(alloc, &[Decided], &[Decided], &[0, 1]) == Ok(front));
+    assert!(rt; played(alloc, &[Decided], &[Decided], &[1, 0]) == Ok(back));
+}
+
+#[test]
+fn a_lane_may_starve(rt: HostRuntime) {
+    let alloc = rt.alloc();
+    let both = (Outcome::Starved(0), LaneState::Starved, LaneState::Spent);
+    assert!(rt; played(alloc, &[More, Starves], &[More, Spent], &[1, 5, 0]) == Ok(both));
+    let one = (Outcome::Won(1), LaneState::Starved, LaneState::Won);
+    assert!(rt; played(alloc, &[Starves], &[More, Decided], &[1, 1]) == Ok(one));
+}
+
+// Whether these answers end in one of two ways, on one thread and over threads by 1, 2 and 3
+// workers.
+fn ends<T: Threads + Sync>(
+    rt: &T,
+    alloc: Global,
+    first: &[Progress],
+    second: &[Progress],
+    one: Ending,
+    other: Ending,
+) -> Result<bool, NoMemory>
+    requires { IsScript first.now × IsScript second.now }
+{
+    let alone = played(alloc, first, second, &[])?;
+    let mut as_told = alone == one || alone == other;
+    for workers in 1..4usize {
+        let over_threads = raced(rt, alloc, first, second, workers)?;
+        as_told = as_told && (over_threads == one || over_threads == other);
     }
+    Ok(as_told)
+}
+
+#[test]
+fn a_decision_wins(rt: HostRuntime) {
+    let alloc = rt.alloc();
+    let spent = (Outcome::Won(0), LaneState::Won, LaneState::Spent);
+    let cancelled = (Outcome::Won(0), LaneState::Won, LaneState::Cancelled(0));
+    let decides = [More, More, Decided];
+    assert!(rt; ends(&rt, alloc, &decides, &[More, Spent], spent, cancelled) == Ok(true));
+    let second = (Outcome::Won(1), LaneState::Starved, LaneState::Won);
+    assert!(rt; ends(&rt, alloc, &[Starves], &[More, Decided], second, second) == Ok(true));
+    let front = (Outcome::Won(0), LaneState::Won, LaneState::Lost(0));
+    let back = (Outcome::Won(1), LaneState::Lost(1), LaneState::Won);
+    assert!(rt; ends(&rt, alloc, &[Decided], &[Decided], front, back) == Ok(true));
+}
+
+#[test]
+fn a_race_ends_without_a_decision(rt: HostRuntime) {
+    let alloc = rt.alloc();
+    let one = (Outcome::Starved(0), LaneState::Starved, LaneState::Spent);
+    assert!(rt; ends(&rt, alloc, &[More, Starves], &[More, Spent], one, one) == Ok(true));
+    let all = (Outcome::AllSpent, LaneState::Spent, LaneState::Spent);
+    assert!(rt; ends(&rt, alloc, &[Spent], &[More, Spent], all, all) == Ok(true));
+    let both = (Outcome::Starved(0), LaneState::Starved, LaneState::Starved);
+    assert!(rt; ends(&rt, alloc, &[More, Starves], &[Starves], both, both) == Ok(true));
+}
+
+// An engine that looks in its first turn for the mark of another, and is spent.
+#[derive(Drop)]
+struct Seeker<'a> {
+    mine: &'a AtomicBool,
+    other: &'a AtomicBool,
+    looks: u32,
+    saw: bool,
+    done: bool,
+}
+
+impl<'a> Racer for Seeker<'a> {
+    ghost use Rattle.race.specs.declared.engines.Progress.TheVariants.{More, Spent};
+    ghost use Rattle.std.specs.Prelude.{if◌then◌else◌};
+
+    ghost Task = { Unit {0} };
+
+    ghost task = { λ _. tt };
+
+    ghost condition = { λ _. ⊥ };
+
+    ghost measure = { λ _. 0 };
+
+    ghost said = { λ seeker. if seeker.done then Spent else More };
+
+    fn advance(&mut self) -> Progress {
+        if !self.done {
+            self.saw = meets(self.mine, self.other, self.looks);
+            self.done = true;
+        }
+        Spent
+    }
+}
+
+fn seeks<'a>(mine: &'a AtomicBool, other: &'a AtomicBool, looks: u32) -> Seeker<'a> {
+    Seeker {
+        mine,
+        other,
+        looks,
+        saw: false,
+        done: false,
+    }
+}
+
+// Whether each of two lanes saw the other's mark in its first turn.
+fn met<T: Threads + Sync>(
+    rt: &T,
+    alloc: Global,
+    workers: usize,
+    looks: u32,
+) -> Result<(bool, bool), NoMemory>
+    requires { 1 ≤ workers }
+{
+    let (front, back) = (AtomicBool::new(false), AtomicBool::new(false));
+    let mut lanes = Vec::new(alloc);
+    lanes.push(Lane::new(0, seeks(&front, &back, looks)))?;
+    lanes.push(Lane::new(1, seeks(&back, &front, looks)))?;
+    race(rt, alloc, &mut lanes, workers, &Open)?;
+    Ok((lanes[0].racer().saw, lanes[1].racer().saw))
+}
+
+// One worker gives the lanes their turns one after another.
+#[test]
+fn two_workers_run_lanes_side_by_side(rt: HostRuntime) -> Result<(), Fail> {
+    assert!(rt; met(&rt, rt.alloc(), 2, MANY) == Ok((true, true)));
+    assert!(rt; met(&rt, rt.alloc(), 1, 1_000) == Ok((false, true)));
     Ok(())
 }

@@ -1,7 +1,7 @@
 // Tables of low index, one after another.
 ghost use Rattle.std.specs.Prelude.{◌≤◌};
 
-use crate::helpers::{presented, symmetric};
+use crate::helpers::presented;
 use ports::NoMemory;
 use presentation::Presentation;
 use sims_one::{MOST_CLASSES, Sims};
@@ -23,67 +23,36 @@ fn printed(alloc: Global, sims: &mut Sims) -> Result<Vec<u8>, NoMemory> {
     Ok(text)
 }
 
-// Whether the next tables are those of the text, and no other comes behind them.
-fn lists(alloc: Global, sims: &mut Sims, text: &str) -> Result<bool, NoMemory> {
-    let printed = printed(alloc, sims)?;
-    Ok(printed.as_slice() == text.as_bytes() && sims.next()?.is_none())
-}
-
-// Whether all tables are those of the text.
-fn begins(
+// The tables of at most so many classes, from the first on where no text is given, and else behind
+// the table of the text, if it is standard.
+fn listed(
     alloc: Global,
     presentation: &Presentation,
     classes: usize,
-    text: &str,
-) -> Result<bool, NoMemory>
+    after: Option<&str>,
+) -> Result<Vec<u8>, Fail>
     requires { classes ≤ MOST_CLASSES }
 {
     let mut sims = Sims::new(alloc, presentation, classes)?;
-    lists(alloc, &mut sims, text)
-}
-
-// Whether the tables after the table of the text are those of the other text.
-fn goes_on(
-    alloc: Global,
-    presentation: &Presentation,
-    classes: usize,
-    after: &str,
-    text: &str,
-) -> Result<bool, NoMemory>
-    requires { classes ≤ MOST_CLASSES }
-{
-    let mut sims = Sims::new(alloc, presentation, classes)?;
-    let letters = presentation.letters();
-    let Ok(table) = WordGraph::read_table(alloc, letters, after.as_bytes()) else {
-        return Ok(false);
-    };
-    if !table.is_standard() {
-        return Ok(false);
+    if let Some(text) = after {
+        let table = WordGraph::read_table(alloc, presentation.letters(), text.as_bytes())?;
+        if table.is_standard() {
+            sims.resume(&table)?;
+        }
     }
-    sims.resume(&table)?;
-    lists(alloc, &mut sims, text)
+    Ok(printed(alloc, &mut sims)?)
 }
 
 #[test]
 fn tables_of_a_free_monoid(rt: HostRuntime) -> Result<(), Fail> {
-    let presentation = presented(rt.alloc(), "a", true, &[])?;
-    assert!(rt; begins(rt.alloc(), &presentation, 2, "0;1/0;1/1;")?);
-    assert!(rt; goes_on(rt.alloc(), &presentation, 2, "1/0", "1/1;")?);
-    assert!(rt; goes_on(rt.alloc(), &presentation, 2, "1/2/0", "")?);
-    Ok(())
-}
-
-#[test]
-fn tables_of_a_free_semigroup(rt: HostRuntime) -> Result<(), Fail> {
-    let presentation = presented(rt.alloc(), "a", false, &[])?;
-    assert!(rt; begins(rt.alloc(), &presentation, 2, "1/1;1/2/1;1/2/2;")?);
-    Ok(())
-}
-
-#[test]
-fn tables_of_a_group_are_its_subgroups(rt: HostRuntime) -> Result<(), Fail> {
-    let presentation = symmetric(rt.alloc())?;
-    let text = "0,0;0,1/2,2/1,0;1,0/0,1;1,1/0,2/2,0;1,2/0,0/2,1;";
-    assert!(rt; begins(rt.alloc(), &presentation, 3, text)?);
+    let monoid = presented(rt.alloc(), "a", true, &[])?;
+    for (after, want) in [
+        (None, "0;1/0;1/1;"),
+        (Some("1/0"), "1/1;"),
+        (Some("1/2/0"), ""),
+    ] {
+        let text = listed(rt.alloc(), &monoid, 2, after)?;
+        assert_eq!(rt; text.as_slice(), want.as_bytes());
+    }
     Ok(())
 }
