@@ -1,6 +1,5 @@
 -- The reader refuses each line for the cause that is said, and no other.
-use Rattle.std.proofs.Common.{◌≡◌, ℕ, Bool, true, false, if◌then◌else◌, List, [], ◌∷◌, codes, Option, None, Result, Ok, refl, sym, ap, ◌∙◌}
-use Rattle.presentation.specs.Presented.{Posed}
+use Rattle.std.proofs.Common.{◌≡◌, Bool, true, false, not, ◌&&◌, if◌then◌else◌, List, [], ◌∷◌, codes, Option, None, Result, Ok, refl, sym, ap, ◌∙◌}
 use Rattle.problem.specs.Problem.{is_presented}
 use Rattle.problem.specs.declared.kinds.Problem.{Problem}
 use Rattle.problem.specs.declared.kinds.Problem.TheVariants as problem
@@ -11,40 +10,41 @@ use Rattle.query_lang.specs.Outcome.{and_then}
 use Rattle.query_lang.specs.Token.{Token, Line, is_kept, is_word}
 use Rattle.query_lang.specs.declared.version.Version.{Version}
 use Rattle.query_lang.specs.declared.version.Version.TheVariants.{One}
-use Rattle.query_lang.specs.Script.{ProgressOf, ReaderOf, Reading, Versioned, element_line, finished, first_line, header_line, presentation_line, read_line, whole_of, with_line, take_tokens}
+use Rattle.query_lang.specs.Script.{ProgressOf, ReaderOf, Reading, Versioned, finished, first_line, generator_line, header_line, named_line, read_line, whole_of, with_line, take_tokens}
 use Rattle.query_lang.specs.Versions.{version_of}
 use Rattle.query_lang.specs.Grammar.{Head, Partial, Said, lacks_generator}
 use Rattle.query_lang.specs.Grammar as grammar
 use Rattle.query_lang.specs.LineCauses.{first_of, cause_in, line_causes, causes_after, cause_of_line, cause_at_end, first_line_causes, header_causes, version_causes, when}
 use Rattle.query_lang.proofs.FoldLemmas.{partial, reader_of, readers}
 use Rattle.query_lang.proofs.ReaderLemmas.{Come, asking, posed, lacking, come_of, presentation_kept}
-use Rattle.query_lang.proofs.FormLemmas.{presentation_cause, same-cause}
+use Rattle.query_lang.proofs.FormLemmas.{named_cause, same-cause}
 use Rattle.query_lang.proofs.GeneratorLemmas.{transf_cause, pperm_cause, bmat_cause, mpt_cause}
 use Rattle.query_lang.proofs.HeaderLemmas.{header_cause, version_cause}
-use Rattle.query_lang.proofs.ElementLemmas.{elements_cause}
 
--- a line of a presentation
-presented_agrees : (head : Head) (o : Posed) (queries : List Query) (first : Token) (tokens : List Token)
-    → cause_in (presentation_line head.version (reader_of (partial head (problem.Presented o) queries)) (first ∷ tokens)) ≡ first_of (line_causes (partial head (problem.Presented o) queries) (first ∷ tokens))
-presented_agrees head o queries first [] = presentation_cause head o queries first []
-presented_agrees head o queries first (t ∷ tokens) = presentation_cause head o queries first (t ∷ tokens)
+-- a line of generators, or else one that begins with a name
+either : (sign : Bool) (G N : Result ReaderOf Cause) (gs ns : List (Option Cause)) → cause_in G ≡ first_of gs → cause_in N ≡ first_of ns
+    → cause_in (if sign then G else N) ≡ first_of (if sign then gs else ns)
+either true G N gs ns g n = g
+either false G N gs ns g n = n
 
--- a line behind the header, by the kind of the script
-by_kind : (head : Head) (p : Problem) (queries : List Query) (first : Token) (tokens : List Token) → let r : ReaderOf = reader_of (partial head p queries) in
-    cause_in (if is_presented p then presentation_line head.version r (first ∷ tokens) else element_line head.version r (first ∷ tokens)) ≡ first_of (line_causes (partial head p queries) (first ∷ tokens))
-by_kind head (problem.Presented o) queries first tokens = presented_agrees head o queries first tokens
-by_kind head (problem.Transf g) queries first tokens = elements_cause head (problem.Transf g) queries first tokens refl (transf_cause head g queries)
-by_kind head (problem.PPerm g) queries first tokens = elements_cause head (problem.PPerm g) queries first tokens refl (pperm_cause head g queries)
-by_kind head (problem.BMat g) queries first tokens = elements_cause head (problem.BMat g) queries first tokens refl (bmat_cause head g queries)
-by_kind head (problem.MaxPlus g) queries first tokens = elements_cause head (problem.MaxPlus g) queries first tokens refl (mpt_cause head g queries)
+-- a line of two tokens or more
+by_kind : (head : Head) (p : Problem) (queries : List Query) (first second : Token) (tokens : List Token) → let r : ReaderOf = reader_of (partial head p queries) in
+    cause_in (if not (is_presented p) && is_word (codes "=") second then generator_line head.version r first tokens else named_line head.version r first (second ∷ tokens))
+    ≡ first_of (line_causes (partial head p queries) (first ∷ second ∷ tokens))
+by_kind head (problem.Presented o) queries first second tokens = named_cause head (problem.Presented o) queries first (second ∷ tokens)
+by_kind head (problem.Transf g) queries first second tokens = either (is_word (codes "=") second) _ _ _ _ (transf_cause head g queries first tokens) (named_cause head (problem.Transf g) queries first (second ∷ tokens))
+by_kind head (problem.PPerm g) queries first second tokens = either (is_word (codes "=") second) _ _ _ _ (pperm_cause head g queries first tokens) (named_cause head (problem.PPerm g) queries first (second ∷ tokens))
+by_kind head (problem.BMat g) queries first second tokens = either (is_word (codes "=") second) _ _ _ _ (bmat_cause head g queries first tokens) (named_cause head (problem.BMat g) queries first (second ∷ tokens))
+by_kind head (problem.MaxPlus g) queries first second tokens = either (is_word (codes "=") second) _ _ _ _ (mpt_cause head g queries first tokens) (named_cause head (problem.MaxPlus g) queries first (second ∷ tokens))
 
 -- a line behind the header
 agrees : (head : Head) (p : Problem) (queries : List Query) (first : Token) (tokens : List Token)
     → cause_in (with_line head.version (reader_of (partial head p queries)) (first ∷ tokens)) ≡ first_of (line_causes (partial head p queries) (first ∷ tokens))
-agrees head p queries first tokens =
+agrees head p queries first [] = named_cause head p queries first []
+agrees head p queries first (second ∷ tokens) =
     let r : ReaderOf = reader_of (partial head p queries) in
-    ap (λ b. cause_in (if b then presentation_line head.version r (first ∷ tokens) else element_line head.version r (first ∷ tokens))) (presentation_kept head p queries)
-    ∙ by_kind head p queries first tokens
+    ap (λ b. cause_in (if not b && is_word (codes "=") second then generator_line head.version r first tokens else named_line head.version r first (second ∷ tokens))) (presentation_kept head p queries)
+    ∙ by_kind head p queries first second tokens
 
 -- the header, in a script of this version
 header_agrees : (version : Version) (first : Token) (tokens : List Token)

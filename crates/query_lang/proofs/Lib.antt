@@ -3,7 +3,7 @@ pub mod EntryLemmas
 pub mod InjectiveLemmas
 pub mod KindLemmas
 pub mod DraftLemmas
-pub mod LineLemmas
+pub mod QueryLemmas
 pub mod ReadLemmas
 pub mod PairingLemmas
 pub mod FoldLemmas
@@ -11,7 +11,6 @@ pub mod ReaderLemmas
 pub mod FormLemmas
 pub mod GeneratorLemmas
 pub mod HeaderLemmas
-pub mod ElementLemmas
 pub mod CauseLaw
 pub mod SoundLaw
 pub mod StepLaw

@@ -1,5 +1,5 @@
 -- How far the reader has come with a partial script.
-use Rattle.std.proofs.Common.{◌≡◌, ℕ, ◌==◌, nat_lt, Bool, true, false, not, ◌&&◌, if◌then◌else◌, List, [], ◌∷◌, length, Ok, Err, refl, sym, ap, ◌∙◌, true≢false}
+use Rattle.std.proofs.Common.{◌≡◌, ◌==◌, nat_lt, Bool, true, false, not, ◌&&◌, if◌then◌else◌, List, [], ◌∷◌, length, Ok, Err, refl, sym, ap, ◌∙◌, true≢false}
 use Rattle.presentation.specs.Presented.{Posed}
 use Rattle.problem.specs.Posed.{PosedOf}
 use Rattle.problem.specs.Problem.{is_presented, letters_of, pairs_of}

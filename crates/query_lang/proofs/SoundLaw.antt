@@ -1,12 +1,11 @@
 -- The reader reads each line that the grammar reads, and to the same.
-use Rattle.std.proofs.Common.{◌≡◌, ◌≢◌, ℕ, ◌+◌, ◌*◌, ◌==◌, ◌≤◌, Bool, true, false, not, ◌&&◌, ◌||◌, ◌⊎◌, inl, inr, if◌then◌else◌, List, [], ◌∷◌, ◌++◌, length, map, codes, Option, Some, None, Result, Ok, Err, refl, sym, ap, ◌∙◌, subst, arith, eq-eqb, ne_eqb}
+use Rattle.std.proofs.Common.{◌≡◌, ◌≢◌, ℕ, ◌+◌, ◌*◌, ◌==◌, ◌≤◌, Bool, true, false, not, ◌&&◌, ◌||◌, ◌⊎◌, inl, inr, if◌then◌else◌, List, [], ◌∷◌, ◌++◌, length, map, codes, Option, Some, None, is_none, Result, Ok, Err, refl, sym, ap, ◌∙◌, subst, arith, eq-eqb, ne_eqb}
 use Rattle.std.proofs.lemmas.Bool.{le-ltb}
 use Rattle.std.specs.List.{list_any}
 use Rattle.std.specs.Option.{ok_or}
 use Rattle.elements.specs.declared.field.Field.{Field}
 use Rattle.theory.specs.declared.Kind.{Kind}
 use Rattle.theory.specs.declared.Kind.TheVariants.{TwoSided, Right, Left}
-use Rattle.theory.specs.Graph.{Graph}
 use Rattle.theory.specs.Word.{Word}
 use Rattle.words.specs.Alphabet.{alphabet_fault}
 use Rattle.words.specs.declared.fault.AlphabetFault.{AlphabetFault}
@@ -18,19 +17,16 @@ use Rattle.problem.specs.Problem.{has_empty_word, is_presented, kind_of, letters
 use Rattle.query_lang.specs.declared.cause.Cause.{Cause}
 use Rattle.query_lang.specs.declared.cause.Cause.TheVariants as cause
 use Rattle.query_lang.specs.Draft as draft
-use Rattle.query_lang.specs.QueryLines as name
 use Rattle.query_lang.specs.Script.{ReaderOf, take_tokens}
 use Rattle.query_lang.specs.Script.{Posing, Relating, Pairing, Asking, Nothing, Versioned, Reading}
 use Rattle.query_lang.specs.declared.version.Version.{Version}
 use Rattle.query_lang.specs.declared.version.Version.TheVariants.{One, Two}
 use Rattle.query_lang.specs.declared.role.Role.{Role}
 use Rattle.query_lang.specs.declared.role.Role.TheVariants as role
-use Rattle.query_lang.specs.Roles.{count_for, count_for_both, inverse_tokens, is_too_many, letter_if, letter_in, role_named, role_of, with_inverse, with_letter, with_role}
+use Rattle.query_lang.specs.Roles.{count_for, count_for_both, inverse_tokens, is_too_many, letter_if, letter_in, with_inverse, with_letter, with_role}
 use Rattle.query_lang.proofs.RoleLemmas.{both_counted, count_is}
 use Rattle.query_lang.specs.Versions.{is_wide, version_numbered, version_of}
 use Rattle.query_lang.specs.declared.script.Query.{Query}
-use Rattle.query_lang.specs.declared.script.Query.TheVariants as query
-use Rattle.query_lang.specs.Asked.{ScriptOf}
 use Rattle.query_lang.specs.Draft.{DraftOf, add_generator, start_of, with_generator}
 use Rattle.query_lang.specs.Elements.{boolean_matrix_of, entries_of, partial_permutation_of, transformation_of, truncated_matrix_of}
 use Rattle.query_lang.specs.Entries.{all_of, below, below_or_dash, bit, is_injective}
@@ -40,17 +36,18 @@ use Rattle.query_lang.specs.LineWords.{both_elements, element_of}
 use Rattle.query_lang.specs.Outcome.{and_then}
 use Rattle.query_lang.specs.Relations.{add_relation, add_relations, free_over, most_relations, relations_of}
 use Rattle.query_lang.specs.Outline.{unless_fault}
-use Rattle.query_lang.specs.Tables.{both_tables, congruence_table_of}
-use Rattle.query_lang.specs.Pairing.{is_same_kind, most_pairs, pair_kind_of, paired, takes_kind}
-use Rattle.query_lang.specs.QueryLines.{NameOf, cursor_of, is_name_barred, limits_of, name_takes, query_name_of, query_of, table_cursor_of}
-use Rattle.query_lang.specs.Script.{asked, common_line, element_line, finished, first_line, generator_line, header_line, is_presentation, pair_or_query, presentation_line, read_line, relation_line, role_line, role_or_common, with_asked, with_line}
+use Rattle.query_lang.specs.Pairing.{is_same_kind, most_pairs, paired, takes_kind}
+use Rattle.query_lang.specs.Values.{Scope, bars_query, query_by, query_of, scope_of, values_of, way_for}
+use Rattle.query_lang.specs.Script.{asked, finished, first_line, form_line, generator_line, header_line, is_presentation, named_line, read_line, relation_line, role_line, with_asked, with_line}
 use Rattle.query_lang.specs.Token.{Token, Line, is_kept, is_word, letter_of, number_of, number_within}
-use Rattle.query_lang.specs.Forms.{LowIndex, Pair, name_of}
-use Rattle.query_lang.specs.Grammar.{AreEntries, HasGenerator, HasRoleRelations, Head, HeaderReads, IsCongruenceTableOf, IsQuery, LineReads, Partial, Step, begin_with, has_sign, is_generator_line, lacks_generator, script_in, section_reached}
+use Rattle.query_lang.specs.declared.form.Form.{Form}
+use Rattle.query_lang.specs.declared.form.Form.TheVariants.{Relation, OfRole, Pair, Asks}
+use Rattle.query_lang.specs.declared.form.QueryForm.{QueryForm}
+use Rattle.query_lang.specs.Forms.{AllGiven, Way, form_named, name_of, row_of}
+use Rattle.query_lang.specs.Grammar.{AreEntries, HasGenerator, HasRoleRelations, Head, HeaderReads, IsQuery, LineReads, Partial, Step, begin_with, has_sign, is_generator_line, lacks_generator, script_in, section_reached}
 use Rattle.query_lang.specs.Grammar as grammar
 use Rattle.query_lang.proofs.FoldLemmas.{Sound, opened, partial, reader_of, readers}
 use Rattle.query_lang.proofs.PairingLemmas.{has_pairs}
-use Rattle.query_lang.proofs.TableLemmas.{congruence_is_taken, low_is_taken}
 use Rattle.query_lang.proofs.ReaderLemmas.{come_of, finished_by, pair_in_order, paired_by, presentation_kept}
 
 -- numbers in the header
@@ -100,11 +97,17 @@ before_pairs : (no_pair : Bool) → (if no_pair then 2 else 3) ≤ 2 → no_pair
 before_pairs true h = refl
 before_pairs false h = absurd (omega arith)
 
--- a line of an element script
-element_line_read : (head : Head) (problem : Problem) (queries : List Query) (line : Line) → is_presented problem ≡ false
-    → with_line head.version (reader_of (partial head problem queries)) line ≡ element_line head.version (reader_of (partial head problem queries)) line
-element_line_read head problem queries line h =
-    let r : ReaderOf = reader_of (partial head problem queries) in ap (λ b. if b then presentation_line head.version r line else element_line head.version r line) (presentation_kept head problem queries ∙ h)
+-- a line that begins with a name, and is no generator line
+named_read : (version : Version) (r : ReaderOf) (presented : Bool) (first : Token) (tokens : List Token) (form : Form) → is_presentation r ≡ presented → (not presented && has_sign (first ∷ tokens)) ≡ false
+    → form_named version presented first ≡ Some form → with_line version r (first ∷ tokens) ≡ form_line version r form tokens
+named_read version r presented first [] form is sign named =
+    ap (λ b. and_then (λ form. form_line version r form []) (ok_or (form_named version b first) cause.UnknownLine)) is
+    ∙ ap (λ o. and_then (λ form. form_line version r form []) (ok_or o cause.UnknownLine)) named
+named_read version r presented first (second ∷ tokens) form is sign named =
+    let by : Option Form → Result ReaderOf Cause = λ o. and_then (λ form. form_line version r form (second ∷ tokens)) (ok_or o cause.UnknownLine) in
+    ap (λ b. if not b && is_word (codes "=") second then generator_line version r first tokens else by (form_named version b first)) is
+    ∙ ap (λ b. if b then generator_line version r first tokens else by (form_named version presented first)) sign
+    ∙ ap by named
 
 -- a generator before any pair
 generator_kept : (head : Head) (problem next : Problem) (name : Token) (entries : List Token) → is_presented problem ≡ false → section_reached (partial head problem []) ≤ 2 → pairs_of next ≡ pairs_of problem
@@ -112,7 +115,8 @@ generator_kept : (head : Head) (problem next : Problem) (name : Token) (entries 
     → with_line head.version (reader_of (partial head problem [])) (name ∷ codes "=" ∷ entries) ≡ Ok (reader_of (partial head next []))
 generator_kept head problem next name entries generated early pairs read =
     let none : (length (pairs_of problem) == 0) ≡ true = before_pairs (length (pairs_of problem) == 0) early in
-    element_line_read head problem [] (name ∷ codes "=" ∷ entries) generated
+    let r : ReaderOf = reader_of (partial head problem []) in
+    ap (λ b. if not b && true then generator_line head.version r name entries else named_line head.version r name (codes "=" ∷ entries)) (presentation_kept head problem [] ∙ generated)
     ∙ ap (λ b. generator_line head.version (if b then opened head problem else Pairing problem) name entries) none
     ∙ read
     ∙ ap (λ b. Ok (if b then opened head next else Pairing next)) (sym (ap (λ (ps : List (Word × Word)). length ps == 0) pairs ∙ none))
@@ -164,7 +168,7 @@ relation_read head o [] U V u v early few h k =
     let r : ReaderOf = reader_of (partial head (Presented o) []) in
     let none : (length o.congruence.pairs == 0) ≡ true = before_pairs (length o.congruence.pairs == 0) early in
     let next : Posed = add_relation o (u, v) in
-    ap (λ b. if b then presentation_line head.version r (codes "rel" ∷ U ∷ V ∷ []) else element_line head.version r (codes "rel" ∷ U ∷ V ∷ [])) (presentation_kept head (Presented o) [])
+    named_read head.version r true (codes "rel") (U ∷ V ∷ []) Relation (presentation_kept head (Presented o) []) refl refl
     ∙ ap (λ b. relation_line head.version (if b then Relating o else Pairing (Presented o)) (U ∷ V ∷ [])) none
     ∙ ap (λ b. and_then (λ o. Ok (Relating o)) (if b then Err cause.TooManyRelations else and_then (λ p. Ok (add_relation o p)) (both_elements head.version o.alphabet o.congruence.presentation.is_monoid U V))) (ne_eqb (length o.congruence.presentation.relations) most_relations few)
     ∙ ap (λ r. and_then (λ o. Ok (Relating o)) (and_then (λ p. Ok (add_relation o p)) r)) (both_read head.version o.alphabet o.congruence.presentation.is_monoid U V u v h k)
@@ -172,16 +176,19 @@ relation_read head o [] U V u v early few h k =
 
 -- letters that get a role
 
+role_named : (version : Version) (role : Role) → version ≡ Two → form_named version true (name_of (OfRole role)) ≡ Some (OfRole role)
+role_named version role.Identity two = ap (λ v. form_named v true (codes "identity")) two
+role_named version role.Zero two = ap (λ v. form_named v true (codes "zero")) two
+role_named version role.Inverse two = ap (λ v. form_named v true (codes "inverse")) two
+
 -- a line of a role, before any pair
-role_kept : (head : Head) (o next : Posed) (name : Token) (role : Role) (tokens : List Token) → is_word (codes "rel") name ≡ false → role_of head.version name ≡ Some role
+role_kept : (head : Head) (o next : Posed) (role : Role) (tokens : List Token) → head.version ≡ Two
     → section_reached (partial head (Presented o) []) ≤ 2 → pairs_of (Presented next) ≡ pairs_of (Presented o) → with_role head.version o role tokens ≡ Ok next
-    → with_line head.version (reader_of (partial head (Presented o) [])) (name ∷ tokens) ≡ Ok (reader_of (partial head (Presented next) []))
-role_kept head o next name role tokens other named early pairs read =
+    → with_line head.version (reader_of (partial head (Presented o) [])) (name_of (OfRole role) ∷ tokens) ≡ Ok (reader_of (partial head (Presented next) []))
+role_kept head o next role tokens two early pairs read =
     let r : ReaderOf = reader_of (partial head (Presented o) []) in
     let none : (length o.congruence.pairs == 0) ≡ true = before_pairs (length o.congruence.pairs == 0) early in
-    ap (λ b. if b then presentation_line head.version r (name ∷ tokens) else element_line head.version r (name ∷ tokens)) (presentation_kept head (Presented o) [])
-    ∙ ap (λ b. if b then relation_line head.version r tokens else role_or_common head.version r (role_of head.version name) name tokens) other
-    ∙ ap (λ role. role_or_common head.version r role name tokens) named
+    named_read head.version r true (name_of (OfRole role)) tokens (OfRole role) (presentation_kept head (Presented o) []) refl (role_named head.version role two)
     ∙ ap (λ b. role_line head.version (if b then Relating o else Pairing (Presented o)) role tokens) none
     ∙ ap (and_then (λ o. Ok (Relating o))) read
     ∙ ap (λ b. Ok (if b then Relating next else Pairing (Presented next))) (sym (ap (λ (ps : List (Word × Word)). length ps == 0) pairs ∙ none))
@@ -212,20 +219,20 @@ role_read : (head : Head) (o : Posed) (line : Line) (relations : List (Word × W
     → with_line head.version (reader_of (partial head (Presented o) [])) line ≡ Ok (reader_of (partial head (Presented (add_relations o relations)) []))
 role_read head o line relations two early (grammar.identity {E} {e} is h) few =
     ap (with_line head.version (reader_of (partial head (Presented o) []))) is
-    ∙ role_kept head o (add_relations o relations) (codes "identity") role.Identity (E ∷ []) refl (ap (λ v. role_of v (codes "identity")) two) early refl
+    ∙ role_kept head o (add_relations o relations) role.Identity (E ∷ []) two early refl
     (letter_read head.version o identity_relations E e (not_many o _ _ (count_is head.version o.alphabet E e (λ x. x ∷ []) h) few) h)
 role_read head o line relations two early (grammar.zero {Z} {z} is h) few =
     ap (with_line head.version (reader_of (partial head (Presented o) []))) is
-    ∙ role_kept head o (add_relations o relations) (codes "zero") role.Zero (Z ∷ []) refl (ap (λ v. role_of v (codes "zero")) two) early refl
+    ∙ role_kept head o (add_relations o relations) role.Zero (Z ∷ []) two early refl
     (letter_read head.version o zero_relations Z z (not_many o _ _ (count_is head.version o.alphabet Z z (λ x. z ∷ []) h) few) h)
 role_read head o line relations two early (grammar.inverse {X} {Y} {x} {y} is monoid h k) few =
     ap (with_line head.version (reader_of (partial head (Presented o) []))) is
-    ∙ role_kept head o (add_relations o relations) (codes "inverse") role.Inverse (X ∷ Y ∷ []) refl (ap (λ v. role_of v (codes "inverse")) two) early refl
+    ∙ role_kept head o (add_relations o relations) role.Inverse (X ∷ Y ∷ []) two early refl
     (ap (λ m. and_then (with_inverse head.version o) (inverse_tokens m (X ∷ Y ∷ []))) monoid
     ∙ inverse_read head.version o X Y None x y None (not_many o _ _ (both_counted head.version o.alphabet X Y x y [] h k) few) h k refl)
 role_read head o line relations two early (grammar.inverse_by {X} {Y} {E} {x} {y} {e} is semigroup h k l) few =
     ap (with_line head.version (reader_of (partial head (Presented o) []))) is
-    ∙ role_kept head o (add_relations o relations) (codes "inverse") role.Inverse (X ∷ Y ∷ E ∷ []) refl (ap (λ v. role_of v (codes "inverse")) two) early refl
+    ∙ role_kept head o (add_relations o relations) role.Inverse (X ∷ Y ∷ E ∷ []) two early refl
     (ap (λ m. and_then (with_inverse head.version o) (inverse_tokens m (X ∷ Y ∷ E ∷ []))) semigroup
     ∙ inverse_read head.version o X Y (Some E) x y (Some e) (not_many o _ _ (both_counted head.version o.alphabet X Y x y (e ∷ []) h k) few) h k (ap (and_then (λ x. Ok (Some x))) l))
 
@@ -258,37 +265,10 @@ paired_read version p kind U V u v few kinds h k =
     ∙ ap (λ b. if b then and_then (λ s. Ok (with_pair p kind s)) (both_elements version (letters_of p) (has_empty_word p) U V) else Err cause.MixedKinds) (kind_taken p kind kinds)
     ∙ ap (and_then (λ s. Ok (with_pair p kind s))) (both_read version (letters_of p) (has_empty_word p) U V u v h k)
 
-kind_named : (kind : Kind) → pair_kind_of (name_of (Pair kind)) ≡ Some kind
-kind_named TwoSided = refl
-kind_named Right = refl
-kind_named Left = refl
-
-no_role : (version : Version) (t : Token) → role_named t ≡ None → role_of version t ≡ None
-no_role One t h = refl
-no_role Two t h = h
-
-no_role_named : (kind : Kind) → role_named (name_of (Pair kind)) ≡ None
-no_role_named TwoSided = refl
-no_role_named Right = refl
-no_role_named Left = refl
-
-no_relation : (kind : Kind) → is_word (codes "rel") (name_of (Pair kind)) ≡ false
-no_relation TwoSided = refl
-no_relation Right = refl
-no_relation Left = refl
-
--- a line that is no generator line, no relation and gives no role
-common_line_read : (version : Version) (r : ReaderOf) (presented : Bool) (first : Token) (tokens : List Token) → is_presentation r ≡ presented → (not presented && has_sign (first ∷ tokens)) ≡ false
-    → is_word (codes "rel") first ≡ false → role_named first ≡ None
-    → with_line version r (first ∷ tokens) ≡ common_line version r first tokens
-common_line_read version r true first tokens is sign other none =
-    ap (λ b. if b then presentation_line version r (first ∷ tokens) else element_line version r (first ∷ tokens)) is
-    ∙ ap (λ b. if b then relation_line version r tokens else role_or_common version r (role_of version first) first tokens) other
-    ∙ ap (λ role. role_or_common version r role first tokens) (no_role version first none)
-common_line_read version r false first [] is sign other none = ap (λ b. if b then presentation_line version r (first ∷ []) else element_line version r (first ∷ [])) is
-common_line_read version r false first (second ∷ tokens) is sign other none =
-    ap (λ b. if b then presentation_line version r (first ∷ second ∷ tokens) else element_line version r (first ∷ second ∷ tokens)) is
-    ∙ ap (λ b. if b then generator_line version r first tokens else common_line version r first (second ∷ tokens)) sign
+kind_named : (version : Version) (presented : Bool) (kind : Kind) → form_named version presented (name_of (Pair kind)) ≡ Some (Pair kind)
+kind_named version presented TwoSided = refl
+kind_named version presented Right = refl
+kind_named version presented Left = refl
 
 pair_read : (head : Head) (p : Problem) (queries : List Query) (kind : Kind) (U V : Token) (s : Word × Word)
     → lacks_generator (partial head p queries) ≡ false → is_generator_line (partial head p queries) (name_of (Pair kind) ∷ U ∷ V ∷ []) ≡ false
@@ -298,8 +278,7 @@ pair_read head p (q ∷ queries) kind U V s some sign early h = absurd (omega ar
 pair_read head p [] kind U V s some sign early h =
     let r : ReaderOf = reader_of (partial head p []) in
     let next : Problem = with_pair p kind s in
-    common_line_read head.version r (is_presented p) (name_of (Pair kind)) (U ∷ V ∷ []) (presentation_kept head p []) sign (no_relation kind) (no_role_named kind)
-    ∙ ap (λ k. pair_or_query head.version r k (name_of (Pair kind)) (U ∷ V ∷ [])) (kind_named kind)
+    named_read head.version r (is_presented p) (name_of (Pair kind)) (U ∷ V ∷ []) (Pair kind) (presentation_kept head p []) sign (kind_named head.version (is_presented p) kind)
     ∙ ap (and_then (λ problem. and_then (λ p. Ok (Pairing p)) (paired head.version problem kind U V))) (paired_by r (partial head p []) (come_of head p []) some (pair_in_order (length (pairs_of p) == 0)))
     ∙ ap (and_then (λ p. Ok (Pairing p))) h
     ∙ ap (λ b. Ok (if b then opened head next else Pairing next)) (sym (has_pairs p kind s))
@@ -320,124 +299,27 @@ asking_kept : (head : Head) (problem : Problem) (queries : List Query) (q : Quer
 asking_kept head problem [] q = refl
 asking_kept head problem (r ∷ queries) q = refl
 
--- no name of a relation, a role or a pair
-record IsOtherName (first : Token) : Type 0 where
-  no_rel : is_word (codes "rel") first ≡ false
-  none_named : role_named first ≡ None
-  no_pair : pair_kind_of first ≡ None
-
-asked_read : (version : Version) (s : ScriptOf) (name : NameOf) (tokens : List Token) (q : Query) → name_takes name tokens ≡ true → is_name_barred s.problem name ≡ false
-    → query_of version (letters_of s.problem) (has_empty_word s.problem) (relations_of s.problem) name tokens ≡ Ok q → asked version s name tokens ≡ Ok (with_asked s q)
-asked_read version s name tokens q taken allowed is =
-    let last : Result ScriptOf Cause = and_then (λ q. Ok (with_asked s q)) (query_of version (letters_of s.problem) (has_empty_word s.problem) (relations_of s.problem) name tokens) in
-    ap (λ b. if not b then Err cause.WrongNumberOfWords else if is_name_barred s.problem name then Err cause.QueryNotAllowed else last) taken
-    ∙ ap (λ b. if b then Err cause.QueryNotAllowed else last) allowed
-    ∙ ap (and_then (λ q. Ok (with_asked s q))) is
-
--- a line that is a query of this name
-asked_line : (head : Head) (problem : Problem) (queries : List Query) (name : NameOf) (line : Line) (first : Token) (tokens : List Token) (q : Query)
-    → lacks_generator (partial head problem queries) ≡ false → is_generator_line (partial head problem queries) line ≡ false
-    → line ≡ first ∷ tokens → IsOtherName first → query_name_of (is_presented problem) first ≡ Some name
-    → name_takes name tokens ≡ true → is_name_barred problem name ≡ false
-    → query_of head.version (letters_of problem) (has_empty_word problem) (relations_of problem) name tokens ≡ Ok q
-    → with_line head.version (reader_of (partial head problem queries)) line ≡ Ok (reader_of (more_asked (partial head problem queries) q))
-asked_line head problem queries name line first tokens q some sign is other named taken allowed read =
-    let p : Partial = partial head problem queries in
-    ap (with_line head.version (reader_of p)) is
-    ∙ common_line_read head.version (reader_of p) (is_presented problem) first tokens (presentation_kept head problem queries) (sym (ap (is_generator_line p) is) ∙ sign) other.no_rel other.none_named
-    ∙ ap (λ k. pair_or_query head.version (reader_of p) k first tokens) other.no_pair
-    ∙ ap (λ o. and_then (λ name. and_then (λ script. and_then (λ s. Ok (Asking s)) (asked head.version script name tokens)) (finished (reader_of p))) (ok_or o cause.UnknownLine)) (ap (λ b. query_name_of b first) (presentation_kept head problem queries) ∙ named)
-    ∙ ap (and_then (λ script. and_then (λ s. Ok (Asking s)) (asked head.version script name tokens))) (finished_read head problem queries some)
-    ∙ ap (and_then (λ s. Ok (Asking s))) (asked_read head.version (script_in p) name tokens q taken allowed read)
-    ∙ ap (λ r. Ok r) (asking_kept head problem queries q)
-
-other : (first : Token) → is_word (codes "rel") first ≡ false → role_named first ≡ None → pair_kind_of first ≡ None → IsOtherName first
-other first a b c = record { no_rel = a; none_named = b; no_pair = c }
-
--- the limits of a search
-
-low_other : (two_sided : Bool) → IsOtherName (name_of (LowIndex two_sided))
-low_other false = other (codes "lowindex") refl refl refl
-low_other true = other (codes "lowindex2") refl refl refl
-
-low_named : (two_sided : Bool) → query_name_of true (name_of (LowIndex two_sided)) ≡ Some (name.LowIndex two_sided)
-low_named false = refl
-low_named true = refl
-
-limits_read : (N M : Token) (n m : ℕ) → number_within 1 16 N ≡ Some n → number_within 0 1000000 M ≡ Some m → limits_of N M ≡ Ok (n, m)
-limits_read N M n m h k =
-    ap (λ o. and_then (λ n. and_then (λ m. Ok (n, m)) (ok_or (number_within 0 1000000 M) cause.BadNumber)) (ok_or o cause.BadNumber)) h
-    ∙ ap (λ o. and_then (λ m. Ok (n, m)) (ok_or o cause.BadNumber)) k
-
--- the tables of a meet or a join
-
-tables_read : (p : Partial) (S T : Token) (s t : Graph) → IsCongruenceTableOf p S s → IsCongruenceTableOf p T t
-    → both_tables (has_empty_word p.problem) (length (letters_of p.problem)) (relations_of p.problem) S T ≡ Ok (s, t)
-tables_read p S T s t left right =
-    let is_monoid : Bool = has_empty_word p.problem in
-    let k : ℕ = length (letters_of p.problem) in
-    let relations : List (Word × Word) = relations_of p.problem in
-    ap (λ r. and_then (λ g. and_then (λ h. Ok (g, h)) (congruence_table_of is_monoid k relations T)) r) (congruence_is_taken is_monoid k relations S s left.0 left.1)
-    ∙ ap (λ r. and_then (λ h. Ok (s, h)) r) (congruence_is_taken is_monoid k relations T t right.0 right.1)
+-- the query that a line of the table is
+form_read : (version : Version) (p : Problem) (form : QueryForm) (tokens : List Token) (w : Way) (given : AllGiven w.places) → bars_query p form ≡ false → way_for tokens (row_of form).ways ≡ Some w
+    → values_of (scope_of version p) tokens w.places tokens ≡ Ok given → query_of version p form tokens ≡ Ok (w.makes given)
+form_read version p form tokens w given allowed written read =
+    let s : Scope = scope_of version p in
+    ap (λ o. if not (not (is_none o)) then Err cause.WrongNumberOfWords else if bars_query p form then Err cause.QueryNotAllowed else and_then (query_by s tokens) (ok_or o cause.WrongNumberOfWords)) written
+    ∙ ap (λ b. if b then Err cause.QueryNotAllowed else query_by s tokens w) allowed
+    ∙ ap (and_then (λ vs. Ok (w.makes vs))) read
 
 -- a query
 query_read : (head : Head) (problem : Problem) (queries : List Query) (line : Line) (q : Query) → lacks_generator (partial head problem queries) ≡ false
     → is_generator_line (partial head problem queries) line ≡ false → IsQuery (partial head problem queries) line q
     → with_line head.version (reader_of (partial head problem queries)) line ≡ Ok (reader_of (more_asked (partial head problem queries) q))
-query_read head problem queries line q some sign (grammar.index is) =
-    asked_line head problem queries name.Index line (codes "index") [] q some sign is (other (codes "index") refl refl refl) refl refl refl refl
-query_read head problem queries line q some sign (grammar.equal {U} {V} {u} {v} is h k) =
-    asked_line head problem queries name.Equal line (codes "equal") (U ∷ V ∷ []) q some sign is (other (codes "equal") refl refl refl) refl refl refl
-    (ap (and_then (λ (p : Word × Word). Ok (query.Equal p.0 p.1))) (both_read head.version (letters_of problem) (has_empty_word problem) U V u v h k))
-query_read head problem queries line q some sign (grammar.normal {U} {u} is h) =
-    asked_line head problem queries name.Normal line (codes "normal") (U ∷ []) q some sign is (other (codes "normal") refl refl refl) refl refl refl
-    (ap (and_then (λ u. Ok (query.Normal u))) h)
-query_read head problem queries line q some sign (grammar.classes {N} {n} is h) =
-    asked_line head problem queries name.Classes line (codes "classes") (N ∷ []) q some sign is (other (codes "classes") refl refl refl) refl refl refl
-    (ap (λ o. and_then (λ n. Ok (query.Classes n None)) (ok_or o cause.BadNumber)) h)
-query_read head problem queries line q some sign (grammar.classes_after {N} {U} {n} {u} is h k) =
-    asked_line head problem queries name.Classes line (codes "classes") (N ∷ codes "after" ∷ U ∷ []) q some sign is (other (codes "classes") refl refl refl) refl refl refl
-    (ap (λ o. and_then (λ n. and_then (λ u. Ok (query.Classes n (Some u))) (cursor_of head.version (letters_of problem) (has_empty_word problem) (codes "after") U)) (ok_or o cause.BadNumber)) h
-    ∙ ap (and_then (λ u. Ok (query.Classes n (Some u)))) k)
-query_read head problem queries line q some sign (grammar.rules is h) =
-    asked_line head problem queries name.Rules line (codes "rules") [] q some sign is (other (codes "rules") refl refl refl) refl refl (ap not h) refl
-query_read head problem queries line q some sign (grammar.element {U} {u} is h k) =
-    asked_line head problem queries name.Element line (codes "element") (U ∷ []) q some sign is (other (codes "element") refl refl refl) (ap (λ b. query_name_of b (codes "element")) h) refl refl
-    (ap (and_then (λ u. Ok (query.ElementOf u))) k)
-query_read head problem queries line q some sign (grammar.cayley is h none) =
-    asked_line head problem queries name.Cayley line (codes "cayley") [] q some sign is (other (codes "cayley") refl refl refl) (ap (λ b. query_name_of b (codes "cayley")) h) refl
-    (ap (λ (ps : List (Word × Word)). not (length ps == 0)) none) refl
-query_read head problem queries line q some sign (grammar.lowindex {two_sided} {N} {M} {n} {m} is h none few most) =
-    asked_line head problem queries (name.LowIndex two_sided) line (name_of (LowIndex two_sided)) (N ∷ M ∷ []) q some sign is (low_other two_sided) (ap (λ b. query_name_of b (name_of (LowIndex two_sided))) h ∙ low_named two_sided) refl
-    (ap (λ (ps : List (Word × Word)). not (length ps == 0)) none)
-    (ap (and_then (λ (l : ℕ × ℕ). Ok (query.LowIndex two_sided l.0 l.1 None))) (limits_read N M n m few most))
-query_read head problem queries line q some sign (grammar.lowindex_after {two_sided} {N} {M} {T} {n} {m} {g} is h none few most table) =
-    let letters : List ℕ = letters_of problem in
-    let is_monoid : Bool = has_empty_word problem in
-    asked_line head problem queries (name.LowIndex two_sided) line (name_of (LowIndex two_sided)) (N ∷ M ∷ codes "after" ∷ T ∷ []) q some sign is (low_other two_sided)
-    (ap (λ b. query_name_of b (name_of (LowIndex two_sided))) h ∙ low_named two_sided) refl
-    (ap (λ (ps : List (Word × Word)). not (length ps == 0)) none)
-    (ap (and_then (λ (l : ℕ × ℕ). and_then (λ g. Ok (query.LowIndex two_sided l.0 l.1 (Some g))) (table_cursor_of letters is_monoid l.0 (codes "after") T))) (limits_read N M n m few most)
-    ∙ ap (and_then (λ g. Ok (query.LowIndex two_sided n m (Some g)))) (low_is_taken is_monoid (length letters) n T g table.0 table.1))
-query_read head problem queries line q some sign (grammar.meet {S} {T} {s} {t} is h none left right) =
-    asked_line head problem queries name.Meet line (codes "meet") (S ∷ T ∷ []) q some sign is (other (codes "meet") refl refl refl) (ap (λ b. query_name_of b (codes "meet")) h) refl
-    (ap (λ (ps : List (Word × Word)). not (length ps == 0)) none)
-    (ap (and_then (λ (p : Graph × Graph). Ok (query.Meet p.0 p.1))) (tables_read (partial head problem queries) S T s t left right))
-query_read head problem queries line q some sign (grammar.join {S} {T} {s} {t} is h none left right) =
-    asked_line head problem queries name.Join line (codes "join") (S ∷ T ∷ []) q some sign is (other (codes "join") refl refl refl) (ap (λ b. query_name_of b (codes "join")) h) refl
-    (ap (λ (ps : List (Word × Word)). not (length ps == 0)) none)
-    (ap (and_then (λ (p : Graph × Graph). Ok (query.Join p.0 p.1))) (tables_read (partial head problem queries) S T s t left right))
-query_read head problem queries line q some sign (grammar.chain {U} {V} {u} {v} is h allows left right) =
-    asked_line head problem queries name.Chain line (codes "chain") (U ∷ V ∷ []) q some sign is (other (codes "chain") refl refl refl) (ap (λ b. query_name_of b (codes "chain")) h) refl
-    (ap not allows)
-    (ap (and_then (λ (p : Word × Word). Ok (query.Chain p.0 p.1))) (both_read head.version (letters_of problem) (has_empty_word problem) U V u v left right))
-query_read head problem queries line q some sign (grammar.green {X} is h none named) =
-    asked_line head problem queries name.Green line (codes "green") (X ∷ []) q some sign is (other (codes "green") refl refl refl) (ap (λ b. query_name_of b (codes "green")) h) refl
-    (ap (λ (ps : List (Word × Word)). not (length ps == 0)) none)
-    (ap (λ o. and_then (λ relation. Ok (query.Green relation)) (ok_or o cause.UnknownRelation)) named)
-query_read head problem queries line q some sign (grammar.idempotents is h none) =
-    asked_line head problem queries name.Idempotents line (codes "idempotents") [] q some sign is (other (codes "idempotents") refl refl refl) (ap (λ b. query_name_of b (codes "idempotents")) h) refl
-    (ap (λ (ps : List (Word × Word)). not (length ps == 0)) none) refl
+query_read head problem queries line q some sign asks =
+    let p : Partial = partial head problem queries in
+    let r : ReaderOf = reader_of p in
+    ap (with_line head.version r) asks.is
+    ∙ named_read head.version r (is_presented problem) asks.name asks.tokens (Asks asks.form) (presentation_kept head problem queries) (sym (ap (is_generator_line p) asks.is) ∙ sign) asks.named
+    ∙ ap (and_then (λ script. and_then (λ s. Ok (Asking s)) (asked head.version script asks.form asks.tokens))) (finished_read head problem queries some)
+    ∙ ap (λ r. and_then (λ s. Ok (Asking s)) (and_then (λ q. Ok (with_asked (script_in p) q)) r)) (form_read head.version problem asks.form asks.tokens asks.way asks.given asks.allowed asks.written asks.read ∙ ap (λ q. Ok q) asks.made)
+    ∙ ap (λ r. Ok r) (asking_kept head problem queries q)
 
 -- a line behind the header
 line_read : (head : Head) (problem : Problem) (queries : List Query) (line : Line) (q : Partial) → LineReads (partial head problem queries) line q

@@ -26,7 +26,6 @@ use Rattle.word_graph.proofs.TableLaws.{read_graph}
 use Rattle.query_lang.specs.declared.cause.Cause.{Cause}
 use Rattle.query_lang.specs.declared.cause.Cause.TheVariants.{BadTable, TableBreaksRelation}
 use Rattle.query_lang.specs.Faults.{IsLineFault, fault_of_table}
-use Rattle.query_lang.specs.LineCauses.{cause_in, first_of, when}
 use Rattle.query_lang.specs.Outcome.{and_then}
 use Rattle.query_lang.specs.Tables.{BreaksRelation, IsCongruenceTable, IsLowTable, IsTable, IsTextOf, are_numbered, avoids_root, congruence_table_of, have_same_ends, is_faultless, is_good_row, is_numbered_row, is_table, low_table_of, meets_relations, most_nodes, rows_in, table_of}
 
@@ -453,18 +452,3 @@ module _ (is_monoid : Bool) (k : ℕ) (relations : List (Word × Word)) where
 
     pub is_broken : (g : Graph) × IsTextOf k t g × IsTable is_monoid k g × BreaksRelation relations g → congruence_table_of is_monoid k relations t ≡ Err TableBreaksRelation
     is_broken b = fails (meets_relations relations) TableBreaksRelation (table_of is_monoid k t) b.0 (is_taken is_monoid k t b.0 b.1 b.2) (breaks relations b.0 b.3)
-
-    -- the cause of a token
-    pub causes_in_order : cause_in (congruence_table_of is_monoid k relations t)
-        ≡ first_of (when BadTable (not (is_table is_monoid k t)) ∷ when TableBreaksRelation (not (meets_relations relations (table_read t))) ∷ [])
-    causes_in_order = go (is_table is_monoid k t) (meets_relations relations (table_read t)) refl
-      where
-        by_test : (m : Bool) → cause_in (if m then Ok (table_read t) else Err TableBreaksRelation) ≡ first_of (when TableBreaksRelation (not m) ∷ [])
-        by_test true = refl
-        by_test false = refl
-
-        go : (b m : Bool) → meets_relations relations (table_read t) ≡ m
-            → cause_in (tested (meets_relations relations) TableBreaksRelation (if b then Ok (table_read t) else Err BadTable))
-            ≡ first_of (when BadTable (not b) ∷ when TableBreaksRelation (not (meets_relations relations (table_read t))) ∷ [])
-        go true m e = by_test (meets_relations relations (table_read t))
-        go false m e = refl

@@ -2,30 +2,32 @@
 use Rattle.std.proofs.Common.{◌≡◌, ℕ, ◌==◌, ◌+◌, ◌≤◌, nat_lt, Bool, true, false, not, ◌&&◌, ◌⊎◌, inl, inr, if◌then◌else◌, List, [], ◌∷◌, length, codes, Option, Some, None, Result, Ok, Err, is_none, refl, sym, ap, ◌∙◌, subst, arith, true≢false}
 use Rattle.std.proofs.lemmas.Bool.{ltb-false, eqb-true, eqb-false}
 use Rattle.std.specs.Cmp.Lexicographic.{same_text}
-use Rattle.std.specs.Option.{unwrap_or}
 use Rattle.theory.specs.Word.{Word}
 use Rattle.theory.specs.declared.Kind.{Kind}
 use Rattle.theory.specs.declared.Kind.TheVariants.{TwoSided, Right, Left}
 use Rattle.presentation.specs.Presented.{Posed}
-use Rattle.problem.specs.Problem.{has_empty_word, is_presented, letters_of}
+use Rattle.problem.specs.Problem.{has_empty_word, is_presented}
+use Rattle.problem.specs.declared.kinds.Problem.{Problem}
 use Rattle.problem.specs.declared.kinds.Problem.TheVariants as problem
-use Rattle.theory.specs.Graph.{Graph}
 use Rattle.query_lang.specs.declared.cause.Cause.{Cause}
 use Rattle.query_lang.specs.declared.script.Query.{Query}
-use Rattle.query_lang.specs.Tables.{congruence_table_of}
-use Rattle.query_lang.specs.Token.{Token, Line, is_word, relation_of}
+use Rattle.query_lang.specs.Values.{bars_query, scope_of, values_of, way_for}
+use Rattle.query_lang.specs.Token.{Token, Line, is_word}
 use Rattle.query_lang.specs.Pairing.{is_same_kind}
 use Rattle.query_lang.specs.Grammar as grammar
-use Rattle.query_lang.specs.Grammar.{Head, IsCongruenceTableOf, IsLowTableOf, Partial, section_reached, LineReads, is_generator_line, lacks_generator}
-use Rattle.query_lang.specs.Forms.{Form, Relation, OfRole, Pair, Index, Equal, Normal, Classes, Rules, Element, Cayley, LowIndex, Meet, Join, Chain, Green, Idempotents, ACongruenceTable, name_of, shapes_of, section_of, asked_of_relations, forms_of, inverse_shape}
+use Rattle.query_lang.specs.Grammar.{Head, Partial, section_reached, LineReads, is_generator_line, lacks_generator}
+use Rattle.query_lang.specs.declared.form.Form.{Form}
+use Rattle.query_lang.specs.declared.form.Form.TheVariants.{Relation, OfRole, Pair, Asks}
+use Rattle.query_lang.specs.declared.form.QueryForm.{QueryForm}
+use Rattle.query_lang.specs.Forms.{Way, all_forms, form_named, has_form, has_roles, inverse_shape, name_of, row_of, section_of, shapes_of}
 use Rattle.query_lang.specs.declared.role.Role.{Role}
 use Rattle.query_lang.specs.declared.role.Role.TheVariants as role
 use Rattle.query_lang.specs.declared.version.Version.{Version}
 use Rattle.query_lang.specs.declared.version.Version.TheVariants.{One, Two}
-use Rattle.query_lang.specs.Relations.{most_relations, relations_of}
+use Rattle.query_lang.specs.Relations.{most_relations}
 use Rattle.query_lang.proofs.RoleLemmas.{both_counted, count_is}
-use Rattle.query_lang.specs.LineCauses.{when, first_of, cause_in, cause_of_token, shape_for, shape_causes, is_relation_too_many, is_pair_too_many, mixes_kinds, is_barred, form_causes, form_among, named_causes}
-use Rattle.query_lang.proofs.TableLemmas.{causes_in_order, congruence_taken_is, low_taken_is}
+use Rattle.query_lang.specs.LineCauses.{when, first_of, cause_in, shape_for, shape_causes, token_causes, is_relation_too_many, is_pair_too_many, mixes_kinds, is_barred, form_causes, named_causes}
+use Rattle.query_lang.proofs.QueryLemmas.{form_found, places_in, shape_fits, values_cause, way_fits}
 
 -- the line is read after what the lines before it say
 abbrev pub IsRead : Partial → Line → Type 0
@@ -99,18 +101,6 @@ passes p form tokens h =
 abbrev FormReads : Partial → Token → List Token → Form → Type 0
 FormReads p first tokens form = first ≡ name_of form → Passes p form tokens → IsRead p (first ∷ tokens)
 
--- each of the forms gives it
-data EachReads (p : Partial) (first : Token) (tokens : List Token) : List Form → Type 0 where
-  every : EachReads p first tokens []
-  also : {forms : List Form} (form : Form) → FormReads p first tokens form → EachReads p first tokens forms → EachReads p first tokens (form ∷ forms)
-
--- a line with the name of one of the forms is read
-by-form : (p : Partial) (first : Token) (tokens : List Token) (forms : List Form) → EachReads p first tokens forms → first_of (named_causes p (form_among forms first) tokens) ≡ None → IsRead p (first ∷ tokens)
-by-form p first tokens forms every = λ h. absurd (some-is-none h)
-by-form p first tokens forms (also {forms = others} form reads each) =
-    branch (λ f. first_of (named_causes p f tokens) ≡ None) (IsRead p (first ∷ tokens)) (name_of form) first (Some form) (form_among others first)
-    (λ e h. reads e (passes p form tokens h)) (by-form p first tokens others each)
-
 -- a relation and a pair
 
 relation-read : (head : Head) (o : Posed) (queries : List Query) (first : Token) (tokens : List Token) →
@@ -159,144 +149,32 @@ pair-read p first (s ∷ t ∷ []) kind g e c =
     )
 pair-read p first (s ∷ t ∷ w ∷ tokens) kind g e c = absurd (true≢false c.shaped)
 
--- the queries
+-- what has no cause has a value
+pub no-cause : {A : Type 0} (r : Result A Cause) → cause_in r ≡ None → (x : A) × (r ≡ Ok x)
+no-cause (Ok x) h = (x, refl)
+no-cause (Err c) h = absurd (some-is-none h)
 
-index-read : (p : Partial) (first : Token) (tokens : List Token) → is_generator_line p (first ∷ tokens) ≡ false → FormReads p first tokens Index
-index-read p first [] g e c = (_, grammar.query c.has_generator g (grammar.index (ap (λ n. n ∷ []) e)))
-index-read p first (s ∷ tokens) g e c = absurd (true≢false c.shaped)
-
-equal-read : (p : Partial) (first : Token) (tokens : List Token) → is_generator_line p (first ∷ tokens) ≡ false → FormReads p first tokens Equal
-equal-read p first [] g e c = absurd (true≢false c.shaped)
-equal-read p first (s ∷ []) g e c = absurd (true≢false c.shaped)
-equal-read p first (s ∷ t ∷ []) g e c =
-    let u = word-read _ _ c.tokens_read in
-    let v = word-read _ _ u.2 in
-    (_, grammar.query c.has_generator g (grammar.equal (ap (λ n. n ∷ s ∷ t ∷ []) e) u.1 v.1))
-equal-read p first (s ∷ t ∷ w ∷ tokens) g e c = absurd (true≢false c.shaped)
-
-normal-read : (p : Partial) (first : Token) (tokens : List Token) → is_generator_line p (first ∷ tokens) ≡ false → FormReads p first tokens Normal
-normal-read p first [] g e c = absurd (true≢false c.shaped)
-normal-read p first (s ∷ []) g e c =
-    let u = word-read _ _ c.tokens_read in
-    (_, grammar.query c.has_generator g (grammar.normal (ap (λ n. n ∷ s ∷ []) e) u.1))
-normal-read p first (s ∷ t ∷ tokens) g e c = absurd (true≢false c.shaped)
-
-classes-read : (p : Partial) (first : Token) (tokens : List Token) → is_generator_line p (first ∷ tokens) ≡ false → FormReads p first tokens Classes
-classes-read p first [] g e c = absurd (true≢false c.shaped)
-classes-read p first (s ∷ []) g e c =
-    let n = passed _ _ _ c.tokens_read in
-    let m = is-some _ n.0 in
-    (_, grammar.query c.has_generator g (grammar.classes (ap (λ n. n ∷ s ∷ []) e) m.1))
-classes-read p first (s ∷ t ∷ []) g e c = absurd (true≢false c.shaped)
-classes-read p first (s ∷ t ∷ w ∷ []) g e c =
-    let n = passed _ _ _ c.tokens_read in
-    let m = is-some _ n.0 in
-    let a = passed _ _ _ n.1 in
-    let u = word-read _ _ a.1 in
-    let after : t ≡ codes "after" = same_text t (codes "after") (sym (not-applies _ a.0)) in
-    (_, grammar.query c.has_generator g (grammar.classes_after (ap (λ n. n ∷ s ∷ t ∷ w ∷ []) e ∙ ap (λ t. codes "classes" ∷ s ∷ t ∷ w ∷ []) after) m.1 u.1))
-classes-read p first (s ∷ t ∷ w ∷ x ∷ tokens) g e c = absurd (true≢false c.shaped)
-
-rules-read : (p : Partial) (first : Token) (tokens : List Token) → is_generator_line p (first ∷ tokens) ≡ false → FormReads p first tokens Rules
-rules-read p first [] g e c = (_, grammar.query c.has_generator g (grammar.rules (ap (λ n. n ∷ []) e) (not-applies _ c.allowed)))
-rules-read p first (s ∷ tokens) g e c = absurd (true≢false c.shaped)
-
-element-read : (p : Partial) (first : Token) (tokens : List Token) → is_presented p.problem ≡ false → is_generator_line p (first ∷ tokens) ≡ false → FormReads p first tokens Element
-element-read p first [] k g e c = absurd (true≢false c.shaped)
-element-read p first (s ∷ []) k g e c =
-    let u = word-read _ _ c.tokens_read in
-    (_, grammar.query c.has_generator g (grammar.element (ap (λ n. n ∷ s ∷ []) e) k u.1))
-element-read p first (s ∷ t ∷ tokens) k g e c = absurd (true≢false c.shaped)
-
-cayley-read : (p : Partial) (first : Token) (tokens : List Token) → is_presented p.problem ≡ false → is_generator_line p (first ∷ tokens) ≡ false → FormReads p first tokens Cayley
-cayley-read p first [] k g e c = (_, grammar.query c.has_generator g (grammar.cayley (ap (λ n. n ∷ []) e) k (no-elements _ (not-applies _ c.allowed))))
-cayley-read p first (s ∷ tokens) k g e c = absurd (true≢false c.shaped)
-
--- a table is read where its cause does not apply
-table-read : (r : Result Graph Cause) → first_of (cause_in r ∷ []) ≡ None → (g : Graph) × (r ≡ Ok g)
-table-read (Ok g) h = (g, refl)
-table-read (Err c) h = absurd (some-is-none h)
-
-lowindex-read : (two_sided : Bool) (p : Partial) (first : Token) (tokens : List Token) → is_presented p.problem ≡ true → is_generator_line p (first ∷ tokens) ≡ false → FormReads p first tokens (LowIndex two_sided)
-lowindex-read two_sided p first [] k g e c = absurd (true≢false c.shaped)
-lowindex-read two_sided p first (s ∷ []) k g e c = absurd (true≢false c.shaped)
-lowindex-read two_sided p first (s ∷ t ∷ []) k g e c =
-    let a = passed _ _ _ c.tokens_read in
-    let n = is-some _ a.0 in
-    let m = is-some _ (passed _ _ _ a.1).0 in
-    (_, grammar.query c.has_generator g (grammar.lowindex (ap (λ n. n ∷ s ∷ t ∷ []) e) k (no-elements _ (not-applies _ c.allowed)) n.1 m.1))
-lowindex-read two_sided p first (s ∷ t ∷ w ∷ []) k g e c = absurd (true≢false c.shaped)
-lowindex-read two_sided p first (s ∷ t ∷ w ∷ x ∷ []) k g e c =
-    let a = passed _ _ _ c.tokens_read in
-    let n = is-some _ a.0 in
-    let b = passed _ _ _ a.1 in
-    let m = is-some _ b.0 in
-    let d = passed _ _ _ b.1 in
-    let after : w ≡ codes "after" = same_text w (codes "after") (sym (not-applies _ d.0)) in
-    let read = table-read _ d.1 in
-    let table = low_taken_is _ _ _ x read.0 read.1 in (
+-- a query that is written in this way
+written-read : (p : Partial) (form : QueryForm) (name : Token) (tokens : List Token) (w : Way) → lacks_generator p ≡ false → is_generator_line p (name ∷ tokens) ≡ false
+    → form_named p.head.version (is_presented p.problem) name ≡ Some (Asks form) → bars_query p.problem form ≡ false → way_for tokens (row_of form).ways ≡ Some w
+    → first_of (token_causes p tokens w.places tokens) ≡ None → IsRead p (name ∷ tokens)
+written-read p form name tokens w some sign named allowed written read =
+    let given = no-cause (values_of (scope_of p.head.version p.problem) tokens w.places tokens) (values_cause p tokens w.places tokens (way_fits tokens (row_of form).ways w written) ∙ read) in (
       _,
-      grammar.query c.has_generator g
-          (grammar.lowindex_after (ap (λ n. n ∷ s ∷ t ∷ w ∷ x ∷ []) e ∙ ap (λ w. name_of (LowIndex two_sided) ∷ s ∷ t ∷ w ∷ x ∷ []) after) k (no-elements _ (not-applies _ c.allowed)) n.1 m.1
-          (subst (λ (o : Option ℕ). IsLowTableOf p (unwrap_or o 0) x read.0) n.1 table)),
+      grammar.query some sign
+          (record { form = form; name = name; tokens = tokens; way = w; given = given.0; is = refl; named = named; allowed = allowed; written = written; read = given.1; made = refl }),
     )
-lowindex-read two_sided p first (s ∷ t ∷ w ∷ x ∷ y ∷ tokens) k g e c = absurd (true≢false c.shaped)
 
-first-none : (o : Option Cause) (cs : List (Option Cause)) → first_of (o ∷ cs) ≡ None → (o ≡ None) × (first_of cs ≡ None)
-first-none None cs h = (refl, h)
-first-none (Some c) cs h = absurd (some-is-none h)
-
-where-no-cause : (r : Result Graph Cause) → cause_in r ≡ None → (g : Graph) × (r ≡ Ok g)
-where-no-cause (Ok g) h = (g, refl)
-where-no-cause (Err c) h = absurd (some-is-none h)
-
--- a table at which the relations hold is read where neither of its causes applies
-congruence-read : (p : Partial) (all : List Token) (t : Token) (cs : List (Option Cause)) → first_of (cause_of_token p all ACongruenceTable t ∷ cs) ≡ None → (g : Graph) × IsCongruenceTableOf p t g × (first_of cs ≡ None)
-congruence-read p all t cs h =
-    let is_monoid : Bool = has_empty_word p.problem in
-    let k : ℕ = length (letters_of p.problem) in
-    let relations : List (Word × Word) = relations_of p.problem in
-    let a = first-none (cause_of_token p all ACongruenceTable t) cs h in
-    let read = where-no-cause (congruence_table_of is_monoid k relations t) (causes_in_order is_monoid k relations t ∙ a.0) in
-    (read.0, congruence_taken_is is_monoid k relations t read.0 read.1, a.1)
-
-meet-read : (p : Partial) (first : Token) (tokens : List Token) → is_presented p.problem ≡ true → is_generator_line p (first ∷ tokens) ≡ false → FormReads p first tokens Meet
-meet-read p first [] k g e c = absurd (true≢false c.shaped)
-meet-read p first (s ∷ []) k g e c = absurd (true≢false c.shaped)
-meet-read p first (s ∷ t ∷ []) k g e c =
-    let a = congruence-read p (s ∷ t ∷ []) s _ c.tokens_read in
-    let b = congruence-read p (s ∷ t ∷ []) t _ a.2 in
-    (_, grammar.query c.has_generator g (grammar.meet (ap (λ n. n ∷ s ∷ t ∷ []) e) k (no-elements _ (not-applies _ c.allowed)) a.1 b.1))
-meet-read p first (s ∷ t ∷ w ∷ tokens) k g e c = absurd (true≢false c.shaped)
-
-join-read : (p : Partial) (first : Token) (tokens : List Token) → is_presented p.problem ≡ true → is_generator_line p (first ∷ tokens) ≡ false → FormReads p first tokens Join
-join-read p first [] k g e c = absurd (true≢false c.shaped)
-join-read p first (s ∷ []) k g e c = absurd (true≢false c.shaped)
-join-read p first (s ∷ t ∷ []) k g e c =
-    let a = congruence-read p (s ∷ t ∷ []) s _ c.tokens_read in
-    let b = congruence-read p (s ∷ t ∷ []) t _ a.2 in
-    (_, grammar.query c.has_generator g (grammar.join (ap (λ n. n ∷ s ∷ t ∷ []) e) k (no-elements _ (not-applies _ c.allowed)) a.1 b.1))
-join-read p first (s ∷ t ∷ w ∷ tokens) k g e c = absurd (true≢false c.shaped)
-
-chain-read : (p : Partial) (first : Token) (tokens : List Token) → is_presented p.problem ≡ true → is_generator_line p (first ∷ tokens) ≡ false → FormReads p first tokens Chain
-chain-read p first [] k g e c = absurd (true≢false c.shaped)
-chain-read p first (s ∷ []) k g e c = absurd (true≢false c.shaped)
-chain-read p first (s ∷ t ∷ []) k g e c =
-    let u = word-read _ _ c.tokens_read in
-    let v = word-read _ _ u.2 in
-    (_, grammar.query c.has_generator g (grammar.chain (ap (λ n. n ∷ s ∷ t ∷ []) e) k (not-applies _ c.allowed) u.1 v.1))
-chain-read p first (s ∷ t ∷ w ∷ tokens) k g e c = absurd (true≢false c.shaped)
-
-green-read : (p : Partial) (first : Token) (tokens : List Token) → is_presented p.problem ≡ false → is_generator_line p (first ∷ tokens) ≡ false → FormReads p first tokens Green
-green-read p first [] k g e c = absurd (true≢false c.shaped)
-green-read p first (s ∷ []) k g e c =
-    let named = is-some (relation_of s) (passed _ _ _ c.tokens_read).0 in
-    (_, grammar.query c.has_generator g (grammar.green (ap (λ n. n ∷ s ∷ []) e) k (no-elements _ (not-applies _ c.allowed)) named.1))
-green-read p first (s ∷ t ∷ tokens) k g e c = absurd (true≢false c.shaped)
-
-idempotents-read : (p : Partial) (first : Token) (tokens : List Token) → is_presented p.problem ≡ false → is_generator_line p (first ∷ tokens) ≡ false → FormReads p first tokens Idempotents
-idempotents-read p first [] k g e c = (_, grammar.query c.has_generator g (grammar.idempotents (ap (λ n. n ∷ []) e) k (no-elements _ (not-applies _ c.allowed))))
-idempotents-read p first (s ∷ tokens) k g e c = absurd (true≢false c.shaped)
+query-read : (p : Partial) (form : QueryForm) (name : Token) (tokens : List Token) → is_generator_line p (name ∷ tokens) ≡ false → form_named p.head.version (is_presented p.problem) name ≡ Some (Asks form)
+    → Passes p (Asks form) tokens → IsRead p (name ∷ tokens)
+query-read p form name tokens sign named c =
+    by (way_for tokens (row_of form).ways) refl
+    (ap is_none (sym (shape_fits tokens (row_of form).ways)) ∙ c.shaped)
+    (ap (λ o. first_of (shape_causes p o tokens)) (sym (shape_fits tokens (row_of form).ways)) ∙ c.tokens_read)
+  where
+    by : (o : Option Way) → way_for tokens (row_of form).ways ≡ o → is_none (places_in o) ≡ false → first_of (shape_causes p (places_in o) tokens) ≡ None → IsRead p (name ∷ tokens)
+    by None e shaped read = absurd (true≢false shaped)
+    by (Some w) e shaped read = written-read p form name tokens w c.has_generator sign named c.allowed e read
 
 -- a letter is read where its cause does not apply
 letter-read : (r : Result ℕ Cause) (cs : List (Option Cause)) → first_of (cause_in r ∷ cs) ≡ None → (x : ℕ) × (r ≡ Ok x) × (first_of cs ≡ None)
@@ -350,62 +228,35 @@ role-read sizes o queries first (s ∷ []) role.Zero e c =
 role-read sizes o queries first (s ∷ t ∷ tokens) role.Zero e c = absurd (true≢false c.shaped)
 role-read sizes o queries first tokens role.Inverse e c = inverse-read sizes o queries first tokens o.congruence.presentation.is_monoid refl c.in_order c.few_relations c.shaped c.tokens_read e
 
--- a line of a presentation
+role-by : (version : Version) (sizes : ℕ × ℕ) (o : Posed) (queries : List Query) (first : Token) (tokens : List Token) (role : Role) → has_roles version ≡ true →
+    let p : Partial = record { head = record { version = version; sizes = sizes }; problem = problem.Presented o; queries = queries } in FormReads p first tokens (OfRole role)
+role-by One sizes o queries first tokens role there = absurd (true≢false (sym there))
+role-by Two sizes o queries first tokens role there = role-read sizes o queries first tokens role
 
--- the forms that all versions have, but relations
-common-read : (p : Partial) (first : Token) (tokens : List Token) → is_presented p.problem ≡ true → is_generator_line p (first ∷ tokens) ≡ false → EachReads p first tokens asked_of_relations
-common-read p first tokens k g =
-    also (Pair TwoSided) (pair-read p first tokens TwoSided g)
-    (also (Pair Right) (pair-read p first tokens Right g)
-    (also (Pair Left) (pair-read p first tokens Left g)
-    (also Index (index-read p first tokens g)
-    (also Equal (equal-read p first tokens g)
-    (also Normal (normal-read p first tokens g)
-    (also Classes (classes-read p first tokens g)
-    (also Rules (rules-read p first tokens g)
-    (also (LowIndex false) (lowindex-read false p first tokens k g)
-    (also (LowIndex true) (lowindex-read true p first tokens k g)
-    (also Meet (meet-read p first tokens k g)
-    (also Join (join-read p first tokens k g)
-    (also Chain (chain-read p first tokens k g) every))))))))))))
+-- a line of a form that the script has
+form-read : (head : Head) (problem : Problem) (queries : List Query) (first : Token) (tokens : List Token) (form : Form) →
+    let p : Partial = record { head = head; problem = problem; queries = queries } in
+    is_generator_line p (first ∷ tokens) ≡ false → form_named head.version (is_presented problem) first ≡ Some form → has_form head.version (is_presented problem) form ≡ true → FormReads p first tokens form
+form-read head (problem.Presented o) queries first tokens Relation sign named there = relation-read head o queries first tokens
+form-read head (problem.Presented o) queries first tokens (OfRole role) sign named there = role-by head.version head.sizes o queries first tokens role there
+form-read head problem queries first tokens (Pair kind) sign named there = pair-read (record { head = head; problem = problem; queries = queries }) first tokens kind sign
+form-read head problem queries first tokens (Asks form) sign named there = λ e c. query-read (record { head = head; problem = problem; queries = queries }) form first tokens sign named c
+form-read head (problem.Transf g) queries first tokens Relation sign named there = absurd (true≢false (sym there))
+form-read head (problem.Transf g) queries first tokens (OfRole role) sign named there = absurd (true≢false (sym there))
+form-read head (problem.PPerm g) queries first tokens Relation sign named there = absurd (true≢false (sym there))
+form-read head (problem.PPerm g) queries first tokens (OfRole role) sign named there = absurd (true≢false (sym there))
+form-read head (problem.BMat g) queries first tokens Relation sign named there = absurd (true≢false (sym there))
+form-read head (problem.BMat g) queries first tokens (OfRole role) sign named there = absurd (true≢false (sym there))
+form-read head (problem.MaxPlus g) queries first tokens Relation sign named there = absurd (true≢false (sym there))
+form-read head (problem.MaxPlus g) queries first tokens (OfRole role) sign named there = absurd (true≢false (sym there))
 
--- the forms of a presentation
-each-read : (version : Version) (sizes : ℕ × ℕ) (o : Posed) (queries : List Query) (first : Token) (tokens : List Token) →
-    let p : Partial = record { head = record { version = version; sizes = sizes }; problem = problem.Presented o; queries = queries } in EachReads p first tokens (forms_of version true)
-each-read One sizes o queries first tokens =
-    let head : Head = record { version = One; sizes = sizes } in
-    also Relation (relation-read head o queries first tokens)
-    (common-read (record { head = head; problem = problem.Presented o; queries = queries }) first tokens refl refl)
-each-read Two sizes o queries first tokens =
-    let head : Head = record { version = Two; sizes = sizes } in
-    also Relation (relation-read head o queries first tokens)
-    (also (OfRole role.Identity) (role-read sizes o queries first tokens role.Identity)
-    (also (OfRole role.Zero) (role-read sizes o queries first tokens role.Zero)
-    (also (OfRole role.Inverse) (role-read sizes o queries first tokens role.Inverse)
-    (common-read (record { head = head; problem = problem.Presented o; queries = queries }) first tokens refl refl))))
-
-pub presented-read : (head : Head) (o : Posed) (queries : List Query) (first : Token) (tokens : List Token) →
-    let p : Partial = record { head = head; problem = problem.Presented o; queries = queries } in
-    first_of (named_causes p (form_among (forms_of head.version true) first) tokens) ≡ None → IsRead p (first ∷ tokens)
-presented-read head o queries first tokens =
-    by-form (record { head = head; problem = problem.Presented o; queries = queries }) first tokens (forms_of head.version true)
-    (each-read head.version head.sizes o queries first tokens)
-
--- a pair or a query of an element script
-pub asked-read : (p : Partial) (first : Token) (tokens : List Token) → is_presented p.problem ≡ false → is_generator_line p (first ∷ tokens) ≡ false
-    → first_of (named_causes p (form_among (forms_of p.head.version (is_presented p.problem)) first) tokens) ≡ None → IsRead p (first ∷ tokens)
-asked-read p first tokens k g h =
-    by-form p first tokens (forms_of p.head.version false)
-    (also (Pair TwoSided) (pair-read p first tokens TwoSided g)
-    (also (Pair Right) (pair-read p first tokens Right g)
-    (also (Pair Left) (pair-read p first tokens Left g)
-    (also Index (index-read p first tokens g)
-    (also Equal (equal-read p first tokens g)
-    (also Normal (normal-read p first tokens g)
-    (also Classes (classes-read p first tokens g)
-    (also Rules (rules-read p first tokens g)
-    (also Element (element-read p first tokens k g)
-    (also Cayley (cayley-read p first tokens k g)
-    (also Green (green-read p first tokens k g)
-    (also Idempotents (idempotents-read p first tokens k g) every))))))))))))
-    (subst (λ b. first_of (named_causes p (form_among (forms_of p.head.version b) first) tokens) ≡ None) k h)
+-- a line that begins with a name
+pub named-read : (p : Partial) (first : Token) (tokens : List Token) → is_generator_line p (first ∷ tokens) ≡ false
+    → first_of (named_causes p (form_named p.head.version (is_presented p.problem) first) tokens) ≡ None → IsRead p (first ∷ tokens)
+named-read p first tokens sign h = by (form_named p.head.version (is_presented p.problem) first) refl h
+  where
+    by : (o : Option Form) → form_named p.head.version (is_presented p.problem) first ≡ o → first_of (named_causes p o tokens) ≡ None → IsRead p (first ∷ tokens)
+    by None e h = absurd (some-is-none h)
+    by (Some form) e h =
+        let found = form_found p.head.version (is_presented p.problem) all_forms first form e in
+        form-read p.head p.problem p.queries first tokens form sign e found.there (same_text first (name_of form) (sym found.named)) (passes p form tokens h)

@@ -20,9 +20,9 @@ use Rattle.query_lang.specs.declared.version.Version.{Version}
 use Rattle.query_lang.specs.declared.version.Version.TheVariants.{One}
 use Rattle.query_lang.specs.declared.cause.Cause.TheVariants as cause
 use Rattle.query_lang.specs.Grammar.{AreEntries, Head, Partial, Said, Nothing, OfVersion, Begun, section_reached, IsNumber, HasGenerator, HeaderReads, Step, is_generator_line}
-use Rattle.query_lang.specs.Forms.{forms_of}
-use Rattle.query_lang.specs.LineCauses.{first_of, cause_in, form_among, named_causes, entry_count, is_bad_entry, has_image_twice, repeats_image, is_taken, generator_causes, line_causes, HeaderForm, Numbers, Letters, header_form_causes, header_causes, causes_after, cause_of_line, first_line_causes, version_causes, version_number_causes, when}
-use Rattle.query_lang.proofs.TotalForms.{IsRead, some-is-none, passed, not-applies, is-some, branch, presented-read, asked-read}
+use Rattle.query_lang.specs.Forms.{form_named}
+use Rattle.query_lang.specs.LineCauses.{first_of, cause_in, named_causes, entry_count, is_bad_entry, has_image_twice, repeats_image, is_taken, generator_causes, line_causes, HeaderForm, Numbers, Letters, header_form_causes, header_causes, causes_after, cause_of_line, first_line_causes, version_causes, version_number_causes, when}
+use Rattle.query_lang.proofs.TotalForms.{IsRead, some-is-none, passed, not-applies, is-some, branch, named-read}
 
 -- a generator line
 
@@ -90,23 +90,23 @@ both-so true b h = h
 both-so false b h = absurd (true≢false (sym h))
 
 elements-read : (p : Partial) (first : Token) (tokens : List Token) → is_presented p.problem ≡ false → first_of (line_causes p (first ∷ tokens)) ≡ None → IsRead p (first ∷ tokens)
-elements-read p first [] k h = asked-read p first [] k (ap (λ b. not b && false) k) h
+elements-read p first [] k h = named-read p first [] (ap (λ b. not b && false) k) h
 elements-read p first (second ∷ tokens) k h = split (is_generator_line p (first ∷ second ∷ tokens)) refl h
   where
     split : (b : Bool) → is_generator_line p (first ∷ second ∷ tokens) ≡ b
-        → first_of (if b then generator_causes p first (map field_of tokens) else named_causes p (form_among (forms_of p.head.version (is_presented p.problem)) first) (second ∷ tokens)) ≡ None
+        → first_of (if b then generator_causes p first (map field_of tokens) else named_causes p (form_named p.head.version (is_presented p.problem) first) (second ∷ tokens)) ≡ None
         → IsRead p (first ∷ second ∷ tokens)
     split true e h =
         let sign : second ≡ codes "=" = same_text second (codes "=") (sym (both-so (not (is_presented p.problem)) (is_word (codes "=") second) e)) in
         generator-read p first second tokens k sign h
-    split false e h = asked-read p first (second ∷ tokens) k e h
+    split false e h = named-read p first (second ∷ tokens) e h
 
 -- a line behind the header
 line-read : (head : Head) (p : Problem) (queries : List Query) (line : Line) →
     let s : Partial = record { head = head; problem = p; queries = queries } in first_of (line_causes s line) ≡ None → IsRead s line
 line-read head p queries [] h = absurd (some-is-none h)
-line-read head (problem.Presented o) queries (first ∷ []) h = presented-read head o queries first [] h
-line-read head (problem.Presented o) queries (first ∷ second ∷ tokens) h = presented-read head o queries first (second ∷ tokens) h
+line-read head (problem.Presented o) queries (first ∷ []) h = named-read (record { head = head; problem = problem.Presented o; queries = queries }) first [] refl h
+line-read head (problem.Presented o) queries (first ∷ second ∷ tokens) h = named-read (record { head = head; problem = problem.Presented o; queries = queries }) first (second ∷ tokens) refl h
 line-read head (problem.Transf g) queries (first ∷ tokens) h = elements-read (record { head = head; problem = problem.Transf g; queries = queries }) first tokens refl h
 line-read head (problem.PPerm g) queries (first ∷ tokens) h = elements-read (record { head = head; problem = problem.PPerm g; queries = queries }) first tokens refl h
 line-read head (problem.BMat g) queries (first ∷ tokens) h = elements-read (record { head = head; problem = problem.BMat g; queries = queries }) first tokens refl h

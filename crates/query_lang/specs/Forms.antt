@@ -1,12 +1,20 @@
--- The forms of lines behind the header that begin with a name.
-use Rattle.std.specs.Prelude.{ℕ, Bool, true, false, List, [], ◌∷◌, ◌++◌, codes}
-use Rattle.theory.specs.declared.Kind.{Kind}
+-- The forms of lines behind the header that begin with a name. Each is told once: the grammar, the
+-- causes of refusal and the reader are read from here.
+use Rattle.std.specs.Prelude.{ℕ, Bool, true, false, not, ◌&&◌, List, [], ◌∷◌, map, codes, if◌then◌else◌, Option, Some, None}
 use Rattle.theory.specs.declared.Kind.TheVariants.{TwoSided, Right, Left}
-use Rattle.query_lang.specs.declared.role.Role.{Role}
+use Rattle.theory.specs.declared.Relation.{Relation as GreenRelation}
+use Rattle.theory.specs.Graph.{Graph}
+use Rattle.theory.specs.Word.{Word}
+use Rattle.query_lang.specs.declared.form.Form.{Form}
+use Rattle.query_lang.specs.declared.form.Form.TheVariants.{Relation, OfRole, Pair, Asks}
+use Rattle.query_lang.specs.declared.form.QueryForm.{QueryForm}
+use Rattle.query_lang.specs.declared.form.QueryForm.TheVariants as query_form
 use Rattle.query_lang.specs.declared.role.Role.TheVariants.{Identity, Zero, Inverse}
+use Rattle.query_lang.specs.declared.script.Query.{Query}
+use Rattle.query_lang.specs.declared.script.Query.TheVariants as ask
 use Rattle.query_lang.specs.declared.version.Version.{Version}
 use Rattle.query_lang.specs.declared.version.Version.TheVariants.{One, Two}
-use Rattle.query_lang.specs.Token.{Token}
+use Rattle.query_lang.specs.Token.{Token, is_word}
 
 -- what may stand in the place of a token
 pub data Place : Type 0 where
@@ -18,24 +26,86 @@ pub data Place : Type 0 where
   ACongruenceTable : Place
   ARelation : Place
 
--- the forms of lines behind the header that begin with a name, in all scripts
-pub data Form : Type 0 where
-  Relation : Form
-  OfRole : Role → Form
-  Pair : Kind → Form
-  Index : Form
-  Equal : Form
-  Normal : Form
-  Classes : Form
-  Rules : Form
-  Element : Form
-  Cayley : Form
-  LowIndex : (two_sided : Bool) → Form
-  Meet : Form
-  Join : Form
-  Chain : Form
-  Green : Form
-  Idempotents : Form
+-- what a token in this place gives
+abbrev pub Given : Place → Type 0
+Given AWord = Word
+Given ALetter = ℕ
+Given (ANumber low high) = ℕ
+Given After = Unit {0}
+Given ALowTable = Graph
+Given ACongruenceTable = Graph
+Given ARelation = GreenRelation
+
+-- what tokens in these places give
+abbrev pub AllGiven : List Place → Type 0
+AllGiven [] = Unit {0}
+AllGiven (place ∷ places) = Given place × AllGiven places
+
+-- a way to write a query: what stands behind its name, and the query that it makes
+pub record Way : Type 0 where
+  pub places : List Place
+  pub makes : AllGiven places → Query
+
+abbrev pub way : (places : List Place) → (AllGiven places → Query) → Way
+way places makes = record { places = places; makes = makes }
+
+-- which scripts have a form of query
+pub data Scripts : Type 0 where
+  AllScripts : Scripts
+  OfRelations : Scripts
+  OfGenerators : Scripts
+
+-- which pairs of a problem allow a form of query
+pub data Pairs : Type 0 where
+  AnyPairs : Pairs
+  TwoSidedPairs : Pairs
+  NoPairs : Pairs
+
+-- a form of query: its name, where it may be asked, and how it is written
+pub record Row : Type 0 where
+  pub name : Token
+  pub scripts : Scripts
+  pub pairs : Pairs
+  pub ways : List Way
+
+abbrev pub row : Token → Scripts → Pairs → List Way → Row
+row name scripts pairs ways =
+    record { name = name; scripts = scripts; pairs = pairs; ways = ways }
+
+abbrev pub low_index_name : (two_sided : Bool) → Token
+low_index_name false = codes "lowindex"
+low_index_name true = codes "lowindex2"
+
+-- the table of queries
+abbrev pub row_of : QueryForm → Row
+row_of query_form.Index = row (codes "index") AllScripts AnyPairs (way [] (λ v. ask.Index) ∷ [])
+row_of query_form.Equal = row (codes "equal") AllScripts AnyPairs
+    (way (AWord ∷ AWord ∷ []) (λ v. ask.Equal v.0 v.1.0) ∷ [])
+row_of query_form.Normal = row (codes "normal") AllScripts AnyPairs
+    (way (AWord ∷ []) (λ v. ask.Normal v.0) ∷ [])
+row_of query_form.Classes = row (codes "classes") AllScripts AnyPairs
+    (way (ANumber 0 1000000 ∷ []) (λ v. ask.Classes v.0 None)
+    ∷ way (ANumber 0 1000000 ∷ After ∷ AWord ∷ []) (λ v. ask.Classes v.0 (Some v.1.1.0)) ∷ [])
+row_of query_form.Rules = row (codes "rules") AllScripts TwoSidedPairs
+    (way [] (λ v. ask.RuleList) ∷ [])
+row_of query_form.Element = row (codes "element") OfGenerators AnyPairs
+    (way (AWord ∷ []) (λ v. ask.ElementOf v.0) ∷ [])
+row_of query_form.Cayley = row (codes "cayley") OfGenerators NoPairs (way [] (λ v. ask.Cayley) ∷ [])
+row_of (query_form.LowIndex two_sided) = row (low_index_name two_sided) OfRelations NoPairs
+    (way (ANumber 1 16 ∷ ANumber 0 1000000 ∷ [])
+    (λ v. ask.LowIndex two_sided v.0 v.1.0 None)
+    ∷ way (ANumber 1 16 ∷ ANumber 0 1000000 ∷ After ∷ ALowTable ∷ [])
+    (λ v. ask.LowIndex two_sided v.0 v.1.0 (Some v.1.1.1.0)) ∷ [])
+row_of query_form.Meet = row (codes "meet") OfRelations NoPairs
+    (way (ACongruenceTable ∷ ACongruenceTable ∷ []) (λ v. ask.Meet v.0 v.1.0) ∷ [])
+row_of query_form.Join = row (codes "join") OfRelations NoPairs
+    (way (ACongruenceTable ∷ ACongruenceTable ∷ []) (λ v. ask.Join v.0 v.1.0) ∷ [])
+row_of query_form.Chain = row (codes "chain") OfRelations TwoSidedPairs
+    (way (AWord ∷ AWord ∷ []) (λ v. ask.Chain v.0 v.1.0) ∷ [])
+row_of query_form.Green = row (codes "green") OfGenerators NoPairs
+    (way (ARelation ∷ []) (λ v. ask.Green v.0) ∷ [])
+row_of query_form.Idempotents = row (codes "idempotents") OfGenerators NoPairs
+    (way [] (λ v. ask.Idempotents) ∷ [])
 
 -- the name of the form
 abbrev pub name_of : Form → Token
@@ -46,20 +116,7 @@ name_of (OfRole Inverse) = codes "inverse"
 name_of (Pair TwoSided) = codes "twosided"
 name_of (Pair Right) = codes "right"
 name_of (Pair Left) = codes "left"
-name_of Index = codes "index"
-name_of Equal = codes "equal"
-name_of Normal = codes "normal"
-name_of Classes = codes "classes"
-name_of Rules = codes "rules"
-name_of Element = codes "element"
-name_of Cayley = codes "cayley"
-name_of (LowIndex false) = codes "lowindex"
-name_of (LowIndex true) = codes "lowindex2"
-name_of Meet = codes "meet"
-name_of Join = codes "join"
-name_of Chain = codes "chain"
-name_of Green = codes "green"
-name_of Idempotents = codes "idempotents"
+name_of (Asks query) = (row_of query).name
 
 -- the letters of a line of inverses: the third one is the identity of a semigroup
 abbrev pub inverse_shape : (is_monoid : Bool) → List Place
@@ -73,54 +130,55 @@ shapes_of is_monoid (OfRole Identity) = (ALetter ∷ []) ∷ []
 shapes_of is_monoid (OfRole Zero) = (ALetter ∷ []) ∷ []
 shapes_of is_monoid (OfRole Inverse) = inverse_shape is_monoid ∷ []
 shapes_of is_monoid (Pair kind) = (AWord ∷ AWord ∷ []) ∷ []
-shapes_of is_monoid Index = [] ∷ []
-shapes_of is_monoid Equal = (AWord ∷ AWord ∷ []) ∷ []
-shapes_of is_monoid Normal = (AWord ∷ []) ∷ []
-shapes_of is_monoid Classes = (ANumber 0 1000000 ∷ [])
-    ∷ (ANumber 0 1000000 ∷ After ∷ AWord ∷ []) ∷ []
-shapes_of is_monoid Rules = [] ∷ []
-shapes_of is_monoid Element = (AWord ∷ []) ∷ []
-shapes_of is_monoid Cayley = [] ∷ []
-shapes_of is_monoid (LowIndex two_sided) = (ANumber 1 16 ∷ ANumber 0 1000000 ∷ [])
-    ∷ (ANumber 1 16 ∷ ANumber 0 1000000 ∷ After ∷ ALowTable ∷ []) ∷ []
-shapes_of is_monoid Meet = (ACongruenceTable ∷ ACongruenceTable ∷ []) ∷ []
-shapes_of is_monoid Join = (ACongruenceTable ∷ ACongruenceTable ∷ []) ∷ []
-shapes_of is_monoid Chain = (AWord ∷ AWord ∷ []) ∷ []
-shapes_of is_monoid Green = (ARelation ∷ []) ∷ []
-shapes_of is_monoid Idempotents = [] ∷ []
+shapes_of is_monoid (Asks query) = map (λ w. w.places) (row_of query).ways
 
 -- the section of the form
 abbrev pub section_of : Form → ℕ
 section_of Relation = 2
 section_of (OfRole role) = 2
 section_of (Pair kind) = 3
-section_of Index = 4
-section_of Equal = 4
-section_of Normal = 4
-section_of Classes = 4
-section_of Rules = 4
-section_of Element = 4
-section_of Cayley = 4
-section_of (LowIndex two_sided) = 4
-section_of Meet = 4
-section_of Join = 4
-section_of Chain = 4
-section_of Green = 4
-section_of Idempotents = 4
+section_of (Asks query) = 4
 
--- the forms of lines that give letters a role, which the second version has
-abbrev pub roles_of : Version → List Form
-roles_of One = []
-roles_of Two = OfRole Identity ∷ OfRole Zero ∷ OfRole Inverse ∷ []
+-- lines that give letters a role came with the second version
+abbrev pub has_roles : Version → Bool
+has_roles One = false
+has_roles Two = true
 
--- the forms of pairs and queries that presentations have
-abbrev pub asked_of_relations : List Form
-asked_of_relations = Pair TwoSided ∷ Pair Right ∷ Pair Left
-    ∷ Index ∷ Equal ∷ Normal ∷ Classes ∷ Rules ∷ LowIndex false ∷ LowIndex true
-    ∷ Meet ∷ Join ∷ Chain ∷ []
+-- whether a presentation is among these scripts, or a script of generators
+abbrev pub are_scripts : Scripts → (is_presentation : Bool) → Bool
+are_scripts AllScripts is_presentation = true
+are_scripts OfRelations is_presentation = is_presentation
+are_scripts OfGenerators is_presentation = not is_presentation
 
--- the forms that a script of this version and kind has: a presentation, or generators
-abbrev pub forms_of : Version → (is_presentation : Bool) → List Form
-forms_of version true = Relation ∷ (roles_of version ++ asked_of_relations)
-forms_of version false = Pair TwoSided ∷ Pair Right ∷ Pair Left
-    ∷ Index ∷ Equal ∷ Normal ∷ Classes ∷ Rules ∷ Element ∷ Cayley ∷ Green ∷ Idempotents ∷ []
+-- whether a presentation has this form of query, or a script of generators
+abbrev pub has_query : (is_presentation : Bool) → QueryForm → Bool
+has_query is_presentation query = are_scripts (row_of query).scripts is_presentation
+
+-- whether a script of this version and kind has the form
+abbrev pub has_form : Version → (is_presentation : Bool) → Form → Bool
+has_form version is_presentation Relation = is_presentation
+has_form version is_presentation (OfRole role) = is_presentation && has_roles version
+has_form version is_presentation (Pair kind) = true
+has_form version is_presentation (Asks query) = has_query is_presentation query
+
+-- all forms
+abbrev pub all_forms : List Form
+all_forms = Relation ∷ OfRole Identity ∷ OfRole Zero ∷ OfRole Inverse
+    ∷ Pair TwoSided ∷ Pair Right ∷ Pair Left
+    ∷ Asks query_form.Index ∷ Asks query_form.Equal ∷ Asks query_form.Normal
+    ∷ Asks query_form.Classes ∷ Asks query_form.Rules
+    ∷ Asks query_form.Element ∷ Asks query_form.Cayley
+    ∷ Asks (query_form.LowIndex false) ∷ Asks (query_form.LowIndex true)
+    ∷ Asks query_form.Meet ∷ Asks query_form.Join ∷ Asks query_form.Chain
+    ∷ Asks query_form.Green ∷ Asks query_form.Idempotents ∷ []
+
+-- the first of these forms that the script has, and that has this name
+abbrev pub form_among : Version → (is_presentation : Bool) → List Form → Token → Option Form
+form_among version is_presentation [] t = None
+form_among version is_presentation (form ∷ forms) t =
+    if is_word (name_of form) t && has_form version is_presentation form then Some form
+    else form_among version is_presentation forms t
+
+-- the form that the token names in a script of this version: a presentation, or of generators
+abbrev pub form_named : Version → (is_presentation : Bool) → Token → Option Form
+form_named version is_presentation t = form_among version is_presentation all_forms t

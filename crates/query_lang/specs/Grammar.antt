@@ -7,8 +7,6 @@ use Rattle.elements.specs.MaxPlus.{TruncatedMatrix}
 use Rattle.elements.specs.declared.field.Field.{Field}
 use Rattle.theory.specs.declared.Kind.{Kind}
 use Rattle.theory.specs.declared.Kind.TheVariants.{TwoSided}
-use Rattle.theory.specs.declared.Relation.{Relation}
-use Rattle.theory.specs.Graph.{Graph}
 use Rattle.theory.specs.Word.{Word}
 use Rattle.words.specs.Alphabet.{alphabet_fault}
 use Rattle.presentation.specs.Presented.{Posed}
@@ -16,21 +14,22 @@ use Rattle.presentation.specs.Added.{identity_relations, zero_relations, inverse
 use Rattle.problem.specs.Posed.{PosedOf}
 use Rattle.problem.specs.declared.kinds.Problem.{Problem}
 use Rattle.problem.specs.declared.kinds.Problem.TheVariants.{Presented, Transf, PPerm, BMat, MaxPlus}
-use Rattle.problem.specs.Problem.{allows_rules, has_empty_word, is_presented, kind_of, letters_of, pairs_of, with_pair}
+use Rattle.problem.specs.Problem.{has_empty_word, is_presented, kind_of, letters_of, pairs_of, with_pair}
 use Rattle.query_lang.specs.declared.script.Query.{Query}
-use Rattle.query_lang.specs.declared.script.Query.TheVariants as ask
 use Rattle.query_lang.specs.declared.version.Version.{Version}
 use Rattle.query_lang.specs.declared.version.Version.TheVariants.{One, Two}
 use Rattle.query_lang.specs.Asked.{ScriptOf}
 use Rattle.query_lang.specs.Fields.{field_of}
 use Rattle.query_lang.specs.Entries.{all_of, below, below_or_dash, bit, is_injective}
-use Rattle.query_lang.specs.Forms.{LowIndex, Pair, name_of}
+use Rattle.query_lang.specs.declared.form.Form.TheVariants.{Asks, Pair}
+use Rattle.query_lang.specs.declared.form.QueryForm.{QueryForm}
+use Rattle.query_lang.specs.Forms.{AllGiven, Way, form_named, name_of, row_of}
 use Rattle.query_lang.specs.LineWords.{element_of}
 use Rattle.query_lang.specs.Pairing.{most_pairs}
 use Rattle.query_lang.specs.Relations.{add_relation, add_relations, free_over, most_relations, relations_of}
 use Rattle.query_lang.specs.Roles.{letter_in}
-use Rattle.query_lang.specs.Tables.{IsCongruenceTable, IsLowTable, IsTextOf}
-use Rattle.query_lang.specs.Token.{Token, Line, cut_lines, is_kept, is_word, letter_of, number_of, number_within, relation_of, tokens_of}
+use Rattle.query_lang.specs.Token.{Token, Line, cut_lines, is_kept, is_word, letter_of, number_of, number_within, tokens_of}
+use Rattle.query_lang.specs.Values.{bars_query, scope_of, values_of, way_for}
 use Rattle.query_lang.specs.Versions.{is_wide, version_numbered}
 
 -- what is said at the head of a script: the version, and the numbers of the header, 0 in the place
@@ -83,17 +82,6 @@ IsLetterOf p t x = letter_in p.head.version (letters_of p.problem) t ≡ Ok x
 abbrev pub IsNumber : ℕ → ℕ → Token → ℕ → Type 0
 IsNumber low high t n = number_within low high t ≡ Some n
 
--- the token is this standard table over the letters, of at most n classes
-abbrev pub IsLowTableOf : Partial → ℕ → Token → Graph → Type 0
-IsLowTableOf p n t g = IsTextOf (length (letters_of p.problem)) t g
-    × IsLowTable (has_empty_word p.problem) (length (letters_of p.problem)) n g
-
--- the token is this standard table over the letters, at which the relations hold
-abbrev pub IsCongruenceTableOf : Partial → Token → Graph → Type 0
-IsCongruenceTableOf p t g = IsTextOf (length (letters_of p.problem)) t g
-    × IsCongruenceTable (has_empty_word p.problem) (length (letters_of p.problem))
-    (relations_of p.problem) g
-
 -- the fields are so many entries, and these
 abbrev pub AreEntries : {A : Type 0} → ℕ → (Field → Option A) → List Field → List A → Type 0
 AreEntries count entry fields xs = (length fields ≡ count) × (all_of entry fields ≡ Some xs)
@@ -136,47 +124,20 @@ pub data HasRoleRelations (p : Partial) (line : Line) : List (Word × Word) → 
       → has_empty_word p.problem ≡ false → IsLetterOf p X x → IsLetterOf p Y y → IsLetterOf p E e
       → HasRoleRelations p line (inverse_relations x y (Some e))
 
--- the query that the line is
-pub data IsQuery (p : Partial) (line : Line) : Query → Type 0 where
-  index : line ≡ codes "index" ∷ [] → IsQuery p line ask.Index
-  equal : {U V : Token} {u v : Word} → line ≡ codes "equal" ∷ U ∷ V ∷ []
-      → IsWordOf p U u → IsWordOf p V v → IsQuery p line (ask.Equal u v)
-  normal : {U : Token} {u : Word} → line ≡ codes "normal" ∷ U ∷ []
-      → IsWordOf p U u → IsQuery p line (ask.Normal u)
-  classes : {N : Token} {n : ℕ} → line ≡ codes "classes" ∷ N ∷ []
-      → IsNumber 0 1000000 N n → IsQuery p line (ask.Classes n None)
-  classes_after : {N U : Token} {n : ℕ} {u : Word}
-      → line ≡ codes "classes" ∷ N ∷ codes "after" ∷ U ∷ []
-      → IsNumber 0 1000000 N n → IsWordOf p U u → IsQuery p line (ask.Classes n (Some u))
-  rules : line ≡ codes "rules" ∷ [] → allows_rules p.problem ≡ true
-      → IsQuery p line ask.RuleList
-  element : {U : Token} {u : Word} → line ≡ codes "element" ∷ U ∷ []
-      → is_presented p.problem ≡ false → IsWordOf p U u → IsQuery p line (ask.ElementOf u)
-  cayley : line ≡ codes "cayley" ∷ [] → is_presented p.problem ≡ false
-      → pairs_of p.problem ≡ [] → IsQuery p line ask.Cayley
-  lowindex : {two_sided : Bool} {N M : Token} {n m : ℕ}
-      → line ≡ name_of (LowIndex two_sided) ∷ N ∷ M ∷ []
-      → is_presented p.problem ≡ true → pairs_of p.problem ≡ []
-      → IsNumber 1 16 N n → IsNumber 0 1000000 M m → IsQuery p line (ask.LowIndex two_sided n m None)
-  lowindex_after : {two_sided : Bool} {N M T : Token} {n m : ℕ} {g : Graph}
-      → line ≡ name_of (LowIndex two_sided) ∷ N ∷ M ∷ codes "after" ∷ T ∷ []
-      → is_presented p.problem ≡ true → pairs_of p.problem ≡ []
-      → IsNumber 1 16 N n → IsNumber 0 1000000 M m → IsLowTableOf p n T g
-      → IsQuery p line (ask.LowIndex two_sided n m (Some g))
-  meet : {S T : Token} {s t : Graph} → line ≡ codes "meet" ∷ S ∷ T ∷ []
-      → is_presented p.problem ≡ true → pairs_of p.problem ≡ []
-      → IsCongruenceTableOf p S s → IsCongruenceTableOf p T t → IsQuery p line (ask.Meet s t)
-  join : {S T : Token} {s t : Graph} → line ≡ codes "join" ∷ S ∷ T ∷ []
-      → is_presented p.problem ≡ true → pairs_of p.problem ≡ []
-      → IsCongruenceTableOf p S s → IsCongruenceTableOf p T t → IsQuery p line (ask.Join s t)
-  chain : {U V : Token} {u v : Word} → line ≡ codes "chain" ∷ U ∷ V ∷ []
-      → is_presented p.problem ≡ true → allows_rules p.problem ≡ true
-      → IsWordOf p U u → IsWordOf p V v → IsQuery p line (ask.Chain u v)
-  green : {X : Token} {relation : Relation} → line ≡ codes "green" ∷ X ∷ []
-      → is_presented p.problem ≡ false → pairs_of p.problem ≡ []
-      → relation_of X ≡ Some relation → IsQuery p line (ask.Green relation)
-  idempotents : line ≡ codes "idempotents" ∷ [] → is_presented p.problem ≡ false
-      → pairs_of p.problem ≡ [] → IsQuery p line ask.Idempotents
+-- the line is a query: its first token names a form of query that the script has, the pairs allow
+-- it, and the tokens behind the name give, each in its place, what makes the query
+pub record IsQuery (p : Partial) (line : Line) (query : Query) : Type 0 where
+  pub form : QueryForm
+  pub name : Token
+  pub tokens : List Token
+  pub way : Way
+  pub given : AllGiven way.places
+  pub is : line ≡ name ∷ tokens
+  pub named : form_named p.head.version (is_presented p.problem) name ≡ Some (Asks form)
+  pub allowed : bars_query p.problem form ≡ false
+  pub written : way_for tokens (row_of form).ways ≡ Some way
+  pub read : values_of (scope_of p.head.version p.problem) tokens way.places tokens ≡ Ok given
+  pub made : way.makes given ≡ query
 
 -- a line behind the header, and what the lines say with it
 pub data LineReads (p : Partial) (line : Line) : Partial → Type 0 where

@@ -15,7 +15,7 @@ pub mod Pairing
 pub mod Header
 pub mod Tables
 pub mod Query
-pub mod QueryLines
+pub mod Values
 pub mod Asked
 pub mod Script
 pub mod Forms

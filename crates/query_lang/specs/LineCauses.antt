@@ -1,12 +1,10 @@
 -- The causes of refusal of each line, in the order in which they are looked at.
 use Rattle.std.specs.Prelude.{◌≡◌, ℕ, suc, ◌+◌, ◌*◌, Bool, true, false, not, ◌&&◌, ◌==◌, nat_lt, ◌⊎◌, List, [], ◌∷◌, ◌++◌, length, map, codes, if◌then◌else◌, is_none, option_and_then, Option, Some, None, Result, Ok, Err}
 use Rattle.std.specs.List.{list_any}
-use Rattle.std.specs.Option.{unwrap_or}
 use Rattle.problem.specs.declared.kinds.Problem.{Problem}
 use Rattle.problem.specs.declared.kinds.Problem.TheVariants.{Presented, Transf, PPerm, BMat, MaxPlus}
-use Rattle.problem.specs.Problem.{allows_rules, has_empty_word, is_presented, kind_of, letters_of, pairs_of}
+use Rattle.problem.specs.Problem.{has_empty_word, is_presented, kind_of, letters_of, pairs_of}
 use Rattle.elements.specs.declared.field.Field.{Field}
-use Rattle.word_graph.specs.TableText.{table_read}
 use Rattle.query_lang.specs.declared.cause.Cause.{Cause}
 use Rattle.query_lang.specs.declared.cause.Cause.TheVariants as cause
 use Rattle.query_lang.specs.declared.version.Version.{Version}
@@ -14,16 +12,17 @@ use Rattle.query_lang.specs.declared.version.Version.TheVariants.{One}
 use Rattle.query_lang.specs.Asked.{ScriptOf}
 use Rattle.query_lang.specs.Entries.{all_of, below, below_or_dash, bit, is_injective}
 use Rattle.query_lang.specs.Fields.{field_of}
-use Rattle.query_lang.specs.LineWords.{element_of}
-use Rattle.query_lang.specs.Forms.{Form, Relation, OfRole, Pair, Rules, Cayley, LowIndex, Meet, Join, Chain, Green, Idempotents, Place, AWord, ALetter, ANumber, After, ALowTable, ACongruenceTable, ARelation, name_of, shapes_of, section_of, forms_of}
+use Rattle.query_lang.specs.declared.form.Form.{Form}
+use Rattle.query_lang.specs.declared.form.Form.TheVariants.{Relation, OfRole, Pair, Asks}
+use Rattle.query_lang.specs.Forms.{Place, form_named, section_of, shapes_of}
 use Rattle.query_lang.specs.Outline.{alphabet_of}
 use Rattle.query_lang.specs.Pairing.{is_same_kind, most_pairs}
 use Rattle.query_lang.specs.Relations.{most_relations, relations_of}
 use Rattle.query_lang.specs.declared.role.Role.{Role}
 use Rattle.query_lang.specs.declared.role.Role.TheVariants as role
-use Rattle.query_lang.specs.Roles.{count_for, count_for_both, letter_in}
-use Rattle.query_lang.specs.Tables.{is_table, low_table_of, meets_relations}
-use Rattle.query_lang.specs.Token.{Token, Line, is_kept, is_word, letter_of, number_of, number_within, relation_of}
+use Rattle.query_lang.specs.Roles.{count_for, count_for_both}
+use Rattle.query_lang.specs.Values.{as_many, bars_query, scope_of, value_of}
+use Rattle.query_lang.specs.Token.{Token, Line, is_kept, is_word, letter_of, number_of, number_within}
 use Rattle.query_lang.specs.Versions.{is_wide, version_numbered}
 use Rattle.query_lang.specs.Grammar.{Partial, Said, Nothing, OfVersion, Begun, lacks_generator, section_reached, is_generator_line, Reads, script_in}
 
@@ -42,27 +41,10 @@ abbrev pub cause_in : {A : Type 0} → Result A Cause → Option Cause
 cause_in (Ok x) = None
 cause_in (Err cause) = Some cause
 
--- how many classes a table may have by the tokens: the first is the number; 0 where it is none
-abbrev pub classes_in : List Token → ℕ
-classes_in [] = 0
-classes_in (t ∷ tokens) = unwrap_or (number_within 1 16 t) 0
-
 -- the cause of a token in its place, where these are all the tokens
 abbrev pub cause_of_token : Partial → List Token → Place → Token → Option Cause
-cause_of_token p all AWord t =
-    cause_in (element_of p.head.version (letters_of p.problem) (has_empty_word p.problem) t)
-cause_of_token p all ALetter t = cause_in (letter_in p.head.version (letters_of p.problem) t)
-cause_of_token p all (ANumber low high) t =
-    when cause.BadNumber (is_none (number_within low high t))
-cause_of_token p all After t = when cause.AfterExpected (not (is_word (codes "after") t))
-cause_of_token p all ALowTable t = cause_in
-    (low_table_of (has_empty_word p.problem) (length (letters_of p.problem)) (classes_in all) t)
-cause_of_token p all ACongruenceTable t = first_of
-    (when cause.BadTable
-    (not (is_table (has_empty_word p.problem) (length (letters_of p.problem)) t))
-    ∷ when cause.TableBreaksRelation
-    (not (meets_relations (relations_of p.problem) (table_read t))) ∷ [])
-cause_of_token p all ARelation t = when cause.UnknownRelation (is_none (relation_of t))
+cause_of_token p all place t =
+    cause_in (value_of (scope_of p.head.version p.problem) all place t)
 
 -- the causes of the tokens, from the left, where these are all
 abbrev pub token_causes : Partial → List Token → List Place → List Token → List (Option Cause)
@@ -70,13 +52,6 @@ token_causes p all [] tokens = []
 token_causes p all (place ∷ places) [] = []
 token_causes p all (place ∷ places) (t ∷ tokens) =
     cause_of_token p all place t ∷ token_causes p all places tokens
-
--- as many of these as of those
-abbrev pub as_many : {A B : Type 0} → List A → List B → Bool
-as_many [] [] = true
-as_many [] (y ∷ ys) = false
-as_many (x ∷ xs) [] = false
-as_many (x ∷ xs) (y ∷ ys) = as_many xs ys
 
 -- the shape that has as many places as there are tokens
 abbrev pub shape_for : List Token → List (List Place) → Option (List Place)
@@ -116,14 +91,7 @@ mixes_kinds p form = false
 
 -- the query is not there for these pairs
 abbrev pub is_barred : Partial → Form → Bool
-is_barred p Rules = not (allows_rules p.problem)
-is_barred p Cayley = not (length (pairs_of p.problem) == 0)
-is_barred p (LowIndex two_sided) = not (length (pairs_of p.problem) == 0)
-is_barred p Meet = not (length (pairs_of p.problem) == 0)
-is_barred p Join = not (length (pairs_of p.problem) == 0)
-is_barred p Chain = not (allows_rules p.problem)
-is_barred p Green = not (length (pairs_of p.problem) == 0)
-is_barred p Idempotents = not (length (pairs_of p.problem) == 0)
+is_barred p (Asks query) = bars_query p.problem query
 is_barred p form = false
 
 -- a line of this form: 8, 9, 3, 16, 17, 18, 19, then its tokens from the left
@@ -138,12 +106,6 @@ form_causes p form tokens =
     ∷ when cause.MixedKinds (mixes_kinds p form)
     ∷ when cause.QueryNotAllowed (is_barred p form)
     ∷ shape_causes p (shape_for tokens (shapes_of (has_empty_word p.problem) form)) tokens
-
--- the form of this name, among those
-abbrev pub form_among : List Form → Token → Option Form
-form_among [] t = None
-form_among (form ∷ forms) t =
-    if is_word (name_of form) t then Some form else form_among forms t
 
 -- a line with a name: 7, then as its form asks
 abbrev pub named_causes : Partial → Option Form → List Token → List (Option Cause)
@@ -198,11 +160,11 @@ generator_causes p name fields =
 abbrev pub line_causes : Partial → Line → List (Option Cause)
 line_causes p [] = Some cause.UnknownLine ∷ []
 line_causes p (first ∷ []) =
-    named_causes p (form_among (forms_of p.head.version (is_presented p.problem)) first) []
+    named_causes p (form_named p.head.version (is_presented p.problem) first) []
 line_causes p (first ∷ second ∷ tokens) =
     if is_generator_line p (first ∷ second ∷ tokens)
     then generator_causes p first (map field_of tokens)
-    else named_causes p (form_among (forms_of p.head.version (is_presented p.problem)) first)
+    else named_causes p (form_named p.head.version (is_presented p.problem) first)
     (second ∷ tokens)
 
 -- what stands behind the name of a header: numbers in their ranges, or one token of letters

@@ -1,5 +1,7 @@
 -- The words of lines.
 use Rattle.std.specs.Prelude.{ℕ, Bool, List, [], ◌∷◌, Result, Ok, Err}
+use Rattle.std.specs.Option.{ok_or}
+use Rattle.theory.specs.declared.Relation.{Relation}
 use Rattle.theory.specs.Word.{Word}
 use Rattle.words.specs.WordText.{word_of}
 use Rattle.words.specs.declared.fault.WordFault.{WordFault}
@@ -9,10 +11,10 @@ use Rattle.words.specs.declared.fault.PowerFault.TheVariants as power
 use Rattle.query_lang.specs.declared.version.Version.{Version}
 use Rattle.query_lang.specs.declared.version.Version.TheVariants.{One, Two}
 use Rattle.query_lang.specs.declared.cause.Cause.{Cause}
-use Rattle.query_lang.specs.declared.cause.Cause.TheVariants.{WrongNumberOfWords, NotInAlphabet, WordTooLong, EmptyWord, BadPower}
+use Rattle.query_lang.specs.declared.cause.Cause.TheVariants.{WrongNumberOfWords, NotInAlphabet, WordTooLong, EmptyWord, BadPower, UnknownRelation}
 use Rattle.query_lang.specs.Outcome.{and_then}
 use Rattle.query_lang.specs.PowerWords.{powers_of}
-use Rattle.query_lang.specs.Token.{Token}
+use Rattle.query_lang.specs.Token.{Token, relation_of}
 
 -- why a word is refused; `word_of` never tells want of memory
 abbrev pub cause_of_word : WordFault → Cause
@@ -68,3 +70,8 @@ one_word version letters allow_empty tokens =
 abbrev pub two_words : Version → List ℕ → Bool → List Token → Result (Word × Word) Cause
 two_words version letters allow_empty tokens =
     and_then (λ p. both_elements version letters allow_empty p.0 p.1) (two_tokens tokens)
+
+-- one of Green's relations
+abbrev pub one_relation : List Token → Result Relation Cause
+one_relation tokens =
+    and_then (λ t. ok_or (relation_of t) UnknownRelation) (one_token tokens)

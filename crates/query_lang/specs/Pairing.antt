@@ -1,5 +1,5 @@
 -- Pairs that lines give, one after another, or why a line is refused.
-use Rattle.std.specs.Prelude.{◌≡◌, ℕ, ◌≤◌, Bool, true, false, ◌||◌, List, ◌==◌, length, codes, Contains, if◌then◌else◌, Option, Some, None, Result, Ok, Err}
+use Rattle.std.specs.Prelude.{◌≡◌, ℕ, ◌≤◌, Bool, true, false, ◌||◌, List, ◌==◌, length, Contains, if◌then◌else◌, Result, Ok, Err}
 use Rattle.theory.specs.declared.Kind.{Kind}
 use Rattle.theory.specs.declared.Kind.TheVariants.{TwoSided, Right, Left}
 use Rattle.theory.specs.Word.{Word}
@@ -10,7 +10,7 @@ use Rattle.query_lang.specs.declared.version.Version.{Version}
 use Rattle.query_lang.specs.declared.cause.Cause.{Cause}
 use Rattle.query_lang.specs.declared.cause.Cause.TheVariants as cause
 use Rattle.query_lang.specs.Outcome.{and_then}
-use Rattle.query_lang.specs.Token.{Token, is_word}
+use Rattle.query_lang.specs.Token.{Token}
 use Rattle.query_lang.specs.LineWords.{both_elements, two_tokens}
 use Rattle.query_lang.specs.Relations.{most_relations, relations_of}
 
@@ -24,14 +24,6 @@ pub record IsPairable (p : Problem) : Type 0 where
   pub few_relations : length (relations_of p) ≤ most_relations
   pub few_pairs : length (pairs_of p) ≤ most_pairs
   pub unmarked : is_presented p ≡ true → ¬ Contains (letters_of p) marker
-
--- the kind of the pairs whose lines begin so
-abbrev pub pair_kind_of : Token → Option Kind
-pair_kind_of t =
-    if is_word (codes "twosided") t then Some TwoSided
-    else if is_word (codes "right") t then Some Right
-    else if is_word (codes "left") t then Some Left
-    else None
 
 abbrev pub is_same_kind : Kind → Kind → Bool
 is_same_kind TwoSided TwoSided = true

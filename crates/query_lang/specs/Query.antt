@@ -3,8 +3,11 @@ use Rattle.std.specs.Prelude.{◌≡◌, ℕ, ◌≤◌, Bool, true, false, List
 use Rattle.theory.specs.Word.{IsElement, Word}
 use Rattle.problem.specs.declared.kinds.Problem.{Problem}
 use Rattle.problem.specs.Problem.{allows_rules, has_empty_word, is_presented, letters_of, pairs_of}
+use Rattle.query_lang.specs.declared.form.QueryForm.{QueryForm}
+use Rattle.query_lang.specs.declared.form.QueryForm.TheVariants as query_form
 use Rattle.query_lang.specs.declared.script.Query.{Query}
 use Rattle.query_lang.specs.declared.script.Query.TheVariants.{Index, Equal, Normal, Classes, RuleList, ElementOf, Cayley, LowIndex, Meet, Join, Chain, Green, Idempotents}
+use Rattle.query_lang.specs.Forms.{Scripts, AllScripts, OfRelations, OfGenerators, Pairs, AnyPairs, TwoSidedPairs, NoPairs, row_of}
 use Rattle.query_lang.specs.Relations.{relations_of}
 use Rattle.query_lang.specs.Tables.{IsCongruenceTable, IsLowTable}
 
@@ -34,69 +37,57 @@ IsQueryOver empty k relations (Chain u v) = IsElement empty k u × IsElement emp
 IsQueryOver empty k relations (Green relation) = Unit {0}
 IsQueryOver empty k relations Idempotents = Unit {0}
 
+-- the form of the query
+abbrev pub form_of : Query → QueryForm
+form_of Index = query_form.Index
+form_of (Equal u v) = query_form.Equal
+form_of (Normal u) = query_form.Normal
+form_of (Classes count after) = query_form.Classes
+form_of RuleList = query_form.Rules
+form_of (ElementOf u) = query_form.Element
+form_of Cayley = query_form.Cayley
+form_of (LowIndex two_sided classes count after) = query_form.LowIndex two_sided
+form_of (Meet s t) = query_form.Meet
+form_of (Join s t) = query_form.Join
+form_of (Chain u v) = query_form.Chain
+form_of (Green relation) = query_form.Green
+form_of Idempotents = query_form.Idempotents
+
+abbrev pub are_of_generators : Scripts → Bool
+are_of_generators AllScripts = false
+are_of_generators OfRelations = false
+are_of_generators OfGenerators = true
+
+abbrev pub are_of_relations : Scripts → Bool
+are_of_relations AllScripts = false
+are_of_relations OfRelations = true
+are_of_relations OfGenerators = false
+
+abbrev pub are_two_sided : Pairs → Bool
+are_two_sided AnyPairs = false
+are_two_sided TwoSidedPairs = true
+are_two_sided NoPairs = false
+
+abbrev pub are_none : Pairs → Bool
+are_none AnyPairs = false
+are_none TwoSidedPairs = false
+are_none NoPairs = true
+
 -- whether the query is there only where generators are given
 abbrev pub needs_generators : Query → Bool
-needs_generators Index = false
-needs_generators (Equal u v) = false
-needs_generators (Normal u) = false
-needs_generators (Classes count after) = false
-needs_generators RuleList = false
-needs_generators (ElementOf u) = true
-needs_generators Cayley = true
-needs_generators (LowIndex two_sided classes count after) = false
-needs_generators (Meet s t) = false
-needs_generators (Join s t) = false
-needs_generators (Chain u v) = false
-needs_generators (Green relation) = true
-needs_generators Idempotents = true
+needs_generators query = are_of_generators (row_of (form_of query)).scripts
 
 -- whether the query is there only where relations are given
 abbrev pub needs_relations : Query → Bool
-needs_relations Index = false
-needs_relations (Equal u v) = false
-needs_relations (Normal u) = false
-needs_relations (Classes count after) = false
-needs_relations RuleList = false
-needs_relations (ElementOf u) = false
-needs_relations Cayley = false
-needs_relations (LowIndex two_sided classes count after) = true
-needs_relations (Meet s t) = true
-needs_relations (Join s t) = true
-needs_relations (Chain u v) = true
-needs_relations (Green relation) = false
-needs_relations Idempotents = false
+needs_relations query = are_of_relations (row_of (form_of query)).scripts
 
 -- whether the query is there only where the congruence is two-sided
 abbrev pub needs_two_sided : Query → Bool
-needs_two_sided Index = false
-needs_two_sided (Equal u v) = false
-needs_two_sided (Normal u) = false
-needs_two_sided (Classes count after) = false
-needs_two_sided RuleList = true
-needs_two_sided (ElementOf u) = false
-needs_two_sided Cayley = false
-needs_two_sided (LowIndex two_sided classes count after) = false
-needs_two_sided (Meet s t) = false
-needs_two_sided (Join s t) = false
-needs_two_sided (Chain u v) = true
-needs_two_sided (Green relation) = false
-needs_two_sided Idempotents = false
+needs_two_sided query = are_two_sided (row_of (form_of query)).pairs
 
 -- whether the query is there only without pairs
 abbrev pub needs_no_pairs : Query → Bool
-needs_no_pairs Index = false
-needs_no_pairs (Equal u v) = false
-needs_no_pairs (Normal u) = false
-needs_no_pairs (Classes count after) = false
-needs_no_pairs RuleList = false
-needs_no_pairs (ElementOf u) = false
-needs_no_pairs Cayley = true
-needs_no_pairs (LowIndex two_sided classes count after) = true
-needs_no_pairs (Meet s t) = true
-needs_no_pairs (Join s t) = true
-needs_no_pairs (Chain u v) = false
-needs_no_pairs (Green relation) = true
-needs_no_pairs Idempotents = true
+needs_no_pairs query = are_none (row_of (form_of query)).pairs
 
 -- the query is one of this problem: it is there for it, pairs are two-sided where it needs that,
 -- there are none where it needs that, its words and tables are over the letters, and the relations

@@ -1,5 +1,5 @@
 -- Letters that are an identity or a zero, or inverse, as lines say of them.
-use Rattle.std.specs.Prelude.{◌≡◌, ◌<◌, ◌≤◌, ℕ, ◌+◌, ◌*◌, ◌-◌, Bool, true, false, List, [], ◌∷◌, length, nat_lt, codes, if◌then◌else◌, is_none, IfSome, Option, Some, None, Result, Ok, Err}
+use Rattle.std.specs.Prelude.{◌≡◌, ◌<◌, ◌≤◌, ℕ, ◌+◌, ◌*◌, ◌-◌, Bool, true, false, List, [], ◌∷◌, length, nat_lt, if◌then◌else◌, is_none, IfSome, Option, Some, None, Result, Ok, Err}
 use Rattle.std.specs.Option.{ok_or}
 use Rattle.theory.specs.Word.{Word}
 use Rattle.words.specs.Alphabet.{place_of}
@@ -10,25 +10,11 @@ use Rattle.query_lang.specs.declared.cause.Cause.TheVariants as cause
 use Rattle.query_lang.specs.declared.role.Role.{Role}
 use Rattle.query_lang.specs.declared.role.Role.TheVariants.{Identity, Zero, Inverse}
 use Rattle.query_lang.specs.declared.version.Version.{Version}
-use Rattle.query_lang.specs.declared.version.Version.TheVariants.{One, Two}
 use Rattle.query_lang.specs.LineWords.{one_token, two_tokens}
 use Rattle.query_lang.specs.Outcome.{and_then}
 use Rattle.query_lang.specs.Relations.{add_relations, most_relations}
 use Rattle.query_lang.specs.Token.{Token, is_word, letter_of}
 use Rattle.query_lang.specs.Versions.{is_wide}
-
--- the role that a line gives whose name this is
-abbrev pub role_named : Token → Option Role
-role_named t =
-    if is_word (codes "identity") t then Some Identity
-    else if is_word (codes "zero") t then Some Zero
-    else if is_word (codes "inverse") t then Some Inverse
-    else None
-
--- the first version has no such lines
-abbrev pub role_of : Version → Token → Option Role
-role_of One t = None
-role_of Two t = role_named t
 
 -- the place of the letter that the token is
 abbrev pub place_named : List ℕ → Token → Option ℕ

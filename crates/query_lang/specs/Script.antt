@@ -1,14 +1,14 @@
 -- Scripts: what each line gives after the lines before it, or its cause of refusal.
 pub use Rattle.query_lang.specs.Asked.{ScriptOf}
-use Rattle.std.specs.Prelude.{ℕ, suc, Bool, true, false, not, List, [], ◌∷◌, ◌++◌, length, map, codes, if◌then◌else◌, Option, Some, None, Result, Ok, Err}
+use Rattle.std.specs.Prelude.{ℕ, suc, Bool, true, false, not, ◌&&◌, List, [], ◌∷◌, ◌++◌, length, map, codes, if◌then◌else◌, Result, Ok, Err}
 use Rattle.std.specs.Option.{ok_or}
 use Rattle.theory.specs.declared.Kind.{Kind}
 use Rattle.presentation.specs.Presented.{Posed}
 use Rattle.problem.specs.declared.kinds.Problem.{Problem}
 use Rattle.problem.specs.declared.kinds.Problem.TheVariants.{Presented}
-use Rattle.problem.specs.Problem.{has_empty_word, is_presented, letters_of}
+use Rattle.problem.specs.Problem.{is_presented}
 use Rattle.query_lang.specs.declared.cause.Cause.{Cause}
-use Rattle.query_lang.specs.declared.cause.Cause.TheVariants.{HeaderMissing, UnknownHeader, UnknownLine, LineOutOfOrder, QueryNotAllowed, WrongNumberOfWords}
+use Rattle.query_lang.specs.declared.cause.Cause.TheVariants.{HeaderMissing, UnknownHeader, UnknownLine, LineOutOfOrder}
 use Rattle.query_lang.specs.declared.script.Query.{Query}
 use Rattle.query_lang.specs.declared.version.Version.{Version}
 use Rattle.query_lang.specs.declared.version.Version.TheVariants.{One}
@@ -20,11 +20,14 @@ use Rattle.query_lang.specs.Generators.{draft_with, problem_of}
 use Rattle.query_lang.specs.Header.{header_of, outline_of}
 use Rattle.query_lang.specs.Outline.{with_relation}
 use Rattle.query_lang.specs.declared.role.Role.{Role}
-use Rattle.query_lang.specs.Roles.{role_of, with_role}
-use Rattle.query_lang.specs.Pairing.{add_pair, pair_kind_of}
-use Rattle.query_lang.specs.Relations.{relations_of}
+use Rattle.query_lang.specs.Roles.{with_role}
+use Rattle.query_lang.specs.Pairing.{add_pair}
 use Rattle.query_lang.specs.Versions.{is_wide, version_of}
-use Rattle.query_lang.specs.QueryLines.{NameOf, is_name_barred, name_takes, query_name_of, query_of}
+use Rattle.query_lang.specs.declared.form.Form.{Form}
+use Rattle.query_lang.specs.declared.form.Form.TheVariants.{Relation, OfRole, Pair, Asks}
+use Rattle.query_lang.specs.declared.form.QueryForm.{QueryForm}
+use Rattle.query_lang.specs.Forms.{form_named}
+use Rattle.query_lang.specs.Values.{query_of}
 
 -- what the lines so far have given: generators or a presentation, from the first pair on a problem,
 -- and from the first query on a script
@@ -39,13 +42,9 @@ abbrev pub with_asked : ScriptOf → Query → ScriptOf
 with_asked s query = record s { queries = s.queries ++ query ∷ [] }
 
 -- one query more
-abbrev pub asked : Version → ScriptOf → NameOf → List Token → Result ScriptOf Cause
-asked version s name tokens =
-    if not (name_takes name tokens) then Err WrongNumberOfWords
-    else if is_name_barred s.problem name then Err QueryNotAllowed
-    else and_then (λ query. Ok (with_asked s query))
-    (query_of version (letters_of s.problem) (has_empty_word s.problem) (relations_of s.problem)
-    name tokens)
+abbrev pub asked : Version → ScriptOf → QueryForm → List Token → Result ScriptOf Cause
+asked version s form tokens =
+    and_then (λ query. Ok (with_asked s query)) (query_of version s.problem form tokens)
 
 -- whether the script is a presentation
 abbrev pub is_presentation : ReaderOf → Bool
@@ -108,51 +107,31 @@ pair_line version r kind tokens = and_then
     (λ problem. and_then (λ p. Ok (Pairing p)) (add_pair version problem kind tokens))
     (paired_so_far r)
 
--- the query of this name, which may stand after whatever is posed
-abbrev pub named_query : Version → ReaderOf → List Token → NameOf → Result ReaderOf Cause
-named_query version r tokens name = and_then (λ script.
-    and_then (λ s. Ok (Asking s)) (asked version script name tokens)) (finished r)
+-- a query of this form, which may stand after whatever is posed
+abbrev pub query_line : Version → ReaderOf → QueryForm → List Token → Result ReaderOf Cause
+query_line version r form tokens = and_then (λ script.
+    and_then (λ s. Ok (Asking s)) (asked version script form tokens)) (finished r)
 
--- a query, by its first token
-abbrev pub query_line : Version → ReaderOf → Token → List Token → Result ReaderOf Cause
-query_line version r first tokens = and_then (named_query version r tokens)
-    (ok_or (query_name_of (is_presentation r) first) UnknownLine)
+-- a line of this form
+abbrev pub form_line : Version → ReaderOf → Form → List Token → Result ReaderOf Cause
+form_line version r Relation tokens = relation_line version r tokens
+form_line version r (OfRole role) tokens = role_line version r role tokens
+form_line version r (Pair kind) tokens = pair_line version r kind tokens
+form_line version r (Asks form) tokens = query_line version r form tokens
 
--- a pair of this kind, if there is one, or else a query
-abbrev pub pair_or_query : Version → ReaderOf → Option Kind → Token → List Token
-    → Result ReaderOf Cause
-pair_or_query version r (Some kind) first tokens = pair_line version r kind tokens
-pair_or_query version r None first tokens = query_line version r first tokens
+-- a line that begins with a name
+abbrev pub named_line : Version → ReaderOf → Token → List Token → Result ReaderOf Cause
+named_line version r first tokens = and_then (λ form. form_line version r form tokens)
+    (ok_or (form_named version (is_presentation r) first) UnknownLine)
 
--- a pair or a query, by its first token
-abbrev pub common_line : Version → ReaderOf → Token → List Token → Result ReaderOf Cause
-common_line version r first tokens = pair_or_query version r (pair_kind_of first) first tokens
-
--- a role of letters, if the line gives one, or else a pair or a query
-abbrev pub role_or_common : Version → ReaderOf → Option Role → Token → List Token
-    → Result ReaderOf Cause
-role_or_common version r (Some role) first tokens = role_line version r role tokens
-role_or_common version r None first tokens = common_line version r first tokens
-
--- a line after the header of a presentation
-abbrev pub presentation_line : Version → ReaderOf → Line → Result ReaderOf Cause
-presentation_line version r [] = Err UnknownLine
-presentation_line version r (first ∷ tokens) =
-    if is_word (codes "rel") first then relation_line version r tokens
-    else role_or_common version r (role_of version first) first tokens
-
--- a line after the header of generators; the second token of a generator line is `=`
-abbrev pub element_line : Version → ReaderOf → Line → Result ReaderOf Cause
-element_line version r [] = Err UnknownLine
-element_line version r (first ∷ []) = common_line version r first []
-element_line version r (first ∷ second ∷ tokens) =
-    if is_word (codes "=") second then generator_line version r first tokens
-    else common_line version r first (second ∷ tokens)
-
--- a line after the header
+-- a line after the header; the second token of a generator line is `=`
 abbrev pub with_line : Version → ReaderOf → Line → Result ReaderOf Cause
-with_line version r line =
-    if is_presentation r then presentation_line version r line else element_line version r line
+with_line version r [] = Err UnknownLine
+with_line version r (first ∷ []) = named_line version r first []
+with_line version r (first ∷ second ∷ tokens) =
+    if not (is_presentation r) && is_word (codes "=") second
+    then generator_line version r first tokens
+    else named_line version r first (second ∷ tokens)
 
 -- the header of a monoid or a semigroup, by the tokens behind its name
 abbrev pub outline_line : Version → Bool → List Token → Result ReaderOf Cause

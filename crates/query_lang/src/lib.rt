@@ -7,6 +7,7 @@ mod cause;
 mod draft;
 pub mod facts;
 mod fault;
+mod form;
 mod generator;
 mod header;
 mod line_words;

@@ -3,13 +3,12 @@ ghost use Rattle.std.specs.Prelude.{◌≡◌, ◌≢◌, IfOk, IfErr, OnOk, Ok,
 ghost use Rattle.theory.specs.Word.{IsElement};
 ghost use Rattle.problem.specs.Problem.{IsPosable, has_empty_word, is_presented, letters_of, pairs_of, with_pair};
 ghost use Rattle.query_lang.specs.Faults.{IsLineFault};
-ghost use Rattle.query_lang.specs.Pairing.{IsPairable, add_pair, is_same_kind, most_pairs, pair_kind_of, sides_of, takes_kind};
+ghost use Rattle.query_lang.specs.Pairing.{IsPairable, add_pair, is_same_kind, most_pairs, sides_of, takes_kind};
 ghost use Rattle.query_lang.specs.Texts.{texts};
 
 use crate::cause::Cause;
 use crate::fault::LineFault;
 use crate::line_words::{both_elements, two_tokens};
-use crate::tokens::is_word;
 use crate::version::Version;
 use ports::NoMemory;
 use presentation::Kind;
@@ -36,18 +35,6 @@ impl Model for Paired {
     ghost view = { λ p. p.problem };
 
     ghost invariant = { λ p. IsPairable p.problem };
-}
-
-/// The kind of the pairs whose lines begin so.
-pub fn pair_kind_of(first: &[u8]) -> Option<Kind>
-    ensures { result ≡ pair_kind_of first.now }
-{
-    match first {
-        text if is_word(b"twosided", text) => Some(Kind::TwoSided),
-        text if is_word(b"right", text) => Some(Kind::Right),
-        text if is_word(b"left", text) => Some(Kind::Left),
-        _ => None,
-    }
 }
 
 // Whether the kinds are one.

@@ -1,15 +1,21 @@
 // The lines of queries.
-ghost use Rattle.std.specs.Prelude.{◌≡◌, ◌≤◌, List, [], ◌∷◌, IfOk, IfErr, Ok, length};
-ghost use Rattle.theory.specs.Word.{IsElement, Word as Letters};
+ghost use Rattle.std.specs.Prelude.{◌≡◌, List, [], ◌∷◌, IfOk, IfErr, Ok, length, true};
+ghost use Rattle.std.specs.Option.{ok_or};
+ghost use Rattle.theory.specs.Word.{Word as Letters};
+ghost use Rattle.query_lang.specs.declared.cause.Cause.TheVariants.{BadNumber};
+ghost use Rattle.query_lang.specs.declared.form.QueryForm.TheVariants as asks;
+ghost use Rattle.query_lang.specs.declared.version.Version.{Version as VersionOf};
 ghost use Rattle.query_lang.specs.Faults.{IsLineFault};
-ghost use Rattle.query_lang.specs.Query.{AreLimits, IsQueryOver};
-ghost use Rattle.query_lang.specs.QueryLines.{bare, count_of, cursor_of, is_name_barred, limits_of, name_takes, one_relation, page_of, query_name, query_name_of, query_of, search_of, table_cursor_of};
-ghost use Rattle.query_lang.specs.QueryLines as said;
-ghost use Rattle.query_lang.specs.Tables.{IsLowTable};
+ghost use Rattle.query_lang.specs.Forms.{row_of};
+ghost use Rattle.query_lang.specs.LineWords.{one_relation};
+ghost use Rattle.query_lang.specs.Query.{AreLimits, IsQueryOver, form_of};
 ghost use Rattle.query_lang.specs.Texts.{texts};
+ghost use Rattle.query_lang.specs.Token.{number_within};
+ghost use Rattle.query_lang.specs.Values.{bars_query, limits_of, query_in, scope, takes};
 
 use crate::cause::Cause;
 use crate::fault::LineFault;
+use crate::form::QueryForm;
 use crate::line_words::{element_of, one_token, one_word, two_words};
 use crate::script::Query;
 use crate::tables::{low_table_of, two_tables};
@@ -17,173 +23,56 @@ use crate::tokens::{is_word, number_within, relation_of};
 use crate::version::Version;
 use problem::Problem;
 use std::alloc::Global;
-use std::marker::Model;
 use theory::Relation;
 use word_graph::WordGraph;
 use words::{Alphabet, Word};
 
-// The names of queries.
-#[derive(Drop)]
-enum Name {
-    /// `index`
-    Index,
-    /// `equal`
-    Equal,
-    /// `normal`
-    Normal,
-    /// `classes`
-    Classes,
-    /// `rules`
-    Rules,
-    /// `element`
-    Element,
-    /// `cayley`
-    Cayley,
-    /// `lowindex`, or for two-sided congruences `lowindex2`
-    LowIndex { two_sided: bool },
-    /// `meet`
-    Meet,
-    /// `join`
-    Join,
-    /// `chain`
-    Chain,
-    /// `green`
-    Green,
-    /// `idempotents`
-    Idempotents,
-}
-
-/// What a query line begins with. Contracts see which name it is.
-#[derive(Drop)]
-pub struct QueryName {
-    name: Name,
-}
-
-impl Model for QueryName {
-    ghost use Rattle.query_lang.specs.QueryLines.{NameOf};
-    ghost use Rattle.query_lang.specs.QueryLines as said;
-    ghost use Rattle.query_lang.specs.declared.query_line.Name.TheVariants as kept;
-
-    ghost Value = { NameOf };
-
-    ghost view = { λ q. elim q.name [
-      | kept.Index ↦ said.Index
-      | kept.Equal ↦ said.Equal
-      | kept.Normal ↦ said.Normal
-      | kept.Classes ↦ said.Classes
-      | kept.Rules ↦ said.Rules
-      | kept.Element ↦ said.Element
-      | kept.Cayley ↦ said.Cayley
-      | kept.LowIndex two_sided ↦ said.LowIndex two_sided
-      | kept.Meet ↦ said.Meet
-      | kept.Join ↦ said.Join
-      | kept.Chain ↦ said.Chain
-      | kept.Green ↦ said.Green
-      | kept.Idempotents ↦ said.Idempotents
-    ] };
-}
-
-impl QueryName {
-    /// Whether a query of this name is not there for the pairs of the problem: the rules and chains
-    /// for right or left pairs, the Cayley graphs, tables of low index, meets, joins, Green's
-    /// relations and idempotents for any.
-    pub fn is_barred(&self, problem: &Problem) -> bool
-        ensures { result ≡ is_name_barred problem.now self.now }
+impl QueryForm {
+    /// Whether the pairs of the problem do not allow a query of this form: the rules and chains
+    /// want two-sided pairs or none, the Cayley graphs, tables of low index, meets, joins, Green's
+    /// relations and idempotents none.
+    pub fn is_barred(self, problem: &Problem) -> bool
+        ensures { result ≡ bars_query problem.now self }
     {
-        match self.name {
-            Name::Index | Name::Equal | Name::Normal | Name::Classes | Name::Element => false,
-            Name::Rules | Name::Chain => !problem.allows_rules(),
-            Name::Cayley
-            | Name::LowIndex { .. }
-            | Name::Meet
-            | Name::Join
-            | Name::Green
-            | Name::Idempotents => !problem.pairs().is_empty(),
+        match self {
+            QueryForm::Index
+            | QueryForm::Equal
+            | QueryForm::Normal
+            | QueryForm::Classes
+            | QueryForm::Element => false,
+            QueryForm::Rules | QueryForm::Chain => !problem.allows_rules(),
+            QueryForm::Cayley
+            | QueryForm::LowIndex { .. }
+            | QueryForm::Meet
+            | QueryForm::Join
+            | QueryForm::Green
+            | QueryForm::Idempotents => !problem.pairs().is_empty(),
         }
     }
 
-    /// Whether there are as many tokens as stand behind this name.
-    pub fn takes(&self, tokens: &[&[u8]]) -> bool
-        ensures { result ≡ name_takes self.now (texts tokens.now) }
+    /// Whether there are as many tokens as stand behind the name of this query.
+    pub fn takes(self, tokens: &[&[u8]]) -> bool
+        ensures { result ≡ takes self (texts tokens.now) }
     {
-        match self.name {
-            Name::Index | Name::Rules | Name::Cayley | Name::Idempotents => tokens.is_empty(),
-            Name::Normal | Name::Element | Name::Green => matches!(tokens, [_]),
-            Name::Equal | Name::Meet | Name::Join | Name::Chain => matches!(tokens, [_, _]),
-            Name::Classes => matches!(tokens, [_] | [_, _, _]),
-            Name::LowIndex { .. } => matches!(tokens, [_, _] | [_, _, _, _]),
+        match self {
+            QueryForm::Index | QueryForm::Rules | QueryForm::Cayley | QueryForm::Idempotents =>
+                tokens.is_empty(),
+            QueryForm::Normal | QueryForm::Element | QueryForm::Green => matches!(tokens, [_]),
+            QueryForm::Equal | QueryForm::Meet | QueryForm::Join | QueryForm::Chain => {
+                matches!(tokens, [_, _])
+            }
+            QueryForm::Classes => matches!(tokens, [_] | [_, _, _]),
+            QueryForm::LowIndex { .. } => matches!(tokens, [_, _] | [_, _, _, _]),
         }
-    }
-}
-
-/// The query that a line's first token names in a presentation, or in a script of generators.
-pub fn query_name_of(is_presentation: bool, first: &[u8]) -> Option<QueryName>
-    ensures { result ≡ query_name_of is_presentation first.now }
-{
-    let name = match first {
-        text if is_word(b"index", text) => Name::Index,
-        text if is_word(b"equal", text) => Name::Equal,
-        text if is_word(b"normal", text) => Name::Normal,
-        text if is_word(b"classes", text) => Name::Classes,
-        text if is_word(b"rules", text) => Name::Rules,
-        text if is_presentation && is_word(b"lowindex", text) => Name::LowIndex {
-            two_sided: false,
-        },
-        text if is_presentation && is_word(b"lowindex2", text) => Name::LowIndex {
-            two_sided: true,
-        },
-        text if is_presentation && is_word(b"meet", text) => Name::Meet,
-        text if is_presentation && is_word(b"join", text) => Name::Join,
-        text if is_presentation && is_word(b"chain", text) => Name::Chain,
-        text if !is_presentation && is_word(b"element", text) => Name::Element,
-        text if !is_presentation && is_word(b"cayley", text) => Name::Cayley,
-        text if !is_presentation && is_word(b"green", text) => Name::Green,
-        text if !is_presentation && is_word(b"idempotents", text) => Name::Idempotents,
-        _ => return None,
-    };
-    Some(QueryName { name })
-}
-
-// The query, which has no words.
-fn bare(query: Query, tokens: &[&[u8]]) -> Result<Query, LineFault>
-    ensures ok { IfOk result (λ same. bare query (texts tokens.now) ≡ Ok same) }
-    ensures same { IfOk result (λ same. same ≡ query) }
-    ensures err { IfErr result (IsLineFault (bare query (texts tokens.now))) }
-{
-    match tokens {
-        [] => Ok(query),
-        _ => Err(LineFault::refused_after(query, Cause::WrongNumberOfWords)),
     }
 }
 
 // How many classes or tables are asked for.
 fn count_of(token: &[u8]) -> Result<usize, Cause>
-    ensures { result ≡ count_of token.now }
+    ensures { result ≡ ok_or (number_within 0 1000000 token.now) BadNumber }
 {
     let count = number_within(0, 1_000_000, token).ok_or(Cause::BadNumber)?;
     Ok(count as usize)
-}
-
-// The word behind which a page begins.
-fn cursor_of(
-    alloc: Global,
-    version: Version,
-    alphabet: &Alphabet,
-    allow_empty: bool,
-    after: &[u8],
-    token: &[u8],
-) -> Result<Word, LineFault>
-    ensures ok { IfOk result (λ word. cursor_of version alphabet.now allow_empty after.now token.now
-        ≡ Ok word) }
-    ensures element { IfOk result (IsElement allow_empty (length alphabet.now)) }
-    ensures err { IfErr result (IsLineFault
-        (cursor_of version alphabet.now allow_empty after.now token.now)) }
-{
-    if is_word(b"after", after) {
-        element_of(alloc, version, alphabet, allow_empty, token)
-    } else {
-        Err(LineFault::refused(Cause::AfterExpected))
-    }
 }
 
 // The page of classes behind the word that the last token is.
@@ -196,16 +85,21 @@ fn page_after(
     after: &[u8],
     token: &[u8],
 ) -> Result<Query, LineFault>
-    ensures ok { IfOk result (λ query. page_of version alphabet.now allow_empty
-        (count.now ∷ after.now ∷ token.now ∷ []) ≡ Ok query) }
+    ensures ok { (relations : List (Letters × Letters)) → IfOk result
+        (λ query. query_in (scope version alphabet.now allow_empty relations)
+        (row_of asks.Classes).ways (count.now ∷ after.now ∷ token.now ∷ []) ≡ Ok query) }
     ensures over { (relations : List (Letters × Letters)) → IfOk result
         (IsQueryOver allow_empty (length alphabet.now) relations) }
-    ensures name { IfOk result (λ query. query_name query ≡ said.Classes) }
-    ensures err { IfErr result (IsLineFault (page_of version alphabet.now allow_empty
-        (count.now ∷ after.now ∷ token.now ∷ []))) }
+    ensures form { IfOk result (λ query. form_of query ≡ asks.Classes) }
+    ensures err { (relations : List (Letters × Letters)) → IfErr result
+        (IsLineFault (query_in (scope version alphabet.now allow_empty relations)
+        (row_of asks.Classes).ways (count.now ∷ after.now ∷ token.now ∷ []))) }
 {
     let count = count_of(count)?;
-    let cursor = cursor_of(alloc, version, alphabet, allow_empty, after, token)?;
+    if !is_word(b"after", after) {
+        return Err(LineFault::refused(Cause::AfterExpected));
+    }
+    let cursor = element_of(alloc, version, alphabet, allow_empty, token)?;
     Ok(Query::Classes {
         count,
         after: Some(cursor),
@@ -220,13 +114,15 @@ fn page_of(
     allow_empty: bool,
     tokens: &[&[u8]],
 ) -> Result<Query, LineFault>
-    ensures ok { IfOk result (λ query. page_of version alphabet.now allow_empty (texts tokens.now)
-        ≡ Ok query) }
+    ensures ok { (relations : List (Letters × Letters)) → IfOk result
+        (λ query. query_in (scope version alphabet.now allow_empty relations)
+        (row_of asks.Classes).ways (texts tokens.now) ≡ Ok query) }
     ensures over { (relations : List (Letters × Letters)) → IfOk result
         (IsQueryOver allow_empty (length alphabet.now) relations) }
-    ensures name { IfOk result (λ query. query_name query ≡ said.Classes) }
-    ensures err { IfErr result (IsLineFault
-        (page_of version alphabet.now allow_empty (texts tokens.now))) }
+    ensures form { IfOk result (λ query. form_of query ≡ asks.Classes) }
+    ensures err { (relations : List (Letters × Letters)) → IfErr result
+        (IsLineFault (query_in (scope version alphabet.now allow_empty relations)
+        (row_of asks.Classes).ways (texts tokens.now))) }
 {
     match tokens {
         [count] => Ok(Query::Classes {
@@ -250,29 +146,6 @@ fn limits_of(classes: &[u8], count: &[u8]) -> Result<(usize, usize), Cause>
     Ok((classes as usize, count))
 }
 
-// The table behind which a search goes on.
-fn table_cursor_of(
-    alloc: Global,
-    alphabet: &Alphabet,
-    is_monoid: bool,
-    classes: usize,
-    after: &[u8],
-    token: &[u8],
-) -> Result<WordGraph, LineFault>
-    requires { classes ≤ 16 }
-    ensures ok { IfOk result (λ table.
-        table_cursor_of alphabet.now is_monoid classes after.now token.now ≡ Ok table) }
-    ensures low { IfOk result (IsLowTable is_monoid (length alphabet.now) classes) }
-    ensures err { IfErr result (IsLineFault
-        (table_cursor_of alphabet.now is_monoid classes after.now token.now)) }
-{
-    if is_word(b"after", after) {
-        low_table_of(alloc, is_monoid, alphabet.len(), classes, token)
-    } else {
-        Err(LineFault::refused(Cause::AfterExpected))
-    }
-}
-
 // The search for tables behind the one that the last token is.
 fn search_after(
     alloc: Global,
@@ -284,16 +157,23 @@ fn search_after(
     after: &[u8],
     token: &[u8],
 ) -> Result<Query, LineFault>
-    ensures ok { IfOk result (λ query. search_of two_sided alphabet.now is_monoid
+    ensures ok { (version : VersionOf) (relations : List (Letters × Letters)) → IfOk result
+        (λ query. query_in (scope version alphabet.now is_monoid relations)
+        (row_of (asks.LowIndex two_sided)).ways
         (classes.now ∷ count.now ∷ after.now ∷ token.now ∷ []) ≡ Ok query) }
     ensures over { (relations : List (Letters × Letters)) → IfOk result
         (IsQueryOver is_monoid (length alphabet.now) relations) }
-    ensures name { IfOk result (λ query. query_name query ≡ said.LowIndex two_sided) }
-    ensures err { IfErr result (IsLineFault (search_of two_sided alphabet.now is_monoid
+    ensures form { IfOk result (λ query. form_of query ≡ asks.LowIndex two_sided) }
+    ensures err { (version : VersionOf) (relations : List (Letters × Letters)) → IfErr result
+        (IsLineFault (query_in (scope version alphabet.now is_monoid relations)
+        (row_of (asks.LowIndex two_sided)).ways
         (classes.now ∷ count.now ∷ after.now ∷ token.now ∷ []))) }
 {
     let (classes, count) = limits_of(classes, count)?;
-    let table = table_cursor_of(alloc, alphabet, is_monoid, classes, after, token)?;
+    if !is_word(b"after", after) {
+        return Err(LineFault::refused(Cause::AfterExpected));
+    }
+    let table = low_table_of(alloc, is_monoid, alphabet.len(), classes, token)?;
     Ok(Query::LowIndex {
         two_sided,
         classes,
@@ -310,13 +190,15 @@ fn search_of(
     is_monoid: bool,
     tokens: &[&[u8]],
 ) -> Result<Query, LineFault>
-    ensures ok { IfOk result (λ query. search_of two_sided alphabet.now is_monoid
-        (texts tokens.now) ≡ Ok query) }
+    ensures ok { (version : VersionOf) (relations : List (Letters × Letters)) → IfOk result
+        (λ query. query_in (scope version alphabet.now is_monoid relations)
+        (row_of (asks.LowIndex two_sided)).ways (texts tokens.now) ≡ Ok query) }
     ensures over { (relations : List (Letters × Letters)) → IfOk result
         (IsQueryOver is_monoid (length alphabet.now) relations) }
-    ensures name { IfOk result (λ query. query_name query ≡ said.LowIndex two_sided) }
-    ensures err { IfErr result (IsLineFault
-        (search_of two_sided alphabet.now is_monoid (texts tokens.now))) }
+    ensures form { IfOk result (λ query. form_of query ≡ asks.LowIndex two_sided) }
+    ensures err { (version : VersionOf) (relations : List (Letters × Letters)) → IfErr result
+        (IsLineFault (query_in (scope version alphabet.now is_monoid relations)
+        (row_of (asks.LowIndex two_sided)).ways (texts tokens.now))) }
 {
     match tokens {
         [classes, count] => {
@@ -342,58 +224,62 @@ fn one_relation(tokens: &[&[u8]]) -> Result<Relation, Cause>
     relation_of(one_token(tokens)?).ok_or(Cause::UnknownRelation)
 }
 
-/// The query of this name, by the tokens behind the name; the relations hold at the tables of a
-/// meet or a join. Refused for their cause, or for want of memory.
+/// The query of this form, by the tokens behind its name, which are as many as it takes; the
+/// relations hold at the tables of a meet or a join. Refused for the cause of the first token that
+/// has one, or for want of memory.
 pub fn query_of(
     alloc: Global,
     version: Version,
     alphabet: &Alphabet,
     allow_empty: bool,
     relations: &[(Word, Word)],
-    name: QueryName,
+    form: QueryForm,
     tokens: &[&[u8]],
 ) -> Result<Query, LineFault>
-    ensures ok { IfOk result (λ query. query_of version alphabet.now allow_empty relations.now name
+    requires { takes form (texts tokens.now) ≡ true }
+    ensures ok { IfOk result (λ query.
+        query_in (scope version alphabet.now allow_empty relations.now) (row_of form).ways
         (texts tokens.now) ≡ Ok query) }
     ensures over { IfOk result (IsQueryOver allow_empty (length alphabet.now) relations.now) }
-    ensures name { IfOk result (λ query. query_name query ≡ name) }
+    ensures form { IfOk result (λ query. form_of query ≡ form) }
     ensures err { IfErr result (IsLineFault
-        (query_of version alphabet.now allow_empty relations.now name (texts tokens.now))) }
+        (query_in (scope version alphabet.now allow_empty relations.now) (row_of form).ways
+        (texts tokens.now))) }
 {
     let letters = alphabet.len();
-    match name.name {
-        Name::Index => bare(Query::Index, tokens),
-        Name::Equal => {
+    match form {
+        QueryForm::Index => Ok(Query::Index),
+        QueryForm::Equal => {
             let (left, right) = two_words(alloc, version, alphabet, allow_empty, tokens)?;
             Ok(Query::Equal(left, right))
         }
-        Name::Normal => Ok(Query::Normal(one_word(alloc, version, alphabet, allow_empty, tokens)?)),
-        Name::Classes => page_of(alloc, version, alphabet, allow_empty, tokens),
-        Name::Rules => bare(Query::RuleList, tokens),
-        Name::Element => Ok(Query::ElementOf(one_word(
-            alloc,
-            version,
-            alphabet,
-            allow_empty,
-            tokens,
-        )?)),
-        Name::Cayley => bare(Query::Cayley, tokens),
-        Name::LowIndex { two_sided } => {
+        QueryForm::Normal => {
+            let word = one_word(alloc, version, alphabet, allow_empty, tokens)?;
+            Ok(Query::Normal(word))
+        }
+        QueryForm::Classes => page_of(alloc, version, alphabet, allow_empty, tokens),
+        QueryForm::Rules => Ok(Query::RuleList),
+        QueryForm::Element => {
+            let value = one_word(alloc, version, alphabet, allow_empty, tokens)?;
+            Ok(Query::ElementOf(value))
+        }
+        QueryForm::Cayley => Ok(Query::Cayley),
+        QueryForm::LowIndex { two_sided } => {
             search_of(alloc, two_sided, alphabet, allow_empty, tokens)
         }
-        Name::Meet => {
-            let (left, right) = two_tables(alloc, allow_empty, letters, relations, tokens)?;
-            Ok(Query::Meet(left, right))
+        QueryForm::Meet => {
+            let (one, other) = two_tables(alloc, allow_empty, letters, relations, tokens)?;
+            Ok(Query::Meet(one, other))
         }
-        Name::Join => {
-            let (left, right) = two_tables(alloc, allow_empty, letters, relations, tokens)?;
-            Ok(Query::Join(left, right))
+        QueryForm::Join => {
+            let (first, second) = two_tables(alloc, allow_empty, letters, relations, tokens)?;
+            Ok(Query::Join(first, second))
         }
-        Name::Chain => {
+        QueryForm::Chain => {
             let (from, to) = two_words(alloc, version, alphabet, allow_empty, tokens)?;
             Ok(Query::Chain(from, to))
         }
-        Name::Green => Ok(Query::Green(one_relation(tokens)?)),
-        Name::Idempotents => bare(Query::Idempotents, tokens),
+        QueryForm::Green => Ok(Query::Green(one_relation(tokens)?)),
+        QueryForm::Idempotents => Ok(Query::Idempotents),
     }
 }

@@ -1,21 +1,21 @@
 // What the lines of a script give, one after another.
-ghost use Rattle.std.specs.Prelude.{◌≡◌, [], ◌∷◌, true, IfOk, IfErr, Ok};
+ghost use Rattle.std.specs.Prelude.{◌≡◌, [], ◌∷◌, true, not, ◌&&◌, codes, IfOk, IfErr, Ok};
 ghost use Rattle.query_lang.specs.Faults.{IsLineFault};
 ghost use Rattle.query_lang.specs.Generators.{problem_of};
-ghost use Rattle.query_lang.specs.QueryLines.{is_name_there};
-ghost use Rattle.query_lang.specs.Script.{common_line, draft_line, draft_so_far, element_line, finished, first_line, generator_line, header_line, is_presentation, named_query, outline_line, outline_so_far, pair_line, paired_so_far, presentation_line, query_line, read_line, relation_line, role_line, role_or_common, take_line, take_tokens, whole_of, with_line};
+ghost use Rattle.query_lang.specs.Forms.{has_form, has_query};
+ghost use Rattle.query_lang.specs.Script.{draft_line, draft_so_far, finished, first_line, form_line, generator_line, header_line, is_presentation, named_line, outline_line, outline_so_far, pair_line, paired_so_far, query_line, read_line, relation_line, role_line, take_line, take_tokens, whole_of, with_line};
 ghost use Rattle.query_lang.specs.Script as said;
-ghost use Rattle.query_lang.specs.Roles.{role_of};
 ghost use Rattle.query_lang.specs.Texts.{texts};
+ghost use Rattle.query_lang.specs.Token.{is_word};
 
 use crate::cause::Cause;
 use crate::draft::Draft;
 use crate::fault::LineFault;
+use crate::form::{Form, QueryForm, form_named};
 use crate::header::{header_of, outline_of};
 use crate::outline::Outline;
-use crate::pairing::{Paired, pair_kind_of};
-use crate::query_line::{QueryName, query_name_of};
-use crate::role::{Role, role_of};
+use crate::pairing::Paired;
+use crate::role::Role;
 use crate::script::Script;
 use crate::tokens::{is_kept, is_word, tokens_of};
 use crate::version::{Version, version_of};
@@ -257,134 +257,70 @@ impl Reader {
         Ok(pairing(paired.with_pair(alloc, version, kind, tokens)?))
     }
 
-    // The query of this name. Scripts of this kind have it.
+    // A query of this form. Scripts of this kind have it.
     fn ask(
         self,
         alloc: Global,
         version: Version,
-        name: QueryName,
+        form: QueryForm,
         tokens: &[&[u8]],
     ) -> Result<Reader, LineFault>
-        requires { is_name_there (is_presentation self) name ≡ true }
-        ensures ok { IfOk result (λ next. named_query version self (texts tokens.now) name
+        requires { has_query (is_presentation self) form ≡ true }
+        ensures ok { IfOk result (λ next. query_line version self form (texts tokens.now)
             ≡ Ok next) }
         ensures err { IfErr result (IsLineFault
-            (named_query version self (texts tokens.now) name)) }
+            (query_line version self form (texts tokens.now))) }
     {
         let script = self.finish(alloc)?;
-        Ok(asking(script.with_query(alloc, version, name, tokens)?))
+        Ok(asking(script.with_query(alloc, version, form, tokens)?))
     }
 
-    fn add_query(
+    // A line of this form. Scripts of this version and kind have it.
+    fn add_form(
+        self,
+        alloc: Global,
+        version: Version,
+        form: Form,
+        tokens: &[&[u8]],
+    ) -> Result<Reader, LineFault>
+        requires { has_form version (is_presentation self) form ≡ true }
+        ensures ok { IfOk result (λ next. form_line version self form (texts tokens.now)
+            ≡ Ok next) }
+        ensures err { IfErr result (IsLineFault
+            (form_line version self form (texts tokens.now))) }
+    {
+        match form {
+            Form::Relation => self.add_relation(alloc, version, tokens),
+            Form::OfRole(role) => self.add_role(version, role, tokens),
+            Form::Pair(kind) => self.add_pair(alloc, version, kind, tokens),
+            Form::Asks(query) => self.ask(alloc, version, query, tokens),
+        }
+    }
+
+    // A line that begins with a name.
+    fn add_named(
         self,
         alloc: Global,
         version: Version,
         first: &[u8],
         tokens: &[&[u8]],
     ) -> Result<Reader, LineFault>
-        ensures ok { IfOk result (λ next. query_line version self first.now (texts tokens.now)
+        ensures ok { IfOk result (λ next. named_line version self first.now (texts tokens.now)
             ≡ Ok next) }
         ensures err { IfErr result (IsLineFault
-            (query_line version self first.now (texts tokens.now))) }
+            (named_line version self first.now (texts tokens.now))) }
     {
-        match query_name_of(self.is_presentation(), first) {
-            Some(name) => self.ask(alloc, version, name, tokens),
+        match form_named(version, self.is_presentation(), first) {
+            Some(form) => self.add_form(alloc, version, form, tokens),
             None => Err(LineFault::refused_after(self, Cause::UnknownLine)),
         }
     }
 
-    // A pair or a query, which all scripts have.
-    fn add_common_line(
-        self,
-        alloc: Global,
-        version: Version,
-        first: &[u8],
-        tokens: &[&[u8]],
-    ) -> Result<Reader, LineFault>
-        ensures ok { IfOk result (λ next. common_line version self first.now (texts tokens.now)
-            ≡ Ok next) }
-        ensures err { IfErr result (IsLineFault
-            (common_line version self first.now (texts tokens.now))) }
+    // Whether the second token makes the line one of a generator.
+    fn is_sign(&self, second: &[u8]) -> bool
+        ensures { result ≡ (not (is_presentation self.now) && is_word (codes "=") second.now) }
     {
-        match pair_kind_of(first) {
-            Some(kind) => self.add_pair(alloc, version, kind, tokens),
-            None => self.add_query(alloc, version, first, tokens),
-        }
-    }
-
-    // A role of letters, if the line gives one, or else a pair or a query.
-    fn add_role_or_common_line(
-        self,
-        alloc: Global,
-        version: Version,
-        first: &[u8],
-        tokens: &[&[u8]],
-    ) -> Result<Reader, LineFault>
-        ensures ok { IfOk result (λ next. role_or_common version self (role_of version first.now)
-            first.now (texts tokens.now) ≡ Ok next) }
-        ensures err { IfErr result (IsLineFault (role_or_common version self
-            (role_of version first.now) first.now (texts tokens.now))) }
-    {
-        match role_of(version, first) {
-            Some(role) => self.add_role(version, role, tokens),
-            None => self.add_common_line(alloc, version, first, tokens),
-        }
-    }
-
-    // A relation, or else a role, a pair or a query, by its first token.
-    fn add_relation_or_other(
-        self,
-        alloc: Global,
-        version: Version,
-        first: &[u8],
-        tokens: &[&[u8]],
-    ) -> Result<Reader, LineFault>
-        ensures ok { IfOk result (λ next. presentation_line version self
-            (first.now ∷ texts tokens.now) ≡ Ok next) }
-        ensures err { IfErr result (IsLineFault
-            (presentation_line version self (first.now ∷ texts tokens.now))) }
-    {
-        if is_word(b"rel", first) {
-            self.add_relation(alloc, version, tokens)
-        } else {
-            self.add_role_or_common_line(alloc, version, first, tokens)
-        }
-    }
-
-    // A line after the header of a presentation.
-    fn add_presentation_line(
-        self,
-        alloc: Global,
-        version: Version,
-        line: &[&[u8]],
-    ) -> Result<Reader, LineFault>
-        ensures ok { IfOk result (λ next. presentation_line version self (texts line.now)
-            ≡ Ok next) }
-        ensures err { IfErr result (IsLineFault (presentation_line version self (texts line.now))) }
-    {
-        match line {
-            [first, tokens @ ..] => self.add_relation_or_other(alloc, version, first, tokens),
-            [] => Err(LineFault::refused_after(self, Cause::UnknownLine)),
-        }
-    }
-
-    // A line after the header of generators.
-    fn add_element_line(
-        self,
-        alloc: Global,
-        version: Version,
-        line: &[&[u8]],
-    ) -> Result<Reader, LineFault>
-        ensures ok { IfOk result (λ next. element_line version self (texts line.now) ≡ Ok next) }
-        ensures err { IfErr result (IsLineFault (element_line version self (texts line.now))) }
-    {
-        match line {
-            [name, sign, entries @ ..] if is_word(b"=", sign) => {
-                self.add_generator(alloc, version, name, entries)
-            }
-            [first, tokens @ ..] => self.add_common_line(alloc, version, first, tokens),
-            [] => Err(LineFault::refused_after(self, Cause::UnknownLine)),
-        }
+        !self.is_presentation() && is_word(b"=", second)
     }
 
     // A line after the header.
@@ -392,10 +328,12 @@ impl Reader {
         ensures ok { IfOk result (λ next. with_line version self (texts line.now) ≡ Ok next) }
         ensures err { IfErr result (IsLineFault (with_line version self (texts line.now))) }
     {
-        if self.is_presentation() {
-            self.add_presentation_line(alloc, version, line)
-        } else {
-            self.add_element_line(alloc, version, line)
+        match line {
+            [name, second, entries @ ..] if self.is_sign(second) => {
+                self.add_generator(alloc, version, name, entries)
+            }
+            [first, tokens @ ..] => self.add_named(alloc, version, first, tokens),
+            [] => Err(LineFault::refused_after(self, Cause::UnknownLine)),
         }
     }
 }

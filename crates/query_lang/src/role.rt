@@ -1,12 +1,11 @@
 // Lines that give letters a role.
 ghost use Rattle.std.specs.Prelude.{◌≡◌, ◌≤◌, IfOk, IfErr, true, None, Ok, Err};
 ghost use Rattle.std.specs.Option.{option_copied};
-ghost use Rattle.query_lang.specs.Roles.{count_for, count_for_both, inverse_tokens, place_named, role_named, role_of};
+ghost use Rattle.query_lang.specs.Roles.{count_for, count_for_both, inverse_tokens, place_named};
 ghost use Rattle.query_lang.specs.Texts.{texts};
 
 use crate::cause::Cause;
 use crate::tokens::is_word;
-use crate::version::Version;
 use words::{Alphabet, Letter};
 
 /// What a line says of letters: one is an identity or a zero, or two are inverse (libsemigroups,
@@ -16,28 +15,6 @@ pub enum Role {
     Identity,
     Zero,
     Inverse,
-}
-
-// The role that a line gives whose name this is.
-fn role_named(name: &[u8]) -> Option<Role>
-    ensures { result ≡ role_named name.now }
-{
-    match name {
-        text if is_word(b"identity", text) => Some(Role::Identity),
-        text if is_word(b"zero", text) => Some(Role::Zero),
-        text if is_word(b"inverse", text) => Some(Role::Inverse),
-        _ => None,
-    }
-}
-
-/// The role that a line gives whose name this is. The first version has no such lines.
-pub fn role_of(version: Version, name: &[u8]) -> Option<Role>
-    ensures { result ≡ role_of version name.now }
-{
-    match version {
-        Version::One => None,
-        Version::Two => role_named(name),
-    }
 }
 
 // The letter that the token is.

@@ -5,14 +5,15 @@ ghost use Rattle.query_lang.specs.Faults.{IsLineFault, IsScriptFault};
 ghost use Rattle.query_lang.specs.Grammar.{lines_of};
 ghost use Rattle.query_lang.specs.LineCauses.{AreScript};
 ghost use Rattle.query_lang.specs.Query.{IsQueryOf};
-ghost use Rattle.query_lang.specs.QueryLines.{is_name_there};
+ghost use Rattle.query_lang.specs.Forms.{has_query};
 ghost use Rattle.query_lang.specs.Relations.{relations_of};
 ghost use Rattle.query_lang.specs.Script.{asked, with_asked};
 ghost use Rattle.query_lang.specs.Texts.{texts};
 
 use crate::cause::Cause;
 use crate::fault::{LineFault, ScriptFault};
-use crate::query_line::{QueryName, query_of};
+use crate::form::QueryForm;
+use crate::query_line::query_of;
 use crate::reader::Progress;
 use crate::version::Version;
 use ports::NoMemory;
@@ -115,25 +116,25 @@ impl Script {
         }
     }
 
-    // The query of this name and these tokens, which may stand behind the others. Scripts of this
+    // The query of this form and these tokens, which may stand behind the others. Scripts of this
     // kind have it.
     fn query(
         &self,
         alloc: Global,
         version: Version,
-        name: QueryName,
+        form: QueryForm,
         tokens: &[&[u8]],
     ) -> Result<Query, LineFault>
-        requires { is_name_there (is_presented self.now.problem) name ≡ true }
-        ensures ok { IfOk result (λ query. asked version self.now name (texts tokens.now)
+        requires { has_query (is_presented self.now.problem) form ≡ true }
+        ensures ok { IfOk result (λ query. asked version self.now form (texts tokens.now)
             ≡ Ok (with_asked self.now query)) }
         ensures own { IfOk result (IsQueryOf self.now.problem) }
-        ensures err { IfErr result (IsLineFault (asked version self.now name (texts tokens.now))) }
+        ensures err { IfErr result (IsLineFault (asked version self.now form (texts tokens.now))) }
     {
-        if !name.takes(tokens) {
+        if !form.takes(tokens) {
             return Err(LineFault::refused(Cause::WrongNumberOfWords));
         }
-        if name.is_barred(&self.problem) {
+        if form.is_barred(&self.problem) {
             return Err(LineFault::refused(Cause::QueryNotAllowed));
         }
         let allow_empty = self.problem.has_empty_word();
@@ -145,7 +146,7 @@ impl Script {
             alphabet,
             allow_empty,
             relations,
-            name,
+            form,
             tokens,
         )?;
         Ok(query)
@@ -169,19 +170,19 @@ impl Script {
         }
     }
 
-    // The query of this name and these tokens behind the others. Scripts of this kind have it.
+    // The query of this form and these tokens behind the others. Scripts of this kind have it.
     pub(crate) fn with_query(
         self,
         alloc: Global,
         version: Version,
-        name: QueryName,
+        form: QueryForm,
         tokens: &[&[u8]],
     ) -> Result<Script, LineFault>
-        requires { is_name_there (is_presented self.problem) name ≡ true }
-        ensures ok { IfOk result (λ next. asked version self name (texts tokens.now) ≡ Ok next) }
-        ensures err { IfErr result (IsLineFault (asked version self name (texts tokens.now))) }
+        requires { has_query (is_presented self.problem) form ≡ true }
+        ensures ok { IfOk result (λ next. asked version self form (texts tokens.now) ≡ Ok next) }
+        ensures err { IfErr result (IsLineFault (asked version self form (texts tokens.now))) }
     {
-        match self.query(alloc, version, name, tokens) {
+        match self.query(alloc, version, form, tokens) {
             Ok(query) => Ok(self.with_asked(query)?),
             Err(fault) => {
                 drop(self);

@@ -1,5 +1,6 @@
 // Versions of the script language.
 ghost use Rattle.std.specs.Prelude.{◌≡◌, IfOk, IfErr, Ok, Err};
+ghost use Rattle.query_lang.specs.Forms.{has_roles};
 ghost use Rattle.query_lang.specs.Texts.{texts};
 ghost use Rattle.query_lang.specs.Versions.{is_wide, version_numbered, version_of};
 
@@ -30,6 +31,16 @@ impl Version {
     /// Whether letters are of both cases.
     pub fn is_wide(self) -> bool
         ensures { result ≡ is_wide self }
+    {
+        match self {
+            Version::One => false,
+            Version::Two => true,
+        }
+    }
+
+    /// Whether lines may give letters a role.
+    pub fn has_roles(self) -> bool
+        ensures { result ≡ has_roles self }
     {
         match self {
             Version::One => false,

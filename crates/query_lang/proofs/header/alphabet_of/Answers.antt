@@ -1,6 +1,4 @@
-use Rattle.std.proofs.Common.{Contains, List, ℕ}
 use Rattle.std.proofs.lemmas.Result.{IfOk-weaker}
-use Rattle.words.specs.Alphabet.{marker}
 use Rattle.query_lang.proofs.HeaderLemmas.{letters_unmarked}
 use Rattle.query_lang.proofs.header.alphabet_of.Goals as goal
 

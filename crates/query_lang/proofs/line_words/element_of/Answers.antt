@@ -1,4 +1,4 @@
-use Rattle.std.proofs.Common.{◌∙◌, Err, sym, ap, subst}
+use Rattle.std.proofs.Common.{◌∙◌, sym, ap, subst}
 use Rattle.words.specs.Powers.{IsOutcome}
 use Rattle.query_lang.specs.Faults.{IsLineFault, fault_of_powers}
 use Rattle.query_lang.specs.LineWords.{element_of, with_power_cause}

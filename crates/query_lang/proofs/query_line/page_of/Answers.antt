@@ -1,23 +1,17 @@
-use Rattle.std.proofs.Common.{◌≡◌, length, sym, subst, arith}
-use borrow.Author.Tests.{ltb-true, ltb-false}
+use Rattle.std.proofs.Common.{◌≡◌, IfErr, IfOk, List, ℕ, Ok, arith, subst}
+use Rattle.query_lang.specs.declared.form.QueryForm.TheVariants as asks
 use Rattle.query_lang.specs.Faults.{IsLineFault}
-use Rattle.query_lang.specs.QueryLines.{page_of}
-use Rattle.query_lang.specs.Texts.{texts}
-use Rattle.query_lang.proofs.LineLemmas.{no_page}
+use Rattle.query_lang.specs.Forms.{row_of}
+use Rattle.query_lang.specs.Values.{query_in, scope}
+use Rattle.query_lang.proofs.QueryLemmas.{three_texts}
 use Rattle.query_lang.proofs.query_line.page_of.Goals as goal
-use Rattle.query_lang.proofs.query_line.page_of.Goals.{in_default-via-then-tokens-lt1, in_default-via-else-tokens-lt1+else-tokens-lt2+then-tokens-lt3, in_default-via-else-tokens-lt1+else-tokens-lt2+else-tokens-lt3+else-tokens-lt4}
 
-pub returns-in_default-clause-err : goal.returns-in_default-clause-err
-returns-in_default-clause-err c =
-    subst (IsLineFault (page_of c.args.version c.args.alphabet.now c.args.allow_empty (texts c.args.tokens.now))) (sym c.refused.ensures)
-    (no_page c.args.version c.args.alphabet.now c.args.allow_empty c.args.tokens.now
-    (elim c.in_default.branch [
-      | in_default-via-then-tokens-lt1 w ↦ omega (arith, ltb-true, ltb-false)
-      | in_default-via-else-tokens-lt1+else-tokens-lt2+then-tokens-lt3 w ↦ omega (arith, ltb-true, ltb-false)
-      | in_default-via-else-tokens-lt1+else-tokens-lt2+else-tokens-lt3+else-tokens-lt4 w ↦ omega (arith, ltb-true, ltb-false)
-    ])
-    (elim c.in_default.branch [
-      | in_default-via-then-tokens-lt1 w ↦ omega (arith, ltb-true, ltb-false)
-      | in_default-via-else-tokens-lt1+else-tokens-lt2+then-tokens-lt3 w ↦ omega (arith, ltb-true, ltb-false)
-      | in_default-via-else-tokens-lt1+else-tokens-lt2+else-tokens-lt3+else-tokens-lt4 w ↦ omega (arith, ltb-true, ltb-false)
-    ]))
+pub returns-in-len3-clause-ok : goal.returns-in-len3-clause-ok
+returns-in-len3-clause-ok c relations =
+    subst (λ (tokens : List (List ℕ)). IfOk c.page_after.result (λ query. query_in (scope c.args.version c.args.alphabet.now c.args.allow_empty relations) (row_of asks.Classes).ways tokens ≡ Ok query))
+    (three_texts c.args.tokens.now _ _ _ (omega (arith, c.in-len3.len_at_least, c.in-len3.len_below))) (c.page_after.ensures.ok relations)
+
+pub returns-in-len3-clause-err : goal.returns-in-len3-clause-err
+returns-in-len3-clause-err c relations =
+    subst (λ (tokens : List (List ℕ)). IfErr c.page_after.result (IsLineFault (query_in (scope c.args.version c.args.alphabet.now c.args.allow_empty relations) (row_of asks.Classes).ways tokens)))
+    (three_texts c.args.tokens.now _ _ _ (omega (arith, c.in-len3.len_at_least, c.in-len3.len_below))) (c.page_after.ensures.err relations)

@@ -1,4 +1,4 @@
-use Rattle.std.proofs.Common.{◌≡◌, ◌==◌, ℕ, List, not, ◌↔◌, IsTrue, sym, ap, ◌∙◌, subst}
+use Rattle.std.proofs.Common.{◌≡◌, ◌==◌, ℕ, not, ◌↔◌, IsTrue, sym, ap, ◌∙◌, subst}
 use Rattle.std.specs.List.{list_any}
 use Rattle.theory.specs.Lattice.{HasFreeRoot}
 use Rattle.word_graph.specs.Table.{targets_of}

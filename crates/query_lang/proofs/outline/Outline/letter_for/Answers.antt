@@ -1,5 +1,4 @@
-use Rattle.std.proofs.Common.{◌≡◌, ℕ, false, List, length, Ok, sym, ap, ◌∙◌}
-use Rattle.theory.specs.Word.{Word}
+use Rattle.std.proofs.Common.{◌≡◌, false, Ok, sym, ap, ◌∙◌}
 use Rattle.query_lang.specs.Roles.{count_for, is_too_many, letter_in}
 use Rattle.query_lang.proofs.RoleLemmas.{few_with}
 use Rattle.query_lang.proofs.outline.Outline.letter_for.Goals as goal

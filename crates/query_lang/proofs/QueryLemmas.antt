@@ -1,0 +1,262 @@
+-- Forms by their names, and queries by the table of forms.
+use Rattle.std.proofs.Common.{◌≡◌, ℕ, ◌-◌, ◌≤◌, ◌⊎◌, inl, inr, take, suc, ◌<◌, Bool, true, false, not, ◌&&◌, ◌==◌, if◌then◌else◌, List, [], ◌∷◌, length, map, drop, get_or, drop-cons, Option, Some, None, Result, Ok, Err, Bor, codes, refl, sym, ap, ◌∙◌, subst, arith, true≢false}
+use Rattle.std.specs.Option.{ok_or}
+use Rattle.std.proofs.lemmas.Bool.{eqb-true}
+use Rattle.std.proofs.lemmas.List.{take_all}
+use Rattle.theory.specs.Graph.{Graph}
+use Rattle.problem.specs.declared.kinds.Problem.{Problem}
+use Rattle.problem.specs.declared.kinds.Problem.TheVariants.{Presented, Transf, PPerm, BMat, MaxPlus}
+use Rattle.problem.specs.Problem.{allows_rules, is_presented, pairs_of}
+use Rattle.std.specs.Result.{IsErrAnd, IfErr}
+use Rattle.query_lang.specs.declared.cause.Cause.{Cause}
+use Rattle.query_lang.specs.declared.cause.Cause.TheVariants.{BadNumber}
+use Rattle.query_lang.specs.declared.form.Form.{Form}
+use Rattle.query_lang.specs.declared.form.QueryForm.TheVariants as asks
+use Rattle.query_lang.specs.declared.script.Query.{Query}
+use Rattle.query_lang.specs.declared.version.Version.{Version}
+use Rattle.query_lang.specs.Asked.{ScriptOf}
+use Rattle.query_lang.specs.Draft as draft
+use Rattle.query_lang.specs.Draft.{AnyDraft, posed_of}
+use Rattle.query_lang.specs.Faults.{IsLineFault}
+use Rattle.query_lang.specs.Forms.{Place, ACongruenceTable, AllGiven, Way, way, Scripts, AllScripts, OfRelations, OfGenerators, Pairs, AnyPairs, TwoSidedPairs, NoPairs, are_scripts, form_among, has_form, name_of, row_of}
+use Rattle.query_lang.specs.Grammar.{Partial}
+use Rattle.query_lang.specs.LineCauses.{cause_in, first_of, shape_for, token_causes}
+use Rattle.query_lang.specs.Outcome.{and_then}
+use Rattle.query_lang.specs.Query.{are_none, are_of_generators, are_of_relations, are_two_sided}
+use Rattle.query_lang.specs.Script.{ReaderOf, Posing, Relating, Pairing, Asking, finished, generator_line, is_presentation, named_line, with_line}
+use Rattle.query_lang.specs.Tables.{congruence_table_of, low_table_of, two_tables}
+use Rattle.query_lang.specs.Texts.{texts}
+use Rattle.query_lang.specs.Token.{Token, is_word, number_within}
+use Rattle.query_lang.specs.Values.{Scope, as_many, bars, limits_of, query_in, scope_of, value_of, values_of, way_for}
+use Rattle.query_lang.proofs.KindLemmas.{handed_on}
+
+-- forms by their names
+
+-- a form that is not named is passed over
+pub form_passed : (version : Version) (kind : Bool) (forms : List Form) (t : Token) (i n : ℕ) (other : Form) → n ≡ suc i → i < length forms → (is_word (name_of (get_or forms i other)) t && has_form version kind (get_or forms i other)) ≡ false
+    → form_among version kind (drop n forms) t ≡ form_among version kind (drop i forms) t
+form_passed version kind forms t i n other e h k =
+    ap (λ n. form_among version kind (drop n forms) t) e
+    ∙ ap (λ c. if c then Some (get_or forms i other) else form_among version kind (drop (suc i) forms) t) (sym k)
+    ∙ ap (λ fs. form_among version kind fs t) (sym (drop-cons forms i other h))
+
+-- and one that is named is taken
+pub form_taken : (version : Version) (kind : Bool) (forms : List Form) (t : Token) (i : ℕ) (other : Form) → i < length forms → (is_word (name_of (get_or forms i other)) t && has_form version kind (get_or forms i other)) ≡ true
+    → form_among version kind (drop i forms) t ≡ Some (get_or forms i other)
+form_taken version kind forms t i other h k =
+    ap (λ fs. form_among version kind fs t) (drop-cons forms i other h)
+    ∙ ap (λ c. if c then Some (get_or forms i other) else form_among version kind (drop (suc i) forms) t) k
+
+-- the form that is named is one that the script has, and its name is the token
+pub record IsNamed (version : Version) (kind : Bool) (t : Token) (form : Form) : Type 0 where
+  pub named : is_word (name_of form) t ≡ true
+  pub there : has_form version kind form ≡ true
+
+both_so : (a b : Bool) → (a && b) ≡ true → (a ≡ true) × (b ≡ true)
+both_so true b h = (refl, h)
+both_so false b h = absurd (true≢false (sym h))
+
+pub form_found : (version : Version) (kind : Bool) (forms : List Form) (t : Token) (form : Form) → form_among version kind forms t ≡ Some form → IsNamed version kind t form
+form_found version kind [] t form h = absurd (cc)
+form_found version kind (one ∷ forms) t form h = by (λ h. form_found version kind forms t form h) (is_word (name_of one) t && has_form version kind one) refl h
+  where
+    by : (form_among version kind forms t ≡ Some form → IsNamed version kind t form)
+        → (b : Bool) → (is_word (name_of one) t && has_form version kind one) ≡ b → (if b then Some one else form_among version kind forms t) ≡ Some form → IsNamed version kind t form
+    by behind true e h =
+        let same : one ≡ form = cc in
+        let both = both_so (is_word (name_of one) t) (has_form version kind one) e in
+        subst (IsNamed version kind t) same (record { named = both.0; there = both.1 })
+    by behind false e h = behind h
+
+-- what tokens give in their places
+
+first_value : {A B : Type 0} (v : Result A Cause) (vs : Result B Cause) (causes : List (Option Cause)) → cause_in vs ≡ first_of causes
+    → cause_in {A = A × B} (and_then (λ x. and_then (λ xs. Ok (x, xs)) vs) v) ≡ first_of (cause_in v ∷ causes)
+first_value (Err c) vs causes h = refl
+first_value (Ok x) (Err c) causes h = h
+first_value (Ok x) (Ok xs) causes h = h
+
+-- the first of the causes of the tokens in their places is the cause of all
+pub values_cause : (p : Partial) (all : List Token) (places : List Place) (tokens : List Token) → as_many places tokens ≡ true
+    → cause_in (values_of (scope_of p.head.version p.problem) all places tokens) ≡ first_of (token_causes p all places tokens)
+values_cause p all [] tokens h = refl
+values_cause p all (place ∷ places) [] h = absurd (true≢false (sym h))
+values_cause p all (place ∷ places) (t ∷ tokens) h =
+    let s : Scope = scope_of p.head.version p.problem in
+    first_value (value_of s all place t) (values_of s all places tokens) _ (values_cause p all places tokens h)
+
+-- the way that fits the tokens has as many places as there are tokens
+pub way_fits : (tokens : List Token) (ways : List Way) (w : Way) → way_for tokens ways ≡ Some w → as_many w.places tokens ≡ true
+way_fits tokens [] w h = absurd (cc)
+way_fits tokens (one ∷ ways) w h = by (λ h. way_fits tokens ways w h) (as_many one.places tokens) refl h
+  where
+    by : (way_for tokens ways ≡ Some w → as_many w.places tokens ≡ true) → (b : Bool) → as_many one.places tokens ≡ b → (if b then Some one else way_for tokens ways) ≡ Some w → as_many w.places tokens ≡ true
+    by behind true e h = let same : one ≡ w = cc in ap (λ (w : Way). as_many w.places tokens) (sym same) ∙ e
+    by behind false e h = behind h
+
+abbrev pub places_in : Option Way → Option (List Place)
+places_in None = None
+places_in (Some w) = Some w.places
+
+-- its places are the shape that fits them
+pub shape_fits : (tokens : List Token) (ways : List Way) → shape_for tokens (map (λ w. w.places) ways) ≡ places_in (way_for tokens ways)
+shape_fits tokens [] = refl
+shape_fits tokens (one ∷ ways) = by (shape_fits tokens ways) (as_many one.places tokens)
+  where
+    by : shape_for tokens (map (λ w. w.places) ways) ≡ places_in (way_for tokens ways) → (b : Bool) → (if b then Some one.places else shape_for tokens (map (λ w. w.places) ways)) ≡ places_in (if b then Some one else way_for tokens ways)
+    by behind true = refl
+    by behind false = behind
+
+-- two tables
+
+same_fault : {A : Type 0} (a b : Result A Cause) (fault : Option Cause) → a ≡ b → IsLineFault b fault → IsLineFault a fault
+same_fault a b fault e h = subst (λ r. IsLineFault r fault) (sym e) h
+
+carried : {A B : Type 0} (f : A → B) (r : Result A Cause) (fault : Option Cause) → IsLineFault r fault → IsLineFault (and_then (λ x. Ok (f x)) r) fault
+carried f r None h = tt
+carried f r (Some c) h = ap (and_then (λ x. Ok (f x))) h
+
+two_in : {A : Type 0} (makes : A × (A × Unit {0}) → Query) (u v : Result A Cause)
+    → and_then (λ vs. Ok (makes vs)) (and_then (λ x. and_then (λ xs. Ok (x, xs)) (and_then (λ y. Ok (y, tt)) v)) u) ≡ and_then (λ (p : A × A). Ok (makes (p.0, (p.1, tt)))) (and_then (λ x. and_then (λ y. Ok (x, y)) v) u)
+two_in makes (Err c) v = refl
+two_in makes (Ok x) (Err c) = refl
+two_in makes (Ok x) (Ok y) = refl
+
+tables_in : (s : Scope) (makes : AllGiven (ACongruenceTable ∷ ACongruenceTable ∷ []) → Query) (tokens : List Token)
+    → query_in s (way (ACongruenceTable ∷ ACongruenceTable ∷ []) makes ∷ []) tokens ≡ and_then (λ (p : Graph × Graph). Ok (makes (p.0, (p.1, tt)))) (two_tables s.allow_empty (length s.letters) s.relations tokens)
+tables_in s makes [] = refl
+tables_in s makes (t ∷ []) = refl
+tables_in s makes (t ∷ u ∷ []) = two_in makes (congruence_table_of s.allow_empty (length s.letters) s.relations t) (congruence_table_of s.allow_empty (length s.letters) s.relations u)
+tables_in s makes (t ∷ u ∷ v ∷ tokens) = refl
+
+tables_refused : (s : Scope) (makes : AllGiven (ACongruenceTable ∷ ACongruenceTable ∷ []) → Query) (tokens : List Token) (fault : Option Cause)
+    → IsLineFault (two_tables s.allow_empty (length s.letters) s.relations tokens) fault
+    → IsLineFault (query_in s (way (ACongruenceTable ∷ ACongruenceTable ∷ []) makes ∷ []) tokens) fault
+tables_refused s makes tokens fault h = same_fault _ _ fault (tables_in s makes tokens) (carried (λ (p : Graph × Graph). makes (p.0, (p.1, tt))) _ fault h)
+
+-- two tables that are refused
+pub tables_handed : {B : Type 0} (s : Scope) (ways : List Way) (makes : AllGiven (ACongruenceTable ∷ ACongruenceTable ∷ []) → Query) (tokens : List Token) (k : ℕ) (r : Result B (Option Cause)) (fault : Option Cause)
+    → IsErrAnd r (λ e. e ≡ fault) → ways ≡ way (ACongruenceTable ∷ ACongruenceTable ∷ []) makes ∷ [] → k ≡ length s.letters → IsLineFault (two_tables s.allow_empty k s.relations tokens) fault
+    → IfErr r (IsLineFault (query_in s ways tokens))
+tables_handed s ways makes tokens k r fault h w e p =
+    handed_on r fault (query_in s ways tokens) h
+    (subst (λ ways. IsLineFault (query_in s ways tokens) fault) (sym w) (tables_refused s makes tokens fault (subst (λ k. IsLineFault (two_tables s.allow_empty k s.relations tokens) fault) e p)))
+
+-- the tokens of a page or a search
+
+pub three_texts : (tokens : List (Bor (List ℕ))) (a b c : Bor (List ℕ)) → length tokens ≡ 3 → (get_or tokens 0 a).now ∷ (get_or tokens 1 b).now ∷ (get_or tokens 2 c).now ∷ [] ≡ texts tokens
+three_texts (t ∷ u ∷ v ∷ []) a b c h = refl
+three_texts [] a b c h = absurd (omega arith)
+three_texts (t ∷ []) a b c h = absurd (omega arith)
+three_texts (t ∷ u ∷ []) a b c h = absurd (omega arith)
+three_texts (t ∷ u ∷ v ∷ w ∷ tokens) a b c h = absurd (omega arith)
+
+pub four_texts : (tokens : List (Bor (List ℕ))) (a b c d : Bor (List ℕ)) → length tokens ≡ 4 → (get_or tokens 0 a).now ∷ (get_or tokens 1 b).now ∷ (get_or tokens 2 c).now ∷ (get_or tokens 3 d).now ∷ [] ≡ texts tokens
+four_texts (t ∷ u ∷ v ∷ w ∷ []) a b c d h = refl
+four_texts [] a b c d h = absurd (omega arith)
+four_texts (t ∷ []) a b c d h = absurd (omega arith)
+four_texts (t ∷ u ∷ []) a b c d h = absurd (omega arith)
+four_texts (t ∷ u ∷ v ∷ []) a b c d h = absurd (omega arith)
+four_texts (t ∷ u ∷ v ∷ w ∷ x ∷ tokens) a b c d h = absurd (omega arith)
+
+-- the limits of a search
+
+limits_are : (o p : Option ℕ) (n m : ℕ) → ◌≡◌ {A = Result (ℕ × ℕ) Cause} (and_then (λ n. and_then (λ m. Ok (n, m)) (ok_or p BadNumber)) (ok_or o BadNumber)) (Ok (n, m)) → (o ≡ Some n) × (p ≡ Some m)
+limits_are None p n m h = absurd (cc)
+limits_are (Some a) None n m h = absurd (cc)
+limits_are (Some a) (Some b) n m h =
+    let both : ◌≡◌ {A = ℕ × ℕ} (a, b) (n, m) = cc in
+    (ap (λ (q : ℕ × ℕ). Some q.0) both, ap (λ (q : ℕ × ℕ). Some q.1) both)
+
+table_causes : (s : Scope) (two_sided : Bool) (classes count after token : Token) (n m : ℕ) (c : Cause) → number_within 1 16 classes ≡ Some n → number_within 0 1000000 count ≡ Some m → is_word (codes "after") after ≡ true
+    → low_table_of s.allow_empty (length s.letters) n token ≡ Err c → query_in s (row_of (asks.LowIndex two_sided)).ways (classes ∷ count ∷ after ∷ token ∷ []) ≡ Err c
+table_causes s two_sided classes count after token n m c h k a e = rw (h, k, a, e) refl
+
+table_refused : (s : Scope) (two_sided : Bool) (classes count after token : Token) (n m : ℕ) (fault : Option Cause) → limits_of classes count ≡ Ok (n, m) → is_word (codes "after") after ≡ true
+    → IsLineFault (low_table_of s.allow_empty (length s.letters) n token) fault → IsLineFault (query_in s (row_of (asks.LowIndex two_sided)).ways (classes ∷ count ∷ after ∷ token ∷ [])) fault
+table_refused s two_sided classes count after token n m None h a e = tt
+table_refused s two_sided classes count after token n m (Some c) h a e =
+    let both = limits_are (number_within 1 16 classes) (number_within 0 1000000 count) n m h in
+    table_causes s two_sided classes count after token n m c both.0 both.1 a e
+
+-- a search behind a table that is refused
+pub table_handed : {B : Type 0} (s : Scope) (two_sided : Bool) (classes count after token : Token) (n m k : ℕ) (r : Result B (Option Cause)) (fault : Option Cause) → IsErrAnd r (λ e. e ≡ fault) → limits_of classes count ≡ Ok (n, m)
+    → is_word (codes "after") after ≡ true → k ≡ length s.letters → IsLineFault (low_table_of s.allow_empty k n token) fault
+    → IfErr r (IsLineFault (query_in s (row_of (asks.LowIndex two_sided)).ways (classes ∷ count ∷ after ∷ token ∷ [])))
+table_handed s two_sided classes count after token n m k r fault h l a e p =
+    handed_on r fault (query_in s (row_of (asks.LowIndex two_sided)).ways (classes ∷ count ∷ after ∷ token ∷ [])) h
+    (table_refused s two_sided classes count after token n m fault l a (subst (λ k. IsLineFault (low_table_of s.allow_empty k n token) fault) e p))
+
+limits_faulty : (s : Scope) (two_sided : Bool) (t u : Token) (o p : Option ℕ) (c : Cause) → number_within 1 16 t ≡ o → number_within 0 1000000 u ≡ p
+    → ◌≡◌ {A = Result (ℕ × ℕ) Cause} (and_then (λ n. and_then (λ m. Ok (n, m)) (ok_or p BadNumber)) (ok_or o BadNumber)) (Err c) → query_in s (row_of (asks.LowIndex two_sided)).ways (t ∷ u ∷ []) ≡ Err c
+limits_faulty s two_sided t u None p c h k e = rw h (let same : BadNumber ≡ c = cc in ap (λ c. Err c) same)
+limits_faulty s two_sided t u (Some n) None c h k e = rw (h, k) (let same : BadNumber ≡ c = cc in ap (λ c. Err c) same)
+limits_faulty s two_sided t u (Some n) (Some m) c h k e = absurd (cc)
+
+-- a search whose limits are refused
+pub limits_refused : (s : Scope) (two_sided : Bool) (tokens : List (Bor (List ℕ))) (a b : Bor (List ℕ)) (c : Cause) → length tokens ≡ 2 → limits_of (get_or tokens 0 a).now (get_or tokens 1 b).now ≡ Err c
+    → query_in s (row_of (asks.LowIndex two_sided)).ways (texts tokens) ≡ Err c
+limits_refused s two_sided (t ∷ u ∷ []) a b c n h = limits_faulty s two_sided t.now u.now (number_within 1 16 t.now) (number_within 0 1000000 u.now) c refl refl h
+limits_refused s two_sided [] a b c n h = absurd (omega arith)
+limits_refused s two_sided (t ∷ []) a b c n h = absurd (omega arith)
+limits_refused s two_sided (t ∷ u ∷ v ∷ tokens) a b c n h = absurd (omega arith)
+
+-- where a query may be asked
+
+pub none_generated : (scripts : Scripts) (b : Bool) → are_scripts scripts b ≡ true → b ≡ true → are_of_generators scripts ≡ false
+none_generated AllScripts b h e = refl
+none_generated OfRelations b h e = refl
+none_generated OfGenerators true h e = absurd (true≢false (sym h))
+none_generated OfGenerators false h e = absurd (true≢false (sym e))
+
+pub relations_given : (scripts : Scripts) (b : Bool) → are_scripts scripts b ≡ true → are_of_relations scripts ≡ true → b ≡ true
+relations_given AllScripts b h e = absurd (true≢false (sym e))
+relations_given OfRelations b h e = h
+relations_given OfGenerators b h e = absurd (true≢false (sym e))
+
+allowed : (b : Bool) → not b ≡ false → b ≡ true
+allowed true h = refl
+allowed false h = absurd (true≢false h)
+
+pub rules_allowed : (p : Problem) (pairs : Pairs) → bars p pairs ≡ false → are_two_sided pairs ≡ true → allows_rules p ≡ true
+rules_allowed p AnyPairs h e = absurd (true≢false (sym e))
+rules_allowed p TwoSidedPairs h e = allowed (allows_rules p) h
+rules_allowed p NoPairs h e = absurd (true≢false (sym e))
+
+no_pairs : {A : Type 0} (xs : List A) → not (length xs == 0) ≡ false → xs ≡ []
+no_pairs [] h = refl
+no_pairs (x ∷ xs) h = let none : length (x ∷ xs) ≡ 0 = eqb-true (length (x ∷ xs)) 0 (allowed (length (x ∷ xs) == 0) h) in absurd (omega arith)
+
+pub without_pairs : (p : Problem) (pairs : Pairs) → bars p pairs ≡ false → are_none pairs ≡ true → pairs_of p ≡ []
+without_pairs p AnyPairs h e = absurd (true≢false (sym e))
+without_pairs p TwoSidedPairs h e = absurd (true≢false (sym e))
+without_pairs p NoPairs h e = no_pairs (pairs_of p) h
+
+-- what is posed so far is of the script's kind
+
+generated : {A : Type 0} (made : A → Problem) → ((x : A) → is_presented (made x) ≡ false) → (r : Result A Cause) {s : ScriptOf}
+    → and_then (λ p. Ok (record { problem = p; queries = [] })) (and_then (λ x. Ok (made x)) r) ≡ Ok s → is_presented s.problem ≡ false
+generated made kind (Err c) h = absurd (cc)
+generated made kind (Ok x) {s} h = let same : record { problem = made x; queries = [] } ≡ s = cc in ap (λ (s : ScriptOf). is_presented s.problem) (sym same) ∙ kind x
+
+kind_of_draft : (d : AnyDraft) (s : ScriptOf) → finished (Posing d) ≡ Ok s → is_presented s.problem ≡ false
+kind_of_draft (draft.Transf d) s h = generated (λ p. Transf p) (λ p. refl) (posed_of d) h
+kind_of_draft (draft.PPerm d) s h = generated (λ p. PPerm p) (λ p. refl) (posed_of d) h
+kind_of_draft (draft.BMat d) s h = generated (λ p. BMat p) (λ p. refl) (posed_of d) h
+kind_of_draft (draft.MaxPlus d) s h = generated (λ p. MaxPlus p) (λ p. refl) (posed_of d) h
+
+pub kind_kept : (r : ReaderOf) (s : ScriptOf) → finished r ≡ Ok s → is_presented s.problem ≡ is_presentation r
+kind_kept (Posing d) s h = kind_of_draft d s h
+kind_kept (Relating o) s h = let same : record { problem = Presented o; queries = [] } ≡ s = cc in ap (λ (s : ScriptOf). is_presented s.problem) (sym same)
+kind_kept (Pairing p) s h = let same : record { problem = p; queries = [] } ≡ s = cc in ap (λ (s : ScriptOf). is_presented s.problem) (sym same)
+kind_kept (Asking t) s h = let same : t ≡ s = cc in ap (λ (s : ScriptOf). is_presented s.problem) (sym same)
+
+-- a line that is no generator line
+pub is_named_line : (version : Version) (r : ReaderOf) (line : List (Bor (List ℕ))) (none : Bor (List ℕ)) → 1 ≤ length line → (length line < 2) ⊎ ((not (is_presentation r) && is_word (codes "=") (get_or line 1 none).now) ≡ false)
+    → named_line version r (get_or line 0 none).now (texts (take (length line - 1) (drop 1 line))) ≡ with_line version r (texts line)
+is_named_line version r [] none h which = absurd (omega arith)
+is_named_line version r (s ∷ []) none h which = refl
+is_named_line version r (s ∷ t ∷ ts) none h (inl short) = absurd (omega arith)
+is_named_line version r (s ∷ t ∷ ts) none h (inr other) =
+    ap (λ tokens. named_line version r s.now (texts tokens)) (take_all (length (s ∷ t ∷ ts) - 1) (t ∷ ts) (omega arith))
+    ∙ ap (λ (b : Bool). if b then generator_line version r s.now (texts ts) else named_line version r s.now (texts (t ∷ ts))) (sym other)

@@ -1,0 +1,112 @@
+-- What tokens give in their places, and the query that they make; or why they give none.
+use Rattle.std.specs.Prelude.{ℕ, Bool, true, false, not, ◌==◌, List, [], ◌∷◌, length, codes, if◌then◌else◌, is_none, Option, Some, None, Result, Ok, Err}
+use Rattle.std.specs.Option.{ok_or, unwrap_or}
+use Rattle.theory.specs.Word.{Word}
+use Rattle.problem.specs.declared.kinds.Problem.{Problem}
+use Rattle.problem.specs.Problem.{allows_rules, has_empty_word, letters_of, pairs_of}
+use Rattle.query_lang.specs.declared.cause.Cause.{Cause}
+use Rattle.query_lang.specs.declared.cause.Cause.TheVariants.{WrongNumberOfWords, BadNumber, AfterExpected, UnknownRelation, QueryNotAllowed}
+use Rattle.query_lang.specs.declared.form.QueryForm.{QueryForm}
+use Rattle.query_lang.specs.declared.script.Query.{Query}
+use Rattle.query_lang.specs.declared.version.Version.{Version}
+use Rattle.query_lang.specs.Forms.{Place, AWord, ALetter, ANumber, After, ALowTable, ACongruenceTable, ARelation, Given, AllGiven, Way, Pairs, AnyPairs, TwoSidedPairs, NoPairs, row_of}
+use Rattle.query_lang.specs.LineWords.{element_of}
+use Rattle.query_lang.specs.Outcome.{and_then}
+use Rattle.query_lang.specs.Relations.{relations_of}
+use Rattle.query_lang.specs.Roles.{letter_in}
+use Rattle.query_lang.specs.Tables.{congruence_table_of, low_table_of}
+use Rattle.query_lang.specs.Token.{Token, is_word, number_within, relation_of}
+
+-- what tokens are read over: the version, the letters, whether a word may be empty, and relations
+pub record Scope : Type 0 where
+  pub version : Version
+  pub letters : List ℕ
+  pub allow_empty : Bool
+  pub relations : List (Word × Word)
+
+abbrev pub scope : Version → List ℕ → Bool → List (Word × Word) → Scope
+scope version letters allow_empty relations = record {
+  version = version;
+  letters = letters;
+  allow_empty = allow_empty;
+  relations = relations;
+}
+
+abbrev pub scope_of : Version → Problem → Scope
+scope_of version p = scope version (letters_of p) (has_empty_word p) (relations_of p)
+
+-- how many classes a table may have by the tokens: the first is the number; 0 where it is none
+abbrev pub classes_in : List Token → ℕ
+classes_in [] = 0
+classes_in (t ∷ tokens) = unwrap_or (number_within 1 16 t) 0
+
+-- what the token gives in its place, where these are all the tokens
+abbrev pub value_of : Scope → List Token → (place : Place) → Token → Result (Given place) Cause
+value_of s all AWord t = element_of s.version s.letters s.allow_empty t
+value_of s all ALetter t = letter_in s.version s.letters t
+value_of s all (ANumber low high) t = ok_or (number_within low high t) BadNumber
+value_of s all After t = if is_word (codes "after") t then Ok tt else Err AfterExpected
+value_of s all ALowTable t =
+    low_table_of s.allow_empty (length s.letters) (classes_in all) t
+value_of s all ACongruenceTable t =
+    congruence_table_of s.allow_empty (length s.letters) s.relations t
+value_of s all ARelation t = ok_or (relation_of t) UnknownRelation
+
+-- what the tokens give in these places, from the left
+abbrev pub values_of : Scope → List Token → (places : List Place) → List Token
+    → Result (AllGiven places) Cause
+values_of s all [] tokens = Ok tt
+values_of s all (place ∷ places) [] = Err WrongNumberOfWords
+values_of s all (place ∷ places) (t ∷ tokens) =
+    and_then (λ v. and_then (λ vs. Ok (v, vs)) (values_of s all places tokens))
+    (value_of s all place t)
+
+-- as many of these as of those
+abbrev pub as_many : {A B : Type 0} → List A → List B → Bool
+as_many [] [] = true
+as_many [] (y ∷ ys) = false
+as_many (x ∷ xs) [] = false
+as_many (x ∷ xs) (y ∷ ys) = as_many xs ys
+
+-- the way that has as many places as there are tokens
+abbrev pub way_for : List Token → List Way → Option Way
+way_for tokens [] = None
+way_for tokens (way ∷ ways) =
+    if as_many way.places tokens then Some way else way_for tokens ways
+
+-- the query that is written this way
+abbrev pub query_by : Scope → List Token → Way → Result Query Cause
+query_by s tokens way =
+    and_then (λ vs. Ok (way.makes vs)) (values_of s tokens way.places tokens)
+
+-- the query that is written in one of these ways
+abbrev pub query_in : Scope → List Way → List Token → Result Query Cause
+query_in s ways tokens = and_then (query_by s tokens)
+    (ok_or (way_for tokens ways) WrongNumberOfWords)
+
+-- how many classes tables may have, and how many tables are asked for
+abbrev pub limits_of : Token → Token → Result (ℕ × ℕ) Cause
+limits_of classes count =
+    and_then (λ n. and_then (λ m. Ok (n, m)) (ok_or (number_within 0 1000000 count) BadNumber))
+    (ok_or (number_within 1 16 classes) BadNumber)
+
+-- whether there are as many tokens as stand behind the name of this query
+abbrev pub takes : QueryForm → List Token → Bool
+takes form tokens = not (is_none (way_for tokens (row_of form).ways))
+
+-- whether the pairs of the problem do not allow it
+abbrev pub bars : Problem → Pairs → Bool
+bars p AnyPairs = false
+bars p TwoSidedPairs = not (allows_rules p)
+bars p NoPairs = not (length (pairs_of p) == 0)
+
+-- whether the pairs of the problem do not allow a query of this form
+abbrev pub bars_query : Problem → QueryForm → Bool
+bars_query p form = bars p (row_of form).pairs
+
+-- the query of this form, by the tokens behind its name
+abbrev pub query_of : Version → Problem → QueryForm → List Token → Result Query Cause
+query_of version p form tokens =
+    if not (takes form tokens) then Err WrongNumberOfWords
+    else if bars_query p form then Err QueryNotAllowed
+    else query_in (scope_of version p) (row_of form).ways tokens
