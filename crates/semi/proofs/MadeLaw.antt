@@ -11,12 +11,14 @@ use Rattle.words.proofs.Symbols.{letters_alphabet}
 use Rattle.words.proofs.TextLaws.{prints_back}
 use Rattle.presentation.specs.Presented.{Posed}
 use Rattle.problem.specs.declared.kinds.Problem.TheVariants.{Presented}
+use Rattle.query_lang.specs.declared.form.QueryForm.TheVariants as query_form
 use Rattle.query_lang.specs.declared.script.Query.{Query}
 use Rattle.query_lang.specs.declared.script.Query.TheVariants as ask
 use Rattle.query_lang.specs.declared.version.Version.TheVariants.{One}
 use Rattle.query_lang.specs.Asked.{ScriptOf}
+use Rattle.query_lang.specs.Forms.{ANumber, AWord, way}
 use Rattle.query_lang.specs.Grammar as grammar
-use Rattle.query_lang.specs.Grammar.{Begun, Nothing, Partial, Reads, Step, begin_with, lines_of, script_in}
+use Rattle.query_lang.specs.Grammar.{Begun, IsQuery, Nothing, Partial, Reads, Step, begin_with, lines_of, script_in}
 use Rattle.query_lang.specs.LineWords.{with_cause}
 use Rattle.query_lang.specs.Relations.{add_relation, free_over}
 use Rattle.query_lang.specs.Token.{Line, cut_lines, is_blank, tokens_of}
@@ -119,11 +121,71 @@ asked n = take n (ask.Index ∷ ask.Equal (0 ∷ 1 ∷ []) (1 ∷ 0 ∷ []) ∷ 
 -- the queries
 queries_read : (k : ℕ) → Reads (Begun (said_of (posed k) [])) (map tokens_of (cut_lines (codes "index\nequal ab ba\nnormal aba\nclasses 3\n"))) (Begun (said_of (posed k) (asked 4)))
 queries_read k =
-    grammar.more {t = Begun (said_of (posed k) (asked 1))} (grammar.further refl (grammar.query refl refl (grammar.index refl)))
-    (grammar.more {t = Begun (said_of (posed k) (asked 2))} (grammar.further refl (grammar.query refl refl (grammar.equal refl refl refl)))
-    (grammar.more {t = Begun (said_of (posed k) (asked 3))} (grammar.further refl (grammar.query refl refl (grammar.normal refl refl)))
-    (grammar.more {t = Begun (said_of (posed k) (asked 4))} (grammar.further refl (grammar.query refl refl (grammar.classes refl refl)))
+    grammar.more {t = Begun (said_of (posed k) (asked 1))} (grammar.further refl (grammar.query {q = ask.Index} refl refl index_read))
+    (grammar.more {t = Begun (said_of (posed k) (asked 2))} (grammar.further refl (grammar.query {q = ask.Equal (0 ∷ 1 ∷ []) (1 ∷ 0 ∷ [])} refl refl equal_read))
+    (grammar.more {t = Begun (said_of (posed k) (asked 3))} (grammar.further refl (grammar.query {q = ask.Normal (0 ∷ 1 ∷ 0 ∷ [])} refl refl normal_read))
+    (grammar.more {t = Begun (said_of (posed k) (asked 4))} (grammar.further refl (grammar.query {q = ask.Classes 3 None} refl refl classes_read))
     (grammar.more (grammar.skipped refl) grammar.none))))
+  where
+    index_read : IsQuery (said_of (posed k) []) (codes "index" ∷ []) ask.Index
+    index_read = record {
+      form = query_form.Index;
+      name = codes "index";
+      tokens = [];
+      way = way [] (λ v. ask.Index);
+      given = tt;
+      is = refl;
+      named = refl;
+      allowed = refl;
+      written = refl;
+      read = refl;
+      made = refl;
+    }
+
+    equal_read : IsQuery (said_of (posed k) (asked 1)) (codes "equal" ∷ codes "ab" ∷ codes "ba" ∷ []) (ask.Equal (0 ∷ 1 ∷ []) (1 ∷ 0 ∷ []))
+    equal_read = record {
+      form = query_form.Equal;
+      name = codes "equal";
+      tokens = codes "ab" ∷ codes "ba" ∷ [];
+      way = way (AWord ∷ AWord ∷ []) (λ v. ask.Equal v.0 v.1.0);
+      given = (0 ∷ 1 ∷ [], (1 ∷ 0 ∷ [], tt));
+      is = refl;
+      named = refl;
+      allowed = refl;
+      written = refl;
+      read = refl;
+      made = refl;
+    }
+
+    normal_read : IsQuery (said_of (posed k) (asked 2)) (codes "normal" ∷ codes "aba" ∷ []) (ask.Normal (0 ∷ 1 ∷ 0 ∷ []))
+    normal_read = record {
+      form = query_form.Normal;
+      name = codes "normal";
+      tokens = codes "aba" ∷ [];
+      way = way (AWord ∷ []) (λ v. ask.Normal v.0);
+      given = (0 ∷ 1 ∷ 0 ∷ [], tt);
+      is = refl;
+      named = refl;
+      allowed = refl;
+      written = refl;
+      read = refl;
+      made = refl;
+    }
+
+    classes_read : IsQuery (said_of (posed k) (asked 3)) (codes "classes" ∷ codes "3" ∷ []) (ask.Classes 3 None)
+    classes_read = record {
+      form = query_form.Classes;
+      name = codes "classes";
+      tokens = codes "3" ∷ [];
+      way = way (ANumber 0 1000000 ∷ []) (λ v. ask.Classes v.0 None);
+      given = (3, tt);
+      is = refl;
+      named = refl;
+      allowed = refl;
+      written = refl;
+      read = refl;
+      made = refl;
+    }
 
 lines_read : (k : ℕ) → 1 ≤ k → k ≤ 200 → Reads Nothing (lines_of (made_script k)) (Begun (said_of (posed k) (asked 4)))
 lines_read k least most =
