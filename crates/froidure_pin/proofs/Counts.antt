@@ -1,10 +1,9 @@
 -- Steps are no more than elements and rules.
 use Rattle.std.proofs.Common.{◌≡◌, ℕ, ◌+◌, ◌≤◌, Bool, List, [], ◌∷◌, length, Option, None, Some, refl, arith, inl, inr}
 use Rattle.theory.specs.Word.{Word}
-use Rattle.theory.specs.Listing.{IsAfter, IsListOf}
+use Rattle.theory.specs.Listing.{IsAfter, IsListOf, IsStrictOrder}
 use Rattle.theory.specs.Class.{IsReducedRule, IsRuleList, RuleBefore}
 use Rattle.theory.proofs.Counting.{IsIn, pigeonhole}
-use Rattle.theory.proofs.Listings.{IsStrictOrder}
 use Rattle.theory.proofs.ClassLaws.{rule_order}
 use Rattle.froidure_pin.specs.Growing.{AreCounted}
 use Rattle.froidure_pin.proofs.Search.{IsSetting, R, r_sym, r_trans}

@@ -1,5 +1,5 @@
 -- Pages of items that are found one after another.
-use Rattle.std.proofs.Common.{◌≡◌, ℕ, zero, suc, ◌+◌, ◌-◌, ◌<◌, ◌≤◌, Bool, true, false, inl, inr, is_some, List, [], ◌∷◌, ◌++◌, length, MatchOption, Option, Some, None, Result, Ok, Err, refl, sym, ap, subst, ◌∙◌, arith, append-nil, length-append, suc-add, zero-add}
+use Rattle.std.proofs.Common.{◌≡◌, ℕ, zero, suc, ◌+◌, ◌-◌, ◌<◌, ◌≤◌, Bool, true, false, inl, inr, is_some, List, [], ◌∷◌, ◌++◌, length, MatchOption, Option, Some, None, Result, Ok, Err, refl, sym, ap, subst, ◌∙◌, arith, append-nil, length-append}
 use Rattle.std.specs.List.{flat_map}
 use Rattle.std.proofs.lemmas.Grind.{flat_map-append}
 use Rattle.ports.specs.declared.sink.Sink.{Ghosts}
@@ -7,8 +7,8 @@ use Rattle.ports.specs.declared.fault.WriteFault.{WriteFault}
 use Rattle.ports.specs.declared.fault.WriteFault.TheVariants.{NoMemory}
 use Rattle.ports.specs.Writes.{Writes, WritesBytes}
 use Rattle.ports.proofs.WriteLemmas.{meant_bytes, same_bytes, bytes_then, bytes_broken_off, bytes_refused}
-use Rattle.theory.specs.Listing.{IsPage, IsLast, IsNext, IsStartOf, last_of, GoesOnOrEnds}
-use Rattle.theory.proofs.Listings.{IsStrictOrder, start_push, last_of_push, page_from_next, page_from_last}
+use Rattle.theory.specs.Listing.{IsPage, IsLast, IsNext, IsStartOf, last_of, GoesOnOrEnds, IsStrictOrder}
+use Rattle.theory.proofs.Listings.{start_push, last_of_push, page_after_start, page_cons, page_none, page_of_none, page_from_next, page_from_last}
 use Rattle.report.specs.Lines.{end_line, page_lines}
 use Rattle.report.specs.Pages.{ArePageLines}
 use Rattle.report.specs.Gains.{AreBytesOf, bytes_of}
@@ -22,19 +22,13 @@ pub record IsBegun {A K : Type 0} (sink : Ghosts K) (P : A → Type 0) (Less : A
   pub count : length items ≡ turns
   pub written : WritesBytes sink (flat_map line items) old new (Ok (tt {0}))
 
--- the first items, and a page of those that follow
-page_after_start : {A : Type 0} (P : A → Type 0) (Less : A → A → Type 0) (cursor : Option A) (xs : List A) (n : ℕ) (ys : List A) (more : Bool) → IsStartOf P Less cursor xs
-    → IsPage P Less (last_of cursor xs) n ys more → IsPage P Less cursor (length xs + n) (xs ++ ys) more
-page_after_start P Less cursor [] n ys more p q = rw zero-add q
-page_after_start P Less cursor (x ∷ xs) n ys more p q = rw suc-add (p.0, page_after_start P Less (Some x) xs n ys more p.1 q)
-
 module _ {A : Type 0} (P : A → Type 0) (Less : A → A → Type 0) where
   -- there is a page of each size, where after each cursor comes a next word, or none
   some_page : GoesOnOrEnds P Less → (cursor : Option A) (count : ℕ) → (items : List A) × (more : Bool) × IsPage P Less cursor count items more
-  some_page goes_on cursor zero = elim (goes_on cursor) [ inl last ↦ ([], false, last) | inr next ↦ ([], true, next) ]
+  some_page goes_on cursor zero = elim (goes_on cursor) [ inl last ↦ ([], false, page_none P Less cursor zero last) | inr next ↦ ([], true, page_of_none P Less cursor next) ]
   some_page goes_on cursor (suc count) = elim (goes_on cursor) [
-    | inl last ↦ ([], false, last)
-    | inr next ↦ let rest = some_page goes_on (Some next.0) count in (next.0 ∷ rest.0, rest.1, (next.1, rest.2))
+    | inl last ↦ ([], false, page_none P Less cursor (suc count) last)
+    | inr next ↦ let rest = some_page goes_on (Some next.0) count in (next.0 ∷ rest.0, rest.1, page_cons P Less cursor count next.0 rest.0 rest.1 next.1 rest.2)
   ]
 
   -- what was found after the cursor
@@ -114,4 +108,4 @@ module _ {A : Type 0} (P : A → Type 0) (Less : A → A → Type 0) where
         pub word_begun : (w : A) (new : K) (fault : WriteFault) → turns < count → IsNext P Less cursor w → WritesBytes sink {T = Unit {0}} (line w) mid new (Err fault) → Writes sink (Page line after count) old new (Err fault)
         word_begun w new fault fewer next written =
             let rest = some_page goes_on (Some w) (count - turns - 1) in
-            begun (suc (count - turns - 1)) (w ∷ rest.0) rest.1 new fault (omega arith) (next, rest.2) (bytes_broken_off sink (line w) (flat_map line rest.0) mid new fault written)
+            begun (suc (count - turns - 1)) (w ∷ rest.0) rest.1 new fault (omega arith) (page_cons P Less cursor (count - turns - 1) w rest.0 rest.1 next rest.2) (bytes_broken_off sink (line w) (flat_map line rest.0) mid new fault written)

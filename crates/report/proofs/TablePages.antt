@@ -2,10 +2,10 @@
 use Rattle.std.proofs.Common.{◌≡◌, ℕ, Bool, true, false, zero, suc, ◌<◌, ◌≤◌, List, [], ◌∷◌, ◌++◌, length, map, Option, Some, None, IfSome, Result, Ok, Err, IfOk, refl, sym, ap, ap₂, subst, ◌∙◌, arith, inl, inr, option_map}
 use Rattle.std.proofs.lemmas.Bool.{cases_lt}
 use Rattle.std.specs.Option.{unwrap_or}
+use Rattle.theory.specs.Listing.{IsStrictOrder}
 use Rattle.theory.specs.Congruence.{Presentation}
 use Rattle.theory.specs.Graph.{Graph, target}
 use Rattle.theory.specs.LowIndex.{Rows, graph_of, IsStandard, IsLowIndex, TableLess}
-use Rattle.theory.proofs.Listings.{IsStrictOrder}
 use Rattle.theory.proofs.TableLaws as laws
 use Rattle.word_graph.specs.Standard.{IsStandardGraph}
 use Rattle.presentation.specs.Presented.{Posed}

@@ -3,6 +3,7 @@ use Rattle.std.proofs.Common.{◌≡◌, ℕ, zero, suc, ◌+◌, ◌<◌, ◌�
 use Rattle.std.specs.Prelude.{◌≢◌, ◌↔◌, codes, decimal}
 use Rattle.std.specs.List.{flat_map, range_with_len}
 use Rattle.std.proofs.lemmas.List.Concat.{flat_map_single}
+use Rattle.theory.specs.Listing.{IsStrictOrder}
 use Rattle.theory.specs.Word.{Word}
 use Rattle.theory.specs.ShortLex.{◌≺◌}
 use Rattle.theory.specs.Class.{IsLeast, HasIndex, IsInfinite, IsReducedRule, RuleBefore}
@@ -12,7 +13,7 @@ use Rattle.theory.specs.LowIndex.{graph_of, TableLess}
 use Rattle.theory.specs.Value.{IsProduct, SameValue, SameElement, HasAtMostValues, HasMoreValues}
 use Rattle.theory.specs.declared.Kind.{Kind}
 use Rattle.theory.proofs.Chains.{joined_congruence}
-use Rattle.theory.proofs.Listings.{IsStrictOrder, list_unique, page_unique, start_no_longer}
+use Rattle.theory.proofs.Listings.{list_unique, page_unique, start_no_longer}
 use Rattle.theory.proofs.Completeness.{normal_unique}
 use Rattle.theory.proofs.ClassLaws.{IsPartialEquivalence, same_class_equivalence, shortlex_strict, rule_order}
 use Rattle.theory.proofs.StandardLaws.{standard_unique}

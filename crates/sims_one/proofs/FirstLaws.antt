@@ -1,6 +1,7 @@
 -- The first elements that have a property, and how those of parts join.
 use Rattle.std.proofs.Common.{◌≡◌, ℕ, zero, suc, ◌+◌, ◌<◌, ◌≤◌, ◌⊎◌, inl, inr, Bool, true, false, List, [], ◌∷◌, ◌++◌, length, take, Option, Some, None, refl, sym, ap, subst, arith, append_assoc}
 use Rattle.theory.specs.Listing.{IsAfter, IsNext, IsLast, IsPage}
+use Rattle.theory.proofs.Listings.{page_cons, page_none, page_of_none}
 use Rattle.sims_one.specs.Asked.{AreFirst}
 
 -- the first of the first ones
@@ -96,7 +97,8 @@ module _ {A : Type 0} (Less : A → A → Type 0) (trans : (x y z : A) → Less 
 
 -- the first ones and one more are a page
 pub page_of_first : {A : Type 0} (P : A → Type 0) (Less : A → A → Type 0) (c : Option A) (n : ℕ) (xs : List A) (more : Bool) → (n < length xs → more ≡ true) → (length xs ≤ n → more ≡ false) → AreFirst P Less c (suc n) (take (suc n) xs) → IsPage P Less c n (take n xs) more
-page_of_first P Less c zero [] more longer shorter f = subst (IsPage P Less c zero []) (sym (shorter (omega arith))) f
-page_of_first P Less c zero (x ∷ xs) more longer shorter f = subst (IsPage P Less c zero []) (sym (longer (omega arith))) (x, f.0)
-page_of_first P Less c (suc n) [] more longer shorter f = subst (IsPage P Less c (suc n) []) (sym (shorter (omega arith))) f
-page_of_first P Less c (suc n) (x ∷ xs) more longer shorter f = (f.0, page_of_first P Less (Some x) n xs more (λ h. longer (omega (arith, h))) (λ h. shorter (omega (arith, h))) f.1)
+page_of_first P Less c zero [] more longer shorter f = subst (IsPage P Less c zero []) (sym (shorter (omega arith))) (page_none P Less c zero f)
+page_of_first P Less c zero (x ∷ xs) more longer shorter f = subst (IsPage P Less c zero []) (sym (longer (omega arith))) (page_of_none P Less c (x, f.0))
+page_of_first P Less c (suc n) [] more longer shorter f = subst (IsPage P Less c (suc n) []) (sym (shorter (omega arith))) (page_none P Less c (suc n) f)
+page_of_first P Less c (suc n) (x ∷ xs) more longer shorter f =
+    page_cons P Less c n x (take n xs) more f.0 (page_of_first P Less (Some x) n xs more (λ h. longer (omega (arith, h))) (λ h. shorter (omega (arith, h))) f.1)

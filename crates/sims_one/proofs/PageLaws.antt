@@ -5,6 +5,7 @@ use Rattle.theory.specs.Graph.{Graph}
 use Rattle.theory.specs.Listing.{IsNext, IsLast, IsPage}
 use Rattle.theory.specs.LowIndex.{Rows, graph_of, entries, IsLowIndex, TableLess}
 use Rattle.theory.specs.TwoSidedTable.{IsTwoSidedTable, IsTwoSidedLowIndex}
+use Rattle.theory.proofs.Listings.{page_cons, page_length, page_none, page_same, page_tail}
 use Rattle.word_graph.specs.Standard.{IsStandardGraph}
 use Rattle.word_graph.specs.Table.{cut, targets_of}
 use Rattle.word_graph.proofs.TableLaws.{targets_entries}
@@ -93,15 +94,16 @@ module _ (a : Asked) (some : 0 < a.presentation.letters) (elements : AreElements
 
   pub page_rows : (c : List ℕ) (n : ℕ) (us : List (List ℕ)) (more : Bool) → IsCursor a.presentation.letters c → IsPage (IsWanted a) Before (Some c) n us more
       → IsPage (IsTableAsked a) TableLess (cursor_of a.presentation.letters c) n (map rows_of us) more
-  page_rows c n [] false is page = last_rows c is page
-  page_rows c zero [] true is page = (rows_of page.0, next_rows c page.0 is page.1)
-  page_rows c (suc n) [] true is page = absurd page
-  page_rows c zero (u ∷ us) more is page = absurd page
-  page_rows c (suc n) (u ∷ us) more is page = (
-    next_rows c u is page.0,
-    subst (λ (o : Option Rows). IsPage (IsTableAsked a) TableLess o n (map rows_of us) more) (found_after a.presentation a.classes some elements u page.0.has.table)
-        (page_rows u n us more (found_cursor a.presentation a.classes some elements u page.0.has.table) page.1),
-  )
+  page_rows c n [] false is page = page_none (IsTableAsked a) TableLess (cursor_of a.presentation.letters c) n (last_rows c is page.end.1)
+  page_rows c n [] true is page =
+      let next = page.end.1 in
+      record { first = tt; end = (page.end.0, (rows_of next.0, next_rows c next.0 is next.1)) }
+  page_rows c zero (u ∷ us) more is page = let few = page_length (IsWanted a) Before (Some c) zero (u ∷ us) more page in absurd (omega (arith, few))
+  page_rows c (suc n) (u ∷ us) more is page =
+      let next = page.first.0 in
+      page_cons (IsTableAsked a) TableLess (cursor_of a.presentation.letters c) n (rows_of u) (map rows_of us) more (next_rows c u is next)
+      (subst (λ (o : Option Rows). IsPage (IsTableAsked a) TableLess o n (map rows_of us) more) (found_after a.presentation a.classes some elements u next.has.table)
+      (page_rows u n us more (found_cursor a.presentation a.classes some elements u next.has.table) (page_tail (IsWanted a) Before (Some c) n u us more page)))
 
   -- the page of the tables found
   pub page_found : (us : List (List ℕ)) (graphs : List Graph) (more : Bool) → IsAsked a → AreTables a us → graphs ≡ map (λ u. graph_of (rows_of u)) (take a.count us)
@@ -112,20 +114,12 @@ module _ (a : Asked) (some : 0 < a.presentation.letters) (elements : AreElements
     page = page_rows a.cursor a.count (take a.count us) more is.cursor (page_of_first (IsWanted a) Before (Some a.cursor) a.count us more longer shorter tables);
   }
 
--- the same page of what is the same
-page_same : {A : Type 0} (P Q : A → Type 0) (Less : A → A → Type 0) (c : Option A) (n : ℕ) (xs : List A) (more : Bool) → ((x : A) → P x → Q x) → ((x : A) → Q x → P x) → IsPage P Less c n xs more → IsPage Q Less c n xs more
-page_same P Q Less c n [] false to back page = λ y has. page y (back y has)
-page_same P Q Less c zero [] true to back page = (page.0, record { has = to page.0 page.1.has; after = page.1.after; least = λ y has. page.1.least y (back y has) })
-page_same P Q Less c (suc n) [] true to back page = page
-page_same P Q Less c zero (x ∷ xs) more to back page = page
-page_same P Q Less c (suc n) (x ∷ xs) more to back page = (record { has = to x page.0.has; after = page.0.after; least = λ y has. page.0.least y (back y has) }, page_same P Q Less (Some x) n xs more to back page.1)
-
 module _ (a : Asked) (graphs : List Graph) (more : Bool) (cursor : Option Rows) (after : cursor_of a.presentation.letters a.cursor ≡ cursor) (page : IsPageOf a graphs more) where
   pub page_any : a.two_sided ≡ false → IsTablePage (IsLowIndex a.presentation a.classes) cursor a.count graphs more
   page_any any = record {
     rows = page.rows;
     are = page.are;
-    page = page_same (IsTableAsked a) (IsLowIndex a.presentation a.classes) TableLess cursor a.count page.rows more (λ r h. h.0) (λ r h. (h, λ e. let bad : false ≡ true = sym any ∙ e in cc))
+    page = page_same (IsTableAsked a) (IsLowIndex a.presentation a.classes) TableLess (λ r. (λ h. h.0, λ h. (h, λ e. let bad : false ≡ true = sym any ∙ e in cc))) cursor a.count page.rows more
         (subst (λ (o : Option Rows). IsPage (IsTableAsked a) TableLess o a.count page.rows more) after page.page);
   }
 
@@ -133,6 +127,6 @@ module _ (a : Asked) (graphs : List Graph) (more : Bool) (cursor : Option Rows) 
   page_both both = record {
     rows = page.rows;
     are = page.are;
-    page = page_same (IsTableAsked a) (IsTwoSidedLowIndex a.presentation a.classes) TableLess cursor a.count page.rows more (λ r h. record { low = h.0; two_sided = h.1 both }) (λ r h. (h.low, λ e. h.two_sided))
+    page = page_same (IsTableAsked a) (IsTwoSidedLowIndex a.presentation a.classes) TableLess (λ r. (λ h. record { low = h.0; two_sided = h.1 both }, λ h. (h.low, λ e. h.two_sided))) cursor a.count page.rows more
         (subst (λ (o : Option Rows). IsPage (IsTableAsked a) TableLess o a.count page.rows more) after page.page);
   }

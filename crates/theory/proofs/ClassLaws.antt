@@ -1,13 +1,13 @@
 -- The laws of classes.
-use Rattle.std.proofs.Common.{suc, ◌≡◌, ℕ, ◌+◌, ◌<◌, Bool, true, List, [], ◌∷◌, ◌++◌, length, sym, ◌∙◌, ap, subst, arith, ◌⊎◌, inl, inr, ◌↔◌, Option, Some, None}
+use Rattle.std.proofs.Common.{suc, ◌≡◌, ℕ, ◌<◌, List, [], ◌∷◌, ◌++◌, length, sym, ◌∙◌, ap, subst, arith, ◌⊎◌, inl, inr, ◌↔◌, Option, Some, None}
 use Rattle.theory.specs.Word.{Word}
 use Rattle.theory.specs.ShortLex.{◌≺◌}
-use Rattle.theory.specs.Listing.{IsAfter, IsAscending, IsPage, IsStartOf, last_of, IsNext}
+use Rattle.theory.specs.Listing.{IsAfter, IsAscending, IsStartOf, IsNext, IsStrictOrder}
 use Rattle.theory.specs.Congruence.{Congruence}
 use Rattle.theory.specs.Class.{SameClass, IsLeast, IsNormal, IsClassList, HasIndex, HasMoreThan, IsInfinite, IsReducedRule, RuleBefore, IsRuleList, Covers}
 use Rattle.theory.proofs.Words.{order_cases, before_irrefl, before_trans, before_context}
 use Rattle.theory.proofs.Chains.{related_congruence}
-use Rattle.theory.proofs.Listings.{IsStrictOrder, page_unique, page_join, page_start, list_unique, start_no_longer, start_full, list_from_ascending, endless}
+use Rattle.theory.proofs.Listings.{list_unique, start_no_longer, list_from_ascending, endless}
 use Rattle.theory.proofs.Completeness.{normal_unique}
 use Rattle.theory.proofs.Counting.{IsIn, AreApart, in_from_contains, pigeonhole}
 
@@ -44,23 +44,6 @@ same_class_by_normal c u v x y p q =
       λ h. same_normal c u x y p (record { related = known.transitive u v y h q.related; least = q.least }),
       λ e. known.transitive u x v p.related (subst (λ w. SameClass c w v) (sym e) (known.symmetric v y q.related)),
     )
-
-pub class_page_unique : (c : Congruence) (cursor : Option Word) (count : ℕ) (xs ys : List Word) (m n : Bool)
-    → IsPage (IsLeast (SameClass c)) ◌≺◌ cursor count xs m → IsPage (IsLeast (SameClass c)) ◌≺◌ cursor count ys n → (xs ≡ ys) × (m ≡ n)
-class_page_unique c = page_unique (IsLeast (SameClass c)) ◌≺◌ (shortlex_strict (IsLeast (SameClass c)))
-
-pub class_page_join : (c : Congruence) (cursor : Option Word) (m n : ℕ) (xs ys : List Word) (more : Bool)
-    → IsPage (IsLeast (SameClass c)) ◌≺◌ cursor m xs true → IsPage (IsLeast (SameClass c)) ◌≺◌ (last_of cursor xs) n ys more
-    → IsPage (IsLeast (SameClass c)) ◌≺◌ cursor (m + n) (xs ++ ys) more
-class_page_join c = page_join (IsLeast (SameClass c)) ◌≺◌ (shortlex_strict (IsLeast (SameClass c)))
-
--- nothing is left out of a page
-pub class_page_full : (c : Congruence) (cursor : Option Word) (count : ℕ) (xs : List Word) (more : Bool)
-    → IsPage (IsLeast (SameClass c)) ◌≺◌ cursor count xs more → (y : Word) → IsLeast (SameClass c) y → IsAfter ◌≺◌ cursor y
-    → ((before after : List Word) × (xs ≡ before ++ (y ∷ after))) ⊎ IsAfter ◌≺◌ (last_of cursor xs) y
-class_page_full c cursor count xs more p =
-    start_full (IsLeast (SameClass c)) ◌≺◌ (shortlex_strict (IsLeast (SameClass c))) cursor xs
-    (page_start (IsLeast (SameClass c)) ◌≺◌ (shortlex_strict (IsLeast (SameClass c))) cursor count xs more p)
 
 -- the class list is one, and so is the index
 pub class_list_unique : (c : Congruence) (xs ys : List Word) → IsClassList (SameClass c) xs → IsClassList (SameClass c) ys → xs ≡ ys

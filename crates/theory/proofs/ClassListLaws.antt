@@ -1,10 +1,10 @@
 -- The classes of numbers are listed in one way.
 use Rattle.std.proofs.Common.{◌≡◌, ℕ, ◌<◌, List, [], ◌∷◌, refl, sym, ap₂, subst, arith, ◌⊎◌, inl, inr, Option, Some, None, Contains}
 use Rattle.std.proofs.lemmas.Bool.{cases_lt}
-use Rattle.theory.specs.Listing.{IsListOf, IsAfter}
+use Rattle.theory.specs.Listing.{IsListOf, IsAfter, IsStrictOrder}
 use Rattle.theory.specs.Green.{IsFirst, IsInClassOf, AreClassesAt, AreClasses}
 use Rattle.theory.proofs.Counting.{IsIn, in_from_contains, contains_from_in}
-use Rattle.theory.proofs.Listings.{IsStrictOrder, list_unique}
+use Rattle.theory.proofs.Listings.{list_unique}
 
 number_cases : (x y : ℕ) → (x < y) ⊎ ((x ≡ y) ⊎ (y < x))
 number_cases x y = elim (cases_lt x y) [

@@ -1,13 +1,42 @@
 -- The laws of pages.
 use Rattle.std.proofs.Common.{None, Some, ◌≡◌, ℕ, zero, suc, ◌+◌, ◌≤◌, Bool, true, false, List, [], ◌∷◌, ◌++◌, length, refl, sym, ap, ap₂, subst, arith, ◌⊎◌, ◌↔◌, inl, inr, Option, Some, suc-add, zero-add}
-use Rattle.theory.specs.Listing.{IsAfter, IsNext, IsPage, IsListOf, IsStartOf, last_of, IsLast, IsAscending, AreInfinite}
+use Rattle.theory.specs.Listing.{IsAfter, IsAscending, IsLast, IsListOf, IsNext, IsPage, IsPageEnd, IsStartOf, IsStrictOrder, AreInfinite, last_of}
 use Rattle.theory.proofs.Counting.{IsIn}
 
--- a strict order, total on what has the property
-pub record IsStrictOrder {A : Type 0} (P : A → Type 0) (Less : A → A → Type 0) : Type 0 where
-  pub cases : (x y : A) → P x → P y → Less x y ⊎ ((x ≡ y) ⊎ Less y x)
-  pub irrefl : (x : A) → Less x x → ⊥
-  pub trans : (x y z : A) → Less x y → Less y z → Less x z
+module _ {A : Type 0} (P : A → Type 0) (Less : A → A → Type 0) where
+  -- pages without items, and with one more in front
+  pub page_none : (cursor : Option A) (count : ℕ) → IsLast P Less cursor → IsPage P Less cursor count [] false
+  page_none cursor count last = record { first = tt; end = (omega arith, last) }
+
+  pub page_of_none : (cursor : Option A) → (x : A) × IsNext P Less cursor x → IsPage P Less cursor 0 [] true
+  page_of_none cursor next = record { first = tt; end = (refl, next) }
+
+  longer : (last : Option A) (count filled : ℕ) (more : Bool) → IsPageEnd P Less last count filled more → IsPageEnd P Less last (suc count) (suc filled) more
+  longer last count filled true e = (ap suc e.0, e.1)
+  longer last count filled false e = (omega (arith, e.0), e.1)
+
+  shorter : (last : Option A) (count filled : ℕ) (more : Bool) → IsPageEnd P Less last (suc count) (suc filled) more → IsPageEnd P Less last count filled more
+  shorter last count filled true e = (omega (arith, e.0), e.1)
+  shorter last count filled false e = (omega (arith, e.0), e.1)
+
+  pub page_cons : (cursor : Option A) (count : ℕ) (x : A) (xs : List A) (more : Bool) → IsNext P Less cursor x → IsPage P Less (Some x) count xs more
+      → IsPage P Less cursor (suc count) (x ∷ xs) more
+  page_cons cursor count x xs more next page = record { first = (next, page.first); end = longer (last_of (Some x) xs) count (length xs) more page.end }
+
+  pub page_tail : (cursor : Option A) (count : ℕ) (x : A) (xs : List A) (more : Bool) → IsPage P Less cursor (suc count) (x ∷ xs) more
+      → IsPage P Less (Some x) count xs more
+  page_tail cursor count x xs more page = record { first = page.first.1; end = shorter (last_of (Some x) xs) count (length xs) more page.end }
+
+  pub page_length : (cursor : Option A) (count : ℕ) (xs : List A) (more : Bool) → IsPage P Less cursor count xs more → length xs ≤ count
+  page_length cursor count xs true page = omega (arith, page.end.0)
+  page_length cursor count xs false page = omega (arith, page.end.0)
+
+  -- the first items, and a page of those that follow
+  pub page_after_start : (cursor : Option A) (xs : List A) (n : ℕ) (ys : List A) (more : Bool) → IsStartOf P Less cursor xs
+      → IsPage P Less (last_of cursor xs) n ys more → IsPage P Less cursor (length xs + n) (xs ++ ys) more
+  page_after_start cursor [] n ys more p q = rw zero-add q
+  page_after_start cursor (x ∷ xs) n ys more p q =
+      rw suc-add (page_cons cursor (length xs + n) x (xs ++ ys) more p.0 (page_after_start (Some x) xs n ys more p.1 q))
 
 module _ {A : Type 0} (P : A → Type 0) (Less : A → A → Type 0) (order : IsStrictOrder P Less) where
   pub next_unique : (cursor : Option A) (x y : A) → IsNext P Less cursor x → IsNext P Less cursor y → x ≡ y
@@ -22,47 +51,25 @@ module _ {A : Type 0} (P : A → Type 0) (Less : A → A → Type 0) (order : Is
   pub page_unique : (cursor : Option A) (count : ℕ) (xs ys : List A) (m n : Bool) → IsPage P Less cursor count xs m
       → IsPage P Less cursor count ys n → (xs ≡ ys) × (m ≡ n)
   page_unique cursor count [] [] false false p q = (refl, refl)
-  page_unique cursor zero [] [] false true p q = absurd (p q.0 q.1.has q.1.after)
-  page_unique cursor (suc count) [] [] false true p q = absurd q
-  page_unique cursor zero [] [] true false p q = absurd (q p.0 p.1.has p.1.after)
-  page_unique cursor (suc count) [] [] true false p q = absurd p
+  page_unique cursor count [] [] false true p q = let next = q.end.1 in absurd (p.end.1 next.0 next.1.has next.1.after)
+  page_unique cursor count [] [] true false p q = let next = p.end.1 in absurd (q.end.1 next.0 next.1.has next.1.after)
   page_unique cursor count [] [] true true p q = (refl, refl)
-  page_unique cursor zero [] (y ∷ ys) m n p q = absurd q
-  page_unique cursor (suc count) [] (y ∷ ys) false n p q = absurd (p y q.0.has q.0.after)
-  page_unique cursor (suc count) [] (y ∷ ys) true n p q = absurd p
-  page_unique cursor zero (x ∷ xs) ys m n p q = absurd p
-  page_unique cursor (suc count) (x ∷ xs) [] m false p q = absurd (q x p.0.has p.0.after)
-  page_unique cursor (suc count) (x ∷ xs) [] m true p q = absurd q
+  page_unique cursor count [] (y ∷ ys) false n p q = let next = q.first.0 in absurd (p.end.1 y next.has next.after)
+  page_unique cursor count [] (y ∷ ys) true n p q = let few = page_length P Less cursor count (y ∷ ys) n q in absurd (omega (arith, few, p.end.0))
+  page_unique cursor count (x ∷ xs) [] m false p q = let next = p.first.0 in absurd (q.end.1 x next.has next.after)
+  page_unique cursor count (x ∷ xs) [] m true p q = let few = page_length P Less cursor count (x ∷ xs) m p in absurd (omega (arith, few, q.end.0))
+  page_unique cursor zero (x ∷ xs) (y ∷ ys) m n p q = let few = page_length P Less cursor zero (x ∷ xs) m p in absurd (omega (arith, few))
   page_unique cursor (suc count) (x ∷ xs) (y ∷ ys) m n p q =
-      let same : x ≡ y = next_unique cursor x y p.0 q.0 in
-      let rest = page_unique (Some y) count xs ys m n (subst (λ z. IsPage P Less (Some z) count xs m) same p.1) q.1 in
+      let same : x ≡ y = next_unique cursor x y p.first.0 q.first.0 in
+      let left = subst (λ z. IsPage P Less (Some z) count xs m) same (page_tail P Less cursor count x xs m p) in
+      let rest = page_unique (Some y) count xs ys m n left (page_tail P Less cursor count y ys n q) in
       (ap₂ (λ (z : A) (zs : List A). z ∷ zs) same rest.0, rest.1)
 
   -- a page of what is greater than the last of a full page goes on where that ended
   pub page_join : (cursor : Option A) (m n : ℕ) (xs ys : List A) (more : Bool) → IsPage P Less cursor m xs true
       → IsPage P Less (last_of cursor xs) n ys more → IsPage P Less cursor (m + n) (xs ++ ys) more
-  page_join cursor zero n [] ys more p q = rw zero-add q
-  page_join cursor (suc m) n [] ys more p q = absurd p
-  page_join cursor zero n (x ∷ xs) ys more p q = absurd p
-  page_join cursor (suc m) n (x ∷ xs) ys more p q = rw suc-add (p.0, page_join (Some x) m n xs ys more p.1 q)
-
-  -- behind a page with nothing further there is nothing
-  pub page_end : (cursor : Option A) (count : ℕ) (xs : List A) → IsPage P Less cursor count xs false → IsListOf P Less cursor xs
-  page_end cursor count [] p = p
-  page_end cursor zero (x ∷ xs) p = absurd p
-  page_end cursor (suc count) (x ∷ xs) p = (p.0, page_end (Some x) count xs p.1)
-
-  -- a page is the beginning of the list
-  pub page_start : (cursor : Option A) (count : ℕ) (xs : List A) (more : Bool) → IsPage P Less cursor count xs more
-      → IsStartOf P Less cursor xs
-  page_start cursor count [] more p = tt
-  page_start cursor zero (x ∷ xs) more p = absurd p
-  page_start cursor (suc count) (x ∷ xs) more p = (p.0, page_start (Some x) count xs more p.1)
-
-  pub page_length : (cursor : Option A) (count : ℕ) (xs : List A) (more : Bool) → IsPage P Less cursor count xs more → length xs ≤ count
-  page_length cursor count [] more p = omega arith
-  page_length cursor zero (x ∷ xs) more p = absurd p
-  page_length cursor (suc count) (x ∷ xs) more p = let rest = page_length (Some x) count xs more p.1 in omega (arith, rest)
+  page_join cursor m n xs ys more p q =
+      subst (λ k. IsPage P Less cursor (k + n) (xs ++ ys) more) p.end.0 (page_after_start P Less cursor xs n ys more p.first q)
 
   -- there is one list
   pub list_unique : (cursor : Option A) (xs ys : List A) → IsListOf P Less cursor xs → IsListOf P Less cursor ys → xs ≡ ys
@@ -111,15 +118,12 @@ module _ {A : Type 0} (P : A → Type 0) (Less : A → A → Type 0) (order : Is
   -- a full page with a further one
   pub page_from_next : (cursor : Option A) (xs : List A) (y : A) → IsStartOf P Less cursor xs → IsNext P Less (last_of cursor xs) y
       → IsPage P Less cursor (length xs) xs true
-  page_from_next cursor [] y p q = (y, q)
-  page_from_next cursor (x ∷ xs) y p q = (p.0, page_from_next (Some x) xs y p.1 q)
+  page_from_next cursor xs y p q = record { first = p; end = (refl, (y, q)) }
 
   -- a page with nothing further
   pub page_from_last : (cursor : Option A) (count : ℕ) (xs : List A) → length xs ≤ count → IsStartOf P Less cursor xs
       → IsLast P Less (last_of cursor xs) → IsPage P Less cursor count xs false
-  page_from_last cursor count [] h p q = q
-  page_from_last cursor zero (x ∷ xs) h p q = absurd (omega arith)
-  page_from_last cursor (suc count) (x ∷ xs) h p q = (p.0, page_from_last (Some x) count xs (omega arith) p.1 q)
+  page_from_last cursor count xs h p q = record { first = p; end = (h, q) }
 
   -- all of the list
   pub list_from_last : (cursor : Option A) (xs : List A) → IsStartOf P Less cursor xs → IsLast P Less (last_of cursor xs)
@@ -165,7 +169,8 @@ module _ {A : Type 0} (P : A → Type 0) (Less : A → A → Type 0) (order : Is
       later None x y a l = tt
       later (Some z) x y a l = order.trans z x y a l
 
--- one property under two names has one next, one end, one list, and beginnings of the same lengths
+-- one property under two names has one next, one end, one list, one page of each size, and beginnings
+-- of the same lengths
 module _ {A : Type 0} (P Q : A → Type 0) (Less : A → A → Type 0) (same : (x : A) → P x ↔ Q x) where
   pub next_same : (cursor : Option A) (x : A) → IsNext P Less cursor x → IsNext Q Less cursor x
   next_same cursor x h = record { has = (same x).0 h.has; after = h.after; least = λ y q. h.least y ((same y).1 q) }
@@ -180,6 +185,14 @@ module _ {A : Type 0} (P Q : A → Type 0) (Less : A → A → Type 0) (same : (
   pub start_same : (cursor : Option A) (xs : List A) → IsStartOf P Less cursor xs → IsStartOf Q Less cursor xs
   start_same cursor [] h = tt
   start_same cursor (x ∷ xs) h = (next_same cursor x h.0, start_same (Some x) xs h.1)
+
+  end_same : (last : Option A) (count filled : ℕ) (more : Bool) → IsPageEnd P Less last count filled more → IsPageEnd Q Less last count filled more
+  end_same last count filled true e = (e.0, (e.1.0, next_same last e.1.0 e.1.1))
+  end_same last count filled false e = (e.0, last_same last e.1)
+
+  pub page_same : (cursor : Option A) (count : ℕ) (xs : List A) (more : Bool) → IsPage P Less cursor count xs more → IsPage Q Less cursor count xs more
+  page_same cursor count xs more page =
+      record { first = start_same cursor xs page.first; end = end_same (last_of cursor xs) count (length xs) more page.end }
 
   pub infinite_same : AreInfinite P Less → AreInfinite Q Less
   infinite_same h n = let at = h n in (at.0, start_same None at.0 at.1, at.2)

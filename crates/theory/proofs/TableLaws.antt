@@ -1,5 +1,5 @@
 -- The order of tables, and the right congruence that a table is.
-use Rattle.std.proofs.Common.{◌≡◌, ℕ, zero, suc, ◌+◌, ◌<◌, Bool, true, List, [], ◌∷◌, ◌++◌, length, refl, sym, ◌∙◌, ap, ap₂, subst, arith, ◌⊎◌, inl, inr, Option, Some, None, append_assoc, append-nil, option_and_then, All, Contains, map, length-append, nat_cmp, Ordering, Less, Equal, Greater, slice_get}
+use Rattle.std.proofs.Common.{◌≡◌, ℕ, zero, suc, ◌<◌, List, [], ◌∷◌, ◌++◌, length, refl, sym, ◌∙◌, ap, ap₂, subst, arith, ◌⊎◌, inl, inr, Option, Some, None, append_assoc, append-nil, option_and_then, All, Contains, map, length-append, nat_cmp, Ordering, Less, Equal, Greater, slice_get}
 use Rattle.std.specs.Ordering.{ordering_reverse}
 use Rattle.std.specs.Cmp.Lexicographic.{slice_cmp}
 use Rattle.std.specs.Option.{unwrap_or}
@@ -9,14 +9,13 @@ use Rattle.std.proofs.lemmas.List.Elements.{All-head, All-tail, All-take, All-dr
 use Rattle.theory.specs.Word.{Word}
 use Rattle.theory.specs.Congruence.{Presentation, Congruence, EitherWay, of_presentation}
 use Rattle.theory.specs.Chain.{MayStand, Step, StepBy, Related}
-use Rattle.theory.specs.Listing.{IsAfter, IsPage, last_of}
+use Rattle.theory.specs.Listing.{IsStrictOrder}
 use Rattle.theory.specs.Graph.{Graph, target, path}
 use Rattle.theory.specs.LowIndex.{Rows, graph_of, entries, IsCompatible, IsLowIndex, TableLess}
 use Rattle.theory.specs.declared.Kind.TheVariants.{TwoSided, Right}
 use Rattle.theory.proofs.Words.{cut_between, letters_exact}
 use Rattle.theory.proofs.Chains.{joined_least, joined_map}
 use Rattle.theory.proofs.Related.{none_contained, none_either}
-use Rattle.theory.proofs.Listings.{IsStrictOrder, page_unique, page_join, page_start, start_full}
 
 -- rows of one width are determined by their entries
 entries_exact : (k : ℕ) → 0 < k → (s t : Rows) → All (λ row. length row ≡ k) s → All (λ row. length row ≡ k) t → entries s ≡ entries t
@@ -60,22 +59,6 @@ table_order p n some =
     go s t hs ht Equal e = inr (inl (entries_exact p.letters some s t hs.standard.width ht.standard.width (letters_exact (entries s) (entries t) e)))
     go s t hs ht Greater e =
         inr (inr (turned (slice_cmp nat_cmp (entries t) (entries s)) (sym (nat_list_cmp_total.antisymm (entries s) (entries t)) ∙ e)))
-
-pub table_page_unique : (p : Presentation) (n : ℕ) → 0 < p.letters → (cursor : Option Rows) (count : ℕ) (xs ys : List Rows) (m m' : Bool)
-    → IsPage (IsLowIndex p n) TableLess cursor count xs m → IsPage (IsLowIndex p n) TableLess cursor count ys m' → (xs ≡ ys) × (m ≡ m')
-table_page_unique p n some = page_unique (IsLowIndex p n) TableLess (table_order p n some)
-
-pub table_page_join : (p : Presentation) (n : ℕ) → 0 < p.letters → (cursor : Option Rows) (a b : ℕ) (xs ys : List Rows) (more : Bool)
-    → IsPage (IsLowIndex p n) TableLess cursor a xs true → IsPage (IsLowIndex p n) TableLess (last_of cursor xs) b ys more
-    → IsPage (IsLowIndex p n) TableLess cursor (a + b) (xs ++ ys) more
-table_page_join p n some = page_join (IsLowIndex p n) TableLess (table_order p n some)
-
-pub table_page_full : (p : Presentation) (n : ℕ) → 0 < p.letters → (cursor : Option Rows) (count : ℕ) (xs : List Rows) (more : Bool)
-    → IsPage (IsLowIndex p n) TableLess cursor count xs more → (y : Rows) → IsLowIndex p n y → IsAfter TableLess cursor y
-    → ((before after : List Rows) × (xs ≡ before ++ (y ∷ after))) ⊎ IsAfter TableLess (last_of cursor xs) y
-table_page_full p n some cursor count xs more page =
-    start_full (IsLowIndex p n) TableLess (table_order p n some) cursor xs
-    (page_start (IsLowIndex p n) TableLess (table_order p n some) cursor count xs more page)
 
 -- a path in two parts
 pub path_bind : (g : Graph) (node : ℕ) (u v : Word) → path g node (u ++ v) ≡ option_and_then (λ m. path g m v) (path g node u)

@@ -1,14 +1,13 @@
 -- Two-sided tables.
-use Rattle.std.proofs.Common.{◌≡◌, ℕ, ◌+◌, ◌<◌, Bool, true, List, [], ◌∷◌, ◌++◌, length, sym, ◌∙◌, ◌⊎◌, ◌↔◌, Option, Some}
+use Rattle.std.proofs.Common.{◌≡◌, ℕ, ◌<◌, [], ◌∷◌, ◌++◌, length, sym, ◌∙◌, ◌↔◌, Some}
 use Rattle.theory.specs.Word.{Word}
 use Rattle.theory.specs.Congruence.{Presentation}
-use Rattle.theory.specs.Listing.{IsAfter, IsPage, last_of}
+use Rattle.theory.specs.Listing.{IsStrictOrder}
 use Rattle.theory.specs.Graph.{Graph, target, path, SameEnd, IsCompleteTable}
-use Rattle.theory.specs.LowIndex.{Rows, TableLess}
+use Rattle.theory.specs.LowIndex.{TableLess}
 use Rattle.theory.specs.Lattice.{IsRightCongruence}
 use Rattle.theory.specs.TwoSidedTable.{SameEndFrom, IsTwoSidedTable, IsKeptInFront, AreNodeWords, AgreesAtLetters, IsTwoSidedLowIndex}
 use Rattle.theory.proofs.GraphLaws.{path_append, path_letter, complete_path}
-use Rattle.theory.proofs.Listings.{IsStrictOrder, page_unique, page_join, page_start, start_full}
 use Rattle.theory.proofs.TableLaws.{table_order}
 use Rattle.theory.proofs.LatticeLaws.{table_congruence, path_inside, edges_relate}
 
@@ -82,20 +81,3 @@ pub two_sided_order : (p : Presentation) (n : ℕ) → 0 < p.letters → IsStric
 two_sided_order p n some =
     let order = table_order p n some in
     record { cases = λ s t hs ht. order.cases s t hs.low ht.low; irrefl = order.irrefl; trans = order.trans }
-
-pub two_sided_page_unique : (p : Presentation) (n : ℕ) → 0 < p.letters → (cursor : Option Rows) (count : ℕ) (xs ys : List Rows) (m m' : Bool)
-    → IsPage (IsTwoSidedLowIndex p n) TableLess cursor count xs m → IsPage (IsTwoSidedLowIndex p n) TableLess cursor count ys m'
-    → (xs ≡ ys) × (m ≡ m')
-two_sided_page_unique p n some = page_unique (IsTwoSidedLowIndex p n) TableLess (two_sided_order p n some)
-
-pub two_sided_page_join : (p : Presentation) (n : ℕ) → 0 < p.letters → (cursor : Option Rows) (a b : ℕ) (xs ys : List Rows) (more : Bool)
-    → IsPage (IsTwoSidedLowIndex p n) TableLess cursor a xs true → IsPage (IsTwoSidedLowIndex p n) TableLess (last_of cursor xs) b ys more
-    → IsPage (IsTwoSidedLowIndex p n) TableLess cursor (a + b) (xs ++ ys) more
-two_sided_page_join p n some = page_join (IsTwoSidedLowIndex p n) TableLess (two_sided_order p n some)
-
-pub two_sided_page_full : (p : Presentation) (n : ℕ) → 0 < p.letters → (cursor : Option Rows) (count : ℕ) (xs : List Rows) (more : Bool)
-    → IsPage (IsTwoSidedLowIndex p n) TableLess cursor count xs more → (y : Rows) → IsTwoSidedLowIndex p n y → IsAfter TableLess cursor y
-    → ((before after : List Rows) × (xs ≡ before ++ (y ∷ after))) ⊎ IsAfter TableLess (last_of cursor xs) y
-two_sided_page_full p n some cursor count xs more page =
-    start_full (IsTwoSidedLowIndex p n) TableLess (two_sided_order p n some) cursor xs
-    (page_start (IsTwoSidedLowIndex p n) TableLess (two_sided_order p n some) cursor count xs more page)

@@ -1,8 +1,8 @@
-// Classes of words, their least words, and pages of them.
-ghost use Rattle.std.specs.Prelude.{◌≡◌, ℕ, ◌+◌, ◌<◌, ◌↔◌, ◌⊎◌, Bool, true, List, ◌∷◌, ◌++◌, length, Option};
+// Classes of words, and their least words.
+ghost use Rattle.std.specs.Prelude.{◌≡◌, ℕ, ◌<◌, ◌↔◌, List, length, Option};
 ghost use Rattle.theory.specs.Word.{Word};
 ghost use Rattle.theory.specs.ShortLex.{◌≺◌};
-ghost use Rattle.theory.specs.Listing.{IsAfter, IsNext, IsPage, last_of};
+ghost use Rattle.theory.specs.Listing.{IsNext};
 ghost use Rattle.theory.specs.Congruence.{Congruence};
 ghost use Rattle.theory.specs.Class.{SameClass, IsLeast, IsNormal, IsClassList, HasIndex, HasMoreThan, IsInfinite, IsRuleList, Covers};
 
@@ -18,30 +18,6 @@ pub fn normal_form_is_one()
 pub fn normal_forms_decide()
     ensures { (c : Congruence) (u v x y : Word) → IsNormal (SameClass c) u x
         → IsNormal (SameClass c) v y → SameClass c u v ↔ (x ≡ y) }
-{}
-
-/// After a cursor there is at most one page of each size.
-pub fn page_is_one()
-    ensures { (c : Congruence) (cursor : Option Word) (count : ℕ) (xs ys : List Word) (m n : Bool)
-        → IsPage (IsLeast (SameClass c)) ◌≺◌ cursor count xs m
-        → IsPage (IsLeast (SameClass c)) ◌≺◌ cursor count ys n → (xs ≡ ys) × (m ≡ n) }
-{}
-
-/// A page, and the page after its last word, join to a page.
-pub fn pages_join()
-    ensures { (c : Congruence) (cursor : Option Word) (m n : ℕ) (xs ys : List Word) (more : Bool)
-        → IsPage (IsLeast (SameClass c)) ◌≺◌ cursor m xs true
-        → IsPage (IsLeast (SameClass c)) ◌≺◌ (last_of cursor xs) n ys more
-        → IsPage (IsLeast (SameClass c)) ◌≺◌ cursor (m + n) (xs ++ ys) more }
-{}
-
-/// A page leaves nothing out: a least word after its cursor is in it or comes after its last.
-pub fn page_is_full()
-    ensures { (c : Congruence) (cursor : Option Word) (count : ℕ) (xs : List Word) (more : Bool)
-        → IsPage (IsLeast (SameClass c)) ◌≺◌ cursor count xs more → (y : Word)
-        → IsLeast (SameClass c) y → IsAfter ◌≺◌ cursor y
-        → ((before after : List Word) × (xs ≡ before ++ (y ∷ after)))
-        ⊎ IsAfter ◌≺◌ (last_of cursor xs) y }
 {}
 
 /// There is at most one class list.

@@ -12,6 +12,7 @@ pub mod kinds;
 pub mod lattice;
 pub mod marked;
 pub mod order;
+pub mod pages;
 pub mod predicates;
 pub mod steps;
 pub mod tables;

@@ -1,4 +1,5 @@
-// Sets of words, and relations on words and on numbers, for laws that hold of each.
+// Sets of words, relations on words and on numbers, and things in an order, for laws that hold of
+// each.
 ghost use Rattle.std.specs.Prelude.{ℕ};
 ghost use Rattle.theory.specs.Word.{Word};
 
@@ -15,4 +16,13 @@ pub trait Relation {
 /// A relation on numbers.
 pub trait Numbers {
     ghost relates: { ℕ → ℕ → Type 0 };
+}
+
+/// Things in an order, some of which have a property.
+pub trait Ordered {
+    ghost Item: { Type 0 };
+
+    ghost has: { Item → Type 0 };
+
+    ghost less: { Item → Item → Type 0 };
 }

@@ -1,14 +1,11 @@
 // Tables of two-sided congruences.
-ghost use Rattle.std.specs.Prelude.{◌≡◌, ℕ, ◌+◌, ◌<◌, ◌↔◌, ◌⊎◌, Bool, true, List, ◌∷◌, ◌++◌, Option};
+ghost use Rattle.std.specs.Prelude.{ℕ, ◌↔◌, List};
 ghost use Rattle.theory.specs.Word.{Word, IsOver};
-ghost use Rattle.theory.specs.Congruence.{Presentation};
-ghost use Rattle.theory.specs.Listing.{IsAfter, IsPage, last_of};
 ghost use Rattle.theory.specs.Graph.{Graph, SameEnd, IsCompleteTable};
 ghost use Rattle.theory.specs.Chain.{Related};
 ghost use Rattle.theory.specs.Lattice.{AreEdgePairs, free_with};
 ghost use Rattle.theory.specs.declared.Kind.TheVariants.{TwoSided, Right};
-ghost use Rattle.theory.specs.LowIndex.{Rows, TableLess};
-ghost use Rattle.theory.specs.TwoSidedTable.{IsTwoSidedTable, IsKeptInFront, AreNodeWords, AgreesAtLetters, IsTwoSidedLowIndex};
+ghost use Rattle.theory.specs.TwoSidedTable.{IsTwoSidedTable, IsKeptInFront, AreNodeWords, AgreesAtLetters};
 
 /// A table is two-sided exactly where its path equality is kept under multiplication on the left,
 /// and for this it is enough to follow its edges from each node to which a letter leads from the
@@ -30,25 +27,4 @@ pub fn tables_are_generated_by_edges()
         → IsCompleteTable k g → AreEdgePairs k g word pairs
         → IsTwoSidedTable g ↔ ((u v : Word) → IsOver k u
         → Related (free_with k TwoSided pairs) u v ↔ SameEnd g u v) }
-{}
-
-/// After a cursor there is at most one page of two-sided tables of each size; pages join, and leave
-/// no table out.
-pub fn two_sided_page_is_one()
-    ensures one { (p : Presentation) (n : ℕ) → 0 < p.letters
-        → (cursor : Option Rows) (count : ℕ) (xs ys : List Rows) (m m' : Bool)
-        → IsPage (IsTwoSidedLowIndex p n) TableLess cursor count xs m
-        → IsPage (IsTwoSidedLowIndex p n) TableLess cursor count ys m'
-        → (xs ≡ ys) × (m ≡ m') }
-    ensures join { (p : Presentation) (n : ℕ) → 0 < p.letters
-        → (cursor : Option Rows) (a b : ℕ) (xs ys : List Rows) (more : Bool)
-        → IsPage (IsTwoSidedLowIndex p n) TableLess cursor a xs true
-        → IsPage (IsTwoSidedLowIndex p n) TableLess (last_of cursor xs) b ys more
-        → IsPage (IsTwoSidedLowIndex p n) TableLess cursor (a + b) (xs ++ ys) more }
-    ensures full { (p : Presentation) (n : ℕ) → 0 < p.letters
-        → (cursor : Option Rows) (count : ℕ) (xs : List Rows) (more : Bool)
-        → IsPage (IsTwoSidedLowIndex p n) TableLess cursor count xs more → (y : Rows)
-        → IsTwoSidedLowIndex p n y → IsAfter TableLess cursor y
-        → ((before after : List Rows) × (xs ≡ before ++ (y ∷ after)))
-        ⊎ IsAfter TableLess (last_of cursor xs) y }
 {}
