@@ -3,10 +3,9 @@ use Rattle.std.proofs.Common.{◌≡◌, ℕ, ◌≤◌, ◌++◌, length, sym, 
 use Rattle.std.proofs.lemmas.List.Elements.{All-contains}
 use Rattle.theory.specs.Word.{Word, IsElement, IsProperFactor}
 use Rattle.theory.specs.ShortLex.{◌≺◌}
-use Rattle.theory.specs.Congruence.{Presentation, Congruence, IsWellFormed, of_presentation, with_relations}
+use Rattle.theory.specs.Congruence.{Presentation, Congruence, IsTwoSided, IsWellFormed, of_presentation, with_relations}
 use Rattle.theory.specs.Chain.{Related}
 use Rattle.theory.specs.Class.{SameClass, IsLeast, IsReducedRule}
-use Rattle.theory.specs.Decided.{CompletionDecides}
 use Rattle.theory.specs.Completion.{Within, symmetric, transitive, Rule, Reduces, IsReduced, Joinable, CompletionEnds, HasLongSide, HasBadOverlap}
 use Rattle.theory.proofs.Words.{before_context, before_irrefl, before_trans}
 use Rattle.theory.proofs.Chains.{joined_refl, joined_one, related_congruence}
@@ -49,12 +48,12 @@ completed_reduced p L is ends u v x y down_u here down_v there = (to, from)
     from : x ≡ y → Related (of_presentation p) u v
     from e = (completed_joinable p L is ends u v).1 (record { word = y; left = subst (λ w. Reduces (Rule p L) u w) e down_u; right = down_v })
 
--- a congruence that completion decides
-pub completion_decides : (c : Congruence) (L : ℕ) → IsWellFormed c → CompletionDecides c L → (u v : Word)
+-- a congruence whose pairs are relations, and that is completed
+pub completion_decides : (c : Congruence) (L : ℕ) → IsWellFormed c → IsTwoSided c → CompletionEnds (with_relations c.presentation c.pairs) L → (u v : Word)
     → Related c u v ↔ Joinable (Rule (with_relations c.presentation c.pairs) L) u v
-completion_decides c L is decides u v =
-    let one = pairs_as_relations c decides.0 u v in
-    let two = completed_joinable (with_relations c.presentation c.pairs) L (relations_well_formed c is) decides.1 u v in
+completion_decides c L is two_sided ends u v =
+    let one = pairs_as_relations c two_sided u v in
+    let two = completed_joinable (with_relations c.presentation c.pairs) L (relations_well_formed c is) ends u v in
     (λ h. two.0 (one.0 h), λ h. one.1 (two.1 h))
 
 -- whichever rules are applied, the words meet

@@ -18,5 +18,4 @@ pub mod Backwards
 pub mod Lattice
 pub mod Green
 pub mod TwoSidedTable
-pub mod Decided
 pub mod Examples

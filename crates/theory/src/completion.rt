@@ -2,10 +2,9 @@
 ghost use Rattle.std.specs.Prelude.{List, ◌≡◌, ℕ, ◌↔◌, ◌⊎◌};
 ghost use Rattle.theory.specs.Word.{Word, IsElement, IsProperFactor};
 ghost use Rattle.theory.specs.ShortLex.{◌≺◌};
-ghost use Rattle.theory.specs.Congruence.{Presentation, Congruence, IsWellFormed, of_presentation, with_relations};
+ghost use Rattle.theory.specs.Congruence.{Presentation, Congruence, IsTwoSided, IsWellFormed, of_presentation, with_relations};
 ghost use Rattle.theory.specs.Chain.{Related};
 ghost use Rattle.theory.specs.Class.{SameClass, IsLeast, IsReducedRule};
-ghost use Rattle.theory.specs.Decided.{CompletionDecides};
 ghost use Rattle.theory.specs.Completion.{Within, Rule, Reduces, IsReduced, Joinable, OverlapsJoin, CompletionEnds, HasLongSide, HasBadOverlap, Listed, AreRules};
 
 /// Each rule leads to a lesser word, a left side has one right side, and none stands inside
@@ -48,10 +47,11 @@ pub fn completion_is_complete()
         → Related (of_presentation p) u v ↔ (x ≡ y) }
 {}
 
-/// Where completion decides a congruence, its rules lead two words to one exactly where they are
-/// related.
+/// Where a two-sided congruence is completed with its pairs as relations, the rules lead two words
+/// to one exactly where they are related.
 pub fn completion_decides()
-    ensures { (c : Congruence) (L : ℕ) → IsWellFormed c → CompletionDecides c L
+    ensures { (c : Congruence) (L : ℕ) → IsWellFormed c → IsTwoSided c
+        → CompletionEnds (with_relations c.presentation c.pairs) L
         → (u v : Word) → Related c u v ↔ Joinable
         (Rule (with_relations c.presentation c.pairs) L) u v }
 {}
