@@ -14,7 +14,7 @@ use Rattle.sims_one.specs.Graphs.{AreAtMost, HaveSamePaths, StandsFor}
 use Rattle.sims_one.proofs.LowIndexLaws.{relation_words}
 
 -- an edge is at a node
-inside : (rows : Rows) (i b m : ℕ) → target (graph_of rows) i b ≡ Some m → i < length rows
+pub inside : (rows : Rows) (i b m : ℕ) → target (graph_of rows) i b ≡ Some m → i < length rows
 inside [] i b m e = cc
 inside (row ∷ rows) zero b m e = omega arith
 inside (row ∷ rows) (suc i) b m e = omega (arith, inside rows i b m e)

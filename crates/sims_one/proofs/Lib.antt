@@ -15,3 +15,4 @@ pub mod PlaceLaws
 pub mod RankLaws
 pub mod WantedLaws
 pub mod PageLaws
+pub mod CongruenceTables
