@@ -19,3 +19,4 @@ pub mod TotalLaw
 pub mod ScriptLaw
 pub mod PowerWordLaws
 pub mod RoleLemmas
+pub mod TokenLaws

@@ -1,5 +1,5 @@
 -- The lines of a script and their tokens.
-use Rattle.std.specs.Prelude.{ℕ, ◌+◌, ◌-◌, ◌*◌, Bool, true, false, not, ◌&&◌, ◌||◌, ◌==◌, nat_le, List, [], ◌∷◌, length, codes, filter, fold, if◌then◌else◌, Option, Some, None, option_and_then}
+use Rattle.std.specs.Prelude.{◌≡◌, ◌≢◌, ◌⊎◌, ℕ, ◌+◌, ◌-◌, ◌*◌, ◌^◌, ◌<◌, ◌≤◌, ◌++◌, All, decimal, replicate, Bool, true, false, not, ◌&&◌, ◌||◌, ◌==◌, nat_le, List, [], ◌∷◌, length, codes, filter, fold, if◌then◌else◌, Option, Some, None, option_and_then}
 use Rattle.std.specs.List.{slice_split, list_all}
 use Rattle.std.specs.Cmp.Lexicographic.{pointwise}
 use Rattle.words.specs.Alphabet.{is_letter}
@@ -16,9 +16,28 @@ Line = List Token
 abbrev pub is_blank : ℕ → Bool
 is_blank b = (b == 32) || ((b == 9) || (b == 13))
 
+-- the first byte is blank
+abbrev pub StartsBlank : List ℕ → Type 0
+StartsBlank [] = ⊥
+StartsBlank (b ∷ bytes) = is_blank b ≡ true
+
 -- the longest runs of bytes that are not blank
 abbrev pub tokens_of : List ℕ → Line
 tokens_of bytes = filter (λ t. not (length t == 0)) (slice_split is_blank bytes)
+
+-- behind blanks the token stands first, and goes on to the next blank or to the end
+pub record IsFirstToken (bytes t rest : List ℕ) : Type 0 where
+  pub gap : List ℕ
+  pub blank : All (λ b. is_blank b ≡ true) gap
+  pub parts : bytes ≡ gap ++ (t ++ rest)
+  pub some : t ≢ []
+  pub dense : All (λ b. is_blank b ≡ false) t
+  pub ends : rest ≡ [] ⊎ StartsBlank rest
+
+-- the tokens stand one behind another, each a longest run of bytes that are not blank
+abbrev pub AreTokens : List ℕ → Line → Type 0
+AreTokens bytes [] = All (λ b. is_blank b ≡ true) bytes
+AreTokens bytes (t ∷ tokens) = (rest : List ℕ) × IsFirstToken bytes t rest × AreTokens rest tokens
 
 -- a line with no token is skipped, and so is one whose first token begins with `#`
 abbrev pub is_kept : Line → Bool
@@ -43,6 +62,11 @@ number_of t =
     if nat_le 1 (length t) && (nat_le (length t) 7 && list_all is_digit t)
     then Some (fold (λ n b. n * 10 + (b - 48)) 0 t)
     else None
+
+-- the text is the number in decimal, behind leading zeros, and has at most seven digits
+abbrev pub IsNumberText : ℕ → Token → Type 0
+IsNumberText n t = (n < 10 ^ 7) × (length t ≤ 7)
+    × ((zeros : ℕ) × (t ≡ replicate zeros 48 ++ decimal n))
 
 -- a number in its range
 abbrev pub number_within : ℕ → ℕ → Token → Option ℕ

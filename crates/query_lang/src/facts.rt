@@ -1,5 +1,5 @@
 // Laws of scripts.
-ghost use Rattle.std.specs.Prelude.{◌≡◌, ℕ, Bool, ◌↔◌, ◌⊎◌, List, Option, None, Result, Ok, Err};
+ghost use Rattle.std.specs.Prelude.{◌≡◌, ℕ, Bool, ◌↔◌, ◌⊎◌, List, Option, None, Some, Result, Ok, Err};
 ghost use Rattle.theory.specs.Graph.{Graph};
 ghost use Rattle.theory.specs.Word.{Word};
 ghost use Rattle.words.specs.Alphabet.{IsAlphabet};
@@ -12,7 +12,7 @@ ghost use Rattle.query_lang.specs.LineCauses.{AreScript, IsFirstFault, cause_of_
 ghost use Rattle.query_lang.specs.PowerWords.{powers_of};
 ghost use Rattle.query_lang.specs.Script.{script_of};
 ghost use Rattle.query_lang.specs.Tables.{BreaksRelation, IsCongruenceTable, IsLowTable, IsTable, IsTextOf, congruence_table_of, low_table_of};
-ghost use Rattle.query_lang.specs.Token.{Line, Token};
+ghost use Rattle.query_lang.specs.Token.{AreTokens, IsNumberText, Line, Token, number_of, tokens_of};
 
 /// After whatever lines, a line is read exactly where it has no cause of refusal, and then to one
 /// partial script.
@@ -23,6 +23,18 @@ pub fn line_is_read_or_refused()
         → cause_of_line before line ≡ None }
     ensures one { (before one other : Said) (line : Line)
         → Step before line one → Step before line other → one ≡ other }
+{}
+
+/// The tokens of a line are its longest runs of bytes without blanks, in order.
+pub fn tokens_are_longest_runs()
+    ensures { (bytes : List ℕ) (tokens : Line)
+        → (tokens_of bytes ≡ tokens) ↔ AreTokens bytes tokens }
+{}
+
+/// A token is read to a number exactly where it is the number in decimal, perhaps behind leading
+/// zeros, and has at most seven digits; each other token is refused.
+pub fn numbers_are_decimals()
+    ensures { (t : Token) (n : ℕ) → (number_of t ≡ Some n) ↔ IsNumberText n t }
 {}
 
 /// Bytes are one script, or have one first fault, and not both.
