@@ -78,7 +78,7 @@ pub transf_tables : (p : Problem) (task : PairsTask (List ℕ)) (t : CayleyTable
 transf_tables (problem.Presented p) task t is tables = absurd is
 transf_tables (problem.Transf p) task t is tables =
     let are : AreTablesOf composed (pointwise ◌==◌) p.generators [] t = subst (λ (gs : List (List ℕ)). AreTablesOf composed (pointwise ◌==◌) gs [] t) (ap (λ (s : PairsTask (List ℕ)). s.generators) is) (tables []) in
-    record { fit = are.fit; letters = are.letters; graphs = graphs composed_products p.generators [] t are }
+    record { fit = are.fit; letters = are.letters; graphs = graphs composed_products p.generators [] t are; every = are.every }
 transf_tables (problem.PPerm p) task t is tables = absurd is
 transf_tables (problem.BMat p) task t is tables = absurd is
 transf_tables (problem.MaxPlus p) task t is tables = absurd is
@@ -89,7 +89,7 @@ pperm_tables (problem.Presented p) task t is tables = absurd is
 pperm_tables (problem.Transf p) task t is tables = absurd is
 pperm_tables (problem.PPerm p) task t is tables =
     let are : AreTablesOf partially_composed (pointwise (option_eq ◌==◌)) p.generators [] t = subst (λ (gs : List (List (Option ℕ))). AreTablesOf partially_composed (pointwise (option_eq ◌==◌)) gs [] t) (ap (λ (s : PairsTask (List (Option ℕ))). s.generators) is) (tables []) in
-    record { fit = are.fit; letters = are.letters; graphs = graphs partial_products p.generators [] t are }
+    record { fit = are.fit; letters = are.letters; graphs = graphs partial_products p.generators [] t are; every = are.every }
 pperm_tables (problem.BMat p) task t is tables = absurd is
 pperm_tables (problem.MaxPlus p) task t is tables = absurd is
 
@@ -100,7 +100,7 @@ bmat_tables (problem.Transf p) task t is tables = absurd is
 bmat_tables (problem.PPerm p) task t is tables = absurd is
 bmat_tables (problem.BMat p) task t is tables =
     let are : AreTablesOf boolean_product boolean_matrix_eq p.generators no_matrix t = subst (λ (gs : List BooleanMatrix). AreTablesOf boolean_product boolean_matrix_eq gs no_matrix t) (ap (λ (s : PairsTask BooleanMatrix). s.generators) is) (tables no_matrix) in
-    record { fit = are.fit; letters = are.letters; graphs = graphs boolean_products p.generators no_matrix t are }
+    record { fit = are.fit; letters = are.letters; graphs = graphs boolean_products p.generators no_matrix t are; every = are.every }
 bmat_tables (problem.MaxPlus p) task t is tables = absurd is
 
 pub mpt_tables : (p : Problem) (task : PairsTask TruncatedMatrix) (t : CayleyTables) → IsTaskFor p (TruncatedMatrices task)
@@ -111,7 +111,7 @@ mpt_tables (problem.PPerm p) task t is tables = absurd is
 mpt_tables (problem.BMat p) task t is tables = absurd is
 mpt_tables (problem.MaxPlus p) task t is tables =
     let are : AreTablesOf truncated_product truncated_matrix_eq p.generators no_truncated_matrix t = subst (λ (gs : List TruncatedMatrix). AreTablesOf truncated_product truncated_matrix_eq gs no_truncated_matrix t) (ap (λ (s : PairsTask TruncatedMatrix). s.generators) is) (tables no_truncated_matrix) in
-    record { fit = are.fit; letters = are.letters; graphs = graphs truncated_products p.generators no_truncated_matrix t are }
+    record { fit = are.fit; letters = are.letters; graphs = graphs truncated_products p.generators no_truncated_matrix t are; every = are.every }
 
 -- and the classes too
 pub transf_classes : (p : Problem) (task : PairsTask (List ℕ)) (t : CayleyTables) (classes : List ℕ) → IsWellPosed p

@@ -141,7 +141,7 @@ module _ {V : Type 0} (shape : V → ℕ × ℕ) (product : V → V → V) (equa
       (λ c. slice_index_or generators c unused) unused shaped (length t.words) (word_at t) (edge t.right) (edge t.left) tables.numbered
 
   module _ (u v : Word) (e : IsElement false (length generators) u) (f : IsElement false (length generators) v) where
-    by_relation : (relation : Relation) → IsGreen relation product equal (length generators) (value_by product generators unused)
+    pub by_relation : (relation : Relation) → IsGreen relation product equal (length generators) (value_by product generators unused)
         (value_by product generators unused u) (value_by product generators unused v) ↔ AreRelated relation t (number_in t u) (number_in t v)
     by_relation R =
         subst (λ k. IsGreen R product equal (length generators) (value_by product generators unused) (value_by product generators unused u) (value_by product generators unused v)
@@ -178,11 +178,18 @@ module _ {V : Type 0} (shape : V → ℕ × ℕ) (product : V → V → V) (equa
       (tables.every u e).0 (tables.every v f).0 in
       (λ g. both.0 (by.0 g), λ s. by.1 (both.1 s))
 
+  -- a value is idempotent exactly where the number of its word is
+  pub told_at : (u : Word) → IsElement false (length generators) u
+      → IsIdempotent product equal (value_by product generators unused u) ↔ IsIdempotentAt t (number_in t u)
+  told_at u e =
+      let by = idempotent_leads (λ x. shape x ≡ shape (slice_index_or generators 0 unused)) product equal (products (shape (slice_index_or generators 0 unused))) (length generators)
+      (λ a. slice_index_or generators a unused) unused shaped (length t.words) (word_at t) (edge t.right) (edge t.left) tables.numbered u (number_in t u) (tables.every u e) in
+      (λ g. record { below = (tables.every u e).0; back = by.0 g }, λ at. by.1 at.back)
+
   pub told_by_numbers : (found : List ℕ) → IsListOf (IsIdempotentAt t) ◌<◌ None found → (u : Word) → IsElement false (length generators) u
       → IsIdempotent product equal (value_by product generators unused u) ↔ Contains found (number_in t u)
   told_by_numbers found l u e =
-      let by = idempotent_leads (λ x. shape x ≡ shape (slice_index_or generators 0 unused)) product equal (products (shape (slice_index_or generators 0 unused))) (length generators)
-      (λ a. slice_index_or generators a unused) unused shaped (length t.words) (word_at t) (edge t.right) (edge t.left) tables.numbered u (number_in t u) (tables.every u e) in (
-        λ g. contains_from_in (number_in t u) found (has_listed (IsIdempotentAt t) None found l (number_in t u) (record { below = (tables.every u e).0; back = by.0 g }) tt),
-        λ m. by.1 (listed_has (IsIdempotentAt t) None found l (number_in t u) (in_from_contains (number_in t u) found m)).back,
+      let by = told_at u e in (
+        λ g. contains_from_in (number_in t u) found (has_listed (IsIdempotentAt t) None found l (number_in t u) (by.0 g) tt),
+        λ m. by.1 (listed_has (IsIdempotentAt t) None found l (number_in t u) (in_from_contains (number_in t u) found m)),
       )

@@ -8,12 +8,12 @@ use Rattle.ports.specs.Writes.{Writes, WritesBytes}
 use Rattle.ports.proofs.WriteLemmas.{meant_bytes, same_bytes}
 use Rattle.theory.specs.Word.{Word}
 use Rattle.theory.specs.ShortLex.{◌≺◌}
-use Rattle.theory.specs.Listing.{IsListOf, IsAscending}
+use Rattle.theory.specs.Listing.{IsListOf, IsAscending, IsStrictOrder}
 use Rattle.theory.specs.Class.{IsLeast, IsClassList}
 use Rattle.theory.specs.Green.{AreClasses}
 use Rattle.theory.specs.declared.Relation.{Relation}
 use Rattle.theory.proofs.Counting.{IsIn}
-use Rattle.theory.proofs.Listings.{IsStrictOrder, list_from_ascending}
+use Rattle.theory.proofs.Listings.{list_from_ascending}
 use Rattle.theory.proofs.ClassLaws.{shortlex_strict}
 use Rattle.froidure_pin.specs.declared.tables.CayleyTables.{CayleyTables}
 use Rattle.froidure_pin.proofs.Starts.{at_in, start_ascending, ascending_between}
