@@ -1,8 +1,10 @@
 -- What a state keeps of a problem.
-use Rattle.std.specs.Prelude.{◌≡◌, IfSome, Some}
+use Rattle.std.specs.Prelude.{◌≡◌, IfSome, IsSome, Some}
 use Rattle.problem.specs.declared.kinds.Problem.{Problem}
 use Rattle.congruence.specs.Verdicts.{IsVerdictOf}
 use Rattle.report.specs.Chains.{IsLogOf}
+use Rattle.report.specs.declared.awaited.Awaited.{Awaited}
+use Rattle.report.specs.declared.awaited.Awaited.TheVariants.{Nothing, Decision, Log}
 use Rattle.report.specs.Known.{AreKnownOf, KeepsKnown}
 use Rattle.report.specs.declared.state.State.{State}
 
@@ -24,3 +26,9 @@ pub record KeepsFound (old new : State) : Type 0 where
   pub verdict : IfSome old.verdict (λ verdict. new.verdict ≡ Some verdict)
   pub completion : IfSome old.completion (λ completion. new.completion ≡ Some completion)
   pub elements : KeepsKnown old.elements new.elements
+
+-- what is waited for was found
+abbrev pub HasFound : Awaited → State → Type 0
+HasFound Nothing state = Unit {0}
+HasFound Decision state = IsSome state.verdict
+HasFound Log state = IsSome state.completion

@@ -1,5 +1,5 @@
 // The answers of queries.
-ghost use Rattle.std.specs.Prelude.{◌≡◌, ◌<◌, MatchOption};
+ghost use Rattle.std.specs.Prelude.{◌≡◌, ◌<◌, IsSome, MatchOption, OnOk};
 ghost use Rattle.ports.specs.Writes.{Writes};
 ghost use Rattle.congruence.specs.Verdicts.{IsVerdictOf};
 ghost use Rattle.problem.specs.Problem.{IsPosable};
@@ -7,7 +7,7 @@ ghost use Rattle.query_lang.specs.Query.{IsQueryOf};
 ghost use Rattle.report.specs.Answer.{awaited_by};
 ghost use Rattle.report.specs.Chains.{IsLogOf};
 ghost use Rattle.report.specs.Gains.{AreAnswerBytes};
-ghost use Rattle.report.specs.Kept.{KeepsFound, KeepsOf, KeepsSettings};
+ghost use Rattle.report.specs.Kept.{HasFound, KeepsFound, KeepsOf, KeepsSettings};
 
 use crate::awaited::{Awaited, awaited_by};
 use crate::logged::write_logged;
@@ -46,6 +46,7 @@ fn write_decided<O: Sink>(
     ensures kept { KeepsOf problem.now state.new }
     ensures settings { KeepsSettings state.old state.new }
     ensures stays { KeepsFound state.old state.new }
+    ensures found { OnOk result (IsSome state.new.verdict) }
     ensures written { Writes O.Sink (AreAnswerBytes problem.now state.old.budgets state.old.classes
         query.now) sink.old sink.new result }
 {
@@ -103,7 +104,8 @@ fn write_completed<O: Sink>(
 ///
 /// `Failed` comes only where the sink failed, and `NoMemory` for want of memory; the sink has then
 /// gained a prefix of the answer. What the state keeps is of this script's problem, and what it
-/// keeps afterwards too: what was found before stays, and nothing else in it changes.
+/// keeps afterwards too: what was found before stays, what the query waits for is kept where it is
+/// answered, and nothing else in it changes.
 pub fn write_answer<R: Threads + Sync, O: Sink, G: Gate + Sync>(
     rt: &R,
     alloc: Global,
@@ -119,6 +121,7 @@ pub fn write_answer<R: Threads + Sync, O: Sink, G: Gate + Sync>(
     ensures kept { KeepsOf script.now.problem state.new }
     ensures settings { KeepsSettings state.old state.new }
     ensures stays { KeepsFound state.old state.new }
+    ensures found { OnOk result (HasFound (awaited_by query.now) state.new) }
     ensures written { Writes O.Sink (AreAnswerBytes script.now.problem state.old.budgets
         state.old.classes query.now) sink.old sink.new result }
 {
