@@ -1,4 +1,7 @@
-// Elements of each kind: entries that are refused, copies, and the order.
+// Elements of each kind: entries that are refused, copies, the order, and more points than a script
+// has.
+ghost use Rattle.std.specs.Prelude.{◌≡◌, ◌<◌, IfOk, length};
+
 use elements::{BMat, Element, ElementFault, Field, MaxPlusTrunc, PPerm, Transf};
 use std::alloc::Global;
 use std::cmp::Ordering;
@@ -128,5 +131,26 @@ fn sums_end_at_the_greatest_bound(rt: HostRuntime) -> Result<(), Fail> {
     let greatest = MaxPlusTrunc::read(alloc, (1, u32::MAX), &[Field::Number(u32::MAX)])?;
     let sum = greatest.product(alloc, &greatest)?.print(alloc)?;
     assert_eq!(rt; sum.as_slice(), b"4294967295".as_slice());
+    Ok(())
+}
+
+// The map of so many points to the last one.
+fn constant(alloc: Global, degree: u32) -> Result<Transf, Fail>
+    requires { 0 < degree }
+    ensures { IfOk result (λ made. length made ≡ degree) }
+{
+    let fields = Vec::from_elem(alloc, Field::Number(degree - 1), degree as usize)?;
+    Ok(Transf::read(alloc, degree, &fields)?)
+}
+
+// Images of 256 points are bytes, and those of 257 numbers of four bytes.
+#[test]
+fn multiplies_maps_of_many_points(rt: HostRuntime) -> Result<(), Fail> {
+    let alloc = rt.alloc();
+    let fewer = constant(alloc, 256)?;
+    let last = constant(alloc, 257)?;
+    assert!(rt; fewer.product(alloc, &fewer)? == fewer);
+    assert!(rt; last.product(alloc, &last)? == last);
+    assert!(rt; fewer < last);
     Ok(())
 }
