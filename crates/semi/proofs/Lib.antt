@@ -4,3 +4,4 @@ pub mod UniqueReport
 pub mod MadeLaw
 pub mod RunLaws
 pub mod EndLaws
+pub mod PassLaws

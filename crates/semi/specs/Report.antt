@@ -117,6 +117,10 @@ pub record IsReport (settings : Settings) (input report : List ℕ) (undecided :
   pub is_script : IsScript input script
   pub are_lines : AreLines settings script.problem script.queries report undecided
 
+-- the input has a report, with an undecided answer or with none
+abbrev pub HasReport : Settings → List ℕ → Bool → Type 0
+HasReport settings input undecided = (report : List ℕ) × IsReport settings input report undecided
+
 -- the sink gained the report of the input
 pub record GainsReport (settings : Settings) (input : List ℕ) (undecided : Bool)
     (old new : Option (List ℕ)) : Type 0 where

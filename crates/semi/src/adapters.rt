@@ -1,5 +1,5 @@
 // Streams of the outside as sources and sinks. They tell no content.
-ghost use Rattle.std.specs.Prelude.{◌≡◌, [], None, IfErr, OnErr, OnOk};
+ghost use Rattle.std.specs.Prelude.{◌≡◌, ◌≤◌, [], None, IfErr, OnErr, OnOk};
 ghost use Rattle.std.specs.Io.Buffered.{writer_buffer};
 ghost use Rattle.ports.specs.Bytes.{Rose};
 
@@ -60,6 +60,7 @@ impl<W: Write + Drop> OutputSink<BufWriter<W>> {
     pub fn flush(&mut self) -> Result<(), WriteFault>
         ensures passed { OnOk result (writer_buffer self.new.writer ≡ []) }
         ensures kept { OnOk result (self.new.faults ≡ self.old.faults) }
+        ensures counted { self.old.faults ≤ self.new.faults }
         ensures failed { OnErr result (Rose self.old.faults self.new.faults) }
         ensures fault { IfErr result (λ fault. fault ≡ WriteFault.Failed) }
     {

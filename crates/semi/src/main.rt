@@ -4,8 +4,14 @@
 //! in place of reading one.
 #![tactic(auto)]
 
-ghost use Rattle.std.specs.Prelude.{◌≡◌, ◌≤◌, []};
+ghost use Rattle.std.specs.Prelude.{◌≡◌, ◌≤◌, ◌⊎◌, [], false, true, map, string_bytes};
 ghost use Rattle.std.specs.Io.Buffered.{writer_buffer};
+ghost use Rattle.ports.specs.Bytes.{Rose};
+ghost use Rattle.query_lang.specs.Asked.{ScriptOf};
+ghost use Rattle.settings.specs.Settings.{AreAccepted, AreRefused};
+ghost use Rattle.semi.specs.Made.{OnInput};
+ghost use Rattle.semi.specs.Report.{GainsLineOf, HasReport, IsRefused, IsScript};
+ghost use Rattle.semi.specs.Status.{status_of};
 
 mod adapters;
 #[cfg(test)]
@@ -47,7 +53,32 @@ fn buffered<W: Write + Drop>(alloc: Global, writer: W) -> Result<OutputSink<BufW
     }
 }
 
-// The status of the program, once what the sink kept back has left it.
+// The status once the sink has passed on what it kept back. Where that fails, the report is not
+// whole; a status that tells of a fault stays.
+fn pass_on<W: Write + Drop, E: Sink>(
+    status: u8,
+    out: &mut OutputSink<BufWriter<W>>,
+    err: &mut E,
+) -> u8
+    ensures status { ((result ≡ status) × (err.new ≡ err.old))
+        ⊎ ((status ≤ 1) × (result ≡ status_of Fault.Write) × Rose out.old.faults out.new.faults
+        × GainsLineOf E.Sink Fault.Write err.old err.new) }
+    ensures passed { result ≤ 1 → writer_buffer out.new.writer ≡ [] }
+    ensures quiet { result ≤ 1 → out.new.faults ≡ out.old.faults }
+    ensures counted { out.old.faults ≤ out.new.faults }
+{
+    if status > 1 {
+        let _ = out.flush();
+        return status;
+    }
+    match out.flush() {
+        Ok(()) => status,
+        Err(fault) => Fault::from(fault).tell(err),
+    }
+}
+
+// The program over a sink that keeps back what it takes: as `semi`, but that a whole report which
+// does not leave the sink is a fault of the sink.
 fn run<R: Threads + Sync, S: Source, W: Write + Drop, E: Sink>(
     rt: &R,
     alloc: Global,
@@ -56,15 +87,41 @@ fn run<R: Threads + Sync, S: Source, W: Write + Drop, E: Sink>(
     out: &mut OutputSink<BufWriter<W>>,
     err: &mut E,
 ) -> u8
-    ensures quiet { result ≤ 1 → out.new.faults ≡ out.old.faults }
+    // the whole report has left the sink, at 1 with an undecided answer
+    ensures decided { result ≡ 0 → OnInput (map string_bytes words.now.items) (S.left source.old)
+        (λ settings input. HasReport settings input false) }
+    ensures undecided { result ≡ 1 → OnInput (map string_bytes words.now.items) (S.left source.old)
+        (λ settings input. HasReport settings input true) }
     ensures passed { result ≤ 1 → writer_buffer out.new.writer ≡ [] }
+    ensures quiet { result ≤ 1 → (S.faults source.new ≡ S.faults source.old)
+        × (out.new.faults ≡ out.old.faults) }
+
+    // each other status has its cause, and is told
+    ensures refused { result ≡ 2 → OnInput (map string_bytes words.now.items) (S.left source.old)
+        (λ _. IsRefused) }
+    ensures arguments { result ≡ 3 → AreRefused (map string_bytes words.now.items) }
+    ensures read { result ≡ 4 → Rose (S.faults source.old) (S.faults source.new) }
+    ensures write { result ≡ 5 → Rose out.old.faults out.new.faults }
+    ensures range { result ≤ 6 }
+    ensures told { 2 ≤ result → (fault : Fault) × (result ≡ status_of fault)
+        × GainsLineOf E.Sink fault err.old err.new }
+    ensures err_untouched { result ≤ 1 → err.new ≡ err.old }
+
+    // words that are refused give 3, a refused input 2, and a script its whole report, where
+    // nothing fails and memory is not wanting
+    ensures rejects { AreRefused (map string_bytes words.now.items) → (result ≡ 3) ⊎ (result ≡ 6) }
+    ensures refuses { AreAccepted (map string_bytes words.now.items)
+        → (Rose (S.faults source.old) (S.faults source.new) → ⊥)
+        → (result ≡ 6) ⊎ OnInput (map string_bytes words.now.items) (S.left source.old)
+        (λ _ input. IsRefused input → result ≡ 2) }
+    ensures answers { AreAccepted (map string_bytes words.now.items)
+        → (Rose (S.faults source.old) (S.faults source.new) → ⊥)
+        → (Rose out.old.faults out.new.faults → ⊥)
+        → (result ≡ 6) ⊎ OnInput (map string_bytes words.now.items) (S.left source.old)
+        (λ _ input. (script : ScriptOf) → IsScript input script → result ≤ 1) }
 {
     let status = semi(rt, alloc, words, source, out, err, &Open);
-    match out.flush() {
-        // A greater status has been told already.
-        Err(fault) if status <= 1 => Fault::from(fault).tell(err),
-        _ => status,
-    }
+    pass_on(status, out, err)
 }
 
 // The run by the words of the command line, where what the sink takes is kept back.
