@@ -5,7 +5,7 @@ use Rattle.std.specs.Cmp.Lexicographic.{pointwise}
 use Rattle.std.specs.List.{starts_with}
 use Rattle.std.proofs.lemmas.Bool.{cases_Bool, cases_lt, or_cases, or_left, or_right}
 use Rattle.std.proofs.lemmas.Bool.Decides.{Decides-eqb}
-use Rattle.std.proofs.lemmas.List.{append_assoc, append_cancel_left, take_at, drop_at, nil_from_length, get_or_default, drop-drop, take_rest}
+use Rattle.std.proofs.lemmas.List.{append_assoc, append_cancel_left, take_at, drop_at, get_or_default, drop-drop, take_rest}
 use Rattle.std.proofs.lemmas.Slice.Eq.{starts_is}
 use Rattle.theory.specs.Word.{Word, IsFactor, IsOver}
 use Rattle.theory.specs.ShortLex.{◌≺◌}
@@ -53,15 +53,15 @@ stands_behind f u x y e = record {
 pub factor_from : (f u : Word) (place : ℕ) → StandsAt f u place → IsFactor f u
 factor_from f u place h = record { before = take place u; after = h.after; is = h.is }
 
--- what stands at no place of the word is a factor only where it is empty
-pub factor_empty : (f u : Word) → ((k : ℕ) → k < length u → StandsAt f u k → ⊥) → IsFactor f u → f ≡ []
-factor_empty f u none h = elim (cases_lt (length h.before) (length u)) [
-  | inl l ↦ absurd (none (length h.before) l (stands_behind f u h.before h.after h.is))
-  | inr l ↦ nil_from_length f (omega (arith, l, ap length h.is, length-append h.before (f ++ h.after), length-append f h.after))
-]
+-- a factor is no longer than the word
+pub factor_short : (f u : Word) → IsFactor f u → length f ≤ length u
+factor_short f u h = omega (arith, ap length h.is, length-append h.before (f ++ h.after), length-append f h.after)
 
-pub empty_factor : (f u : Word) → f ≡ [] → IsFactor f u
-empty_factor f u e = record { before = []; after = u; is = ap (λ w. w ++ u) (sym e) }
+-- what stands at no place with room for it is no factor
+pub no_factor : (f u : Word) (places : ℕ) → length u < places + length f → ((k : ℕ) → k < places → StandsAt f u k → ⊥) → IsFactor f u → ⊥
+no_factor f u places room none h =
+    none (length h.before) (omega (arith, room, ap length h.is, length-append h.before (f ++ h.after), length-append f h.after))
+    (stands_behind f u h.before h.after h.is)
 
 -- where the test is true the word stands there
 pub stands_at : (f u : Word) → stands_in f u ≡ true → (x : Word) × (y : Word) × (u ≡ x ++ (f ++ y))

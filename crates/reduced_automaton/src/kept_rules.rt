@@ -6,7 +6,7 @@ ghost use Rattle.theory.specs.Completion.{IsReduced, Listed, Reduces};
 ghost use Rattle.reduced_automaton.specs.Rules.{AreFalling, stands_in};
 ghost use Rattle.reduced_automaton.specs.Traces.{LeadBy};
 
-use crate::lookups::Lookup;
+use crate::lookups::{Lookup, lasts_of};
 use crate::parts::{part, places_after};
 use crate::reductions::unread;
 use crate::rewriting::word_of;
@@ -20,10 +20,10 @@ use words::Word;
 
 // With more newer rules than this the table is made anew. More of them slow each letter that is
 // read; fewer cost more tables.
-const NEWER_AT_MOST: usize = 8;
+const NEWER_AT_MOST: usize = 32;
 
 // A table with many states is dear: so many of them are worth one newer rule more.
-const STATES_FOR_ONE_MORE: usize = 4096;
+const STATES_FOR_ONE_MORE: usize = 1024;
 
 /// A list of rewriting rules that changes often. Words are reduced by the states of an
 /// [`Automaton`](crate::Automaton) of the rules that were there some time ago, and the few newer
@@ -116,6 +116,7 @@ impl KeptRules {
             table: Some(table),
             places: all_places(alloc, count)?,
             first: count,
+            lasts: Vec::new(alloc),
         };
         Ok(())
     }
@@ -133,13 +134,15 @@ impl KeptRules {
         let alloc = rules.alloc;
         let parts = part(alloc, rules.into_vec(), &left, lookup.first)?;
         let places = places_after(alloc, lookup.places.as_slice(), parts.moved.as_slice())?;
+        let mut rules = Rules::from_vec(alloc, parts.kept);
+        rules.push(left, right)?;
+        let lasts = lasts_of(alloc, &rules, parts.first)?;
         let lookup = Lookup {
             table: lookup.table,
             places,
             first: parts.first,
+            lasts,
         };
-        let mut rules = Rules::from_vec(alloc, parts.kept);
-        rules.push(left, right)?;
         let kept = KeptRules { rules, lookup }.renewed()?;
         Ok((kept, parts.gone))
     }

@@ -34,12 +34,12 @@ pub fn unread(alloc: Global, word: &Word) -> Result<Reduction, NoMemory>
     ensures states { IfOk result (λ r. r.states.items ≡ 0 ∷ []) }
     ensures rest { IfOk result (λ r. r.rest.items ≡ reverse word.now) }
 {
-    let mut states = Vec::new(alloc);
+    let mut rest = Vec::from_slice(alloc, word.letters())?;
+    rest.reverse();
+    let mut states = Vec::with_capacity(alloc, word.len().saturating_add(1))?;
     states.push(0)?;
-    let mut rest = Vec::new(alloc);
-    put_reversed(&mut rest, word.letters())?;
     Ok(Reduction {
-        done: Vec::new(alloc),
+        done: Vec::with_capacity(alloc, word.len())?,
         states,
         rest,
     })

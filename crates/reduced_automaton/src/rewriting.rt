@@ -7,22 +7,12 @@ use ports::NoMemory;
 use std::alloc::Global;
 use words::{Letter, Word};
 
-// Puts the letters at the end of the word.
-fn extend(word: &mut Word, letters: &[Letter]) -> Result<(), NoMemory>
-    ensures { OnOk result (word.new ≡ word.old ++ letters.now) }
-{
-    for letter in letters {
-        word.push(*letter)?;
-    }
-    Ok(())
-}
-
 // The word of the letters.
 pub(crate) fn word_of(alloc: Global, letters: &[Letter]) -> Result<Word, NoMemory>
     ensures { IfOk result (λ w. w ≡ letters.now) }
 {
-    let mut word = Word::new(alloc);
-    extend(&mut word, letters)?;
+    let mut word = Word::with_capacity(alloc, letters.len())?;
+    word.append(letters)?;
     Ok(word)
 }
 
@@ -38,9 +28,10 @@ pub fn replaced(
     requires { place + count ≤ length word.now }
     ensures { IfOk result (λ w. w ≡ replaced word.now place count by.now) }
 {
-    let mut replaced = word_of(alloc, &word[..place])?;
-    extend(&mut replaced, by)?;
-    extend(&mut replaced, &word[place + count..])?;
+    let mut replaced = Word::with_capacity(alloc, word.len())?;
+    replaced.append(&word[..place])?;
+    replaced.append(by)?;
+    replaced.append(&word[place + count..])?;
     Ok(replaced)
 }
 
@@ -49,10 +40,14 @@ pub fn has_factor(word: &Word, factor: &Word) -> bool
     ensures { IsTrue result ↔ IsFactor factor.now word.now }
 {
     let letters = word.letters();
-    for place in 0..letters.len() {
-        if letters[place..].starts_with(factor.letters()) {
+    let sought = factor.letters();
+    if letters.len() < sought.len() {
+        return false;
+    }
+    for place in 0..letters.len() - sought.len() + 1 {
+        if letters[place..].starts_with(sought) {
             return true;
         }
     }
-    factor.is_empty()
+    false
 }

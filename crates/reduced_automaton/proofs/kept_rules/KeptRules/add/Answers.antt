@@ -1,10 +1,10 @@
-use Rattle.std.proofs.Common.{◌++◌, ◌∷◌, [], ℕ, Bool, List, Option, map, not, sym, ◌∙◌, ap, ap₂, subst, refl}
+use Rattle.std.proofs.Common.{length, arith, length-append, ◌++◌, ◌∷◌, [], ℕ, Bool, List, Option, map, not, sym, ◌∙◌, ap, ap₂, subst, refl}
 use Rattle.std.specs.List.{filter}
 use Rattle.std.proofs.lemmas.List.Elements.{All-filter}
 use Rattle.theory.specs.Word.{Word}
 use Rattle.theory.specs.ShortLex.{◌≺◌}
 use Rattle.reduced_automaton.specs.Rules.{AreFalling, stands_in}
-use Rattle.reduced_automaton.specs.Lookups.{IsLookup}
+use Rattle.reduced_automaton.specs.Lookups.{AreLasts, IsLookup}
 use Rattle.reduced_automaton.specs.Parts.{AreMoved, through}
 use Rattle.reduced_automaton.proofs.PartLaws.{added_lookup}
 use Rattle.reduced_automaton.proofs.kept_rules.KeptRules.add.Goals as goal
@@ -20,10 +20,17 @@ invariant_of-renewed c =
     let parts = c.in_ok-parts.parts in
     let moved : AreMoved c.args.left c.self.inside.rules parts.kept.items parts.moved.items c.self.inside.lookup.first parts.first =
     subst (λ (rs : List (Word × Word)). AreMoved c.args.left rs parts.kept.items parts.moved.items c.self.inside.lookup.first parts.first) c.into_vec.ensures.rules c.in_ok-parts.ensures.moved in
-    subst (λ (rs : List (Word × Word)). IsLookup rs (record { table = c.self.inside.lookup.table; places = c.in_ok-places.places; first = parts.first }))
+    subst (λ (rs : List (Word × Word)). IsLookup rs (record {
+      table = c.self.inside.lookup.table;
+      places = c.in_ok-places.places;
+      first = parts.first;
+      lasts = c.in_ok-lasts.lasts;
+    }))
     (sym (c.in_ok-push.ensures.ok ∙ ap (λ (rs : List (Word × Word)). rs ++ (c.args.left, c.args.right) ∷ []) c.from_vec-rules.ensures))
     (added_lookup c.self.inside.rules parts.kept.items c.self.inside.lookup _ (c.args.left, c.args.right) parts.moved.items c.self.invariant moved refl
-    (c.in_ok-places.ensures ∙ ap₂ (λ (ms ps : List (Option ℕ)). map (through ms) ps) c.as_slice-2.ensures.value c.as_slice.ensures.value))
+    (c.in_ok-places.ensures ∙ ap₂ (λ (ms ps : List (Option ℕ)). map (through ms) ps) c.as_slice-2.ensures.value c.as_slice.ensures.value)
+    (subst (λ (rs : List (Word × Word)). AreLasts rs parts.first c.in_ok-lasts.lasts.items) (c.in_ok-push.ensures.ok ∙ ap (λ (rs : List (Word × Word)). rs ++ (c.args.left, c.args.right) ∷ []) c.from_vec-rules.ensures)
+    c.in_ok-lasts.ensures))
 
 pub returns-clause-kept : goal.returns-clause-kept
 returns-clause-kept c =
@@ -36,3 +43,7 @@ pub returns-clause-gone : goal.returns-clause-gone
 returns-clause-gone c =
     let goes : Word × Word → Bool = λ q. stands_in c.args.left q.0 in
     c.in_ok-parts.ensures.gone ∙ ap (filter goes) (c.into_vec.ensures.rules ∙ c.self.view_is)
+
+pub lasts_of-requires : goal.lasts_of-requires
+lasts_of-requires c =
+    omega (arith, c.in_ok-parts.ensures.moved.few, ap length c.in_ok-push.ensures.ok, ap length c.from_vec-rules.ensures, length-append c.from_vec-rules.result ((c.args.left, c.args.right) ∷ []))

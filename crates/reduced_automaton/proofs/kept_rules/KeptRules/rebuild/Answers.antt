@@ -9,3 +9,4 @@ invariant_of-self c =
     (ap length c.in_ok-all_places.ensures ∙ length-map-range_with_len Some 0 c.len-count.result ∙ c.len-count.ensures.len) c.len-count.ensures.len
     (λ place h. ap (λ (ps : List (Option ℕ)). get_or ps place None) c.in_ok-all_places.ensures
     ∙ get_or-map-range_with_len Some 0 c.len-count.result place place None (omega (arith, h, c.len-count.ensures.len)) (omega arith))
+    c.new.ensures.items
