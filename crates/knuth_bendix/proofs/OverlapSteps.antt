@@ -1,5 +1,5 @@
 -- Joining overlaps, step by step.
-use Rattle.std.proofs.Common.{◌≡◌, ℕ, add-one, ◌+◌, ◌-◌, ◌*◌, ◌<◌, ◌≤◌, Bool, true, false, not, List, [], ◌∷◌, ◌++◌, length, take, drop, refl, sym, ◌∙◌, ap, ap₂, subst, subst₂, arith, inl, inr, eqb, length-append, IsTrue, MatchBool, ◌↔◌}
+use Rattle.std.proofs.Common.{◌≡◌, ℕ, zero, suc, slice_get, Some, add-one, ◌+◌, ◌-◌, ◌*◌, ◌<◌, ◌≤◌, Bool, true, false, not, List, [], ◌∷◌, ◌++◌, length, take, drop, refl, sym, ◌∙◌, ap, ap₂, subst, subst₂, arith, inl, inr, eqb, length-append, IsTrue, MatchBool, ◌↔◌}
 use Rattle.std.specs.Cmp.Lexicographic.{pointwise}
 use Rattle.std.specs.List.Sorted.{IsPermutation}
 use Rattle.std.proofs.lemmas.Bool.Decides.{Decides-eqb}
@@ -14,7 +14,7 @@ use Rattle.theory.specs.Completion.{Listed}
 use Rattle.theory.proofs.Counting.{contains_from_in, in_from_contains}
 use Rattle.theory.proofs.WithinDecides.{word_decides}
 use Rattle.knuth_bendix.specs.declared.lengths.Lengths.{Lengths}
-use Rattle.knuth_bendix.specs.Overlaps.{AreJoined, AreShort, Gains, IsJoinedBy, IsOverlap, IsSplit, ReducesTo, critical_pair, overlaps_by, rule_at}
+use Rattle.knuth_bendix.specs.Overlaps.{AreJoined, AreShort, Gains, HasLength, IsJoinedBy, IsOverlap, IsSplit, ReducesTo, critical_pair, overlaps_by, rule_at}
 
 -- a test whether the last letters of a word are the first of another
 pub overlap_tested : (f g f' g' : Word) (shared n : ℕ) (r : Bool) → f' ≡ f → g' ≡ g → n ≡ length f
@@ -24,6 +24,15 @@ overlap_tested f g f' g' shared n r ef eg en e =
     (e ∙ ap (λ w. pointwise eqb w (take shared g')) (take_rest f' (n - shared))
     ∙ ap (λ w. pointwise eqb w (take shared g')) (ap₂ (λ (m : ℕ) (w : Word). drop (m - shared) w) en ef)
     ∙ ap (λ w. pointwise eqb (drop (length f - shared) f) (take shared w)) eg)
+
+-- the letters at which an overlap begins in both words are one
+pub overlap_begins : (place : ℕ) (f g : Word) (shared x y : ℕ) → 0 < shared → drop place f ≡ take shared g → slice_get f place ≡ Some x → slice_get g 0 ≡ Some y → x ≡ y
+overlap_begins zero [] g shared x y some e at_first at_second = let bad : ⊥ = cc in absurd bad
+overlap_begins zero (a ∷ f) [] shared x y some e at_first at_second = let bad : ⊥ = cc in absurd bad
+overlap_begins zero (a ∷ f) (b ∷ g) zero x y some e at_first at_second = absurd (omega (arith, some))
+overlap_begins zero (a ∷ f) (b ∷ g) (suc shared) x y some e at_first at_second = cc
+overlap_begins (suc place) [] g shared x y some e at_first at_second = let bad : ⊥ = cc in absurd bad
+overlap_begins (suc place) (a ∷ f) g shared x y some e at_first at_second = overlap_begins place f g shared x y some e at_first at_second
 
 -- the old equations alone
 pub gains_none : (lengths : Lengths) (rules equations : List (Word × Word)) (most : ℕ) → Gains lengths rules equations equations most
@@ -180,23 +189,56 @@ joined_step lengths rules old new newer first second shared some to gains joins 
       ];
     }
 
--- a loop's step at so many shared letters, whether they are an overlap or not
-pub joined_there : (lengths : Lengths) (rules old new newer : List (Word × Word)) (first second shared : ℕ) (p q : Word × Word) (tested : Bool)
-    → p ≡ rule_at rules first → q ≡ rule_at rules second → IsTrue tested ↔ IsOverlap lengths p q shared → tested ≡ true
-    → ((lengths : Lengths) → IsOverlap lengths (rule_at rules first) (rule_at rules second) shared → Gains lengths rules new newer 1)
-    → IsJoinedBy rules newer (critical_pair (rule_at rules first) (rule_at rules second) shared).0 (critical_pair (rule_at rules first) (rule_at rules second) shared).1
-    → 0 < shared → IsJoinedTo lengths rules old new first second shared → IsJoinedTo lengths rules old newer first second (shared + 1)
-joined_there lengths rules old new newer first second shared p q tested ep eq is met gains joined some to =
-    let o : IsOverlap lengths (rule_at rules first) (rule_at rules second) shared =
-    subst₂ (λ (p q : Word × Word). IsOverlap lengths p q shared) ep eq (is.0 met) in
-    joined_step lengths rules old new newer first second shared some to (gains lengths o) (λ _. joined)
+-- how many letters the left sides of two rules may share: from the one number up to the other
+abbrev pub IsShared : Lengths → List (Word × Word) → ℕ → ℕ → ℕ → ℕ → Type 0
+IsShared lengths rules first second from end = (shared : ℕ) → 0 < shared → shared < length (rule_at rules first).0 → shared < length (rule_at rules second).0
+    → HasLength lengths (length (rule_at rules first).0 + (length (rule_at rules second).0 - shared)) ↔ ((from ≤ shared) × (shared < end))
 
-pub joined_elsewhere : (lengths : Lengths) (rules old new : List (Word × Word)) (first second shared : ℕ) (p q : Word × Word) (tested : Bool)
-    → p ≡ rule_at rules first → q ≡ rule_at rules second → IsTrue tested ↔ IsOverlap lengths p q shared → tested ≡ false
-    → 0 < shared → IsJoinedTo lengths rules old new first second shared → IsJoinedTo lengths rules old new first second (shared + 1)
-joined_elsewhere lengths rules old new first second shared p q tested ep eq is unmet some to =
-    joined_step lengths rules old new new first second shared some to (gains_none lengths rules new 1)
-    (λ o. let met : tested ≡ true = is.1 (subst₂ (λ (p q : Word × Word). IsOverlap lengths p q shared) (sym ep) (sym eq) o) in let bad : ⊥ = cc in absurd bad)
+-- the same of what the code reads
+pub shared_read : (lengths : Lengths) (rules : List (Word × Word)) (first second from end m n : ℕ) → m ≡ length (rule_at rules first).0 → n ≡ length (rule_at rules second).0
+    → ((shared : ℕ) → 0 < shared → shared < m → shared < n → HasLength lengths (m + (n - shared)) ↔ ((from ≤ shared) × (shared < end)))
+    → IsShared lengths rules first second from end
+shared_read lengths rules first second from end m n em en within =
+    subst₂ (λ (m n : ℕ). (shared : ℕ) → 0 < shared → shared < m → shared < n → HasLength lengths (m + (n - shared)) ↔ ((from ≤ shared) × (shared < end))) em en within
+
+-- fewer letters are not shared in words of these lengths
+pub joined_start : (lengths : Lengths) (rules old : List (Word × Word)) (first second from end : ℕ) → IsShared lengths rules first second from end
+    → IsJoinedTo lengths rules old old first second from
+joined_start lengths rules old first second from end within = record {
+  gains = gains_none lengths rules old (from - 1);
+  joined = λ shared less o.
+      let there = (within shared o.some o.first o.second).0 o.within in
+      absurd (omega (arith, less, there.0));
+}
+
+-- nor are more
+pub joined_end : (lengths : Lengths) (rules old new : List (Word × Word)) (first second from end shared : ℕ) → IsShared lengths rules first second from end → end ≤ shared
+    → IsJoinedTo lengths rules old new first second shared → AreJoined lengths rules new (rule_at rules first) (rule_at rules second)
+joined_end lengths rules old new first second from end shared within past to = λ n o.
+    to.joined n (let there = (within n o.some o.first o.second).0 o.within in omega (arith, there.1, past)) o
+
+-- a loop's step at so many shared letters, whether they are an overlap or not
+module _ (lengths : Lengths) (rules old new : List (Word × Word)) (first second shared : ℕ) (p q : Word × Word) (tested : Bool) (ep : p ≡ rule_at rules first)
+    (eq : q ≡ rule_at rules second) (is : IsTrue tested ↔ overlaps_by p.0 q.0 shared) (some : 0 < shared) (to : IsJoinedTo lengths rules old new first second shared) where
+  pub joined_there : (newer : List (Word × Word)) (from end : ℕ) → IsShared lengths rules first second from end → from ≤ shared → shared < end
+      → shared < length (rule_at rules first).0 → shared < length (rule_at rules second).0 → tested ≡ true
+      → ((lengths : Lengths) → IsOverlap lengths (rule_at rules first) (rule_at rules second) shared → Gains lengths rules new newer 1)
+      → IsJoinedBy rules newer (critical_pair (rule_at rules first) (rule_at rules second) shared).0 (critical_pair (rule_at rules first) (rule_at rules second) shared).1
+      → IsJoinedTo lengths rules old newer first second (shared + 1)
+  joined_there newer from end within low high f s met gains joined =
+      let o : IsOverlap lengths (rule_at rules first) (rule_at rules second) shared = record {
+        some = some;
+        first = f;
+        second = s;
+        overlaps = subst₂ (λ (p q : Word × Word). overlaps_by p.0 q.0 shared) ep eq (is.0 met);
+        within = (within shared some f s).1 (low, high);
+      } in
+      joined_step lengths rules old new newer first second shared some to (gains lengths o) (λ _. joined)
+
+  pub joined_elsewhere : tested ≡ false → IsJoinedTo lengths rules old new first second (shared + 1)
+  joined_elsewhere unmet =
+      joined_step lengths rules old new new first second shared some to (gains_none lengths rules new 1)
+      (λ o. let met : tested ≡ true = is.1 (subst₂ (λ (p q : Word × Word). overlaps_by p.0 q.0 shared) (sym ep) (sym eq) o.overlaps) in let bad : ⊥ = cc in absurd bad)
 
 -- the overlaps of a rule with the first ones, on both sides, are joined
 pub record IsJoinedWith (lengths : Lengths) (rules old new : List (Word × Word)) (newest count : ℕ) : Type 0 where

@@ -15,33 +15,38 @@ use words::Word;
 
 // Whether the last letters of the first word, so many, are the first letters of the second.
 fn overlap(first: &Word, second: &Word, shared: usize) -> bool
+    requires some { 0 < shared }
     requires first { shared ≤ length first.now }
     requires second { shared ≤ length second.now }
     ensures { IsTrue result ↔ overlaps_by first.now second.now shared }
 {
     let start = first.len() - shared;
-    first.letters()[start..] == second.letters()[..shared]
+    first.letter(start) == second.letter(0)
+        && first.letters()[start..] == second.letters()[..shared]
 }
 
-// Whether a word of so many letters and the others is one of these.
-fn has_length(lengths: Lengths, first: usize, rest: usize) -> bool
-    ensures { IsTrue result ↔ HasLength lengths (first + rest) }
+// How many letters left sides of these lengths may share, some and not all, in words of such
+// lengths: from the first number up to the second.
+fn shared_by(lengths: Lengths, first: usize, second: usize) -> (usize, usize)
+    ensures some { 0 < result.0 }
+    ensures few { result.0 - 1 ≤ first }
+    ensures first { result.1 ≤ first }
+    ensures second { result.1 ≤ second }
+    ensures within { (shared : ℕ) → 0 < shared → shared < first → shared < second
+        → HasLength lengths (first + (second - shared))
+        ↔ ((result.0 ≤ shared) × (shared < result.1)) }
 {
+    let most = first.min(second);
     match lengths {
-        Lengths::UpTo(most) => first <= most && rest <= most - first,
-        Lengths::Beyond(most) => most < first || most - first < rest,
+        Lengths::UpTo(length) => {
+            let fewest = second.saturating_sub(length.saturating_sub(first));
+            (fewest.min(most).max(1), most)
+        }
+        Lengths::Beyond(length) => {
+            let end = second.saturating_sub(length.saturating_sub(first));
+            (1, end.min(most))
+        }
     }
-}
-
-// Whether the left sides share so many letters, in a word of such a length.
-fn is_overlap(lengths: Lengths, first: &(Word, Word), second: &(Word, Word), shared: usize) -> bool
-    requires some { 0 < shared }
-    requires first { shared < length first.now.0 }
-    requires second { shared < length second.now.0 }
-    ensures { IsTrue result ↔ IsOverlap lengths first.now second.now shared }
-{
-    has_length(lengths, first.0.len(), second.0.len() - shared)
-        && overlap(&first.0, &second.0, shared)
 }
 
 // The words to which two rules lead from the word in which their left sides share so many letters.
@@ -172,9 +177,13 @@ pub fn join_overlaps(
         (rule_at rules.now first) (rule_at rules.now second)) }
     ensures logged { OnOk result (KeepsLog log.old log.new rules.now equations.new) }
 {
-    let shortest = rules.rule(first).0.len().min(rules.rule(second).0.len());
-    for shared in 1..shortest {
-        if is_overlap(lengths, rules.rule(first), rules.rule(second), shared) {
+    let (fewest, end) = shared_by(
+        lengths,
+        rules.rule(first).0.len(),
+        rules.rule(second).0.len(),
+    );
+    for shared in fewest..end {
+        if overlap(&rules.rule(first).0, &rules.rule(second).0, shared) {
             join_overlap(alloc, rules, first, second, shared, equations, log)?;
         }
     }

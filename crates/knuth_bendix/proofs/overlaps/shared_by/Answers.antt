@@ -1,0 +1,1 @@
+use Rattle.knuth_bendix.proofs.overlaps.shared_by.Goals as goal
