@@ -2,3 +2,4 @@ pub mod SideLaws
 pub mod WholeLaws
 pub mod RunLaws
 pub mod PlacedClasses
+pub mod Numberings

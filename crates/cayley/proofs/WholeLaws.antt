@@ -4,17 +4,20 @@ use Rattle.std.proofs.Common.{◌≡◌, ℕ, ◌<◌, ◌≤◌, ◌↔◌, Boo
 use Rattle.theory.specs.Word.{Word, IsOver, IsElement}
 use Rattle.theory.specs.Congruence.{AreElements}
 use Rattle.theory.specs.Value.{IsProduct, SameValue}
-use Rattle.theory.specs.Generated.{Generated, given, symmetric, transitive, on_right, on_left, IsNumberOf, GivenNumber, GeneratedNumber}
+use Rattle.theory.specs.Semigroup.{Semigroup, Numbering, IsNumberBelow, IsNumberOf}
+use Rattle.theory.specs.Generated.{Generated, given, symmetric, transitive, on_right, on_left, GivenNumber, GeneratedNumber}
 use Rattle.theory.specs.declared.Kind.{Kind}
 use Rattle.theory.proofs.Related.{side_element}
 use Rattle.theory.proofs.GeneratedLaws.{generated_least, same_symm, same_trans, same_element_by_numbers}
 use Rattle.elements.specs.Generators.{HaveOneShape, value_by}
+use Rattle.elements.proofs.Semigroups.{semigroup_of}
 use Rattle.froidure_pin.specs.Found.{IsTableOf}
 use Rattle.froidure_pin.specs.Numbering.{TableOf, IsNumbering, right_number, left_number, letter_number, number_of}
 use Rattle.froidure_pin.proofs.Starts.{values_length}
 use Rattle.froidure_pin.specs.declared.tables.CayleyTables.{CayleyTables}
 use Rattle.cayley.specs.Tables.{edge, word_at, number_in, AreEdges, GivenIn, GeneratedIn, AreClasses}
 use Rattle.cayley.specs.Whole.{AreReadFrom, AreTablesOf, AreClassesOf}
+use Rattle.cayley.proofs.Numberings.{numbering_of}
 
 module _ {V : Type 0} (product : V → V → V) (equal : V → V → Bool) (generators : List V) (unused : V) (table : TableOf V) (t : CayleyTables)
     (found : IsTableOf product equal generators unused table.words table.elements) (numbers : IsNumbering product equal generators unused table) (read : AreReadFrom table t) where
@@ -40,11 +43,11 @@ module _ {V : Type 0} (product : V → V → V) (equal : V → V → Bool) (gene
   letter_is a l = read.letters.at a (omega (arith, l, numbers.letters))
 
   abbrev IsNumber : ℕ → Word → Type 0
-  IsNumber i u = IsNumberOf (length generators) equal (value_by product generators unused) (length t.words) (word_at t) i u
+  IsNumber i u = IsNumberBelow (length generators) equal (value_by product generators unused) (length t.words) (word_at t) i u
 
   -- numbers of the table are those of the words that were read out
-  number_read : (i : ℕ) (u : Word) → IsNumberOf (length generators) equal (value_by product generators unused) (length table.words) (λ i. get_or table.words i []) i u → IsNumber i u
-  number_read i u h = subst (λ (ws : List Word). IsNumberOf (length generators) equal (value_by product generators unused) (length ws) (λ i. get_or ws i []) i u) (sym read.words) h
+  number_read : (i : ℕ) (u : Word) → IsNumberBelow (length generators) equal (value_by product generators unused) (length table.words) (λ i. get_or table.words i []) i u → IsNumber i u
+  number_read i u h = subst (λ (ws : List Word). IsNumberBelow (length generators) equal (value_by product generators unused) (length ws) (λ i. get_or ws i []) i u) (sym read.words) h
 
   word_is : (i : ℕ) → word_at t i ≡ get_or table.words i []
   word_is i = ap (λ (ws : List Word). get_or ws i []) read.words
@@ -124,11 +127,14 @@ module _ {V : Type 0} (shape : V → ℕ × ℕ) (product : V → V → V) (equa
   abbrev one : ℕ × ℕ
   one = shape (get_or generators 0 unused)
 
-  shaped : (a : ℕ) → a < length generators → shape (get_or generators a unused) ≡ shape (get_or generators 0 unused)
-  shaped a h = one_shape a 0 unused h (omega (arith, h))
+  abbrev semi : Semigroup shape product equal
+  semi = semigroup_of generators unused one_shape
+
+  abbrev numbering : Numbering semi
+  numbering = numbering_of generators unused one_shape t tables
 
   abbrev IsItsNumber : ℕ → Word → Type 0
-  IsItsNumber i u = IsNumberOf (length generators) equal (value_by product generators unused) (length t.words) (word_at t) i u
+  IsItsNumber = IsNumberOf numbering
 
   abbrev Same : Word → Word → Type 0
   Same = SameValue (length generators) equal (value_by product generators unused)
@@ -138,19 +144,19 @@ module _ {V : Type 0} (shape : V → ℕ × ℕ) (product : V → V → V) (equa
   its_number i u e h =
       let there = tables.every u e in
       tables.numbered.distinct i (number_in t u) h.0 there.0
-      (same_trans (λ x. shape x ≡ shape (get_or generators 0 unused)) product equal (products one) (length generators) (λ a. get_or generators a unused) unused shaped (word_at t i) u (word_at t (number_in t u))
-      (same_symm (λ x. shape x ≡ shape (get_or generators 0 unused)) product equal (products one) (length generators) (λ a. get_or generators a unused) unused shaped u (word_at t i) h.1) there.1)
+      (same_trans semi (products one) (word_at t i) u (word_at t (number_in t u))
+      (same_symm semi (products one) u (word_at t i) h.1) there.1)
 
   abbrev ByNumbers : ℕ → ℕ → Type 0
-  ByNumbers = GeneratedNumber (length generators) equal (value_by product generators unused) (length t.words) (word_at t) (edge t.right) (edge t.left) kind pairs
+  ByNumbers = GeneratedNumber numbering kind pairs
 
-  to_tables : (i j : ℕ) → GivenNumber (length generators) equal (value_by product generators unused) (length t.words) (word_at t) pairs i j → GivenIn t pairs i j
+  to_tables : (i j : ℕ) → GivenNumber numbering pairs i j → GivenIn t pairs i j
   to_tables i j (inl h) = inl h
   to_tables i j (inr p) =
       let both = side_element false (length generators) pairs p.first p.second elements (inl p.listed) in
       inr (record { first = p.first; second = p.second; listed = p.listed; left = its_number i p.first both.0 p.left; right = its_number j p.second both.1 p.right })
 
-  from_tables : (i j : ℕ) → GivenIn t pairs i j → GivenNumber (length generators) equal (value_by product generators unused) (length t.words) (word_at t) pairs i j
+  from_tables : (i j : ℕ) → GivenIn t pairs i j → GivenNumber numbering pairs i j
   from_tables i j (inl h) = inl h
   from_tables i j (inr p) =
       let both = side_element false (length generators) pairs p.first p.second elements (inl p.listed) in
@@ -165,8 +171,8 @@ module _ {V : Type 0} (shape : V → ℕ × ℕ) (product : V → V → V) (equa
   generated_in : (i j : ℕ) → ByNumbers i j ↔ GeneratedIn t kind pairs i j
   generated_in i j = (
     λ h. subst (λ k. Generated kind k (edge t.right) (edge t.left) (GivenIn t pairs) i j) (sym tables.letters)
-        (grown kind (length generators) (edge t.right) (edge t.left) (GivenNumber (length generators) equal (value_by product generators unused) (length t.words) (word_at t) pairs) (GivenIn t pairs) to_tables i j h),
-    λ h. grown kind (length generators) (edge t.right) (edge t.left) (GivenIn t pairs) (GivenNumber (length generators) equal (value_by product generators unused) (length t.words) (word_at t) pairs) from_tables i j
+        (grown kind (length generators) (edge t.right) (edge t.left) (GivenNumber numbering pairs) (GivenIn t pairs) to_tables i j h),
+    λ h. grown kind (length generators) (edge t.right) (edge t.left) (GivenIn t pairs) (GivenNumber numbering pairs) from_tables i j
         (subst (λ k. Generated kind k (edge t.right) (edge t.left) (GivenIn t pairs) i j) tables.letters h),
   )
 
@@ -180,8 +186,7 @@ module _ {V : Type 0} (shape : V → ℕ × ℕ) (product : V → V → V) (equa
       related = λ u v e f.
           let i = tables.every u e in
           let j = tables.every v f in
-          let by = same_element_by_numbers (λ x. shape x ≡ shape (get_or generators 0 unused)) product equal (products one) (length generators) (λ a. get_or generators a unused) unused shaped kind pairs elements
-          (length t.words) (word_at t) (edge t.right) (edge t.left) tables.numbered u v (number_in t u) (number_in t v) i j in
+          let by = same_element_by_numbers semi (products one) kind pairs elements numbering u v (number_in t u) (number_in t v) i j in
           let in_tables = generated_in (number_in t u) (number_in t v) in
           let in_classes = c.related (number_in t u) (number_in t v) i.0 j.0 in
           (λ h. in_classes.0 (in_tables.0 (by.0 h)), λ h. by.1 (in_tables.1 (in_classes.1 h)));

@@ -4,7 +4,7 @@ use Rattle.std.specs.Prelude.{◌≡◌, ℕ, ◌<◌, ◌≤◌, ◌↔◌, Boo
 use Rattle.theory.specs.Word.{Word, IsElement}
 use Rattle.theory.specs.Class.{IsClassList}
 use Rattle.theory.specs.Value.{SameValue, SameElement}
-use Rattle.theory.specs.Generated.{AreNumbered, IsNumberOf}
+use Rattle.theory.specs.Semigroup.{AreNumbered, IsNumberBelow}
 use Rattle.theory.specs.declared.Kind.{Kind}
 use Rattle.elements.specs.Generators.{value_by}
 use Rattle.froidure_pin.specs.Numbering.{TableOf, AreRowsBy, IsRowBy, right_number, left_number, letter_number}
@@ -29,7 +29,7 @@ pub record AreTablesOf {V : Type 0} (product : V → V → V) (equal : V → V �
   pub numbered : AreNumbered (length generators) equal (value_by product generators unused)
       (length t.words) (word_at t) (edge t.right) (edge t.left)
   pub every : (u : Word) → IsElement false (length generators) u
-      → IsNumberOf (length generators) equal (value_by product generators unused)
+      → IsNumberBelow (length generators) equal (value_by product generators unused)
       (length t.words) (word_at t) (number_in t u) u
 
 -- two words are related exactly where their numbers are of one class, and each class is named by

@@ -1,13 +1,15 @@
 -- The tables and classes that a search over elements finds are those of its problem.
-use Rattle.std.proofs.Common.{◌≡◌, ℕ, ◌<◌, ◌==◌, Bool, List, [], length, refl, sym, ap, subst, arith, Option, None, get_or}
+use Rattle.std.proofs.Common.{◌≡◌, ℕ, ◌<◌, ◌==◌, Bool, List, [], length, refl, sym, ap, subst, Option, None}
 use Rattle.std.specs.Cmp.Lexicographic.{pointwise}
 use Rattle.std.specs.Option.{option_eq}
 use Rattle.theory.specs.Word.{Word}
 use Rattle.theory.specs.Class.{IsLeast}
 use Rattle.theory.specs.Value.{IsProduct, SameValue, SameElement}
+use Rattle.theory.specs.Semigroup.{Semigroup}
 use Rattle.theory.specs.declared.Kind.{Kind}
 use Rattle.theory.proofs.GeneratedLaws.{same_symm}
 use Rattle.elements.specs.Generators.{HaveOneShape, value_by}
+use Rattle.elements.proofs.Semigroups.{semigroup_of}
 use Rattle.elements.specs.Transf.{composed}
 use Rattle.elements.specs.TransfLaws.{composed_products}
 use Rattle.elements.specs.PPerm.{partially_composed}
@@ -39,14 +41,8 @@ module _ {V : Type 0} {shape : V → ℕ × ℕ} {product : V → V → V} {equa
   graphs = record { listed = tables.listed; on_right = tables.numbered.on_right; on_left = tables.numbered.on_left }
 
   module _ (shaped : HaveOneShape shape generators) where
-    abbrev one : ℕ × ℕ
-    one = shape (get_or generators 0 unused)
-
-    each_shaped : (a : ℕ) → a < length generators → shape (get_or generators a unused) ≡ one
-    each_shaped a within = shaped a 0 unused within (omega arith)
-
-    abbrev generator : ℕ → V
-    generator a = get_or generators a unused
+    abbrev semi : Semigroup shape product equal
+    semi = semigroup_of generators unused shaped
 
     own_number : (i : ℕ) → i < length t.words → number_in t (word_at t i) ≡ i
     own_number i within =
@@ -67,7 +63,7 @@ module _ {V : Type 0} {shape : V → ℕ × ℕ} {product : V → V → V} {equa
       least = λ u e less.
           let found = tables.every u e in
           (listed_at (IsLeast Same) None t.words tables.listed (number_in t u) found.0).0.none_less u
-          (same_symm (λ x. shape x ≡ one) product equal (laws one) (length generators) generator unused each_shaped u (word_at t (number_in t u)) found.1) less;
+          (same_symm semi (laws semi.one) u (word_at t (number_in t u)) found.1) less;
       within = λ u e. (tables.every u e).0;
       related = are.related;
     }

@@ -11,3 +11,4 @@ pub mod Refused
 pub mod TruncatedProducts
 pub mod ProductRows
 pub mod Writes
+pub mod Semigroups

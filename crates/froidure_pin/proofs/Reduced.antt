@@ -19,7 +19,7 @@ use Rattle.froidure_pin.proofs.RuleSteps.{row_of_place, not_zero}
 use Rattle.froidure_pin.proofs.Factors.{factor_word, words_length}
 use Rattle.froidure_pin.proofs.Starts.{in_push, in_last}
 use Rattle.froidure_pin.proofs.LeastWords.{least_word, parents_rise, parent_once}
-use Rattle.froidure_pin.proofs.Search.{IsSetting, R, Number, known, generator_shape, r_sym, r_trans, r_refl}
+use Rattle.froidure_pin.proofs.Search.{IsSetting, R, Number, semi, known, r_sym, r_trans, r_refl}
 use Rattle.froidure_pin.specs.declared.parts.Factor.{Factor}
 
 -- the last letter, and what stands before it
@@ -151,8 +151,8 @@ module _ {V : Type 0} {shape : V → ℕ × ℕ} {product : V → V → V} {equa
       let rest : IsOver k (f ++ y) = over_right k x (f ++ y) whole in
       let here = r_refl setting unused f (some, over_left k f y rest) in
       let kept : (v : Word) → Related f v → Related (x ++ (f ++ y)) (x ++ (v ++ y)) = λ v r.
-      value_kept_left (λ z. shape z ≡ shape (get_or generators 0 unused)) product equal (known setting unused) k (λ b. get_or generators b unused) unused (generator_shape setting unused) x (f ++ y) (v ++ y)
-      (value_kept_right (λ z. shape z ≡ shape (get_or generators 0 unused)) product equal (known setting unused) k (λ b. get_or generators b unused) unused (generator_shape setting unused) f v y r (over_right k f y rest)) (over_left k x (f ++ y) whole) in
+      value_kept_left (semi setting unused) (known setting unused) x (f ++ y) (v ++ y)
+      (value_kept_right (semi setting unused) (known setting unused) f v y r (over_right k f y rest)) (over_left k x (f ++ y) whole) in
       least_part Related x f y kept here h
 
   module _ (factors : List Factor) (right suffixes : List ℕ) (earlier : AreFactors (length generators) factors) (rows : AreRows (length generators) (length factors) right)

@@ -11,7 +11,7 @@ use Rattle.froidure_pin.proofs.Order.{ahead}
 use Rattle.froidure_pin.proofs.Places.{row_below}
 use Rattle.froidure_pin.proofs.Factors.{factor_word, words_length}
 use Rattle.froidure_pin.proofs.Starts.{values_length}
-use Rattle.froidure_pin.proofs.Search.{IsSetting, R, Number, Val, known, generator_shape, r_trans, r_right}
+use Rattle.froidure_pin.proofs.Search.{IsSetting, R, Number, Val, semi, known, r_trans, r_right}
 use Rattle.froidure_pin.proofs.Reduced.{snoc_same, is_the_product}
 use Rattle.froidure_pin.proofs.Placing.{least_at, not_before, parent_same, place_from_before}
 use Rattle.froidure_pin.specs.declared.parts.Factor.{Factor}
@@ -129,7 +129,7 @@ module _ {V : Type 0} {shape : V → ℕ × ℕ} {product : V → V → V} {equa
         let next = at.grown.found.numbers (q + 1) f.last last_over product_place in
         let last : R setting unused (get_or words q [] ++ f.last ∷ []) (get_or words n []) = subst (λ w. R setting unused (w ++ f.last ∷ []) (get_or words n [])) at_next next.1 in
         let one : R setting unused (first ∷ (parent words suffix ++ a ∷ [])) (first ∷ get_or words rest []) =
-        value_kept_left (λ z. shape z ≡ shape (get_or generators 0 unused)) product equal (known setting unused) k (λ b. get_or generators b unused) unused (generator_shape setting unused) (first ∷ []) (parent words suffix ++ a ∷ []) (get_or words rest []) rest_number.1 (first_over, tt) in
+        value_kept_left (semi setting unused) (known setting unused) (first ∷ []) (parent words suffix ++ a ∷ []) (get_or words rest []) rest_number.1 (first_over, tt) in
         let two : R setting unused ((first ∷ parent words f.prefix) ++ f.last ∷ []) (get_or words q [] ++ f.last ∷ []) = r_right setting unused (first ∷ parent words f.prefix) (get_or words q []) f.last left_number.1 last_over in
         let start : R setting unused (parent words (number + 1) ++ a ∷ []) ((first ∷ parent words f.prefix) ++ f.last ∷ []) = subst₂ (λ u v. R setting unused u v) (sym product_word) (ap (λ w. first ∷ w) rest_word) one in
         (next.0, r_trans setting unused (parent words (number + 1) ++ a ∷ []) ((first ∷ parent words f.prefix) ++ f.last ∷ []) (get_or words n []) start (r_trans setting unused ((first ∷ parent words f.prefix) ++ f.last ∷ []) (get_or words q [] ++ f.last ∷ []) (get_or words n []) two last))

@@ -2,7 +2,7 @@
 use Rattle.std.specs.Prelude.{◌≡◌, ℕ, zero, suc, ◌+◌, ◌*◌, ◌<◌, ◌≤◌, Bool, false, List, [], ◌∷◌, length, slice_index, slice_index_or, take, drop, fold, refl}
 use Rattle.std.specs.Coded.{Coded, code_by, coded×, coded_list, coded_ℕ}
 use Rattle.theory.specs.Word.{Word, IsElement}
-use Rattle.theory.specs.Generated.{AreNumbered}
+use Rattle.theory.specs.Semigroup.{AreNumbered}
 use Rattle.froidure_pin.specs.Found.{IsNumberIn, AreFactors, entry}
 use Rattle.elements.specs.Generators.{value_by}
 use Rattle.froidure_pin.specs.declared.parts.Factor.{Factor}

@@ -1,18 +1,21 @@
 -- Numbers stand in one class exactly where their words' values are related, and are listed exactly
 -- where these are idempotent.
-use Rattle.std.proofs.Common.{◌≡◌, ℕ, zero, suc, ◌+◌, ◌<◌, ◌↔◌, Bool, false, List, [], ◌∷◌, length, slice_index_or, refl, sym, subst, arith, inl, inr, ◌⊎◌, Option, Some, None, Contains}
+use Rattle.std.proofs.Common.{◌≡◌, ℕ, zero, suc, ◌+◌, ◌<◌, ◌↔◌, Bool, false, List, [], ◌∷◌, length, refl, sym, subst, arith, inl, inr, ◌⊎◌, Option, Some, None, Contains}
 use Rattle.std.proofs.lemmas.Bool.{cases_eq, cases_lt}
 use Rattle.theory.specs.Word.{Word, IsElement, IsOver}
 use Rattle.theory.specs.Listing.{IsListOf, IsAfter}
 use Rattle.theory.specs.Value.{IsProduct}
+use Rattle.theory.specs.Semigroup.{Semigroup, Numbering}
 use Rattle.theory.specs.Green.{here, IsEdge, IsEdgeOfEither, AreConnected, IsFirst, IsInClassOf, AreClassesAt, AreClasses, IsIdempotent}
 use Rattle.theory.proofs.ClassListLaws.{one_class_related, related_one_class}
 use Rattle.theory.proofs.Counting.{IsIn, in_from_contains, contains_from_in}
 use Rattle.theory.proofs.GreenLaws.{green_r, green_l, green_h, green_j}
 use Rattle.elements.specs.Generators.{HaveOneShape, value_by}
+use Rattle.elements.proofs.Semigroups.{semigroup_of}
 use Rattle.froidure_pin.specs.declared.tables.CayleyTables.{CayleyTables}
 use Rattle.cayley.specs.Tables.{edge, word_at, number_in}
 use Rattle.cayley.specs.Whole.{AreTablesOf}
+use Rattle.cayley.proofs.Numberings.{numbering_of}
 use Rattle.green.specs.Related.{AreOfLetters, AreRelated, DoAgree, DoCommute, IsIdempotentAt}
 use Rattle.green.specs.Told.{IsGreen, StandTogether}
 use Rattle.theory.specs.declared.Relation.{Relation}
@@ -124,21 +127,25 @@ of_letters product equal generators unused t tables i l =
 
 module _ {V : Type 0} (shape : V → ℕ × ℕ) (product : V → V → V) (equal : V → V → Bool) (products : (one : ℕ × ℕ) → IsProduct (λ x. shape x ≡ one) product equal)
     (generators : List V) (unused : V) (one_shape : HaveOneShape shape generators) (t : CayleyTables) (tables : AreTablesOf product equal generators unused t) where
-  shaped : (a : ℕ) → a < length generators → shape (slice_index_or generators a unused) ≡ shape (slice_index_or generators 0 unused)
-  shaped a h = one_shape a 0 unused h (omega (arith, h))
+  abbrev semi : Semigroup shape product equal
+  semi = semigroup_of generators unused one_shape
+
+  abbrev laws : IsProduct (λ x. shape x ≡ semi.one) product equal
+  laws = products semi.one
+
+  abbrev numbering : Numbering semi
+  numbering = numbering_of generators unused one_shape t tables
 
   -- a letter on the left and one on the right
   pub tables_commute : DoCommute t
   tables_commute i a b l less low =
-      edges_commute (λ x. shape x ≡ shape (slice_index_or generators 0 unused)) product equal (products (shape (slice_index_or generators 0 unused))) (length generators)
-      (λ c. slice_index_or generators c unused) unused shaped (length t.words) (word_at t) (edge t.right) (edge t.left) tables.numbered i a b l
+      edges_commute semi laws numbering i a b l
       (omega (arith, less, tables.letters)) (omega (arith, low, tables.letters))
 
   -- the words of two numbers in either graph
   pub tables_agree : DoAgree t
   tables_agree =
-      products_agree (λ x. shape x ≡ shape (slice_index_or generators 0 unused)) product equal (products (shape (slice_index_or generators 0 unused))) (length generators)
-      (λ c. slice_index_or generators c unused) unused shaped (length t.words) (word_at t) (edge t.right) (edge t.left) tables.numbered
+      products_agree semi laws numbering
 
   module _ (u v : Word) (e : IsElement false (length generators) u) (f : IsElement false (length generators) v) where
     pub by_relation : (relation : Relation) → IsGreen relation product equal (length generators) (value_by product generators unused)
@@ -146,26 +153,22 @@ module _ {V : Type 0} (shape : V → ℕ × ℕ) (product : V → V → V) (equa
     by_relation R =
         subst (λ k. IsGreen R product equal (length generators) (value_by product generators unused) (value_by product generators unused u) (value_by product generators unused v)
         ↔ AreConnected (IsEdge k (edge t.right)) (number_in t u) (number_in t v)) (sym tables.letters)
-        (green_r (λ x. shape x ≡ shape (slice_index_or generators 0 unused)) product equal (products (shape (slice_index_or generators 0 unused))) (length generators)
-        (λ a. slice_index_or generators a unused) unused shaped (length t.words) (word_at t) (edge t.right) (edge t.left) tables.numbered u v (number_in t u) (number_in t v)
+        (green_r semi laws numbering u v (number_in t u) (number_in t v)
         (tables.every u e) (tables.every v f))
     by_relation L =
         subst (λ k. IsGreen L product equal (length generators) (value_by product generators unused) (value_by product generators unused u) (value_by product generators unused v)
         ↔ AreConnected (IsEdge k (edge t.left)) (number_in t u) (number_in t v)) (sym tables.letters)
-        (green_l (λ x. shape x ≡ shape (slice_index_or generators 0 unused)) product equal (products (shape (slice_index_or generators 0 unused))) (length generators)
-        (λ a. slice_index_or generators a unused) unused shaped (length t.words) (word_at t) (edge t.right) (edge t.left) tables.numbered u v (number_in t u) (number_in t v)
+        (green_l semi laws numbering u v (number_in t u) (number_in t v)
         (tables.every u e) (tables.every v f))
     by_relation H =
         subst (λ k. IsGreen H product equal (length generators) (value_by product generators unused) (value_by product generators unused u) (value_by product generators unused v)
         ↔ (AreConnected (IsEdge k (edge t.right)) (number_in t u) (number_in t v) × AreConnected (IsEdge k (edge t.left)) (number_in t u) (number_in t v))) (sym tables.letters)
-        (green_h (λ x. shape x ≡ shape (slice_index_or generators 0 unused)) product equal (products (shape (slice_index_or generators 0 unused))) (length generators)
-        (λ a. slice_index_or generators a unused) unused shaped (length t.words) (word_at t) (edge t.right) (edge t.left) tables.numbered u v (number_in t u) (number_in t v)
+        (green_h semi laws numbering u v (number_in t u) (number_in t v)
         (tables.every u e) (tables.every v f))
     by_relation J =
         subst (λ k. IsGreen J product equal (length generators) (value_by product generators unused) (value_by product generators unused u) (value_by product generators unused v)
         ↔ AreConnected (IsEdgeOfEither k (edge t.right) (edge t.left)) (number_in t u) (number_in t v)) (sym tables.letters)
-        (green_j (λ x. shape x ≡ shape (slice_index_or generators 0 unused)) product equal (products (shape (slice_index_or generators 0 unused))) (length generators)
-        (λ a. slice_index_or generators a unused) unused shaped (length t.words) (word_at t) (edge t.right) (edge t.left) tables.numbered u v (number_in t u) (number_in t v)
+        (green_j semi laws numbering u v (number_in t u) (number_in t v)
         (tables.every u e) (tables.every v f))
 
   pub told_by_classes : (relation : Relation) (classes : List (List ℕ)) → AreClasses (length t.words) (AreRelated relation t) classes → (u v : Word)
@@ -182,8 +185,7 @@ module _ {V : Type 0} (shape : V → ℕ × ℕ) (product : V → V → V) (equa
   pub told_at : (u : Word) → IsElement false (length generators) u
       → IsIdempotent product equal (value_by product generators unused u) ↔ IsIdempotentAt t (number_in t u)
   told_at u e =
-      let by = idempotent_leads (λ x. shape x ≡ shape (slice_index_or generators 0 unused)) product equal (products (shape (slice_index_or generators 0 unused))) (length generators)
-      (λ a. slice_index_or generators a unused) unused shaped (length t.words) (word_at t) (edge t.right) (edge t.left) tables.numbered u (number_in t u) (tables.every u e) in
+      let by = idempotent_leads semi laws numbering u (number_in t u) (tables.every u e) in
       (λ g. record { below = (tables.every u e).0; back = by.0 g }, λ at. by.1 at.back)
 
   pub told_by_numbers : (found : List ℕ) → IsListOf (IsIdempotentAt t) ◌<◌ None found → (u : Word) → IsElement false (length generators) u

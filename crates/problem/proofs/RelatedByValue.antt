@@ -1,10 +1,12 @@
 -- Elements of generators of one shape, without pairs.
-use Rattle.std.proofs.Common.{◌≡◌, ℕ, ◌↔◌, Bool, List, [], ◌∷◌, length, get_or, arith}
+use Rattle.std.proofs.Common.{◌≡◌, ℕ, ◌↔◌, Bool, List, [], ◌∷◌, length}
 use Rattle.theory.specs.Word.{Word}
 use Rattle.theory.specs.Value.{IsProduct, SameValue, SameElement}
+use Rattle.theory.specs.Semigroup.{Semigroup}
 use Rattle.theory.specs.declared.Kind.{Kind}
 use Rattle.theory.proofs.ValueLaws.{same_element_without_pairs}
 use Rattle.elements.specs.Generators.{HaveOneShape, value_by}
+use Rattle.elements.proofs.Semigroups.{semigroup_of}
 use Rattle.elements.specs.TransfLaws.{composed_products}
 use Rattle.elements.specs.PPermLaws.{partial_products}
 use Rattle.elements.specs.BMatLaws.{boolean_products}
@@ -19,9 +21,8 @@ module _ {V : Type 0} {shape : V → ℕ × ℕ} {product : V → V → V} {equa
       → SameElement (length generators) equal (value_by product generators unused) kind pairs u v
       ↔ SameValue (length generators) equal (value_by product generators unused) u v
   by_generators shaped kind [] e =
-      let one : ℕ × ℕ = shape (get_or generators 0 unused) in
-      same_element_without_pairs (λ x. shape x ≡ one) product equal (laws one) (length generators) (λ a. get_or generators a unused) unused
-      (λ a within. shaped a 0 unused within (omega arith)) kind
+      let semi : Semigroup shape product equal = semigroup_of generators unused shaped in
+      same_element_without_pairs semi (laws semi.one) kind
   by_generators shaped kind (p ∷ pairs) e = absurd (cc)
 
 pub related_by_value : (p : Problem) → HasOneShape p → pairs_of p ≡ [] → (u v : Word) → SameClassOf p u v ↔ SameValueOf p u v

@@ -5,7 +5,7 @@ use Rattle.std.specs.Option.{option_eq}
 use Rattle.theory.specs.Word.{Word, IsElement, IsOver}
 use Rattle.theory.specs.Listing.{IsListOf, IsAfter, IsStrictOrder}
 use Rattle.theory.specs.Value.{IsProduct, SameValue}
-use Rattle.theory.specs.Generated.{IsNumberOf}
+use Rattle.theory.specs.Semigroup.{IsNumberBelow}
 use Rattle.theory.specs.Green.{IsIdempotent}
 use Rattle.theory.specs.declared.Relation.{Relation}
 use Rattle.theory.proofs.Counting.{IsIn}
@@ -45,7 +45,7 @@ listed_in P Less order cursor (y ∷ xs) h x p a = elim (order.cases x y p h.0.h
 module _ {V : Type 0} (shape : V → ℕ × ℕ) (product : V → V → V) (equal : V → V → Bool) (products : (one : ℕ × ℕ) → IsProduct (λ x. shape x ≡ one) product equal)
     (generators : List V) (unused : V) (one_shape : HaveOneShape shape generators) (t : CayleyTables) (fit : FitTogether t) (letters : length t.letters ≡ length generators)
     (graphs : AreCayleyGraphs (SameValue (length generators) equal (value_by product generators unused)) (length generators) t.words (edge t.right) (edge t.left))
-    (every : (u : Word) → IsElement false (length generators) u → IsNumberOf (length generators) equal (value_by product generators unused) (length t.words) (word_at t) (number_in t u) u) where
+    (every : (u : Word) → IsElement false (length generators) u → IsNumberBelow (length generators) equal (value_by product generators unused) (length t.words) (word_at t) (number_in t u) u) where
   abbrev Same : Word → Word → Type 0
   Same = SameValue (length generators) equal (value_by product generators unused)
 

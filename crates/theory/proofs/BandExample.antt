@@ -1,10 +1,11 @@
 -- A pair on a band of four elements, by merging numbers: of each kind.
-use Rattle.std.proofs.Common.{◌≡◌, ℕ, zero, suc, ◌<◌, false, nat_eq, List, [], ◌∷◌, ◌++◌, refl, sym, ◌∙◌, ap, subst, subst₂, arith, inl, inr, ◌↔◌, IsTrue, Contains}
+use Rattle.std.proofs.Common.{◌≡◌, ℕ, zero, suc, ◌<◌, ◌/◌, false, nat_eq, List, [], ◌∷◌, ◌++◌, refl, sym, ◌∙◌, ap, subst, subst₂, arith, inl, inr, ◌↔◌, IsTrue, Contains}
 use Rattle.std.proofs.lemmas.List.Elements.{All-cons, All-nil}
 use Rattle.theory.specs.Word.{Word, IsElement}
 use Rattle.theory.specs.Congruence.{AreElements}
 use Rattle.theory.specs.Value.{IsProduct, SameElement}
-use Rattle.theory.specs.Generated.{given, on_left, IsPairOf, AreNumbered, IsNumberOf, GeneratedNumber, Linked, itself, merge, back, on, AreMerges}
+use Rattle.theory.specs.Semigroup.{Semigroup, AreNumbered, IsNumberBelow, Numbering, IsNumberOf}
+use Rattle.theory.specs.Generated.{given, on_left, IsPairOf, GeneratedNumber, Linked, itself, merge, back, on, AreMerges}
 use Rattle.theory.specs.Examples.{a1, b1, ab, ba, band, band_generator, band_value, band_pair}
 use Rattle.theory.specs.declared.Kind.{Kind}
 use Rattle.theory.specs.declared.Kind.TheVariants.{TwoSided, Right, Left}
@@ -19,9 +20,19 @@ equal_from a b h = grind (arith, h)
 equal_to : (a b : ℕ) → a ≡ b → IsTrue (nat_eq a b)
 equal_to a b h = grind (arith, h)
 
-band_laws : IsProduct (λ x. x < 4) band nat_eq
+-- numbers below four have one shape
+abbrev band_shape : ℕ → ℕ × ℕ
+band_shape x = (x / 4, 0)
+
+below_from : (x : ℕ) → band_shape x ≡ (0, 0) → x < 4
+below_from x h = let none : x / 4 ≡ 0 = ap (λ (p : ℕ × ℕ). p.0) h in omega (arith, none)
+
+below_to : (x : ℕ) → x < 4 → band_shape x ≡ (0, 0)
+below_to x h = let none : x / 4 ≡ 0 = omega (arith, h) in ap (λ (n : ℕ). (n, 0)) none
+
+band_laws : IsProduct (λ x. band_shape x ≡ (0, 0)) band nat_eq
 band_laws = record {
-  shape = λ x y hx hy. omega arith;
+  shape = λ x y hx hy. let one = below_from x hx in let two = below_from y hy in below_to (band x y) (omega (arith, one, two));
   associative = λ x y z hx hy hz. equal_to (band (band x y) z) (band x (band y z)) (omega arith);
   kept = λ x y z w hx hy hz hw e d. let p = equal_from x y e in let q = equal_from z w d in equal_to (band x z) (band y w) (cc);
   reflexive = λ x. equal_to x x refl;
@@ -29,9 +40,12 @@ band_laws = record {
   transitive = λ x y z e d. equal_to x z (equal_from x y e ∙ equal_from y z d);
 }
 
-shaped : (a : ℕ) → a < 2 → band_generator a < 4
-shaped zero h = omega arith
-shaped (suc a) h = omega arith
+shaped : (a : ℕ) → a < 2 → band_shape (band_generator a) ≡ (0, 0)
+shaped zero h = below_to 0 (omega arith)
+shaped (suc a) h = below_to 3 (omega arith)
+
+abbrev band_semigroup : Semigroup band_shape band nat_eq
+band_semigroup = record { letters = 2; generator = band_generator; unused = 0; one = (0, 0); shaped = shaped }
 
 -- each value by a word
 abbrev word : ℕ → Word
@@ -50,7 +64,7 @@ word_value : (i : ℕ) → i < 4 → band_value (word i) ≡ i
 word_value = below_four (λ i. band_value (word i) ≡ i) refl refl refl refl
 
 value_below : (u : Word) → IsElement false 2 u → band_value u < 4
-value_below u h = value_shape (λ x. x < 4) band nat_eq band_laws 2 band_generator 0 shaped u h
+value_below u h = below_from (band_value u) (value_shape band_semigroup band_laws u h)
 
 abbrev right : ℕ → ℕ → ℕ
 right i a = band i (band_generator a)
@@ -59,7 +73,7 @@ abbrev left : ℕ → ℕ → ℕ
 left i a = band (band_generator a) i
 
 -- a value is its own number
-numbers : (u : Word) → IsElement false 2 u → IsNumberOf 2 nat_eq band_value 4 word (band_value u) u
+numbers : (u : Word) → IsElement false 2 u → IsNumberBelow 2 nat_eq band_value 4 word (band_value u) u
 numbers u h = (
   value_below u h,
   record {
@@ -75,8 +89,8 @@ letter a l = (λ e. cc, (l, tt))
 letter_value : (a : ℕ) → band_value (a ∷ []) ≡ band_generator a
 letter_value a = refl
 
-at_number : (i : ℕ) (u : Word) → IsElement false 2 u → band_value u ≡ i → IsNumberOf 2 nat_eq band_value 4 word i u
-at_number i u h e = subst (λ n. IsNumberOf 2 nat_eq band_value 4 word n u) e (numbers u h)
+at_number : (i : ℕ) (u : Word) → IsElement false 2 u → band_value u ≡ i → IsNumberBelow 2 nat_eq band_value 4 word i u
+at_number i u h e = subst (λ n. IsNumberBelow 2 nat_eq band_value 4 word n u) e (numbers u h)
 
 numbered : AreNumbered 2 nat_eq band_value 4 word right left
 numbered = record {
@@ -86,14 +100,17 @@ numbered = record {
   on_right = λ i a l m.
       at_number (right i a) (word i ++ a ∷ []) (element_context 2 [] (word i) (a ∷ []) tt (word_element i) (m, tt))
       (equal_from (band_value (word i ++ a ∷ [])) (band (band_value (word i)) (band_generator a))
-      (value_append (λ x. x < 4) band nat_eq band_laws 2 band_generator 0 shaped (word i) (a ∷ []) (word_element i) (letter a m))
+      (value_append band_semigroup band_laws (word i) (a ∷ []) (word_element i) (letter a m))
       ∙ ap (λ n. band n (band_generator a)) (word_value i l));
   on_left = λ i a l m.
       at_number (left i a) (a ∷ word i) (λ e. cc, (m, (word_element i).1))
       (equal_from (band_value (a ∷ word i)) (band (band_generator a) (band_value (word i)))
-      (value_append (λ x. x < 4) band nat_eq band_laws 2 band_generator 0 shaped (a ∷ []) (word i) (letter a m) (word_element i))
+      (value_append band_semigroup band_laws (a ∷ []) (word i) (letter a m) (word_element i))
       ∙ ap (λ n. band (band_generator a) n) (word_value i l));
 }
+
+abbrev numbering : Numbering band_semigroup
+numbering = record { count = 4; word = word; right = right; left = left; numbered = numbered }
 
 pair_elements : AreElements false 2 band_pair
 pair_elements =
@@ -101,10 +118,10 @@ pair_elements =
     (All-nil (λ (q : Word × Word). IsElement false 2 q.0 × IsElement false 2 q.1))
 
 -- the pair's numbers are 0 and 1
-pair_numbers : (i j : ℕ) → IsPairOf band_pair (IsNumberOf 2 nat_eq band_value 4 word) i j → (i ≡ 0) × (j ≡ 1)
+pair_numbers : (i j : ℕ) → IsPairOf band_pair (IsNumberOf numbering) i j → (i ≡ 0) × (j ≡ 1)
 pair_numbers i j h = go (in_from_contains (h.first, h.second) band_pair h.listed)
   where
-    value_is : (n : ℕ) (u : Word) → IsNumberOf 2 nat_eq band_value 4 word n u → n ≡ band_value u
+    value_is : (n : ℕ) (u : Word) → IsNumberOf numbering n u → n ≡ band_value u
     value_is n u p = sym (word_value n p.0) ∙ sym (equal_from (band_value u) (band_value (word n)) p.1.related)
 
     go : IsIn (h.first, h.second) band_pair → (i ≡ 0) × (j ≡ 1)
@@ -115,7 +132,7 @@ pair_numbers i j h = go (in_from_contains (h.first, h.second) band_pair h.listed
     go (inr n) = absurd n
 
 abbrev Pairs : Kind → ℕ → ℕ → Type 0
-Pairs kind = GeneratedNumber 2 nat_eq band_value 4 word right left kind band_pair
+Pairs kind = GeneratedNumber numbering kind band_pair
 
 zero_one : (kind : Kind) → Pairs kind 0 1
 zero_one kind =
@@ -131,7 +148,7 @@ right_merges = (0, 1) ∷ []
 abbrev left_merges : List (ℕ × ℕ)
 left_merges = (0, 1) ∷ (2, 3) ∷ []
 
-linked_pair : (merges : List (ℕ × ℕ)) → Contains merges (0, 1) → (i j : ℕ) → IsPairOf band_pair (IsNumberOf 2 nat_eq band_value 4 word) i j
+linked_pair : (merges : List (ℕ × ℕ)) → Contains merges (0, 1) → (i j : ℕ) → IsPairOf band_pair (IsNumberOf numbering) i j
     → Linked 4 merges i j
 linked_pair merges m i j h = let e = pair_numbers i j h in subst₂ (λ x y. Linked 4 merges x y) (sym e.0) (sym e.1) (merge m)
 
@@ -169,7 +186,7 @@ first = merge (contains_from_in (0, 1) left_merges (inl refl))
 second : Linked 4 left_merges 2 3
 second = merge (contains_from_in (2, 3) left_merges (inr (inl refl)))
 
-by_right : AreMerges 2 nat_eq band_value 4 word right left Right band_pair right_merges
+by_right : AreMerges numbering Right band_pair right_merges
 by_right = record {
   sound = only_merge (Pairs Right) (zero_one Right);
   given = linked_pair right_merges (contains_from_in (0, 1) right_merges (inl refl));
@@ -194,7 +211,7 @@ right_images i j a l m =
     (each_letter (λ a. Linked 4 left_merges (right 2 a) (right 3 a)) (self left_merges 2 (omega arith)) (self left_merges 3 (omega arith)) a l)
     i j m
 
-by_left : AreMerges 2 nat_eq band_value 4 word right left Left band_pair left_merges
+by_left : AreMerges numbering Left band_pair left_merges
 by_left = record {
   sound = each_merge (Pairs Left) (zero_one Left) (on_left 0 1 1 tt (omega arith) (zero_one Left));
   given = linked_pair left_merges (contains_from_in (0, 1) left_merges (inl refl));
@@ -202,7 +219,7 @@ by_left = record {
   on_left = λ i j a kept l m. left_images i j a l m;
 }
 
-by_both : AreMerges 2 nat_eq band_value 4 word right left TwoSided band_pair left_merges
+by_both : AreMerges numbering TwoSided band_pair left_merges
 by_both = record {
   sound = each_merge (Pairs TwoSided) (zero_one TwoSided) (on_left 0 1 1 tt (omega arith) (zero_one TwoSided));
   given = linked_pair left_merges (contains_from_in (0, 1) left_merges (inl refl));
@@ -229,12 +246,11 @@ label_left zero = 0
 label_left (suc zero) = 0
 label_left (suc (suc n)) = 1
 
-decide : (kind : Kind) (merges : List (ℕ × ℕ)) → AreMerges 2 nat_eq band_value 4 word right left kind band_pair merges → (u v : Word)
+decide : (kind : Kind) (merges : List (ℕ × ℕ)) → AreMerges numbering kind band_pair merges → (u v : Word)
     → IsElement false 2 u → IsElement false 2 v
     → SameElement 2 nat_eq band_value kind band_pair u v ↔ Linked 4 merges (band_value u) (band_value v)
 decide kind merges are u v hu hv =
-    same_element_by_merges (λ x. x < 4) band nat_eq band_laws 2 band_generator 0 shaped kind band_pair pair_elements 4 word right left numbered
-    merges are u v (band_value u) (band_value v) (numbers u hu) (numbers v hv)
+    same_element_by_merges band_semigroup band_laws kind band_pair pair_elements numbering merges are u v (band_value u) (band_value v) (numbers u hu) (numbers v hv)
 
 pub left_related : SameElement 2 nat_eq band_value Left band_pair b1 ba
 left_related = (decide Left left_merges by_left b1 ba (word_element 3) (word_element 2)).1 (back second)

@@ -5,8 +5,9 @@ use Rattle.theory.specs.Congruence.{EitherWay, AreElements}
 use Rattle.theory.specs.Chain.{MayStand, StepBy}
 use Rattle.theory.specs.ShortLex.{◌≺◌}
 use Rattle.theory.specs.Class.{Among, IsLeast, IsNormal, IsClassList}
-use Rattle.theory.specs.Value.{value, IsProduct, SameValue, SameElement}
-use Rattle.theory.specs.Generated.{IsKeptOnRight, IsKeptOnLeft, Generated, given, symmetric, transitive, on_right, on_left, GivenValue, GeneratedValue, AreNumbered, IsNumberOf, GivenNumber, GeneratedNumber, Linked, itself, merge, back, on, AreMerges}
+use Rattle.theory.specs.Value.{IsProduct, SameValue, SameElement}
+use Rattle.theory.specs.Semigroup.{Semigroup, value_of, Numbering, IsNumberOf}
+use Rattle.theory.specs.Generated.{IsKeptOnRight, IsKeptOnLeft, Generated, given, symmetric, transitive, on_right, on_left, GivenValue, GeneratedValue, GivenNumber, GeneratedNumber, Linked, itself, merge, back, on, AreMerges}
 use Rattle.theory.specs.declared.Kind.{Kind}
 use Rattle.theory.specs.declared.Kind.TheVariants.{TwoSided, Right, Left}
 use Rattle.theory.proofs.Words.{over_append, over_left, over_right}
@@ -55,15 +56,18 @@ pub element_context : (k : ℕ) (x u y : Word) → IsOver k x → IsElement fals
 element_context k [] u y hx hu hy = (λ e. hu.0 (front_nil u y e), over_append k u y hu.1 hy)
 element_context k (a ∷ x) u y hx hu hy = (λ e. cc, (hx.0, over_append k x (u ++ y) hx.1 (over_append k u y hu.1 hy)))
 
-module _ {V : Type 0} (HasShape : V → Type 0) (product : V → V → V) (equal : V → V → Bool) (laws : IsProduct HasShape product equal) (k : ℕ)
-    (generator : ℕ → V) (unused : V) (shaped : (a : ℕ) → a < k → HasShape (generator a)) where
+module _ {V : Type 0} {shape : V → ℕ × ℕ} {product : V → V → V} {equal : V → V → Bool} (semi : Semigroup shape product equal)
+    (laws : IsProduct (λ x. shape x ≡ semi.one) product equal) where
+  abbrev HasShape : V → Type 0
+  HasShape x = shape x ≡ semi.one
+
   abbrev pub val : Word → V
-  val = value product generator unused
+  val = value_of semi
 
   abbrev pub Same : Word → Word → Type 0
-  Same = SameValue k equal (value product generator unused)
+  Same = SameValue semi.letters equal (value_of semi)
 
-  pub same_refl : (u : Word) → IsElement false k u → Same u u
+  pub same_refl : (u : Word) → IsElement false semi.letters u → Same u u
   same_refl u h = record { left = h; right = h; related = laws.reflexive (val u) }
 
   pub same_symm : (u v : Word) → Same u v → Same v u
@@ -75,9 +79,9 @@ module _ {V : Type 0} (HasShape : V → Type 0) (product : V → V → V) (equal
   pub same_value_equivalence : IsPartialEquivalence Same
   same_value_equivalence = record { symmetric = same_symm; transitive = same_trans }
 
-  module _ (kind : Kind) (pairs : List (Word × Word)) (elements : AreElements false k pairs) where
+  module _ (kind : Kind) (pairs : List (Word × Word)) (elements : AreElements false semi.letters pairs) where
     abbrev pub Joins : Word → Word → Type 0
-    Joins = SameElement k equal (value product generator unused) kind pairs
+    Joins = SameElement semi.letters equal (value_of semi) kind pairs
 
     pub joins_value : (u v : Word) → Same u v → Joins u v
     joins_value u v h = record {
@@ -90,7 +94,7 @@ module _ {V : Type 0} (HasShape : V → Type 0) (product : V → V → V) (equal
 
     pub joins_pair : (p q : Word) → Contains pairs (p, q) → Joins p q
     joins_pair p q m =
-        let both = side_element false k pairs p q elements (inl m) in
+        let both = side_element false semi.letters pairs p q elements (inl m) in
         record {
           left = both.0;
           right = both.1;
@@ -125,63 +129,63 @@ module _ {V : Type 0} (HasShape : V → Type 0) (product : V → V → V) (equal
     pub same_element_list : (xs ys : List Word) → IsClassList Joins xs → IsClassList Joins ys → xs ≡ ys
     same_element_list = list_unique (IsLeast Joins) ◌≺◌ (shortlex_strict (IsLeast Joins)) None
 
-    pub joins_kept : (x y u v : Word) → IsOver k x → IsOver k y → MayStand kind x y → Joins u v → Joins (x ++ (u ++ y)) (x ++ (v ++ y))
+    pub joins_kept : (x y u v : Word) → IsOver semi.letters x → IsOver semi.letters y → MayStand kind x y → Joins u v → Joins (x ++ (u ++ y)) (x ++ (v ++ y))
     joins_kept x y u v hx hy stands h = record {
-      left = element_context k x u y hx h.left hy;
-      right = element_context k x v y hx h.right hy;
+      left = element_context semi.letters x u y hx h.left hy;
+      right = element_context semi.letters x v y hx h.right hy;
       related = (joined_congruence Same kind pairs same_symm).kept x y stands u v h.related;
     }
 
-    joins_behind : (u v : Word) (a : ℕ) → IsKeptOnRight kind → a < k → Joins u v → Joins (u ++ a ∷ []) (v ++ a ∷ [])
+    joins_behind : (u v : Word) (a : ℕ) → IsKeptOnRight kind → a < semi.letters → Joins u v → Joins (u ++ a ∷ []) (v ++ a ∷ [])
     joins_behind u v a m l h = joins_kept [] (a ∷ []) u v tt (l, tt) (stands_behind kind m (a ∷ [])) h
 
-    joins_before : (u v : Word) (a : ℕ) → IsKeptOnLeft kind → a < k → Joins u v → Joins (a ∷ u) (a ∷ v)
+    joins_before : (u v : Word) (a : ℕ) → IsKeptOnLeft kind → a < semi.letters → Joins u v → Joins (a ∷ u) (a ∷ v)
     joins_before u v a m l h =
         subst₂ (λ p q. Joins (a ∷ p) (a ∷ q)) (append-nil u) (append-nil v) (joins_kept (a ∷ []) [] u v (l, tt) tt (stands_before kind m (a ∷ [])) h)
 
     -- Words stand for things that are multiplied by letters as words are, and what words of equal value or of a pair stand for is generated.
     module _ {X : Type 0} (right left : X → ℕ → X) (Given : X → X → Type 0) (Stands : Word → X → Type 0)
-        (some : (u : Word) → IsElement false k u → (x : X) × Stands u x)
-        (by_value : (u v : Word) (x y : X) → Same u v → Stands u x → Stands v y → Generated kind k right left Given x y)
-        (by_pair : (p q : Word) (x y : X) → Contains pairs (p, q) → Stands p x → Stands q y → Generated kind k right left Given x y)
-        (behind : (u : Word) (a : ℕ) (x : X) → a < k → Stands u x → Stands (u ++ a ∷ []) (right x a))
-        (before : (u : Word) (a : ℕ) (x : X) → a < k → Stands u x → Stands (a ∷ u) (left x a)) where
+        (some : (u : Word) → IsElement false semi.letters u → (x : X) × Stands u x)
+        (by_value : (u v : Word) (x y : X) → Same u v → Stands u x → Stands v y → Generated kind semi.letters right left Given x y)
+        (by_pair : (p q : Word) (x y : X) → Contains pairs (p, q) → Stands p x → Stands q y → Generated kind semi.letters right left Given x y)
+        (behind : (u : Word) (a : ℕ) (x : X) → a < semi.letters → Stands u x → Stands (u ++ a ∷ []) (right x a))
+        (before : (u : Word) (a : ℕ) (x : X) → a < semi.letters → Stands u x → Stands (a ∷ u) (left x a)) where
       abbrev Gen : X → X → Type 0
-      Gen = Generated kind k right left Given
+      Gen = Generated kind semi.letters right left Given
 
       -- whatever the words stand for is generated
       abbrev Both : Word → Word → Type 0
-      Both u v = (x y : X) → Stands u x → Stands v y → Generated kind k right left Given x y
+      Both u v = (x y : X) → Stands u x → Stands v y → Generated kind semi.letters right left Given x y
 
-      both_behind : IsKeptOnRight kind → (w u v : Word) → IsOver k w → IsElement false k u → IsElement false k v → Both u v
+      both_behind : IsKeptOnRight kind → (w u v : Word) → IsOver semi.letters w → IsElement false semi.letters u → IsElement false semi.letters v → Both u v
           → Both (u ++ w) (v ++ w)
       both_behind m [] u v hw hu hv h = subst₂ (λ p q. Both p q) (sym (append-nil u)) (sym (append-nil v)) h
       both_behind m (a ∷ w) u v hw hu hv h =
           subst₂ (λ p q. Both p q) (append_assoc u (a ∷ []) w) (append_assoc v (a ∷ []) w)
-          (both_behind m w (u ++ a ∷ []) (v ++ a ∷ []) hw.1 (element_context k [] u (a ∷ []) tt hu (hw.0, tt))
-          (element_context k [] v (a ∷ []) tt hv (hw.0, tt)) one)
+          (both_behind m w (u ++ a ∷ []) (v ++ a ∷ []) hw.1 (element_context semi.letters [] u (a ∷ []) tt hu (hw.0, tt))
+          (element_context semi.letters [] v (a ∷ []) tt hv (hw.0, tt)) one)
         where
           one : Both (u ++ a ∷ []) (v ++ a ∷ [])
           one x y p q =
               let s = some u hu in
               let t = some v hv in
               let left_end =
-              by_value (u ++ a ∷ []) (u ++ a ∷ []) x (right s.0 a) (same_refl (u ++ a ∷ []) (element_context k [] u (a ∷ []) tt hu (hw.0, tt))) p
+              by_value (u ++ a ∷ []) (u ++ a ∷ []) x (right s.0 a) (same_refl (u ++ a ∷ []) (element_context semi.letters [] u (a ∷ []) tt hu (hw.0, tt))) p
               (behind u a s.0 hw.0 s.1) in
               let right_end =
-              by_value (v ++ a ∷ []) (v ++ a ∷ []) (right t.0 a) y (same_refl (v ++ a ∷ []) (element_context k [] v (a ∷ []) tt hv (hw.0, tt)))
+              by_value (v ++ a ∷ []) (v ++ a ∷ []) (right t.0 a) y (same_refl (v ++ a ∷ []) (element_context semi.letters [] v (a ∷ []) tt hv (hw.0, tt)))
               (behind v a t.0 hw.0 t.1) q in
               transitive left_end (transitive (on_right s.0 t.0 a m hw.0 (h s.0 t.0 s.1 t.1)) right_end)
 
-      both_before : IsKeptOnLeft kind → (w u v : Word) → IsOver k w → IsElement false k u → IsElement false k v → Both u v
+      both_before : IsKeptOnLeft kind → (w u v : Word) → IsOver semi.letters w → IsElement false semi.letters u → IsElement false semi.letters v → Both u v
           → Both (w ++ u) (w ++ v)
       both_before m [] u v hw hu hv h = h
       both_before m (a ∷ w) u v hw hu hv h = one (both_before m w u v hw.1 hu hv h)
         where
-          inner : (u : Word) → IsElement false k u → IsElement false k (w ++ u)
-          inner u hu = subst (λ z. IsElement false k (w ++ z)) (append-nil u) (element_context k w u [] hw.1 hu tt)
+          inner : (u : Word) → IsElement false semi.letters u → IsElement false semi.letters (w ++ u)
+          inner u hu = subst (λ z. IsElement false semi.letters (w ++ z)) (append-nil u) (element_context semi.letters w u [] hw.1 hu tt)
 
-          outer : (u : Word) → IsElement false k u → IsElement false k (a ∷ (w ++ u))
+          outer : (u : Word) → IsElement false semi.letters u → IsElement false semi.letters (a ∷ (w ++ u))
           outer u hu = (λ e. cc, (hw.0, (inner u hu).1))
 
           one : Both (w ++ u) (w ++ v) → Both (a ∷ (w ++ u)) (a ∷ (w ++ v))
@@ -195,20 +199,20 @@ module _ {V : Type 0} (HasShape : V → Type 0) (product : V → V → V) (equal
               transitive left_end (transitive (on_left s.0 t.0 a m hw.0 (h s.0 t.0 s.1 t.1)) right_end)
 
       -- a pair in a context of its kind
-      both_pair : (x p q y : Word) → MayStand kind x y → EitherWay pairs p q → IsOver k x → IsOver k y
+      both_pair : (x p q y : Word) → MayStand kind x y → EitherWay pairs p q → IsOver semi.letters x → IsOver semi.letters y
           → Both (x ++ (p ++ y)) (x ++ (q ++ y))
       both_pair x p q y stands e hx hy =
-          let sides = side_element false k pairs p q elements e in
+          let sides = side_element false semi.letters pairs p q elements e in
           elim (kept_or_start kind x y stands) [
             | inl m ↦
-                both_before m x (p ++ y) (q ++ y) hx (element_context k [] p y tt sides.0 hy) (element_context k [] q y tt sides.1 hy) (tail sides)
+                both_before m x (p ++ y) (q ++ y) hx (element_context semi.letters [] p y tt sides.0 hy) (element_context semi.letters [] q y tt sides.1 hy) (tail sides)
             | inr e ↦ subst (λ z. Both (z ++ (p ++ y)) (z ++ (q ++ y))) (sym e) (tail sides)
           ]
         where
           alone : Both p q
           alone s t h j = elim e [ inl m ↦ by_pair p q s t m h j | inr m ↦ symmetric (by_pair q p t s m j h) ]
 
-          tail : IsElement false k p × IsElement false k q → Both (p ++ y) (q ++ y)
+          tail : IsElement false semi.letters p × IsElement false semi.letters q → Both (p ++ y) (q ++ y)
           tail sides = elim (kept_or_end kind x y stands) [
             | inl m ↦ both_behind m y p q hy sides.0 sides.1 alone
             | inr e ↦ subst (λ z. Both (p ++ z) (q ++ z)) (sym e) (subst₂ (λ a b. Both a b) (sym (append-nil p)) (sym (append-nil q)) alone)
@@ -217,61 +221,61 @@ module _ {V : Type 0} (HasShape : V → Type 0) (product : V → V → V) (equal
       -- what joined words stand for is generated
       joins_generated : (u v : Word) → Joins u v → Both u v
       joins_generated u v h =
-          (joined_least (StepBy Same kind pairs) (λ u v. IsElement false k u → IsElement false k v × Both u v)
+          (joined_least (StepBy Same kind pairs) (λ u v. IsElement false semi.letters u → IsElement false semi.letters v × Both u v)
           (λ u e. (e, λ x y p q. by_value u u x y (same_refl u e) p q))
           (λ u v w f g e. let one = f e in let two = g one.0 in (two.0, λ x y p q. let s = some v one.0 in transitive (one.1 x s.0 p s.1) (two.1 s.0 y s.1 q)))
           step u v h.related h.left).1
         where
-          step : (u v : Word) → StepBy Same kind pairs u v → IsElement false k u → IsElement false k v × Both u v
+          step : (u v : Word) → StepBy Same kind pairs u v → IsElement false semi.letters u → IsElement false semi.letters v × Both u v
           step u v s e = elim s [
-            | inl a ↦ let here = value_kept HasShape product equal laws k generator unused shaped u v a e in (
+            | inl a ↦ let here = value_kept semi laws u v a e in (
               here.right,
               λ x y p q. by_value u v x y here p q,
             )
             | inr b ↦ (
-              element_step false k (EitherWay pairs) kind (λ r t d. (side_element false k pairs r t elements d).1) u v b e,
-              let whole : IsOver k (b.before ++ (b.from ++ b.after)) = subst (λ w. IsOver k w) b.source e.1 in
+              element_step false semi.letters (EitherWay pairs) kind (λ r t d. (side_element false semi.letters pairs r t elements d).1) u v b e,
+              let whole : IsOver semi.letters (b.before ++ (b.from ++ b.after)) = subst (λ w. IsOver semi.letters w) b.source e.1 in
                   subst₂ (λ p q. Both p q) (sym b.source) (sym b.target)
-                  (both_pair b.before b.from b.to b.after b.place b.base (over_left k b.before (b.from ++ b.after) whole)
-                  (over_right k b.from b.after (over_right k b.before (b.from ++ b.after) whole))),
+                  (both_pair b.before b.from b.to b.after b.place b.base (over_left semi.letters b.before (b.from ++ b.after) whole)
+                  (over_right semi.letters b.from b.after (over_right semi.letters b.before (b.from ++ b.after) whole))),
             )
           ]
 
     -- u stands for its value, and for each value of the shape that is equal to it
     abbrev StandsForValue : Word → V → Type 0
-    StandsForValue u x = IsElement false k u × HasShape x × IsTrue (equal (value product generator unused u) x)
+    StandsForValue u x = IsElement false semi.letters u × HasShape x × IsTrue (equal (value_of semi u) x)
 
-    stands_itself : (u : Word) → IsElement false k u → StandsForValue u (val u)
-    stands_itself u e = (e, value_shape HasShape product equal laws k generator unused shaped u e, laws.reflexive (val u))
+    stands_itself : (u : Word) → IsElement false semi.letters u → StandsForValue u (val u)
+    stands_itself u e = (e, value_shape semi laws u e, laws.reflexive (val u))
 
-    letter_element : (a : ℕ) → a < k → IsElement false k (a ∷ [])
+    letter_element : (a : ℕ) → a < semi.letters → IsElement false semi.letters (a ∷ [])
     letter_element a l = (λ e. cc, (l, tt))
 
-    stands_behind_value : (u : Word) (a : ℕ) (x : V) → a < k → StandsForValue u x → StandsForValue (u ++ a ∷ []) (product x (generator a))
+    stands_behind_value : (u : Word) (a : ℕ) (x : V) → a < semi.letters → StandsForValue u x → StandsForValue (u ++ a ∷ []) (product x (semi.generator a))
     stands_behind_value u a x l h = (
-      element_context k [] u (a ∷ []) tt h.0 (l, tt),
-      laws.shape x (generator a) h.1 (shaped a l),
-      laws.transitive (val (u ++ a ∷ [])) (product (val u) (generator a)) (product x (generator a))
-          (value_append HasShape product equal laws k generator unused shaped u (a ∷ []) h.0 (letter_element a l))
-          (laws.kept (val u) x (generator a) (generator a) (stands_itself u h.0).1 h.1 (shaped a l) (shaped a l) h.2 (laws.reflexive (generator a))),
+      element_context semi.letters [] u (a ∷ []) tt h.0 (l, tt),
+      laws.shape x (semi.generator a) h.1 (semi.shaped a l),
+      laws.transitive (val (u ++ a ∷ [])) (product (val u) (semi.generator a)) (product x (semi.generator a))
+          (value_append semi laws u (a ∷ []) h.0 (letter_element a l))
+          (laws.kept (val u) x (semi.generator a) (semi.generator a) (stands_itself u h.0).1 h.1 (semi.shaped a l) (semi.shaped a l) h.2 (laws.reflexive (semi.generator a))),
     )
 
-    stands_before_value : (u : Word) (a : ℕ) (x : V) → a < k → StandsForValue u x → StandsForValue (a ∷ u) (product (generator a) x)
+    stands_before_value : (u : Word) (a : ℕ) (x : V) → a < semi.letters → StandsForValue u x → StandsForValue (a ∷ u) (product (semi.generator a) x)
     stands_before_value u a x l h = (
       (λ e. cc, (l, h.0.1)),
-      laws.shape (generator a) x (shaped a l) h.1,
-      laws.transitive (val (a ∷ u)) (product (generator a) (val u)) (product (generator a) x)
-          (value_append HasShape product equal laws k generator unused shaped (a ∷ []) u (letter_element a l) h.0)
-          (laws.kept (generator a) (generator a) (val u) x (shaped a l) (shaped a l) (stands_itself u h.0).1 h.1 (laws.reflexive (generator a)) h.2),
+      laws.shape (semi.generator a) x (semi.shaped a l) h.1,
+      laws.transitive (val (a ∷ u)) (product (semi.generator a) (val u)) (product (semi.generator a) x)
+          (value_append semi laws (a ∷ []) u (letter_element a l) h.0)
+          (laws.kept (semi.generator a) (semi.generator a) (val u) x (semi.shaped a l) (semi.shaped a l) (stands_itself u h.0).1 h.1 (laws.reflexive (semi.generator a)) h.2),
     )
 
     abbrev ByValues : V → V → Type 0
-    ByValues = GeneratedValue HasShape product equal k generator unused kind pairs
+    ByValues = GeneratedValue semi kind pairs
 
     values_from : (u v : Word) → Joins u v → ByValues (val u) (val v)
     values_from u v h =
-        joins_generated (λ x a. product x (generator a)) (λ x a. product (generator a) x)
-        (GivenValue HasShape product equal k generator unused kind pairs)
+        joins_generated (λ x a. product x (semi.generator a)) (λ x a. product (semi.generator a) x)
+        (GivenValue semi kind pairs)
         StandsForValue
         (λ u e. (val u, stands_itself u e)) by_value by_pair stands_behind_value stands_before_value
         u v h (val u) (val v) (stands_itself u h.left) (stands_itself v h.right)
@@ -298,11 +302,11 @@ module _ {V : Type 0} (HasShape : V → Type 0) (product : V → V → V) (equal
 
     equal_or_joined : (x y : V) → ByValues x y → EqualOrJoined x y
     equal_or_joined x y =
-        generated_least kind k (λ x a. product x (generator a)) (λ x a. product (generator a) x)
-        (GivenValue HasShape product equal k generator unused kind pairs)
+        generated_least kind semi.letters (λ x a. product x (semi.generator a)) (λ x a. product (semi.generator a) x)
+        (GivenValue semi kind pairs)
         EqualOrJoined at turn further on_right_side on_left_side
       where
-        at : (x y : V) → GivenValue HasShape product equal k generator unused kind pairs x y → EqualOrJoined x y
+        at : (x y : V) → GivenValue semi kind pairs x y → EqualOrJoined x y
         at x y (inl e) = inl e
         at x y (inr p) =
             let joins = joins_pair p.first p.second p.listed in
@@ -333,27 +337,27 @@ module _ {V : Type 0} (HasShape : V → Type 0) (product : V → V → V) (equal
             } in
             inr (j.0, l.1, j.2, l.3, joins_trans j.0 j.1 l.1 j.4 (joins_trans j.1 l.0 l.1 (joins_value j.1 l.0 middle) l.4))
 
-        on_right_side : (x y : V) (a : ℕ) → IsKeptOnRight kind → a < k → EqualOrJoined x y
-            → EqualOrJoined (product x (generator a)) (product y (generator a))
+        on_right_side : (x y : V) (a : ℕ) → IsKeptOnRight kind → a < semi.letters → EqualOrJoined x y
+            → EqualOrJoined (product x (semi.generator a)) (product y (semi.generator a))
         on_right_side x y a m l (inl e) = inl (record {
-          left = laws.shape x (generator a) e.left (shaped a l);
-          right = laws.shape y (generator a) e.right (shaped a l);
-          related = laws.kept x y (generator a) (generator a) e.left e.right (shaped a l) (shaped a l) e.related (laws.reflexive (generator a));
+          left = laws.shape x (semi.generator a) e.left (semi.shaped a l);
+          right = laws.shape y (semi.generator a) e.right (semi.shaped a l);
+          related = laws.kept x y (semi.generator a) (semi.generator a) e.left e.right (semi.shaped a l) (semi.shaped a l) e.related (laws.reflexive (semi.generator a));
         })
         on_right_side x y a m l (inr j) =
             inr (j.0 ++ a ∷ [], j.1 ++ a ∷ [], stands_behind_value j.0 a x l j.2, stands_behind_value j.1 a y l j.3, joins_behind j.0 j.1 a m l j.4)
 
-        on_left_side : (x y : V) (a : ℕ) → IsKeptOnLeft kind → a < k → EqualOrJoined x y
-            → EqualOrJoined (product (generator a) x) (product (generator a) y)
+        on_left_side : (x y : V) (a : ℕ) → IsKeptOnLeft kind → a < semi.letters → EqualOrJoined x y
+            → EqualOrJoined (product (semi.generator a) x) (product (semi.generator a) y)
         on_left_side x y a m l (inl e) = inl (record {
-          left = laws.shape (generator a) x (shaped a l) e.left;
-          right = laws.shape (generator a) y (shaped a l) e.right;
-          related = laws.kept (generator a) (generator a) x y (shaped a l) (shaped a l) e.left e.right (laws.reflexive (generator a)) e.related;
+          left = laws.shape (semi.generator a) x (semi.shaped a l) e.left;
+          right = laws.shape (semi.generator a) y (semi.shaped a l) e.right;
+          related = laws.kept (semi.generator a) (semi.generator a) x y (semi.shaped a l) (semi.shaped a l) e.left e.right (laws.reflexive (semi.generator a)) e.related;
         })
         on_left_side x y a m l (inr j) =
             inr (a ∷ j.0, a ∷ j.1, stands_before_value j.0 a x l j.2, stands_before_value j.1 a y l j.3, joins_before j.0 j.1 a m l j.4)
 
-    values_to : (u v : Word) → IsElement false k u → IsElement false k v → ByValues (val u) (val v) → Joins u v
+    values_to : (u v : Word) → IsElement false semi.letters u → IsElement false semi.letters v → ByValues (val u) (val v) → Joins u v
     values_to u v hu hv h = elim (equal_or_joined (val u) (val v) h) [
       | inl e ↦ joins_value u v (record { left = hu; right = hv; related = e.related })
       | inr j ↦
@@ -363,142 +367,141 @@ module _ {V : Type 0} (HasShape : V → Type 0) (product : V → V → V) (equal
     ]
 
     -- elements are related exactly where their values are
-    pub same_element_by_values : (u v : Word) → IsElement false k u → IsElement false k v
-        → SameElement k equal (value product generator unused) kind pairs u v ↔ GeneratedValue HasShape product equal k generator unused kind pairs (value product generator unused u) (value product generator unused v)
+    pub same_element_by_values : (u v : Word) → IsElement false semi.letters u → IsElement false semi.letters v
+        → SameElement semi.letters equal (value_of semi) kind pairs u v ↔ GeneratedValue semi kind pairs (value_of semi u) (value_of semi v)
     same_element_by_values u v hu hv = (values_from u v, values_to u v hu hv)
 
-    module _ (n : ℕ) (word : ℕ → Word) (right left : ℕ → ℕ → ℕ)
-        (numbered : AreNumbered k equal (value product generator unused) n word right left) where
+    module _ (t : Numbering semi) where
       abbrev StandsForNumber : Word → ℕ → Type 0
-      StandsForNumber u i = IsNumberOf k equal (value product generator unused) n word i u
+      StandsForNumber u i = IsNumberOf t i u
 
       abbrev ByNumbers : ℕ → ℕ → Type 0
-      ByNumbers = GeneratedNumber k equal (value product generator unused) n word right left kind pairs
+      ByNumbers = GeneratedNumber t kind pairs
 
       numbers_from : (u v : Word) (i j : ℕ) → Joins u v → StandsForNumber u i → StandsForNumber v j → ByNumbers i j
       numbers_from u v i j h =
-          joins_generated right left
-          (GivenNumber k equal val n word pairs)
+          joins_generated t.right t.left
+          (GivenNumber t pairs)
           StandsForNumber
-          numbered.all by_value by_pair behind before u v h i j
+          t.numbered.all by_value by_pair behind before u v h i j
         where
           by_value : (u v : Word) (i j : ℕ) → Same u v → StandsForNumber u i → StandsForNumber v j → ByNumbers i j
           by_value u v i j s p q =
               given
-              (inl (p.0, numbered.distinct i j p.0 q.0 (same_trans (word i) u (word j) (same_symm u (word i) p.1) (same_trans u v (word j) s q.1))))
+              (inl (p.0, t.numbered.distinct i j p.0 q.0 (same_trans (t.word i) u (t.word j) (same_symm u (t.word i) p.1) (same_trans u v (t.word j) s q.1))))
 
           by_pair : (p q : Word) (i j : ℕ) → Contains pairs (p, q) → StandsForNumber p i → StandsForNumber q j → ByNumbers i j
           by_pair p q i j m h l = given (inr (record { first = p; second = q; listed = m; left = h; right = l }))
 
-          behind : (u : Word) (a i : ℕ) → a < k → StandsForNumber u i → StandsForNumber (u ++ a ∷ []) (right i a)
+          behind : (u : Word) (a i : ℕ) → a < semi.letters → StandsForNumber u i → StandsForNumber (u ++ a ∷ []) (t.right i a)
           behind u a i l h =
-              let next = numbered.on_right i a h.0 l in (
+              let next = t.numbered.on_right i a h.0 l in (
                 next.0,
-                same_trans (u ++ a ∷ []) (word i ++ a ∷ []) (word (right i a))
-                    (value_kept_right HasShape product equal laws k generator unused shaped u (word i) (a ∷ []) h.1 (l, tt)) next.1,
+                same_trans (u ++ a ∷ []) (t.word i ++ a ∷ []) (t.word (t.right i a))
+                    (value_kept_right semi laws u (t.word i) (a ∷ []) h.1 (l, tt)) next.1,
               )
 
-          before : (u : Word) (a i : ℕ) → a < k → StandsForNumber u i → StandsForNumber (a ∷ u) (left i a)
+          before : (u : Word) (a i : ℕ) → a < semi.letters → StandsForNumber u i → StandsForNumber (a ∷ u) (t.left i a)
           before u a i l h =
-              let next = numbered.on_left i a h.0 l in (
+              let next = t.numbered.on_left i a h.0 l in (
                 next.0,
-                same_trans (a ∷ u) (a ∷ word i) (word (left i a))
-                    (value_kept_left HasShape product equal laws k generator unused shaped (a ∷ []) u (word i) h.1 (l, tt)) next.1,
+                same_trans (a ∷ u) (a ∷ t.word i) (t.word (t.left i a))
+                    (value_kept_left semi laws (a ∷ []) u (t.word i) h.1 (l, tt)) next.1,
               )
 
-      numbers_to : (i j : ℕ) → ByNumbers i j → (i < n) × (j < n) × Joins (word i) (word j)
+      numbers_to : (i j : ℕ) → ByNumbers i j → (i < t.count) × (j < t.count) × Joins (t.word i) (t.word j)
       numbers_to i j =
-          generated_least kind k right left
-          (GivenNumber k equal val n word pairs)
-          (λ i j. (i < n) × (j < n) × Joins (word i) (word j))
-          at (λ i j h. (h.1, h.0, joins_symm (word i) (word j) h.2)) (λ i j l h g. (h.0, g.1, joins_trans (word i) (word j) (word l) h.2 g.2)) behind
+          generated_least kind semi.letters t.right t.left
+          (GivenNumber t pairs)
+          (λ i j. (i < t.count) × (j < t.count) × Joins (t.word i) (t.word j))
+          at (λ i j h. (h.1, h.0, joins_symm (t.word i) (t.word j) h.2)) (λ i j l h g. (h.0, g.1, joins_trans (t.word i) (t.word j) (t.word l) h.2 g.2)) behind
           before
         where
-          at : (i j : ℕ) → GivenNumber k equal val n word pairs i j → (i < n) × (j < n) × Joins (word i) (word j)
+          at : (i j : ℕ) → GivenNumber t pairs i j → (i < t.count) × (j < t.count) × Joins (t.word i) (t.word j)
           at i j (inl h) = (
             h.0,
-            subst (λ m. m < n) h.1 h.0,
-            subst (λ m. Joins (word i) (word m)) h.1 (joins_value (word i) (word i) (same_refl (word i) (numbered.elements i h.0))),
+            subst (λ m. m < t.count) h.1 h.0,
+            subst (λ m. Joins (t.word i) (t.word m)) h.1 (joins_value (t.word i) (t.word i) (same_refl (t.word i) (t.numbered.elements i h.0))),
           )
           at i j (inr p) = (
             p.left.0,
             p.right.0,
-            joins_trans (word i) p.first (word j) (joins_value (word i) p.first (same_symm p.first (word i) p.left.1))
-                (joins_trans p.first p.second (word j) (joins_pair p.first p.second p.listed) (joins_value p.second (word j) p.right.1)),
+            joins_trans (t.word i) p.first (t.word j) (joins_value (t.word i) p.first (same_symm p.first (t.word i) p.left.1))
+                (joins_trans p.first p.second (t.word j) (joins_pair p.first p.second p.listed) (joins_value p.second (t.word j) p.right.1)),
           )
 
-          behind : (i j a : ℕ) → IsKeptOnRight kind → a < k → (i < n) × (j < n) × Joins (word i) (word j)
-              → (right i a < n) × (right j a < n) × Joins (word (right i a)) (word (right j a))
+          behind : (i j a : ℕ) → IsKeptOnRight kind → a < semi.letters → (i < t.count) × (j < t.count) × Joins (t.word i) (t.word j)
+              → (t.right i a < t.count) × (t.right j a < t.count) × Joins (t.word (t.right i a)) (t.word (t.right j a))
           behind i j a m l h =
-              let p = numbered.on_right i a h.0 l in
-              let q = numbered.on_right j a h.1 l in (
+              let p = t.numbered.on_right i a h.0 l in
+              let q = t.numbered.on_right j a h.1 l in (
                 p.0,
                 q.0,
-                joins_trans (word (right i a)) (word i ++ a ∷ []) (word (right j a))
-                    (joins_value (word (right i a)) (word i ++ a ∷ []) (same_symm (word i ++ a ∷ []) (word (right i a)) p.1))
-                    (joins_trans (word i ++ a ∷ []) (word j ++ a ∷ []) (word (right j a)) (joins_behind (word i) (word j) a m l h.2)
-                    (joins_value (word j ++ a ∷ []) (word (right j a)) q.1)),
+                joins_trans (t.word (t.right i a)) (t.word i ++ a ∷ []) (t.word (t.right j a))
+                    (joins_value (t.word (t.right i a)) (t.word i ++ a ∷ []) (same_symm (t.word i ++ a ∷ []) (t.word (t.right i a)) p.1))
+                    (joins_trans (t.word i ++ a ∷ []) (t.word j ++ a ∷ []) (t.word (t.right j a)) (joins_behind (t.word i) (t.word j) a m l h.2)
+                    (joins_value (t.word j ++ a ∷ []) (t.word (t.right j a)) q.1)),
               )
 
-          before : (i j a : ℕ) → IsKeptOnLeft kind → a < k → (i < n) × (j < n) × Joins (word i) (word j)
-              → (left i a < n) × (left j a < n) × Joins (word (left i a)) (word (left j a))
+          before : (i j a : ℕ) → IsKeptOnLeft kind → a < semi.letters → (i < t.count) × (j < t.count) × Joins (t.word i) (t.word j)
+              → (t.left i a < t.count) × (t.left j a < t.count) × Joins (t.word (t.left i a)) (t.word (t.left j a))
           before i j a m l h =
-              let p = numbered.on_left i a h.0 l in
-              let q = numbered.on_left j a h.1 l in (
+              let p = t.numbered.on_left i a h.0 l in
+              let q = t.numbered.on_left j a h.1 l in (
                 p.0,
                 q.0,
-                joins_trans (word (left i a)) (a ∷ word i) (word (left j a))
-                    (joins_value (word (left i a)) (a ∷ word i) (same_symm (a ∷ word i) (word (left i a)) p.1))
-                    (joins_trans (a ∷ word i) (a ∷ word j) (word (left j a)) (joins_before (word i) (word j) a m l h.2)
-                    (joins_value (a ∷ word j) (word (left j a)) q.1)),
+                joins_trans (t.word (t.left i a)) (a ∷ t.word i) (t.word (t.left j a))
+                    (joins_value (t.word (t.left i a)) (a ∷ t.word i) (same_symm (a ∷ t.word i) (t.word (t.left i a)) p.1))
+                    (joins_trans (a ∷ t.word i) (a ∷ t.word j) (t.word (t.left j a)) (joins_before (t.word i) (t.word j) a m l h.2)
+                    (joins_value (a ∷ t.word j) (t.word (t.left j a)) q.1)),
               )
 
       -- elements are related exactly where the numbers of their values are
-      pub same_element_by_numbers : (u v : Word) (i j : ℕ) → IsNumberOf k equal (value product generator unused) n word i u
-          → IsNumberOf k equal (value product generator unused) n word j v
-          → SameElement k equal (value product generator unused) kind pairs u v ↔ GeneratedNumber k equal (value product generator unused) n word right left kind pairs i j
+      pub same_element_by_numbers : (u v : Word) (i j : ℕ) → IsNumberOf t i u
+          → IsNumberOf t j v
+          → SameElement semi.letters equal (value_of semi) kind pairs u v ↔ GeneratedNumber t kind pairs i j
       same_element_by_numbers u v i j p q = (
         λ h. numbers_from u v i j h p q,
-        λ h. joins_trans u (word i) v (joins_value u (word i) p.1) (joins_trans (word i) (word j) v (numbers_to i j h).2 (joins_value (word j) v (same_symm v (word j) q.1))),
+        λ h. joins_trans u (t.word i) v (joins_value u (t.word i) p.1) (joins_trans (t.word i) (t.word j) v (numbers_to i j h).2 (joins_value (t.word j) v (same_symm v (t.word j) q.1))),
       )
 
       -- merging: once the edges of each merge lead to linked numbers, no more is to be merged
-      pub merges_are_all : (merges : List (ℕ × ℕ)) → AreMerges k equal (value product generator unused) n word right left kind pairs merges
-          → (i j : ℕ) → GeneratedNumber k equal (value product generator unused) n word right left kind pairs i j ↔ Linked n merges i j
+      pub merges_are_all : (merges : List (ℕ × ℕ)) → AreMerges t kind pairs merges
+          → (i j : ℕ) → GeneratedNumber t kind pairs i j ↔ Linked t.count merges i j
       merges_are_all merges h i j = (to i j, from)
         where
-          right_linked : IsKeptOnRight kind → (a : ℕ) → a < k → {i j : ℕ} → Linked n merges i j → Linked n merges (right i a) (right j a)
-          right_linked m a l (itself {i} b) = itself (numbered.on_right i a b l).0
+          right_linked : IsKeptOnRight kind → (a : ℕ) → a < semi.letters → {i j : ℕ} → Linked t.count merges i j → Linked t.count merges (t.right i a) (t.right j a)
+          right_linked m a l (itself {i} b) = itself (t.numbered.on_right i a b l).0
           right_linked m a l (merge {i} {j} e) = h.on_right i j a m l e
           right_linked m a l (back x) = back (right_linked m a l x)
           right_linked m a l (on x y) = on (right_linked m a l x) (right_linked m a l y)
 
-          left_linked : IsKeptOnLeft kind → (a : ℕ) → a < k → {i j : ℕ} → Linked n merges i j → Linked n merges (left i a) (left j a)
-          left_linked m a l (itself {i} b) = itself (numbered.on_left i a b l).0
+          left_linked : IsKeptOnLeft kind → (a : ℕ) → a < semi.letters → {i j : ℕ} → Linked t.count merges i j → Linked t.count merges (t.left i a) (t.left j a)
+          left_linked m a l (itself {i} b) = itself (t.numbered.on_left i a b l).0
           left_linked m a l (merge {i} {j} e) = h.on_left i j a m l e
           left_linked m a l (back x) = back (left_linked m a l x)
           left_linked m a l (on x y) = on (left_linked m a l x) (left_linked m a l y)
 
-          at : (i j : ℕ) → GivenNumber k equal (value product generator unused) n word pairs i j → Linked n merges i j
-          at i j (inl same) = subst (λ x. Linked n merges i x) same.1 (itself same.0)
+          at : (i j : ℕ) → GivenNumber t pairs i j → Linked t.count merges i j
+          at i j (inl same) = subst (λ x. Linked t.count merges i x) same.1 (itself same.0)
           at i j (inr p) = h.given i j p
 
-          to : (i j : ℕ) → GeneratedNumber k equal (value product generator unused) n word right left kind pairs i j → Linked n merges i j
+          to : (i j : ℕ) → GeneratedNumber t kind pairs i j → Linked t.count merges i j
           to i j =
-              generated_least kind k right left (GivenNumber k equal (value product generator unused) n word pairs) (Linked n merges) at (λ i j x. back x)
+              generated_least kind semi.letters t.right t.left (GivenNumber t pairs) (Linked t.count merges) at (λ i j x. back x)
               (λ i j l x y. on x y) (λ i j a m l x. right_linked m a l x) (λ i j a m l x. left_linked m a l x)
 
-          from : {i j : ℕ} → Linked n merges i j → GeneratedNumber k equal (value product generator unused) n word right left kind pairs i j
+          from : {i j : ℕ} → Linked t.count merges i j → GeneratedNumber t kind pairs i j
           from (itself b) = given (inl (b, refl))
           from (merge {i} {j} e) = h.sound i j e
           from (back x) = symmetric (from x)
           from (on x y) = transitive (from x) (from y)
 
       -- so elements are related exactly where the merges link their numbers
-      pub same_element_by_merges : (merges : List (ℕ × ℕ)) → AreMerges k equal (value product generator unused) n word right left kind pairs merges
-          → (u v : Word) (i j : ℕ) → IsNumberOf k equal (value product generator unused) n word i u
-          → IsNumberOf k equal (value product generator unused) n word j v
-          → SameElement k equal (value product generator unused) kind pairs u v ↔ Linked n merges i j
+      pub same_element_by_merges : (merges : List (ℕ × ℕ)) → AreMerges t kind pairs merges
+          → (u v : Word) (i j : ℕ) → IsNumberOf t i u
+          → IsNumberOf t j v
+          → SameElement semi.letters equal (value_of semi) kind pairs u v ↔ Linked t.count merges i j
       same_element_by_merges merges h u v i j p q =
           let numbers = same_element_by_numbers u v i j p q in
           let all = merges_are_all merges h i j in

@@ -9,6 +9,7 @@ pub mod Felsch
 pub mod Hlt
 pub mod Completion
 pub mod Value
+pub mod Semigroup
 pub mod Generated
 pub mod Graph
 pub mod LowIndex

@@ -1,8 +1,7 @@
 // Green's relations and idempotents, by the Cayley graphs.
 ghost use Rattle.std.specs.Prelude.{◌≡◌, ℕ, ◌<◌, ◌↔◌, List, Contains};
 ghost use Rattle.theory.specs.Word.{Word};
-ghost use Rattle.theory.specs.Generated.{AreNumbered, IsNumberOf};
-ghost use Rattle.theory.specs.Value.{value};
+ghost use Rattle.theory.specs.Semigroup.{Semigroup, value_of, Numbering, IsNumberOf};
 ghost use Rattle.theory.specs.Green.{IsGreenR, IsGreenL, IsGreenH, IsGreenJ, IsIdempotent, IsEdge, IsEdgeOfEither, AreConnected, follow, IsFirst, AreClasses};
 
 use crate::predicates::Numbers;
@@ -11,58 +10,25 @@ use crate::values::Values;
 /// Two elements are related by R exactly where their numbers are connected in the right Cayley
 /// graph, by L in the left one, by H in each of them, and by J in both together.
 pub fn green_by_cayley_graphs<V: Values>()
-    ensures r { (k : ℕ) (generator : ℕ → V) (unused : V) (one : ℕ × ℕ)
-        → ((a : ℕ) → a < k → V.shape (generator a) ≡ one)
-        → (n : ℕ) (word : ℕ → Word) (right left : ℕ → ℕ → ℕ)
-        → AreNumbered k V.eq (value V.product generator unused) n word right left
-        → (u v : Word) (i j : ℕ) → IsNumberOf k V.eq
-        (value V.product generator unused) n word i u
-        → IsNumberOf k V.eq (value V.product generator unused) n word j v
-        → IsGreenR V.product V.eq k (value V.product generator unused)
-        (value V.product generator unused u) (value V.product generator unused v)
-        ↔ AreConnected (IsEdge k right) i j }
-    ensures l { (k : ℕ) (generator : ℕ → V) (unused : V) (one : ℕ × ℕ)
-        → ((a : ℕ) → a < k → V.shape (generator a) ≡ one)
-        → (n : ℕ) (word : ℕ → Word) (right left : ℕ → ℕ → ℕ)
-        → AreNumbered k V.eq (value V.product generator unused) n word right left
-        → (u v : Word) (i j : ℕ) → IsNumberOf k V.eq
-        (value V.product generator unused) n word i u
-        → IsNumberOf k V.eq (value V.product generator unused) n word j v
-        → IsGreenL V.product V.eq k (value V.product generator unused)
-        (value V.product generator unused u) (value V.product generator unused v)
-        ↔ AreConnected (IsEdge k left) i j }
-    ensures h { (k : ℕ) (generator : ℕ → V) (unused : V) (one : ℕ × ℕ)
-        → ((a : ℕ) → a < k → V.shape (generator a) ≡ one)
-        → (n : ℕ) (word : ℕ → Word) (right left : ℕ → ℕ → ℕ)
-        → AreNumbered k V.eq (value V.product generator unused) n word right left
-        → (u v : Word) (i j : ℕ) → IsNumberOf k V.eq
-        (value V.product generator unused) n word i u
-        → IsNumberOf k V.eq (value V.product generator unused) n word j v
-        → IsGreenH V.product V.eq k (value V.product generator unused)
-        (value V.product generator unused u) (value V.product generator unused v)
-        ↔ (AreConnected (IsEdge k right) i j × AreConnected (IsEdge k left) i j) }
-    ensures j { (k : ℕ) (generator : ℕ → V) (unused : V) (one : ℕ × ℕ)
-        → ((a : ℕ) → a < k → V.shape (generator a) ≡ one)
-        → (n : ℕ) (word : ℕ → Word) (right left : ℕ → ℕ → ℕ)
-        → AreNumbered k V.eq (value V.product generator unused) n word right left
-        → (u v : Word) (i j : ℕ) → IsNumberOf k V.eq
-        (value V.product generator unused) n word i u
-        → IsNumberOf k V.eq (value V.product generator unused) n word j v
-        → IsGreenJ V.product V.eq k (value V.product generator unused)
-        (value V.product generator unused u) (value V.product generator unused v)
-        ↔ AreConnected (IsEdgeOfEither k right left) i j }
+    ensures { (s : Semigroup V.shape V.product V.eq) (t : Numbering s)
+        → (u v : Word) (i j : ℕ) → IsNumberOf t i u → IsNumberOf t j v
+        → (IsGreenR V.product V.eq s.letters (value_of s) (value_of s u) (value_of s v)
+        ↔ AreConnected (IsEdge s.letters t.right) i j)
+        × (IsGreenL V.product V.eq s.letters (value_of s) (value_of s u) (value_of s v)
+        ↔ AreConnected (IsEdge s.letters t.left) i j)
+        × (IsGreenH V.product V.eq s.letters (value_of s) (value_of s u) (value_of s v)
+        ↔ (AreConnected (IsEdge s.letters t.right) i j
+        × AreConnected (IsEdge s.letters t.left) i j))
+        × (IsGreenJ V.product V.eq s.letters (value_of s) (value_of s u) (value_of s v)
+        ↔ AreConnected (IsEdgeOfEither s.letters t.right t.left) i j) }
 {}
 
 /// An element is idempotent exactly where its own word leads in the right Cayley graph from its
 /// number back to it.
 pub fn idempotents_by_cayley_graphs<V: Values>()
-    ensures { (k : ℕ) (generator : ℕ → V) (unused : V) (one : ℕ × ℕ)
-        → ((a : ℕ) → a < k → V.shape (generator a) ≡ one)
-        → (n : ℕ) (word : ℕ → Word) (right left : ℕ → ℕ → ℕ)
-        → AreNumbered k V.eq (value V.product generator unused) n word right left
-        → (u : Word) (i : ℕ) → IsNumberOf k V.eq (value V.product generator unused) n word i u
-        → IsIdempotent V.product V.eq (value V.product generator unused u)
-        ↔ (follow right i (word i) ≡ i) }
+    ensures { (s : Semigroup V.shape V.product V.eq) (t : Numbering s)
+        → (u : Word) (i : ℕ) → IsNumberOf t i u
+        → IsIdempotent V.product V.eq (value_of s u) ↔ (follow t.right i (t.word i) ≡ i) }
 {}
 
 /// The classes of numbers are listed in at most one way. Of a symmetric and transitive relation two
