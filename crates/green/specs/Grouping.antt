@@ -1,12 +1,9 @@
 -- Classes of numbers by their names.
-use Rattle.std.specs.Prelude.{◌≡◌, ℕ, ◌<◌, List, [], length, slice_index, slice_index_or, Option, Some, None}
-use Rattle.theory.specs.Green.{AreClasses}
+use Rattle.std.specs.Prelude.{◌≡◌, ℕ, ◌<◌, List, length, slice_index, slice_index_or, Option, Some, None}
+use Rattle.theory.specs.Green.{AreClasses, class_at}
 
 abbrev pub HaveOneName : List ℕ → ℕ → ℕ → Type 0
 HaveOneName names i j = slice_index names i ≡ slice_index names j
-
-abbrev pub class_at : List (List ℕ) → ℕ → List ℕ
-class_at classes p = slice_index_or classes p []
 
 -- names are less than how many numbers there are
 abbrev pub AreSmall : List ℕ → Type 0
@@ -21,7 +18,8 @@ pub record AreGrouped (names : List ℕ) (m : ℕ) (places : List (Option ℕ))
   pub count : length places ≡ length names
   pub classes_are : AreClasses m (HaveOneName names) classes
   pub placed : (name p : ℕ) → place_at places name ≡ Some p
-      → (p < length classes) × (slice_index names (slice_index classes_are.firsts p) ≡ name)
+      → (p < length classes)
+      × (slice_index names (slice_index (class_at classes p) 0) ≡ name)
   pub seen : (i : ℕ) → i < m → (p : ℕ) × (place_at places (slice_index names i) ≡ Some p)
 
 -- the numbers below m are grouped into so many classes, which are held

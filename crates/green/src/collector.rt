@@ -1,6 +1,6 @@
 // Classes, as their numbers come.
 ghost use Rattle.std.specs.Prelude.{◌≡◌, ◌<◌, ◌∷◌, ◌++◌, [], length, map, slice_set, OnOk};
-ghost use Rattle.green.specs.Grouping.{class_at};
+ghost use Rattle.theory.specs.Green.{class_at};
 
 use ports::NoMemory;
 use std::alloc::Global;
@@ -9,7 +9,7 @@ use std::marker::Model;
 /// Takes numbers as they are grouped: each begins a class, or comes to the end of one.
 pub trait Collector {
     ghost use Rattle.std.specs.Prelude.{◌≡◌, ℕ, ◌<◌, List, [], ◌∷◌, ◌++◌, length, slice_set, OnOk};
-    ghost use Rattle.green.specs.Grouping.{class_at};
+    ghost use Rattle.theory.specs.Green.{class_at};
 
     // what stays the same while numbers come
     ghost Source: { Type 0 };

@@ -141,7 +141,7 @@ module _ {A : Type 0} (P : A → Type 0) (Less : A → A → Type 0) (order : Is
       (first.0 ∷ rest.0, (first.1, rest.1), ap suc rest.2)
 
   -- what is ascending is behind its cursor
-  ascending_after : (x : A) (xs : List A) → IsAscending Less (Some x) xs → (y : A) → IsIn y xs → Less x y
+  pub ascending_after : (x : A) (xs : List A) → IsAscending Less (Some x) xs → (y : A) → IsIn y xs → Less x y
   ascending_after x [] h y m = absurd m
   ascending_after x (z ∷ xs) h y (inl e) = subst (λ w. Less x w) (sym e) h.0
   ascending_after x (z ∷ xs) h y (inr m) = order.trans x z y h.0 (ascending_after z xs h.1 y m)

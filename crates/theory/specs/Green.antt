@@ -1,8 +1,8 @@
 -- Green's relations and idempotents of a semigroup of values (Howie 1995, ch. 2; libsemigroups:
 -- FroidurePin).
-use Rattle.std.specs.Prelude.{◌≡◌, ℕ, ◌<◌, Bool, false, List, [], ◌∷◌, ◌⊎◌, None, IsTrue}
+use Rattle.std.specs.Prelude.{◌≡◌, ◌≢◌, ℕ, ◌<◌, ◌↔◌, Bool, false, List, [], ◌∷◌, ◌⊎◌, None, IsTrue, All, Contains, map, slice_index, slice_index_or}
 use Rattle.theory.specs.Word.{Word, IsElement}
-use Rattle.theory.specs.Listing.{IsListOf}
+use Rattle.theory.specs.Listing.{IsAscending}
 
 module _ {V : Type 0} (product : V → V → V) (equal : V → V → Bool) (k : ℕ)
     (value_of : Word → V) where
@@ -62,26 +62,17 @@ abbrev pub follow : (ℕ → ℕ → ℕ) → ℕ → Word → ℕ
 follow next i [] = i
 follow next i (a ∷ u) = follow next (next i a) u
 
--- the least number below n of its class
-pub record IsFirst (n : ℕ) (R : ℕ → ℕ → Type 0) (i : ℕ) : Type 0 where
-  pub below : i < n
-  pub first : (j : ℕ) → j < i → R i j → ⊥
+-- the class at a place of a list
+abbrev pub class_at : List (List ℕ) → ℕ → List ℕ
+class_at classes p = slice_index_or classes p []
 
--- a number below n that is related to i
-pub record IsInClassOf (n : ℕ) (R : ℕ → ℕ → Type 0) (i j : ℕ) : Type 0 where
-  pub below : j < n
-  pub related : R i j
-
--- for each of these numbers all that are related to it, in order
-abbrev pub AreClassesAt : ℕ → (ℕ → ℕ → Type 0) → List ℕ → List (List ℕ) → Type 0
-AreClassesAt n R [] [] = Unit {0}
-AreClassesAt n R (i ∷ is) (c ∷ cs) = IsListOf (IsInClassOf n R i) ◌<◌ None c
-    × AreClassesAt n R is cs
-AreClassesAt n R [] (c ∷ cs) = ⊥
-AreClassesAt n R (i ∷ is) [] = ⊥
-
--- all classes of the numbers below n, each in order, by their least numbers in order
+-- all classes of the numbers below n, each in order, by their first members in order: each number
+-- stands in a class, and numbers are related exactly where they stand in one class
 pub record AreClasses (n : ℕ) (R : ℕ → ℕ → Type 0) (classes : List (List ℕ)) : Type 0 where
-  pub firsts : List ℕ
-  pub all : IsListOf (IsFirst n R) ◌<◌ None firsts
-  pub classes_at : AreClassesAt n R firsts classes
+  pub not_empty : All (λ c. c ≢ []) classes
+  pub below : All (All (λ i. i < n)) classes
+  pub ascend : All (IsAscending ◌<◌ None) classes
+  pub in_order : IsAscending ◌<◌ None (map (λ c. slice_index c 0) classes)
+  pub every : (i : ℕ) → i < n → (p : ℕ) × Contains (class_at classes p) i
+  pub related : (p q i j : ℕ) → Contains (class_at classes p) i
+      → Contains (class_at classes q) j → R i j ↔ (p ≡ q)

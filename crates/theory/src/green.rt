@@ -2,7 +2,7 @@
 ghost use Rattle.std.specs.Prelude.{◌≡◌, ℕ, ◌<◌, ◌↔◌, List, Contains};
 ghost use Rattle.theory.specs.Word.{Word};
 ghost use Rattle.theory.specs.Semigroup.{Semigroup, value_of, Numbering, IsNumberOf};
-ghost use Rattle.theory.specs.Green.{IsGreenR, IsGreenL, IsGreenH, IsGreenJ, IsIdempotent, IsEdge, IsEdgeOfEither, AreConnected, follow, IsFirst, AreClasses};
+ghost use Rattle.theory.specs.Green.{IsGreenR, IsGreenL, IsGreenH, IsGreenJ, IsIdempotent, IsEdge, IsEdgeOfEither, AreConnected, follow, AreClasses};
 
 use crate::predicates::Numbers;
 use crate::values::Values;
@@ -31,20 +31,14 @@ pub fn idempotents_by_cayley_graphs<V: Values>()
         → IsIdempotent V.product V.eq (value_of s u) ↔ (follow t.right i (t.word i) ≡ i) }
 {}
 
-/// The classes of numbers are listed in at most one way. Of a symmetric and transitive relation two
-/// numbers of one class are related, and related numbers stand in one class where each has a first
-/// one.
+/// The classes of numbers are listed in at most one way. Two numbers of one class are related, and
+/// related numbers stand in one class.
 pub fn classes_are_one<R: Numbers>()
     ensures one { (n : ℕ) (cs ds : List (List ℕ)) → AreClasses n R.relates cs
         → AreClasses n R.relates ds → cs ≡ ds }
-    ensures related { (n : ℕ) → ((i j : ℕ) → R.relates i j → R.relates j i)
-        → ((i j l : ℕ) → R.relates i j → R.relates j l → R.relates i l)
-        → (cs : List (List ℕ)) → AreClasses n R.relates cs
+    ensures related { (n : ℕ) (cs : List (List ℕ)) → AreClasses n R.relates cs
         → (c : List ℕ) → Contains cs c → (i j : ℕ) → Contains c i → Contains c j → R.relates i j }
-    ensures together { (n : ℕ) → ((i j : ℕ) → R.relates i j → R.relates j i)
-        → ((i j l : ℕ) → R.relates i j → R.relates j l → R.relates i l)
-        → (cs : List (List ℕ)) → AreClasses n R.relates cs
-        → ((i : ℕ) → i < n → (x : ℕ) × IsFirst n R.relates x × R.relates x i)
+    ensures together { (n : ℕ) (cs : List (List ℕ)) → AreClasses n R.relates cs
         → (i j : ℕ) → i < n → j < n → R.relates i j
         → (c : List ℕ) × Contains cs c × Contains c i × Contains c j }
 {}
