@@ -5,7 +5,7 @@ ghost use Rattle.theory.specs.Green.{AreClasses};
 ghost use Rattle.theory.specs.Listing.{IsListOf};
 ghost use Rattle.froidure_pin.specs.declared.tables.CayleyTables.{CayleyTables};
 ghost use Rattle.cayley.specs.Tables.{FitTogether};
-ghost use Rattle.green.specs.Known.{AreNamesIn, KeepsNames, StaysKnown};
+ghost use Rattle.green.specs.Known.{AreNamesIn, HasNames, KeepsNames, StaysKnown};
 ghost use Rattle.green.specs.Naming.{AreNamesAlong};
 ghost use Rattle.green.specs.Related.{AreOfLetters, AreRelated, DoAgree, DoCommute, IsIdempotentAt};
 
@@ -108,6 +108,7 @@ impl ClassNames {
         requires known { AreNamesIn tables.now self.old }
         ensures known { AreNamesIn tables.now self.new }
         ensures kept { KeepsNames self.old self.new }
+        ensures right { OnOk result (IsSome self.new.right) }
         ensures left { OnOk result (IsSome self.new.left) }
         ensures both { OnOk result (IsSome self.new.both) }
     {
@@ -138,6 +139,7 @@ impl ClassNames {
         requires empty { C.holds collector.old [] }
         ensures known { AreNamesIn tables.now self.new }
         ensures kept { KeepsNames self.old self.new }
+        ensures found { OnOk result (HasNames relation self.new) }
         ensures source { OnOk result (C.source collector.new ≡ C.source collector.old) }
         ensures collected { OnOk result ((classes : List (List ℕ))
             × AreClasses (length tables.now.words) (AreRelated relation tables.now) classes
@@ -177,6 +179,7 @@ impl ClassNames {
         requires known { AreNamesIn tables.now self.old }
         ensures known { AreNamesIn tables.now self.new }
         ensures kept { KeepsNames self.old self.new }
+        ensures found { OnOk result (HasNames relation self.new) }
         ensures classes { IfOk result (λ found. AreClasses (length tables.now.words)
             (AreRelated relation tables.now) (map (λ c. c.items) found.items)) }
     {
@@ -204,6 +207,7 @@ impl ClassNames {
         requires known { AreNamesIn tables.now self.old }
         ensures known { AreNamesIn tables.now self.new }
         ensures kept { KeepsNames self.old self.new }
+        ensures found { OnOk result (HasNames Relation.H self.new) }
         ensures idempotents { IfOk result (λ found.
             IsListOf (IsIdempotentAt tables.now) ◌<◌ None found.items) }
     {
