@@ -9,7 +9,7 @@ use Rattle.theory.specs.Graph.{Graph, target, path, SameEnd, IsGraph}
 use Rattle.word_graph.specs.Gaps.{count_none}
 use Rattle.word_graph.specs.Walk.{IsWalkTo, IsFound, IsBefore, IsFirstMissing}
 use Rattle.word_graph.proofs.WalkLaws.{some_same, before_next, walk_known, walk_found, walk_row, walk_start}
-use Rattle.coincidence.specs.Kept.{IsKeptAs, IsKept, IsMended, IsPlaced, IsSome, LeadsToPlaced, step_at, walked}
+use Rattle.coincidence.specs.Kept.{IsKeptAs, IsKept, IsMended, IsPlaced, IsOfGraph, LeadsToPlaced, step_at, walked}
 use Rattle.coincidence.specs.Live.{IsOn}
 use Rattle.coincidence.specs.Marks.{AllMarked, IsFirstUnmarked}
 use Rattle.coincidence.specs.Ordering.{IsOrderTo, before_place, cut_walk}
@@ -317,8 +317,8 @@ mended_on old mid new was live is a b = record {
   lives = λ h. b.lives (a.lives h);
 }
 
-pub mended_some : (old new : Order) (was is : List Bool) → IsMended old new was is → IsSome old → IsSome new
-mended_some old new was is m s = (s.0, s.1, s.2, m.kept s.0 s.1 s.2 s.3)
+pub mended_of_graph : (old new : Order) (was is : List Bool) → IsMended old new was is → IsOfGraph old → IsOfGraph new
+mended_of_graph old new was is m s = (s.0, s.1, s.2, m.kept s.0 s.1 s.2 s.3)
 
 -- fewer edges are left
 pub cells_row : (n k r l : ℕ) → r < n → l ≡ k → n * (k + 1) - ((r + 1) * (k + 1) + 0) < n * (k + 1) - (r * (k + 1) + l)

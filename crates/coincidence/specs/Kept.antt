@@ -65,6 +65,6 @@ pub record IsMended (old new : Order) (was is : List Bool) : Type 0 where
       → IsKept k g marked new
   pub lives : ((n : ℕ) → IsPlaced old n → IsOn was n) → (n : ℕ) → IsPlaced new n → IsOn is n
 
--- it is an order of some graph
-abbrev pub IsSome : Order → Type 0
-IsSome o = (k : ℕ) × (g : Graph) × (marked : List Bool) × IsKept k g marked o
+-- it is the order of some graph with some marks
+abbrev pub IsOfGraph : Order → Type 0
+IsOfGraph o = (k : ℕ) × (g : Graph) × (marked : List Bool) × IsKept k g marked o

@@ -7,7 +7,7 @@ ghost use Rattle.theory.specs.Graph.{target as target_of, IsGraph, PathsRelate};
 ghost use Rattle.word_graph.specs.Edges.{with_edge, with_node};
 ghost use Rattle.coincidence.specs.Closing.{ClosedThere};
 ghost use Rattle.coincidence.specs.DueSpec.{IsDueIn};
-ghost use Rattle.coincidence.specs.Kept.{IsMended, IsSome};
+ghost use Rattle.coincidence.specs.Kept.{IsMended, IsOfGraph};
 ghost use Rattle.coincidence.specs.Live.{IsIdentified, IsLiveGraph, IsOn};
 ghost use Rattle.coincidence.specs.Marks.{KeepsMarks, KeepsNumbers};
 ghost use Rattle.coincidence.specs.Pending.{IsClosedBut};
@@ -127,7 +127,7 @@ pub fn close_in(
     requires marked { (n : ℕ) → IsOn marked.old.items n → IsOn live.old.items n }
     requires closed { IsClosedBut congruence.now.congruence.presentation.relations edges.old.graph
         live.old.items pending.old }
-    requires order { IsSome order.old }
+    requires order { IsOfGraph order.old }
     ensures relates { OnOk result (PathsRelate edges.new.graph
         (ClosedThere congruence.now.congruence edges.old.graph at)) }
     ensures order { OnOk result (IsMended order.old order.new live.old.items live.new.items) }
@@ -187,7 +187,7 @@ pub fn identify_in(
     requires y { IsOn live.old.items y }
     requires shape { length marked.old.items ≡ length edges.old.graph }
     requires marked { (n : ℕ) → IsOn marked.old.items n → IsOn live.old.items n }
-    requires order { IsSome order.old }
+    requires order { IsOfGraph order.old }
     ensures identified { OnOk result
         (IsIdentified edges.old.graph edges.new.graph live.old.items live.new.items x y) }
     ensures order { OnOk result (IsMended order.old order.new live.old.items live.new.items) }

@@ -1,7 +1,7 @@
 // Nodes that become one.
 ghost use Rattle.std.specs.Prelude.{◌≡◌, ◌≢◌, ℕ, ◌<◌, ◌≤◌, List, length, map, option_map, Option, IfOk, OnOk, IfSome, IfNone};
 ghost use Rattle.std.specs.Option.{ForSome};
-ghost use Rattle.coincidence.specs.Kept.{IsMended, IsSome};
+ghost use Rattle.coincidence.specs.Kept.{IsMended, IsOfGraph};
 ghost use Rattle.coincidence.specs.Live.{IsLiveGraph, IsOn};
 ghost use Rattle.coincidence.specs.Merging.{EdgesReached, IsReached, relabel};
 ghost use Rattle.coincidence.specs.Joining.{AreAllOne, HaveClasses, AreTaken, IsJoined, IsMarkMoved};
@@ -88,7 +88,7 @@ pub fn merge(
     requires x { IsOn live.old.items x }
     requires y { IsOn live.old.items y }
     requires at { ForSome at (IsOn live.old.items) }
-    requires order { IsSome order.old }
+    requires order { IsOfGraph order.old }
     ensures order { OnOk result (IsMended order.old order.new live.old.items live.new.items) }
     ensures joined { IfOk result (λ to. IsJoined edges.old.graph edges.new.graph live.old.items
         live.new.items marked.old.items marked.new.items pending.old pending.new x y at

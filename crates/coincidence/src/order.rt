@@ -3,7 +3,7 @@ ghost use Rattle.std.specs.Prelude.{◌≡◌, ◌≢◌, ℕ, suc, ◌+◌, ◌
 ghost use Rattle.theory.specs.Facts.{AllDefined};
 ghost use Rattle.theory.specs.Graph.{Graph, target as target_of, IsGraph, SameEnd};
 ghost use Rattle.word_graph.specs.Walk.{IsFirstMissing};
-ghost use Rattle.coincidence.specs.Kept.{IsKept, IsAhead, IsPlaced, IsSome, LeadsToPlaced, step_at};
+ghost use Rattle.coincidence.specs.Kept.{IsKept, IsAhead, IsPlaced, IsOfGraph, LeadsToPlaced, step_at};
 ghost use Rattle.coincidence.specs.Live.{IsOn};
 ghost use Rattle.coincidence.specs.Marks.{AllMarked, IsFirstUnmarked};
 
@@ -89,7 +89,7 @@ impl Order {
     // Takes the last node off the order.
     fn pop(&mut self)
         requires some { 1 < length self.old.steps.items }
-        requires kept { IsSome self.old }
+        requires kept { IsOfGraph self.old }
         ensures kept { (k : ℕ) (g : Graph) (marked : List Bool) → IsKept k g marked self.old
             → IsKept k g marked self.new }
         ensures steps { length self.new.steps.items + 1 ≡ length self.old.steps.items }
@@ -109,7 +109,7 @@ impl Order {
     /// root.
     pub fn cut(&mut self, lost: usize)
         requires lost { 0 < lost }
-        requires kept { IsSome self.old }
+        requires kept { IsOfGraph self.old }
         ensures kept { (k : ℕ) (g : Graph) (marked : List Bool) → IsKept k g marked self.old
             → IsKept k g marked self.new }
         ensures places { (n : ℕ) → IsPlaced self.new n → IsPlaced self.old n × (n ≢ lost) }

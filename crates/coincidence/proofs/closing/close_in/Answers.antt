@@ -4,7 +4,7 @@ use Rattle.coincidence.proofs.LiveLaws.{left_edge, left_join}
 use Rattle.coincidence.proofs.MarkLaws.{marks_kept, live_marks}
 use Rattle.coincidence.proofs.StepLaws.{due_inside, join_live}
 use Rattle.coincidence.proofs.DrawLaws.{numbers_kept, drawing_start, drawing_dropped, drawing_edge, drawing_join, placed, placed_on}
-use Rattle.coincidence.proofs.KeptLaws.{mended_start, mended_on, mended_some}
+use Rattle.coincidence.proofs.KeptLaws.{mended_start, mended_on, mended_of_graph}
 use Rattle.coincidence.proofs.closing.close_in.Goals as goal
 
 pub loop-node-init : goal.loop-node-init
@@ -79,7 +79,7 @@ loop-node-preserved c = record {
 }
 
 pub merge-requires-clause-order : goal.merge-requires-clause-order
-merge-requires-clause-order c = mended_some c.args.order.now c.loop-node.order c.args.live.now.items c.loop-node.live.items c.loop-node.invariant.order c.requires.order
+merge-requires-clause-order c = mended_of_graph c.args.order.now c.loop-node.order c.args.live.now.items c.loop-node.live.items c.loop-node.invariant.order c.requires.order
 
 pub returns-in-Nothing-clause-order : goal.returns-in-Nothing-clause-order
 returns-in-Nothing-clause-order c = c.loop-node.invariant.order

@@ -1,7 +1,7 @@
 use Rattle.std.proofs.Common.{◌∷◌, ◌++◌, [], ℕ, List, sym, ◌∙◌, ap, subst, arith}
 use Rattle.coincidence.proofs.MarkLaws.{on_within}
 use Rattle.coincidence.proofs.JoinLaws.{IsJoining, joining_start, joining_step, joining_end, ends_of, lost_in, kept_in, lost_on, fewer_live, node_in}
-use Rattle.coincidence.proofs.KeptLaws.{mended_start, mended_cut, mended_some}
+use Rattle.coincidence.proofs.KeptLaws.{mended_start, mended_cut, mended_of_graph}
 use Rattle.coincidence.proofs.joins.merge.Goals as goal
 
 pub loop-s-init : goal.loop-s-init
@@ -65,7 +65,7 @@ cut-requires-clause-lost c =
     omega (arith, c.in-Some.ensures.apart, c.max-lost.ensures, c.min-kept.ensures)
 
 pub cut-requires-clause-kept : goal.cut-requires-clause-kept
-cut-requires-clause-kept c = mended_some c.args.order.now c.loop-s.order c.args.live.now.items c.loop-s.live.items c.loop-s.invariant.order c.requires.order
+cut-requires-clause-kept c = mended_of_graph c.args.order.now c.loop-s.order c.args.live.now.items c.loop-s.live.items c.loop-s.invariant.order c.requires.order
 
 pub returns-clause-order : goal.returns-clause-order
 returns-clause-order c = c.loop-s.invariant.order
