@@ -7,14 +7,14 @@ use Rattle.words.proofs.TextLemmas.{over_at}
 use Rattle.theory.specs.Word.{Word, IsPrefix, IsOver}
 use Rattle.theory.specs.Congruence.{Congruence, AreElements}
 use Rattle.theory.specs.Graph.{Graph, target, path, SameEnd}
-use Rattle.theory.specs.Hlt.{IsSide, IsExtension, IsInRow}
+use Rattle.theory.specs.Hlt.{IsSide, IsTraced, IsExtension, IsInRow}
 use Rattle.theory.proofs.GraphLaws.{path_append, path_front}
 use Rattle.theory.proofs.FactsLaws.{prefix_last}
 use Rattle.theory.proofs.Related.{element_over, side_element}
 use Rattle.coincidence.specs.Table.{CosetTable, IsTable, IsLive}
 use Rattle.coincidence.proofs.DueLaws.{split_last}
 use Rattle.coincidence.proofs.FollowsLaws.{path_more}
-use Rattle.tc_hlt.specs.Tracing.{AreSides, AreSidesAny, IsGrown, IsNext, IsAlong, IsAlongAny, IsAlongBoth, IsWithin, FactsAfter, NoDrawing}
+use Rattle.tc_hlt.specs.Tracing.{AreSides, AreSidesAny, IsGrown, IsNext, IsAlong, IsAlongBoth, IsWithin, FactsAfter, NoDrawing}
 
 -- where a word leads from a live node is live
 pub leads_live : (t : CosetTable) (n m : ℕ) (u : Word) → IsTable t → IsLive t n → path t.graph n u ≡ Some m → IsLive t m
@@ -245,16 +245,16 @@ first_more pairs i p old t new node less e f g =
     drawn x u v (inr (inr h)) = (p.1, p.0, inr (i, less, sym e), h.0, h.1)
 
 -- all of them
-pub first_all : (pairs : List (Word × Word)) (i : ℕ) (old new : CosetTable) (node : ℕ) → i ≡ length pairs → IsGrown (IsAlongFirst pairs i) (AreSidesAny pairs) old new node → IsGrown (IsAlongAny pairs) (AreSidesAny pairs) old new node
-first_all pairs i old new node end = grown_as (IsAlongFirst pairs i) (IsAlongAny pairs) (AreSidesAny pairs) (AreSidesAny pairs) old new node to from (λ x u v h. h)
+pub first_all : (pairs : List (Word × Word)) (i : ℕ) (old new : CosetTable) (node : ℕ) → i ≡ length pairs → IsGrown (IsAlongFirst pairs i) (AreSidesAny pairs) old new node → IsGrown (IsTraced pairs) (AreSidesAny pairs) old new node
+first_all pairs i old new node end = grown_as (IsAlongFirst pairs i) (IsTraced pairs) (AreSidesAny pairs) (AreSidesAny pairs) old new node to from (λ x u v h. h)
   where
-    to : (x v : Word) → IsAlongAny pairs x v → IsAlongFirst pairs i x v
+    to : (x v : Word) → IsTraced pairs x v → IsAlongFirst pairs i x v
     to x v h = elim h.1.1 [
       | inl m ↦ (m.0, (h.0, h.1.0), omega (arith, m.1, end), m.2, inl h.2)
       | inr m ↦ (m.0, (h.1.0, h.0), omega (arith, m.1, end), m.2, inr h.2)
     ]
 
-    from : (x v : Word) → IsAlongFirst pairs i x v → IsAlongAny pairs x v
+    from : (x v : Word) → IsAlongFirst pairs i x v → IsTraced pairs x v
     from x v r =
         elim r.4 [
           | inl a ↦ (r.1.0, (r.1.1, inl (r.0, omega (arith, r.2, end), r.3)), a)
@@ -263,7 +263,7 @@ first_all pairs i old new node end = grown_as (IsAlongFirst pairs i) (IsAlongAny
 
 -- no letter yet, one letter more
 pub letters_none : (t : CosetTable) (node : ℕ) → t.failed ≡ false → IsGrown (IsExtension 0) NoDrawing t t node
-letters_none t node failed = grown_none (IsExtension 0) NoDrawing t node failed (λ x v hx h. absurd (omega (arith, h.over)))
+letters_none t node failed = grown_none (IsExtension 0) NoDrawing t node failed (λ x v hx h. absurd (omega (arith, h.1)))
 
 pub letters_more : (i : ℕ) (old t new : CosetTable) (node : ℕ) → IsGrown (IsExtension i) NoDrawing old t node → IsGrown (IsNext i) NoDrawing t new node → IsGrown (IsExtension (i + 1)) NoDrawing old new node
 letters_more i old t new node f g =
@@ -271,30 +271,30 @@ letters_more i old t new node f g =
     (grown_both (IsExtension i) (IsNext i) NoDrawing NoDrawing old t new node f g)
   where
     to : (x v : Word) → IsExtension (i + 1) x v → IsExtension i x v ⊎ IsNext i x v
-    to x v e = elim (cases_eq e.letter i) [
-      | inl d ↦ inr (e.is ∙ ap (λ a. x ++ a ∷ []) d)
-      | inr d ↦ inl (record { letter = e.letter; over = omega (arith, e.over, d); is = e.is })
+    to x v e = elim (cases_eq e.0 i) [
+      | inl d ↦ inr (e.2 ∙ ap (λ a. x ++ a ∷ []) d)
+      | inr d ↦ inl (e.0, omega (arith, e.1, d), e.2)
     ]
 
     from : (x v : Word) → IsExtension i x v ⊎ IsNext i x v → IsExtension (i + 1) x v
-    from x v (inl e) = record { letter = e.letter; over = omega (arith, e.over); is = e.is }
-    from x v (inr e) = record { letter = i; over = omega arith; is = e }
+    from x v (inl e) = (e.0, omega (arith, e.1), e.2)
+    from x v (inr e) = (i, omega arith, e)
 
 -- letters and sides are what the row defines
-pub row_grown : (c : Congruence) (old mid new : CosetTable) (node : ℕ) → IsGrown (IsAlongAny c.presentation.relations) (AreSidesAny c.presentation.relations) old mid node → IsGrown (IsExtension c.presentation.letters) NoDrawing mid new node
+pub row_grown : (c : Congruence) (old mid new : CosetTable) (node : ℕ) → IsGrown (IsTraced c.presentation.relations) (AreSidesAny c.presentation.relations) old mid node → IsGrown (IsExtension c.presentation.letters) NoDrawing mid new node
     → IsGrown (IsInRow c) (AreSidesAny c.presentation.relations) old new node
 row_grown c old mid new node f g =
-    grown_as (λ x v. IsAlongAny c.presentation.relations x v ⊎ IsExtension c.presentation.letters x v) (IsInRow c) (λ x u v. AreSidesAny c.presentation.relations x u v ⊎ ⊥) (AreSidesAny c.presentation.relations) old new node to from
+    grown_as (λ x v. IsTraced c.presentation.relations x v ⊎ IsExtension c.presentation.letters x v) (IsInRow c) (λ x u v. AreSidesAny c.presentation.relations x u v ⊎ ⊥) (AreSidesAny c.presentation.relations) old new node to from
     (λ x u v h. elim h [ inl d ↦ d | inr n ↦ absurd n ])
-    (grown_both (IsAlongAny c.presentation.relations) (IsExtension c.presentation.letters) (AreSidesAny c.presentation.relations) NoDrawing old mid new node f g)
+    (grown_both (IsTraced c.presentation.relations) (IsExtension c.presentation.letters) (AreSidesAny c.presentation.relations) NoDrawing old mid new node f g)
   where
-    to : (x v : Word) → IsInRow c x v → IsAlongAny c.presentation.relations x v ⊎ IsExtension c.presentation.letters x v
+    to : (x v : Word) → IsInRow c x v → IsTraced c.presentation.relations x v ⊎ IsExtension c.presentation.letters x v
     to x v (inl e) = inr e
-    to x v (inr t) = inl (t.side, t.of, t.prefix)
+    to x v (inr t) = inl t
 
-    from : (x v : Word) → IsAlongAny c.presentation.relations x v ⊎ IsExtension c.presentation.letters x v → IsInRow c x v
+    from : (x v : Word) → IsTraced c.presentation.relations x v ⊎ IsExtension c.presentation.letters x v → IsInRow c x v
     from x v (inr e) = inl e
-    from x v (inl t) = inr (record { side = t.0; of = t.1; prefix = t.2 })
+    from x v (inl t) = inr t
 
 -- sides of relations and pairs are over the letters
 pub sides_over : (b : Bool) (k : ℕ) (pairs : List (Word × Word)) → AreElements b k pairs → (side : Word) → IsSide pairs side → IsOver k side

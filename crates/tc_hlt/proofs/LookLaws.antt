@@ -1,11 +1,11 @@
 -- A lookahead leads from the facts of a row to those of its stage.
-use Rattle.std.proofs.Common.{◌≡◌, ℕ, ◌<◌, ◌∷◌, sym, ◌∙◌, subst, Some, false, Result, Ok, Err}
+use Rattle.std.proofs.Common.{◌≡◌, ℕ, ◌<◌, IsTrue, ◌∷◌, sym, ◌∙◌, subst, Some, false, Result, Ok, Err}
 use Rattle.std.specs.Result.{OnOk}
 use Rattle.theory.specs.Word.{Word}
 use Rattle.theory.specs.Congruence.{Congruence}
 use Rattle.theory.specs.Graph.{path, SameEnd, PathsRelate}
 use Rattle.theory.specs.Facts.{ClosedAll, given}
-use Rattle.theory.specs.Hlt.{HltFacts, HltStage, HltEnds, IsLookahead, IsMet}
+use Rattle.theory.specs.Hlt.{HltFacts, HltStage, HltEnds, has_lookahead, IsMet}
 use Rattle.theory.proofs.GraphLaws.{same_end_trans}
 use Rattle.theory.proofs.HltLaws.{hlt_plain, hlt_stage_length}
 use Rattle.theory.proofs.TableSteps.{hlt_lookahead_between}
@@ -16,13 +16,13 @@ use Rattle.tc_hlt.specs.Stage.{HasRows, HasLastRow}
 use Rattle.tc_hlt.proofs.RowLaws.{row_words}
 
 -- after another row nothing more is drawn
-pub row_stays : (t : CosetTable) (made : ℕ) → (IsLookahead made → ⊥) → HasLastRow t made → HasRows t made
+pub row_stays : (t : CosetTable) (made : ℕ) → (IsTrue (has_lookahead made) → ⊥) → HasLastRow t made → HasRows t made
 row_stays t made none row = record {
   words = row.word ∷ row.words;
   stage = row.stage;
   earlier = row.earlier;
   shows = λ u v.
-      let same = hlt_plain t.congruence row.words row.word (λ due. none (subst IsLookahead (hlt_stage_length t.congruence row.stage) due)) u v in
+      let same = hlt_plain t.congruence row.words row.word (λ due. none (subst (λ n. IsTrue (has_lookahead n)) (hlt_stage_length t.congruence row.stage) due)) u v in
       (λ h. same.0 ((row.shows u v).0 h), λ f. (row.shows u v).1 (same.1 f));
   marks = row.marks;
   failed = row.failed;
@@ -47,7 +47,7 @@ module _ (old new : CosetTable) (made : ℕ) (row : HasLastRow old made)
       let on : IsOn old.marked at.0 = (row.marks met.0 at.0 at.1).1 (met.0, met.1, at) in
       marks.kept u met.0 n at.0 at.1 on (let e : Some met.2.0 ≡ Some n = sym met.2.1 ∙ hu in met.2.2 ∙ e) hu
 
-  pub looked : IsLookahead made → new.congruence ≡ old.congruence → new.failed ≡ false → HasRows new made
+  pub looked : IsTrue (has_lookahead made) → new.congruence ≡ old.congruence → new.failed ≡ false → HasRows new made
   looked due e failed = record {
     words = row.word ∷ row.words;
     stage = subst (λ (c : Congruence). HltStage c made (row.word ∷ row.words)) (sym e) row.stage;
@@ -59,12 +59,12 @@ module _ (old new : CosetTable) (made : ℕ) (row : HasLastRow old made)
     where
       shows : PathsRelate new.graph (HltFacts old.congruence (row.word ∷ row.words))
       shows u v =
-          let now = subst IsLookahead (sym (hlt_stage_length old.congruence row.stage)) due in
+          let now = subst (λ n. IsTrue (has_lookahead n)) (sym (hlt_stage_length old.congruence row.stage)) due in
           let same = hlt_lookahead_between old.congruence row.words row.word (SameEnd old.graph) now row.shows u v in
           (λ h. same.0 ((closed u v).0 h), λ f. (closed u v).1 (same.1 f))
 
 -- where closing found memory
-pub look_closed : {X Y : Type 0} (r : Result X Y) (old new : CosetTable) (made : ℕ) → IsLookahead made → new.congruence ≡ old.congruence
+pub look_closed : {X Y : Type 0} (r : Result X Y) (old new : CosetTable) (made : ℕ) → IsTrue (has_lookahead made) → new.congruence ≡ old.congruence
     → OnOk r (PathsRelate new.graph (ClosedAll old.congruence (SameEnd old.graph)))
     → OnOk r (KeepsMarks old.graph old.marked new.graph new.marked) → OnOk r (new.failed ≡ false)
     → HasLastRow old made → OnOk r (HasRows new made)

@@ -7,13 +7,13 @@ use Rattle.theory.specs.Word.{Word, IsPrefix}
 use Rattle.theory.specs.Congruence.{Congruence, EitherWay}
 use Rattle.theory.specs.Graph.{Graph, path, SameEnd, PathsRelate}
 use Rattle.theory.specs.Facts.{ClosedAt, given, relation, symmetric}
-use Rattle.theory.specs.Hlt.{Drawn, FactsFrom, HltFacts, HltStage, HltEnds, IsInRow, IsLeastUnmet, IsMet, RowFacts, RowGiven, start, row}
+use Rattle.theory.specs.Hlt.{Drawn, FactsFrom, HltFacts, HltStage, HltEnds, IsInRow, IsLeastUnmet, IsMet, start, row}
 use Rattle.theory.proofs.Related.{none_contained}
 use Rattle.theory.proofs.Counting.{in_from_contains, contains_from_in}
 use Rattle.theory.proofs.FactsLaws.{last_letter}
 use Rattle.theory.proofs.GraphLaws.{path_append, same_end_trans}
 use Rattle.theory.proofs.HltLaws.{hlt_row_grows, hlt_row_within, hlt_ends_more, hlt_ends_next, hlt_not_ended}
-use Rattle.theory.proofs.TableSteps.{hlt_row_between}
+use Rattle.theory.proofs.TableSteps.{RowGiven, hlt_row_between}
 use Rattle.coincidence.specs.Live.{IsOn}
 use Rattle.coincidence.specs.Holding.{HoldWhereMarked}
 use Rattle.coincidence.specs.Marks.{KeepsMarks}
@@ -32,7 +32,7 @@ relation_fact c G U w r s had sides = go (last_letter s) (last_letter r)
 
     -- a prefix of a side is defined behind the word
     there : (x y p : Word) → EitherWay c.presentation.relations x y → IsPrefix p x → FactsFrom c G U (w ++ p) (w ++ p)
-    there x y p e h = given (inl (refl, inr (inr (w, had, inr (record { side = x; of = (y, e); prefix = record { after = h.after; is = ap (λ z. w ++ z) h.is ∙ sym (append_assoc w p h.after) } })))))
+    there x y p e h = given (inl (refl, inr (inr (w, had, inr (x, (y, e), record { after = h.after; is = ap (λ z. w ++ z) h.is ∙ sym (append_assoc w p h.after) })))))
 
     whole : (x y : Word) → EitherWay c.presentation.relations x y → FactsFrom c G U (w ++ x) (w ++ x)
     whole x y e = there x y x e (record { after = []; is = sym (append-nil x) })
@@ -64,13 +64,13 @@ row_holds t made is last n on r s sides =
 pub stage_words : (c : Congruence) → {i : ℕ} {U : List Word} → HltStage c i U → (w : Word) → Contains U w → HltFacts c U w w
 stage_words c start w m = absurd (none_contained w m)
 stage_words c (row {U = U} {w = new} s l) w m = hlt_row_within c U new w w (elim (in_from_contains w (new ∷ U) m) [
-  | inl e ↦ subst (λ x. RowFacts c U new x x) (sym e) (hlt_row_grows c U new new new l.defined)
+  | inl e ↦ subst (λ x. FactsFrom c (Drawn c U) (new ∷ U) x x) (sym e) (hlt_row_grows c U new new new l.defined)
   | inr n ↦ hlt_row_grows c U new w w (stage_words c s w (contains_from_in w U n))
 ])
 
-pub row_words : (c : Congruence) {i : ℕ} (U : List Word) (new : Word) → HltStage c i (new ∷ U) → (w : Word) → Contains (new ∷ U) w → RowFacts c U new w w
+pub row_words : (c : Congruence) {i : ℕ} (U : List Word) (new : Word) → HltStage c i (new ∷ U) → (w : Word) → Contains (new ∷ U) w → FactsFrom c (Drawn c U) (new ∷ U) w w
 row_words c U new (row s l) w m = elim (in_from_contains w (new ∷ U) m) [
-  | inl e ↦ subst (λ x. RowFacts c U new x x) (sym e) (hlt_row_grows c U new new new l.defined)
+  | inl e ↦ subst (λ x. FactsFrom c (Drawn c U) (new ∷ U) x x) (sym e) (hlt_row_grows c U new new new l.defined)
   | inr n ↦ hlt_row_grows c U new w w (stage_words c s w (contains_from_in w U n))
 ]
 
@@ -137,10 +137,10 @@ module _ (old mid new : CosetTable) (made node : ℕ) (was : IsTable old) (is : 
   within =
       g.within ready.rows.words (ready.first.word ∷ ready.rows.words) ready.first.word ready.first.leads
       (λ v r. given (inl (refl, inr (inr (ready.first.word, (0, omega arith, refl), r)))))
-      (λ u v d. subst₂ (RowFacts old.congruence ready.rows.words ready.first.word) (sym d.3) (sym d.4) (relation_fact old.congruence (Drawn old.congruence ready.rows.words) (ready.first.word ∷ ready.rows.words) ready.first.word d.0 d.1 (0, omega arith, refl) d.2))
+      (λ u v d. subst₂ (FactsFrom old.congruence (Drawn old.congruence ready.rows.words) (ready.first.word ∷ ready.rows.words)) (sym d.3) (sym d.4) (relation_fact old.congruence (Drawn old.congruence ready.rows.words) (ready.first.word ∷ ready.rows.words) ready.first.word d.0 d.1 (0, omega arith, refl) d.2))
       (λ u v h. hlt_row_grows old.congruence ready.rows.words ready.first.word u v ((ready.rows.shows u v).0 h))
 
-  row_shows : PathsRelate new.graph (RowFacts old.congruence ready.rows.words ready.first.word)
+  row_shows : PathsRelate new.graph (FactsFrom old.congruence (Drawn old.congruence ready.rows.words) (ready.first.word ∷ ready.rows.words))
   row_shows u v =
       let same = hlt_row_between old.congruence ready.rows.words ready.first.word (SameEnd mid.graph) there within u v in
       (λ h. same.0 ((closed u v).0 h), λ f. (closed u v).1 (same.1 f))
@@ -202,7 +202,7 @@ module _ (old mid new : CosetTable) (made node : ℕ) (was : IsTable old) (is : 
     words = ready.rows.words;
     stage = subst (λ (c : Congruence). HltStage c (suc made) (ready.first.word ∷ ready.rows.words)) (sym e) (row ready.rows.stage (first_unmet old made node ready));
     earlier = subst (λ (c : Congruence). (i : ℕ) → i < suc made → HltEnds c i → ⊥) (sym e) (ready_unended old made node ready);
-    shows = subst (λ (c : Congruence). PathsRelate new.graph (RowFacts c ready.rows.words ready.first.word)) (sym e) row_shows;
+    shows = subst (λ (c : Congruence). PathsRelate new.graph (FactsFrom c (Drawn c ready.rows.words) (ready.first.word ∷ ready.rows.words))) (sym e) row_shows;
     marks = λ u n hu. (row_met u n hu, row_marked u n hu);
     failed = failed;
   }

@@ -8,7 +8,7 @@ use Rattle.theory.specs.Congruence.{Congruence, EitherWay}
 use Rattle.theory.specs.Graph.{Graph, path, SameEnd, PathsRelate}
 use Rattle.theory.specs.Facts.{Defines, given, symmetric, transitive, pair}
 use Rattle.theory.specs.Hlt.{HltFacts, HltDefines, Drawn, start}
-use Rattle.theory.proofs.HltLaws.{hlt_first_rows}
+use Rattle.theory.proofs.HltLaws.{lookahead_some, hlt_first_rows}
 use Rattle.theory.proofs.Words.{before_no_longer, before_irrefl}
 use Rattle.theory.proofs.Related.{none_contained}
 use Rattle.theory.proofs.FactsLaws.{facts_least, defines_within, last_letter}
@@ -25,7 +25,7 @@ use Rattle.tc_hlt.proofs.GrowLaws.{grown_same, prefix_there}
 
 -- the sides of a pair are defined all the way
 pub side_fact : (c : Congruence) (U : List Word) (side s p : Word) → EitherWay c.pairs side s → IsPrefix p side → HltFacts c U p p
-side_fact c U side s p is h = given (inl (refl, inr (inl (record { side = side; of = (s, is); prefix = h }))))
+side_fact c U side s p is h = given (inl (refl, inr (inl (side, (s, is), h))))
 
 -- so they are related
 pub pair_fact : (c : Congruence) (U : List Word) (r s : Word) → EitherWay c.pairs r s → EitherWay c.pairs s r → HltFacts c U r s
@@ -170,7 +170,7 @@ started_all t c i end s = record {
     unmarked = s.none 0;
     least = λ v n less hv. absurd (nothing_before v less);
   };
-  unended = λ whole. omega (arith, whole.0.0);
+  unended = λ whole. omega (arith, lookahead_some 0 whole.0);
 }
   where
     nothing_before : (v : Word) → v ≺ [] → ⊥
@@ -182,7 +182,7 @@ started_all t c i end s = record {
     sides r s' (inr m) = same_end_symm t.graph s' r (s.pairs m.0 (s', r) (omega (arith, m.1, end)) m.2)
 
     defined : (w : Word) → HltDefines c [] w → SameEnd t.graph w w
-    defined w (inl p) = let at = sides p.side p.of.0 p.of.1 in prefix_there t.graph w p.side at.0 p.prefix at.1
+    defined w (inl p) = let at = sides p.0 p.1.0 p.1.1 in prefix_there t.graph w p.0 at.0 p.2 at.1
     defined w (inr r) = absurd (none_contained r.0 r.1)
 
     shows : PathsRelate t.graph (HltFacts c [])

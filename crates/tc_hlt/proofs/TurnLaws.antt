@@ -8,7 +8,7 @@ use Rattle.race.specs.declared.engines.Progress.TheVariants.{More, Decided, Spen
 use Rattle.theory.specs.Congruence.{Congruence}
 use Rattle.theory.specs.Facts.{AllDefined}
 use Rattle.theory.specs.Graph.{Graph, SameEnd, PathsRelate}
-use Rattle.theory.specs.Hlt.{HltFacts, HltEnds, AllMet, HasEnded, IsLookahead}
+use Rattle.theory.specs.Hlt.{HltFacts, HltEnds, AllMet, HasEnded, has_lookahead}
 use Rattle.theory.proofs.HltLaws.{hlt_ended_defined, hlt_stage_length}
 use Rattle.coincidence.specs.Marks.{AllMarked, IsFirstUnmarked}
 use Rattle.coincidence.specs.Table.{CosetTable, IsTable}
@@ -26,8 +26,8 @@ all_met t made rows all w defined =
 
 -- where a lookahead has found a path for each word, all words are defined
 all_whole : (t : CosetTable) (made : ℕ) (rows : HasRows t made) → IsWhole t made
-    → IsLookahead (length rows.words) × AllDefined t.congruence.presentation.letters (HltFacts t.congruence rows.words)
-all_whole t made rows whole = (subst IsLookahead (sym (hlt_stage_length t.congruence rows.stage)) whole.0, λ w over. (rows.shows w w).0 (whole.1 w over))
+    → IsTrue (has_lookahead (length rows.words)) × AllDefined t.congruence.presentation.letters (HltFacts t.congruence rows.words)
+all_whole t made rows whole = (subst (λ n. IsTrue (has_lookahead n)) (sym (hlt_stage_length t.congruence rows.stage)) whole.0, λ w over. (rows.shows w w).0 (whole.1 w over))
 
 -- so the strategy has ended
 has_ended : (t : CosetTable) (made : ℕ) (rows : HasRows t made) → AllMarked t.graph t.marked ⊎ IsWhole t made → HasEnded t.congruence rows.words

@@ -1,10 +1,10 @@
 -- Where the strategy of rows stands.
-use Rattle.std.specs.Prelude.{◌≡◌, ◌≢◌, ◌↔◌, ◌⊎◌, ℕ, ◌+◌, ◌-◌, ◌<◌, ◌≤◌, nat_lt, Bool, true, false, List, [], ◌∷◌, cond, replicate, Option, None, Some, MatchOption}
+use Rattle.std.specs.Prelude.{◌≡◌, ◌≢◌, ◌↔◌, ◌⊎◌, ℕ, ◌+◌, ◌-◌, ◌<◌, ◌≤◌, nat_lt, Bool, true, false, IsTrue, List, [], ◌∷◌, cond, replicate, Option, None, Some, MatchOption}
 use Rattle.theory.specs.Word.{Word}
 use Rattle.theory.specs.Congruence.{Congruence}
 use Rattle.theory.specs.Graph.{Graph, path, SameEnd, PathsRelate}
 use Rattle.theory.specs.Facts.{AllDefined}
-use Rattle.theory.specs.Hlt.{HltFacts, HltStage, HltEnds, HasEnded, IsLookahead, RowFacts, IsMet}
+use Rattle.theory.specs.Hlt.{HltFacts, HltStage, HltEnds, HasEnded, has_lookahead, FactsFrom, Drawn, IsMet}
 use Rattle.coincidence.specs.Live.{IsOn}
 use Rattle.coincidence.specs.Marks.{AllMarked, IsFirstUnmarked}
 use Rattle.coincidence.specs.Table.{CosetTable, IsTable}
@@ -68,13 +68,14 @@ pub record HasLastRow (t : CosetTable) (made : ℕ) : Type 0 where
   pub words : List Word
   pub stage : HltStage t.congruence made (word ∷ words)
   pub earlier : (i : ℕ) → i < made → HltEnds t.congruence i → ⊥
-  pub shows : PathsRelate t.graph (RowFacts t.congruence words word)
+  pub shows : PathsRelate t.graph (FactsFrom t.congruence (Drawn t.congruence words) (word ∷ words))
   pub marks : MarksMet t (word ∷ words)
   pub failed : t.failed ≡ false
 
 -- a lookahead has come after the last row, and each word has a path
 abbrev pub IsWhole : CosetTable → ℕ → Type 0
-IsWhole t made = IsLookahead made × AllDefined t.congruence.presentation.letters (SameEnd t.graph)
+IsWhole t made = IsTrue (has_lookahead made)
+    × AllDefined t.congruence.presentation.letters (SameEnd t.graph)
 
 -- the strategy goes on, with the row of the node
 pub record IsReady (t : CosetTable) (made node : ℕ) : Type 0 where

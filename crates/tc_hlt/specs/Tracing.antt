@@ -3,7 +3,7 @@ use Rattle.std.specs.Prelude.{◌≡◌, ◌↔◌, ◌⊎◌, ℕ, false, List,
 use Rattle.theory.specs.Word.{Word, IsPrefix}
 use Rattle.theory.specs.Congruence.{Congruence, EitherWay}
 use Rattle.theory.specs.Graph.{Graph, path, SameEnd}
-use Rattle.theory.specs.Hlt.{FactsFrom, Drawn, IsSide}
+use Rattle.theory.specs.Hlt.{FactsFrom, Drawn}
 use Rattle.coincidence.specs.Live.{IsOn}
 use Rattle.coincidence.specs.Table.{CosetTable}
 
@@ -41,10 +41,6 @@ IsNext a x v = v ≡ x ++ a ∷ []
 -- v is a prefix of x and the side
 abbrev pub IsAlong : Word → Word → Word → Type 0
 IsAlong side x v = IsPrefix v (x ++ side)
-
--- v is a prefix of x and a side of a pair in the list
-abbrev pub IsAlongAny : List (Word × Word) → Word → Word → Type 0
-IsAlongAny pairs x v = (side : Word) × IsSide pairs side × IsPrefix v (x ++ side)
 
 -- v is a prefix of x and one of the two sides
 abbrev pub IsAlongBoth : Word → Word → Word → Word → Type 0

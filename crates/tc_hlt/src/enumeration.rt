@@ -7,7 +7,7 @@ ghost use Rattle.word_graph.specs.Standard.{IsStandardGraph};
 ghost use Rattle.coincidence.specs.Holding.{HoldWhereMarked};
 ghost use Rattle.coincidence.specs.Marks.{KeepsMarks};
 ghost use Rattle.coincidence.specs.Table.{IsTable};
-ghost use Rattle.theory.specs.Hlt.{IsLookahead};
+ghost use Rattle.theory.specs.Hlt.{has_lookahead};
 ghost use Rattle.tc_hlt.specs.Stage.{IsAtEnd, IsAtStage, HasRows, HasLastRow, IsWhole, IsReady, IsFresh, Stands, IsTurn, TellsNext, answer_of};
 
 use crate::rows::{make_row, trace};
@@ -91,7 +91,7 @@ fn begin(table: &mut Table, congruence: &Congruence, begun: bool) -> Result<(), 
 
 // Whether a lookahead comes after so many rows.
 fn is_lookahead(made: usize) -> bool
-    ensures { IsTrue result ↔ IsLookahead made }
+    ensures { result ≡ has_lookahead made }
 {
     0 < made && made % LOOKAHEAD_ROWS == 0
 }

@@ -2,9 +2,9 @@
 ghost use Rattle.std.specs.Prelude.{◌≡◌, ℕ, suc, ◌-◌, ◌<◌, ◌≤◌, length, take, false, Some, IfOk, OnOk};
 ghost use Rattle.theory.specs.Word.{Word as Letters, IsOver};
 ghost use Rattle.theory.specs.Graph.{target as target_of, path as path_of};
-ghost use Rattle.theory.specs.Hlt.{IsSide, IsExtension, IsInRow};
+ghost use Rattle.theory.specs.Hlt.{IsSide, IsTraced, IsExtension, IsInRow};
 ghost use Rattle.coincidence.specs.Table.{IsTable, IsLive};
-ghost use Rattle.tc_hlt.specs.Tracing.{AreSides, AreSidesAny, IsGrown, IsNext, IsAlong, IsAlongAny, IsAlongBoth, NoDrawing};
+ghost use Rattle.tc_hlt.specs.Tracing.{AreSides, AreSidesAny, IsGrown, IsNext, IsAlong, IsAlongBoth, NoDrawing};
 ghost use Rattle.tc_hlt.specs.Stage.{IsReady, HasLastRow};
 
 use coincidence::Table;
@@ -166,7 +166,7 @@ fn trace_sides(table: &mut Table, node: usize, pairs: &Pairs) -> Result<(), NoMe
     requires node { IsLive table.old node }
     requires over { (side : Letters) → IsSide pairs.now side
         → IsOver table.old.congruence.presentation.letters side }
-    ensures grown { OnOk result (IsGrown (IsAlongAny pairs.now) (AreSidesAny pairs.now) table.old
+    ensures grown { OnOk result (IsGrown (IsTraced pairs.now) (AreSidesAny pairs.now) table.old
         table.new node) }
     ensures congruence { table.new.congruence ≡ table.old.congruence }
     ensures table { IsTable table.new }

@@ -11,7 +11,7 @@ use Rattle.theory.proofs.Counting.{in_from_contains, contains_from_in}
 use Rattle.theory.proofs.Related.{none_either, none_contained}
 use Rattle.theory.proofs.FactsLaws.{facts_over}
 use Rattle.theory.proofs.GraphLaws.{facts_in_model}
-use Rattle.theory.proofs.HltLaws.{hlt_first_rows, hlt_stage_length, hlt_stage_past, hlt_defines_over}
+use Rattle.theory.proofs.HltLaws.{lookahead_some, lookahead_multiple, hlt_first_rows, hlt_stage_length, hlt_stage_past, hlt_defines_over}
 use Rattle.theory.proofs.ReducedRules.{greater_full}
 use Rattle.theory.proofs.CyclicExample.{one_relation, one_letter_shorter, point, point_path, all_defined_by_three}
 use Rattle.std.proofs.lemmas.List.{same_from_push}
@@ -87,7 +87,7 @@ over_2 w m = elim (in_from_contains w (a1 ∷ [] ∷ []) m) [
 
 -- the row of a word in U defines its extension
 extension : (U : List Word) (w : Word) → Contains U w → HltFacts cyclic U (w ++ 0 ∷ []) (w ++ 0 ∷ [])
-extension U w m = given (inl (refl, inr (inr (w, m, inl (record { letter = 0; over = omega arith; is = refl })))))
+extension U w m = given (inl (refl, inr (inr (w, m, inl (0, omega arith, refl)))))
 
 pub row_1 : HltStage cyclic 1 ([] ∷ [])
 row_1 = row start (record {
@@ -143,7 +143,8 @@ row_3 = row row_2 (record {
 pub two_rows_are_not_enough : HltEnds cyclic 2 → ⊥
 two_rows_are_not_enough ends =
     let late = hlt_stage_past cyclic 2 row_3 ends in
-    omega (arith, ends.within, late.0.0, late.0.1, hlt_stage_length cyclic ends.stage)
+    let n = length ends.words in
+    omega (arith, ends.within, lookahead_some n late.0, lookahead_multiple n late.0, hlt_stage_length cyclic ends.stage)
 
 abbrev pub all_rows : List Word
 all_rows = a2 ∷ a1 ∷ [] ∷ []
@@ -207,7 +208,7 @@ pub defined_before_rows : (u : Word) → HltFacts cyclic [] u u → u ≡ []
 defined_before_rows u f = let at = facts_in_model cyclic (HltDefines cyclic []) (Contains []) point model u u ((hlt_first_rows cyclic [] (omega arith) u u).0 f) in point_path u at.0 at.1
   where
     defined : (w : Word) → HltDefines cyclic [] w → (node : ℕ) × (path point 0 w ≡ Some node)
-    defined w (inl p) = absurd (none_either p.side p.of.0 p.of.1)
+    defined w (inl p) = absurd (none_either p.0 p.1.0 p.1.1)
     defined w (inr r) = absurd (none_contained r.0 r.1)
 
     model : IsModel cyclic (HltDefines cyclic []) (Contains []) point
@@ -228,4 +229,4 @@ first_row_defines_all w over =
     traced : (v after : Word) → a3 ≡ v ++ after → Facts cyclic (HltDefines cyclic ([] ∷ [])) (Contains ([] ∷ [])) v v
     traced v after e =
         given
-        (refl, inr (inr ([], (0, omega arith, refl), inr (record { side = a3; of = ([], inl (0, omega arith, refl)); prefix = record { after = after; is = e } }))))
+        (refl, inr (inr ([], (0, omega arith, refl), inr (a3, ([], inl (0, omega arith, refl)), record { after = after; is = e }))))

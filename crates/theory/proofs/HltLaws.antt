@@ -1,12 +1,13 @@
 -- The stages of the strategy of rows are determined, and where it has ended the facts are `~`.
-use Rattle.std.proofs.Common.{◌≡◌, ℕ, suc, ◌<◌, ◌≤◌, List, [], ◌∷◌, ◌++◌, length, refl, ap, sym, ap₂, subst, arith, ◌⊎◌, inl, inr, ◌↔◌, Contains, eq-or-lt_of_le, le_of_suc-le-suc, append_assoc, append-nil}
+use Rattle.std.proofs.Common.{◌≡◌, ℕ, zero, suc, ◌<◌, ◌≤◌, ◌%◌, nat_lt, ◌==◌, ◌&&◌, Bool, true, false, true≢false, cond, IsTrue, List, [], ◌∷◌, ◌++◌, length, refl, ap, sym, ap₂, subst, arith, ◌⊎◌, inl, inr, ◌↔◌, Contains, eq-or-lt_of_le, le_of_suc-le-suc, append_assoc, append-nil}
+use Rattle.std.proofs.lemmas.Map.Views.{exact_unsigned_eq}
 use Rattle.theory.specs.Word.{Word, IsOver}
 use Rattle.theory.specs.Congruence.{Congruence, IsWellFormed, IsRightSided, as_right, as_right_word}
 use Rattle.theory.specs.Graph.{Graph, SameEnd, PathsRelate}
 use Rattle.theory.proofs.KindLaws.{as_right_related, as_right_well_formed, as_right_sided}
 use Rattle.theory.specs.Chain.{Related}
 use Rattle.theory.specs.Facts.{Facts, Defines, ClosedAll, AllDefined, given, transitive, symmetric, extended, relation, pair}
-use Rattle.theory.specs.Hlt.{HltFacts, HltDefines, lookahead_rows, IsLookahead, FactsFrom, Drawn, RowFacts, IsLeastUnmet, HltStage, AllMet, HasEnded, HltEnds, start, row, IsMet}
+use Rattle.theory.specs.Hlt.{HltFacts, HltDefines, lookahead_rows, has_lookahead, FactsFrom, Drawn, IsLeastUnmet, HltStage, AllMet, HasEnded, HltEnds, start, row, IsMet}
 use Rattle.theory.proofs.Words.{order_cases, over_append, over_left}
 use Rattle.theory.proofs.Related.{none_contained, element_over, side_element}
 use Rattle.theory.proofs.FactsLaws.{follows_least, follows_grow, follows_related, defines_related, facts_full}
@@ -36,32 +37,69 @@ from_grows c G H U w more =
     (λ x y g. given (elim g [ inl d ↦ inl (defines_wider c U w x y d) | inr k ↦ inr (more x y k) ]))
     (λ x m. contains_from_in x (w ∷ U) (inr (in_from_contains x U m)))
 
+-- a lookahead comes after some rows, and their number is a multiple
+pub lookahead_some : (i : ℕ) → IsTrue (has_lookahead i) → 0 < i
+lookahead_some zero due = absurd (true≢false (sym due))
+lookahead_some (suc i) due = omega arith
+
+pub lookahead_multiple : (i : ℕ) → IsTrue (has_lookahead i) → i % lookahead_rows ≡ 0
+lookahead_multiple i due = exact_unsigned_eq (i % lookahead_rows) 0 (second (nat_lt 0 i) (i % lookahead_rows == 0) due)
+  where
+    second : (x y : Bool) → (x && y) ≡ true → y ≡ true
+    second true y e = e
+    second false y e = absurd (true≢false (sym e))
+
+-- one relation or another, by a test
+if_true : (b : Bool) (V W : Word → Word → Type 0) (u v : Word) → IsTrue b → V u v → cond b V W u v
+if_true true V W u v due f = f
+if_true false V W u v due f = absurd (true≢false (sym due))
+
+by_test : (b : Bool) (V W : Word → Word → Type 0) (u v : Word) → cond b V W u v → (IsTrue b × V u v) ⊎ W u v
+by_test true V W u v f = inl (refl, f)
+by_test false V W u v f = inr f
+
+if_both : (b : Bool) (V W : Word → Word → Type 0) (u v : Word) → V u v → W u v → cond b V W u v
+if_both true V W u v f g = f
+if_both false V W u v f g = g
+
+-- what lookaheads have drawn after one more row: it was drawn before, or the row has a lookahead
+pub drawn_cases : (c : Congruence) (U : List Word) (w u v : Word) → Drawn c (w ∷ U) u v
+    → (IsTrue (has_lookahead (suc (length U))) × ClosedAll c (FactsFrom c (Drawn c U) (w ∷ U)) u v) ⊎ Drawn c U u v
+drawn_cases c U w = by_test (has_lookahead (suc (length U))) (ClosedAll c (FactsFrom c (Drawn c U) (w ∷ U))) (Drawn c U)
+
+pub drawn_grows : (c : Congruence) (U : List Word) (w u v : Word) → Drawn c U u v → Drawn c (w ∷ U) u v
+drawn_grows c U w u v d =
+    if_both (has_lookahead (suc (length U))) (ClosedAll c (FactsFrom c (Drawn c U) (w ∷ U))) (Drawn c U) u v (given (given (inr d))) d
+
+drawn_by_lookahead : (c : Congruence) (U : List Word) (w u v : Word) → IsTrue (has_lookahead (suc (length U)))
+    → ClosedAll c (FactsFrom c (Drawn c U) (w ∷ U)) u v → Drawn c (w ∷ U) u v
+drawn_by_lookahead c U w = if_true (has_lookahead (suc (length U))) (ClosedAll c (FactsFrom c (Drawn c U) (w ∷ U))) (Drawn c U)
+
 -- the facts grow by a row, before a lookahead and after it
-pub hlt_row_grows : (c : Congruence) (U : List Word) (w u v : Word) → HltFacts c U u v → RowFacts c U w u v
+pub hlt_row_grows : (c : Congruence) (U : List Word) (w u v : Word) → HltFacts c U u v → FactsFrom c (Drawn c U) (w ∷ U) u v
 hlt_row_grows c U w = from_grows c (Drawn c U) (Drawn c U) U w (λ u v d. d)
 
 pub hlt_grows : (c : Congruence) (U : List Word) (w u v : Word) → HltFacts c U u v → HltFacts c (w ∷ U) u v
-hlt_grows c U w = from_grows c (Drawn c U) (Drawn c (w ∷ U)) U w (λ u v d. inl d)
+hlt_grows c U w = from_grows c (Drawn c U) (Drawn c (w ∷ U)) U w (drawn_grows c U w)
 
-pub hlt_row_within : (c : Congruence) (U : List Word) (w u v : Word) → RowFacts c U w u v → HltFacts c (w ∷ U) u v
+pub hlt_row_within : (c : Congruence) (U : List Word) (w u v : Word) → FactsFrom c (Drawn c U) (w ∷ U) u v → HltFacts c (w ∷ U) u v
 hlt_row_within c U w =
     follows_grow c.presentation.relations c.pairs (λ u v. Defines (HltDefines c (w ∷ U)) u v ⊎ Drawn c U u v)
     (λ u v. Defines (HltDefines c (w ∷ U)) u v ⊎ Drawn c (w ∷ U) u v) (Contains (w ∷ U)) (Contains (w ∷ U))
-    (λ x y g. given (elim g [ inl d ↦ inl d | inr k ↦ inr (inl k) ])) (λ x m. m)
+    (λ x y g. given (elim g [ inl d ↦ inl d | inr k ↦ inr (drawn_grows c U w x y k) ])) (λ x m. m)
 
 -- a lookahead draws all that follows at every word
-pub hlt_lookahead : (c : Congruence) (U : List Word) (w : Word) → IsLookahead (suc (length U)) → (u v : Word)
-    → ClosedAll c (RowFacts c U w) u v ↔ HltFacts c (w ∷ U) u v
-hlt_lookahead c U w due u v = (λ f. given (inr (inr (due, f))), from)
+pub hlt_lookahead : (c : Congruence) (U : List Word) (w : Word) → IsTrue (has_lookahead (suc (length U))) → (u v : Word)
+    → ClosedAll c (FactsFrom c (Drawn c U) (w ∷ U)) u v ↔ HltFacts c (w ∷ U) u v
+hlt_lookahead c U w due u v = (λ f. given (inr (drawn_by_lookahead c U w u v due f)), from)
   where
-    from : HltFacts c (w ∷ U) u v → ClosedAll c (RowFacts c U w) u v
+    from : HltFacts c (w ∷ U) u v → ClosedAll c (FactsFrom c (Drawn c U) (w ∷ U)) u v
     from =
         follows_least c.presentation.relations c.pairs (λ u v. Defines (HltDefines c (w ∷ U)) u v ⊎ Drawn c (w ∷ U) u v) (Contains (w ∷ U))
-        (ClosedAll c (RowFacts c U w)) (record {
+        (ClosedAll c (FactsFrom c (Drawn c U) (w ∷ U))) (record {
           given = λ x y g. elim g [
             | inl d ↦ given (given (inl d))
-            | inr (inl k) ↦ given (given (inr k))
-            | inr (inr l) ↦ l.1
+            | inr k ↦ elim (drawn_cases c U w x y k) [ inl l ↦ l.1 | inr before ↦ given (given (inr before)) ]
           ];
           symmetric = λ x y f. symmetric f;
           transitive = λ x y z f g. transitive f g;
@@ -71,20 +109,25 @@ hlt_lookahead c U w due u v = (λ f. given (inr (inr (due, f))), from)
         })
 
 -- after another row the facts are those of the row
-pub hlt_plain : (c : Congruence) (U : List Word) (w : Word) → (IsLookahead (suc (length U)) → ⊥) → (u v : Word)
-    → RowFacts c U w u v ↔ HltFacts c (w ∷ U) u v
+pub hlt_plain : (c : Congruence) (U : List Word) (w : Word) → (IsTrue (has_lookahead (suc (length U))) → ⊥) → (u v : Word)
+    → FactsFrom c (Drawn c U) (w ∷ U) u v ↔ HltFacts c (w ∷ U) u v
 hlt_plain c U w none u v = (
   hlt_row_within c U w u v,
   follows_grow c.presentation.relations c.pairs (λ u v. Defines (HltDefines c (w ∷ U)) u v ⊎ Drawn c (w ∷ U) u v)
       (λ u v. Defines (HltDefines c (w ∷ U)) u v ⊎ Drawn c U u v) (Contains (w ∷ U)) (Contains (w ∷ U))
-      (λ x y g. given (elim g [ inl d ↦ inl d | inr (inl k) ↦ inr k | inr (inr l) ↦ absurd (none l.0) ])) (λ x m. m) u v,
+      (λ x y g. given (elim g [
+        | inl d ↦ inl d
+        | inr k ↦ inr (elim (drawn_cases c U w x y k) [ inl l ↦ absurd (none l.0) | inr before ↦ before ])
+      ])) (λ x m. m) u v,
 )
 
 -- before the first lookahead nothing is drawn but by rows
 none_drawn : (c : Congruence) (U : List Word) → length U < lookahead_rows → (u v : Word) → Drawn c U u v → ⊥
 none_drawn c [] less u v d = d
-none_drawn c (w ∷ U) less u v (inl d) = none_drawn c U (omega (arith, less)) u v d
-none_drawn c (w ∷ U) less u v (inr l) = omega (arith, less, l.0.0, l.0.1)
+none_drawn c (w ∷ U) less u v d = elim (drawn_cases c U w u v d) [
+  | inl l ↦ omega (arith, less, lookahead_multiple (suc (length U)) l.0)
+  | inr before ↦ none_drawn c U (omega (arith, less)) u v before
+]
 
 pub hlt_first_rows : (c : Congruence) (U : List Word) → length U < lookahead_rows → (u v : Word)
     → HltFacts c U u v ↔ Facts c (HltDefines c U) (Contains U) u v
@@ -104,9 +147,12 @@ from_related c G U right within =
 
 drawn_related : (c : Congruence) (U : List Word) → IsRightSided c → (u v : Word) → Drawn c U u v → Related c u v
 drawn_related c [] right u v d = absurd d
-drawn_related c (w ∷ U) right u v (inl d) = drawn_related c U right u v d
-drawn_related c (w ∷ U) right u v (inr l) =
-    follows_related c (RowFacts c U w) (λ x. Unit {0}) right (from_related c (Drawn c U) (w ∷ U) right (drawn_related c U right)) u v l.1
+drawn_related c (w ∷ U) right u v d = elim (drawn_cases c U w u v d) [
+  | inl l ↦
+      follows_related c (FactsFrom c (Drawn c U) (w ∷ U)) (λ x. Unit {0}) right
+      (from_related c (Drawn c U) (w ∷ U) right (drawn_related c U right)) u v l.1
+  | inr before ↦ drawn_related c U right u v before
+]
 
 pub hlt_facts_related : (c : Congruence) (U : List Word) → IsRightSided c → (u v : Word) → HltFacts c U u v → Related c u v
 hlt_facts_related c U right = from_related c (Drawn c U) U right (drawn_related c U right)
@@ -138,7 +184,7 @@ hlt_stage_length c (row s l) = ap suc (hlt_stage_length c s)
 
 -- where there is a stage past the budget and the budget suffices, a lookahead has ended it
 pub hlt_stage_past : (c : Congruence) (m : ℕ) → {U : List Word} → HltStage c (suc m) U → (ends : HltEnds c m)
-    → IsLookahead (length ends.words) × AllDefined c.presentation.letters (HltFacts c ends.words)
+    → IsTrue (has_lookahead (length ends.words)) × AllDefined c.presentation.letters (HltFacts c ends.words)
 hlt_stage_past c m s ends = elim ends.ended [
   | inr l ↦ l
   | inl met ↦
@@ -164,7 +210,7 @@ hlt_ends_zero c ends = go ends.count ends.within ends.stage ends.ended
   where
     go : (i : ℕ) → i ≤ 0 → {U : List Word} → HltStage c i U → HasEnded c U → ⊥
     go i h start (inl all) = let met = all [] (given (inl (refl, inl refl))) in none_contained met.0 met.1
-    go i h start (inr l) = omega (arith, l.0.0)
+    go i h start (inr l) = absurd (true≢false (sym l.0))
     go i h (row s l) ended = omega arith
 
 -- a budget does not suffice where no less one does, and its own stage has not ended
@@ -186,9 +232,9 @@ hlt_ends_next c m U less s unended ends = go (eq-or-lt_of_le ends.within)
 
 -- a stage has not ended where a defined word is met by none, and after a lookahead a word is undefined
 pub hlt_not_ended : (c : Congruence) (i : ℕ) (U : List Word) (w : Word) → HltStage c i U → HltFacts c U w w → (IsMet (HltFacts c U) U w → ⊥)
-    → (IsLookahead i → AllDefined c.presentation.letters (HltFacts c U) → ⊥) → HasEnded c U → ⊥
+    → (IsTrue (has_lookahead i) → AllDefined c.presentation.letters (HltFacts c U) → ⊥) → HasEnded c U → ⊥
 hlt_not_ended c i U w s defined unmet missing (inl all) = unmet (all w defined)
-hlt_not_ended c i U w s defined unmet missing (inr l) = missing (subst IsLookahead (hlt_stage_length c s) l.0) l.1
+hlt_not_ended c i U w s defined unmet missing (inr l) = missing (subst (λ n. IsTrue (has_lookahead n)) (hlt_stage_length c s) l.0) l.1
 
 -- where every defined word is met, all words are defined
 pub hlt_all_defined : (c : Congruence) (U : List Word) → AllMet c U → AllDefined c.presentation.letters (HltFacts c U)
@@ -199,7 +245,7 @@ hlt_all_defined c U met w over = go [] w (given (inl (refl, inl refl))) over
     go u (a ∷ y) f h =
         let at = met u f in
         let there : HltFacts c U (at.0 ++ a ∷ []) (at.0 ++ a ∷ []) =
-        given (inl (refl, inr (inr (at.0, at.1, inl (record { letter = a; over = h.0; is = refl }))))) in
+        given (inl (refl, inr (inr (at.0, at.1, inl (a, h.0, refl))))) in
         let one : HltFacts c U (at.0 ++ a ∷ []) (u ++ a ∷ []) = extended at.0 u a (symmetric at.2) there in
         let next : HltFacts c U ((u ++ a ∷ []) ++ y) ((u ++ a ∷ []) ++ y) = go (u ++ a ∷ []) y (transitive (symmetric one) one) h.1 in
         subst (λ x. HltFacts c U x x) (append_assoc u (a ∷ []) y) next
@@ -215,10 +261,10 @@ hlt_full : (c : Congruence) (U : List Word) → IsWellFormed c → IsRightSided 
 hlt_full c U is right (inl met) u v over =
     facts_full c (λ u v. Defines (HltDefines c U) u v ⊎ Drawn c U u v) (Contains U) (hlt_all_defined c U met) is right
     (λ w h. met w (hlt_all_defined c U met w h)) u v over
-hlt_full c [] is right (inr l) u v over = absurd (omega (arith, l.0.0))
+hlt_full c [] is right (inr l) u v over = absurd (true≢false (sym l.0))
 hlt_full c (new ∷ U) is right (inr l) u v over = λ h.
-    let all : AllDefined c.presentation.letters (ClosedAll c (RowFacts c U new)) = λ w o. (hlt_lookahead c U new l.0 w w).1 (l.1 w o) in
-    (hlt_lookahead c U new l.0 u v).0 (facts_full c (RowFacts c U new) (λ w. Unit {0}) all is right (λ w o. (w, tt, all w o)) u v over h)
+    let all : AllDefined c.presentation.letters (ClosedAll c (FactsFrom c (Drawn c U) (new ∷ U))) = λ w o. (hlt_lookahead c U new l.0 w w).1 (l.1 w o) in
+    (hlt_lookahead c U new l.0 u v).0 (facts_full c (FactsFrom c (Drawn c U) (new ∷ U)) (λ w. Unit {0}) all is right (λ w o. (w, tt, all w o)) u v over h)
 
 pub hlt_related : (c : Congruence) (U : List Word) → IsWellFormed c → IsRightSided c → HasEnded c U → (u v : Word)
     → IsOver c.presentation.letters u → HltFacts c U u v ↔ Related c u v
@@ -236,16 +282,16 @@ pub hlt_defines_over : (c : Congruence) (U : List Word) → IsWellFormed c → (
     → (v : Word) → HltDefines c U v → IsOver c.presentation.letters v
 hlt_defines_over c U is over v h = elim h [
   | inl p ↦
-      subst_prefix p.side v p.prefix.after p.prefix.is
-      (element_over c.presentation.is_monoid c.presentation.letters p.side
-      (side_element c.presentation.is_monoid c.presentation.letters c.pairs p.side p.of.0 is.pairs p.of.1).0)
+      subst_prefix p.0 v p.2.after p.2.is
+      (element_over c.presentation.is_monoid c.presentation.letters p.0
+      (side_element c.presentation.is_monoid c.presentation.letters c.pairs p.0 p.1.0 is.pairs p.1.1).0)
   | inr r ↦ elim r.2 [
     | inl x ↦
-        subst (λ w. IsOver c.presentation.letters w) (sym x.is) (over_append c.presentation.letters r.0 (x.letter ∷ []) (over r.0 r.1) (x.over, tt))
+        subst (λ w. IsOver c.presentation.letters w) (sym x.2) (over_append c.presentation.letters r.0 (x.0 ∷ []) (over r.0 r.1) (x.1, tt))
     | inr t ↦
-        subst_prefix (r.0 ++ t.side) v t.prefix.after t.prefix.is
-        (over_append c.presentation.letters r.0 t.side (over r.0 r.1)
-        (element_over c.presentation.is_monoid c.presentation.letters t.side (side_element c.presentation.is_monoid c.presentation.letters c.presentation.relations t.side t.of.0 is.relations t.of.1).0))
+        subst_prefix (r.0 ++ t.0) v t.2.after t.2.is
+        (over_append c.presentation.letters r.0 t.0 (over r.0 r.1)
+        (element_over c.presentation.is_monoid c.presentation.letters t.0 (side_element c.presentation.is_monoid c.presentation.letters c.presentation.relations t.0 t.1.0 is.relations t.1.1).0))
   ]
 ]
   where

@@ -6,10 +6,10 @@ use Rattle.theory.specs.Word.{Word, IsOver, IsPrefix}
 use Rattle.theory.specs.Congruence.{Congruence, IsRightSided}
 use Rattle.theory.specs.Chain.{Related}
 use Rattle.theory.specs.Facts.{Defines, ClosedAll, given}
-use Rattle.theory.specs.Hlt.{IsSide, IsExtension, IsTraced, IsPairPrefix, IsInRow, HltDefines, FactsFrom, Drawn, RowFacts, HltFacts, HasEnded}
+use Rattle.theory.specs.Hlt.{IsSide, IsExtension, IsTraced, IsInRow, HltDefines, FactsFrom, Drawn, HltFacts, HasEnded}
 use Rattle.theory.proofs.Counting.{IsIn, in_from_contains, contains_from_in}
 use Rattle.theory.proofs.FactsLaws.{IsCovered, follows_covered, defines_covered}
-use Rattle.theory.proofs.HltLaws.{hlt_wider, hlt_grows, hlt_row_grows, hlt_lookahead, hlt_ended_defined, hlt_facts_related}
+use Rattle.theory.proofs.HltLaws.{drawn_cases, hlt_wider, hlt_grows, hlt_row_grows, hlt_lookahead, hlt_ended_defined, hlt_facts_related}
 
 -- all words with the property stand in one list
 abbrev IsListed : (Word → Type 0) → Type 0
@@ -74,27 +74,22 @@ listed_sides pairs D each =
 
 -- the letters of an extension
 listed_extensions : (k : ℕ) (v : Word) → IsListed (IsExtension k v)
-listed_extensions zero v = ([], λ w x. absurd (omega (arith, x.over)))
+listed_extensions zero v = ([], λ w x. absurd (omega (arith, x.1)))
 listed_extensions (suc k) v =
-    listed_from (λ w. IsExtension k v w ⊎ (w ≡ v ++ k ∷ [])) (IsExtension (suc k) v) (λ w x. elim (cases_eq x.letter k) [
-      | inl e ↦ inr (subst (λ a. w ≡ v ++ a ∷ []) e x.is)
-      | inr d ↦ inl (record { letter = x.letter; over = omega (arith, x.over, d); is = x.is })
+    listed_from (λ w. IsExtension k v w ⊎ (w ≡ v ++ k ∷ [])) (IsExtension (suc k) v) (λ w x. elim (cases_eq x.0 k) [
+      | inl e ↦ inr (subst (λ a. w ≡ v ++ a ∷ []) e x.2)
+      | inr d ↦ inl (x.0, omega (arith, x.1, d), x.2)
     ])
     (listed_either (IsExtension k v) (λ w. w ≡ v ++ k ∷ []) (listed_extensions k v) (listed_one (v ++ k ∷ [])))
 
-listed_defines : (c : Congruence) (U : List Word) → IsListed (HltDefines c U)
-listed_defines c U = listed_either (IsPairPrefix c) (λ v. (w : Word) × Contains U w × IsInRow c w v) of_pairs (listed_any U (IsInRow c) of_row)
-  where
-    of_pairs : IsListed (IsPairPrefix c)
-    of_pairs =
-        listed_from (λ v. (side : Word) × IsSide c.pairs side × IsPrefix v side) (IsPairPrefix c) (λ v h. (h.side, h.of, h.prefix))
-        (listed_sides c.pairs (λ side v. IsPrefix v side) listed_prefixes)
+listed_traced : (pairs : List (Word × Word)) (x : Word) → IsListed (IsTraced pairs x)
+listed_traced pairs x = listed_sides pairs (λ side v. IsPrefix v (x ++ side)) (λ side. listed_prefixes (x ++ side))
 
-    of_row : (w : Word) → IsListed (IsInRow c w)
-    of_row w =
-        listed_either (IsExtension c.presentation.letters w) (IsTraced c w) (listed_extensions c.presentation.letters w)
-        (listed_from (λ v. (side : Word) × IsSide c.presentation.relations side × IsPrefix v (w ++ side)) (IsTraced c w) (λ v h. (h.side, h.of, h.prefix))
-        (listed_sides c.presentation.relations (λ side v. IsPrefix v (w ++ side)) (λ side. listed_prefixes (w ++ side))))
+listed_defines : (c : Congruence) (U : List Word) → IsListed (HltDefines c U)
+listed_defines c U =
+    listed_either (IsTraced c.pairs []) (λ v. (w : Word) × Contains U w × IsInRow c w v) (listed_traced c.pairs [])
+    (listed_any U (IsInRow c) (λ w. listed_either (IsExtension c.presentation.letters w) (IsTraced c.presentation.relations w)
+    (listed_extensions c.presentation.letters w) (listed_traced c.presentation.relations w)))
 
 -- the empty word, and what the rows of the words define
 abbrev IsRoot : Congruence → List Word → Word → Type 0
@@ -121,22 +116,25 @@ root_wider c U new w h = elim h [ inl e ↦ inl e | inr d ↦ inr (hlt_wider c U
 
 -- one row more, and the lookahead after it
 module _ (c : Congruence) (U : List Word) (new : Word) (known : (u v : Word) → Drawn c U u v → AreCovered (IsRoot c U) (HltFacts c U) u v) where
-  row_covered : (u v : Word) → RowFacts c U new u v → AreCovered (IsRoot c (new ∷ U)) (RowFacts c U new) u v
+  row_covered : (u v : Word) → FactsFrom c (Drawn c U) (new ∷ U) u v → AreCovered (IsRoot c (new ∷ U)) (FactsFrom c (Drawn c U) (new ∷ U)) u v
   row_covered = from_covered c (Drawn c U) (new ∷ U)
       (λ u v d.
-      covered_grow (IsRoot c U) (IsRoot c (new ∷ U)) (HltFacts c U) (RowFacts c U new) (root_wider c U new) (hlt_row_grows c U new) u v (known u v d))
+      covered_grow (IsRoot c U) (IsRoot c (new ∷ U)) (HltFacts c U) (FactsFrom c (Drawn c U) (new ∷ U)) (root_wider c U new) (hlt_row_grows c U new) u v (known u v d))
 
   lookahead_covered : (u v : Word) → Drawn c (new ∷ U) u v → AreCovered (IsRoot c (new ∷ U)) (HltFacts c (new ∷ U)) u v
-  lookahead_covered u v (inl d) =
-      covered_grow (IsRoot c U) (IsRoot c (new ∷ U)) (HltFacts c U) (HltFacts c (new ∷ U)) (root_wider c U new) (hlt_grows c U new) u v (known u v d)
-  lookahead_covered u v (inr l) =
-      covered_grow (IsRoot c (new ∷ U)) (IsRoot c (new ∷ U)) (ClosedAll c (RowFacts c U new)) (HltFacts c (new ∷ U)) (λ w h. h)
-      (λ x y. (hlt_lookahead c U new l.0 x y).0) u v
-      (follows_covered c (RowFacts c U new) (λ x. Unit {0}) (IsRoot c (new ∷ U)) in_row u v l.1)
+  lookahead_covered u v d = elim (drawn_cases c U new u v d) [
+    | inl l ↦
+        covered_grow (IsRoot c (new ∷ U)) (IsRoot c (new ∷ U)) (ClosedAll c (FactsFrom c (Drawn c U) (new ∷ U))) (HltFacts c (new ∷ U)) (λ w h. h)
+        (λ x y. (hlt_lookahead c U new l.0 x y).0) u v
+        (follows_covered c (FactsFrom c (Drawn c U) (new ∷ U)) (λ x. Unit {0}) (IsRoot c (new ∷ U)) in_row u v l.1)
+    | inr before ↦
+        covered_grow (IsRoot c U) (IsRoot c (new ∷ U)) (HltFacts c U) (HltFacts c (new ∷ U)) (root_wider c U new) (hlt_grows c U new) u v
+        (known u v before)
+  ]
     where
-      in_row : (x y : Word) → RowFacts c U new x y → AreCovered (IsRoot c (new ∷ U)) (ClosedAll c (RowFacts c U new)) x y
+      in_row : (x y : Word) → FactsFrom c (Drawn c U) (new ∷ U) x y → AreCovered (IsRoot c (new ∷ U)) (ClosedAll c (FactsFrom c (Drawn c U) (new ∷ U))) x y
       in_row x y f =
-          covered_grow (IsRoot c (new ∷ U)) (IsRoot c (new ∷ U)) (RowFacts c U new) (ClosedAll c (RowFacts c U new)) (λ w h. h) (λ a b. given) x y
+          covered_grow (IsRoot c (new ∷ U)) (IsRoot c (new ∷ U)) (FactsFrom c (Drawn c U) (new ∷ U)) (ClosedAll c (FactsFrom c (Drawn c U) (new ∷ U))) (λ w h. h) (λ a b. given) x y
           (row_covered x y f)
 
 drawn_covered : (c : Congruence) (U : List Word) (u v : Word) → Drawn c U u v → AreCovered (IsRoot c U) (HltFacts c U) u v

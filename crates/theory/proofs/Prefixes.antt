@@ -7,13 +7,13 @@ use Rattle.theory.specs.Congruence.{Congruence}
 use Rattle.theory.specs.Facts.{Defines, ClosedAll, given}
 use Rattle.theory.specs.Felsch.{FelschFacts, FelschStage, IsLeastUndefined, start, define}
 use Rattle.theory.specs.Hlt as hlt
-use Rattle.theory.specs.Hlt.{HltFacts, HltDefines, FactsFrom, Drawn, RowFacts, HltStage}
+use Rattle.theory.specs.Hlt.{HltFacts, HltDefines, FactsFrom, Drawn, HltStage}
 use Rattle.theory.proofs.Words.{shorter_first, over_left}
 use Rattle.theory.proofs.Related.{none_contained}
 use Rattle.theory.proofs.Counting.{in_from_contains, contains_from_in}
 use Rattle.theory.proofs.FactsLaws.{HasPrefixes, prefix_last, follows_prefixes, defines_prefixes, facts_prefixes}
 use Rattle.theory.proofs.FelschLaws.{felsch_grows}
-use Rattle.theory.proofs.HltLaws.{hlt_grows, hlt_row_grows, hlt_row_within, hlt_lookahead}
+use Rattle.theory.proofs.HltLaws.{drawn_cases, hlt_grows, hlt_row_grows, hlt_row_within, hlt_lookahead}
 
 -- a prefix is the word, or shorter
 prefix_cases : (p w : Word) → IsPrefix p w → (p ≡ w) ⊎ (length p < length w)
@@ -55,15 +55,15 @@ prefix_trans p v u h k = record { after = h.after ++ k.after; is = k.is ∙ ap (
 row_words : (c : Congruence) (G : Word → Word → Type 0) (U : List Word) → ((w : Word) → Contains U w → HasPrefixes (FactsFrom c G U) w)
     → (v : Word) → HltDefines c U v → HasPrefixes (FactsFrom c G U) v
 row_words c G U rows v (inl f) p h =
-    given (inl (refl, inr (inl (record { side = f.side; of = f.of; prefix = prefix_trans p v f.side h f.prefix }))))
+    given (inl (refl, inr (inl (f.0, f.1, prefix_trans p v f.0 h f.2))))
 row_words c G U rows v (inr r) p h = elim r.2 [
-  | inl x ↦ elim (prefix_last p r.0 x.letter (subst (λ w. IsPrefix p w) x.is h)) [
+  | inl x ↦ elim (prefix_last p r.0 x.0 (subst (λ w. IsPrefix p w) x.2 h)) [
     | inl k ↦ rows r.0 r.1 p k
     | inr e ↦ subst (λ w. FactsFrom c G U w w) (sym e)
-        (given (inl (refl, inr (inr (r.0, r.1, inl (record { letter = x.letter; over = x.over; is = refl }))))))
+        (given (inl (refl, inr (inr (r.0, r.1, inl (x.0, x.1, refl))))))
   ]
   | inr t ↦
-      given (inl (refl, inr (inr (r.0, r.1, inr (record { side = t.side; of = t.of; prefix = prefix_trans p v (r.0 ++ t.side) h t.prefix })))))
+      given (inl (refl, inr (inr (r.0, r.1, inr (t.0, t.1, prefix_trans p v (r.0 ++ t.0) h t.2)))))
 ]
 
 -- the prefixes of both of two words are defined
@@ -91,26 +91,26 @@ facts_at c U at = from_prefixes c (Drawn c U) U at.rows at.drawn
 next_at : (c : Congruence) (U : List Word) (new : Word) → HavePrefixesAt c U → HltFacts c U new new → HavePrefixesAt c (new ∷ U)
 next_at c U new at defined = record {
   rows = λ w m p h. hlt_row_within c U new p p (in_row w m p h);
-  drawn = λ u v d. elim d [
-    | inl k ↦ let both = at.drawn u v k in (λ p h. hlt_grows c U new p p (both.0 p h), λ p h. hlt_grows c U new p p (both.1 p h))
-    | inr l ↦ let both = follows_prefixes c (RowFacts c U new) (λ x. Unit {0}) by_row u v l.1 in (
+  drawn = λ u v d. elim (drawn_cases c U new u v d) [
+    | inr k ↦ let both = at.drawn u v k in (λ p h. hlt_grows c U new p p (both.0 p h), λ p h. hlt_grows c U new p p (both.1 p h))
+    | inl l ↦ let both = follows_prefixes c (FactsFrom c (Drawn c U) (new ∷ U)) (λ x. Unit {0}) by_row u v l.1 in (
       λ p h. (hlt_lookahead c U new l.0 p p).0 (both.0 p h),
       λ p h. (hlt_lookahead c U new l.0 p p).0 (both.1 p h),
     )
   ];
 }
   where
-    in_row : (w : Word) → Contains (new ∷ U) w → HasPrefixes (RowFacts c U new) w
+    in_row : (w : Word) → Contains (new ∷ U) w → HasPrefixes (FactsFrom c (Drawn c U) (new ∷ U)) w
     in_row w m p h = hlt_row_grows c U new p p (elim (in_from_contains w (new ∷ U) m) [
       | inl e ↦ (facts_at c U at new new defined).0 p (subst (λ x. IsPrefix p x) e h)
       | inr n ↦ at.rows w (contains_from_in w U n) p h
     ])
 
-    in_drawn : (u v : Word) → Drawn c U u v → HavePrefixes (RowFacts c U new) u v
+    in_drawn : (u v : Word) → Drawn c U u v → HavePrefixes (FactsFrom c (Drawn c U) (new ∷ U)) u v
     in_drawn u v d = let both = at.drawn u v d in
         (λ p h. hlt_row_grows c U new p p (both.0 p h), λ p h. hlt_row_grows c U new p p (both.1 p h))
 
-    by_row : (u v : Word) → RowFacts c U new u v → HavePrefixes (ClosedAll c (RowFacts c U new)) u v
+    by_row : (u v : Word) → FactsFrom c (Drawn c U) (new ∷ U) u v → HavePrefixes (ClosedAll c (FactsFrom c (Drawn c U) (new ∷ U))) u v
     by_row u v f = let both = from_prefixes c (Drawn c U) (new ∷ U) in_row in_drawn u v f in
         (λ p h. given (both.0 p h), λ p h. given (both.1 p h))
 

@@ -1,10 +1,10 @@
 -- What the operations of a table come to at a definition and at a row.
-use Rattle.std.proofs.Common.{arith, ◌≡◌, ◌⊎◌, ℕ, suc, length, List, [], ◌∷◌, ◌++◌, refl, sym, ◌∙◌, ap, subst, subst₂, append_assoc, append-nil, inl, inr, ◌↔◌, Contains}
+use Rattle.std.proofs.Common.{arith, ◌≡◌, ◌⊎◌, ℕ, suc, IsTrue, length, List, [], ◌∷◌, ◌++◌, refl, sym, ◌∙◌, ap, subst, subst₂, append_assoc, append-nil, inl, inr, ◌↔◌, Contains}
 use Rattle.theory.specs.Word.{Word, IsPrefix}
 use Rattle.theory.specs.Congruence.{Congruence, EitherWay}
 use Rattle.theory.specs.Facts.{Follows, Defines, ClosedAt, ClosedAll, given, symmetric, transitive, extended, relation, pair, Merged}
 use Rattle.theory.specs.Felsch.{FelschFacts}
-use Rattle.theory.specs.Hlt.{HltFacts, HltDefines, IsLookahead, Drawn, RowFacts, RowGiven}
+use Rattle.theory.specs.Hlt.{HltFacts, HltDefines, has_lookahead, FactsFrom, Drawn}
 use Rattle.theory.proofs.Chains.{either_symm}
 use Rattle.theory.proofs.Counting.{in_from_contains, contains_from_in}
 use Rattle.theory.proofs.FactsLaws.{follows_least, follows_grow, follows_between, merged_follows}
@@ -27,14 +27,18 @@ pub felsch_closed : (c : Congruence) (D : List Word) (V : Word → Word → Type
     → ((u v : Word) → V u v → FelschFacts c D u v) → (u v : Word) → ClosedAll c V u v ↔ FelschFacts c D u v
 felsch_closed c D V = follows_between c.presentation.relations c.pairs (Defines (Contains D)) V (λ w. Unit {0})
 
+-- what a table has before the row of w is closed: the facts so far, and what the row defines
+abbrev pub RowGiven : Congruence → List Word → Word → Word → Word → Type 0
+RowGiven c U w u v = HltFacts c U u v ⊎ Defines (HltDefines c (w ∷ U)) u v
+
 -- closing at w is enough for the facts after its row, before a lookahead
-pub hlt_row_closed : (c : Congruence) (U : List Word) (w u v : Word) → ClosedAt c (RowGiven c U w) w u v ↔ RowFacts c U w u v
+pub hlt_row_closed : (c : Congruence) (U : List Word) (w u v : Word) → ClosedAt c (RowGiven c U w) w u v ↔ FactsFrom c (Drawn c U) (w ∷ U) u v
 hlt_row_closed c U w u v = (to, from)
   where
     R : List (Word × Word)
     R = c.presentation.relations
 
-    to : ClosedAt c (RowGiven c U w) w u v → RowFacts c U w u v
+    to : ClosedAt c (RowGiven c U w) w u v → FactsFrom c (Drawn c U) (w ∷ U) u v
     to = follows_grow c.presentation.relations c.pairs (RowGiven c U w) (λ x y. Defines (HltDefines c (w ∷ U)) x y ⊎ Drawn c U x y)
         (λ x. x ≡ w) (Contains (w ∷ U))
         (λ x y g. elim g [
@@ -52,11 +56,7 @@ hlt_row_closed c U w u v = (to, from)
         inr (
           w₀,
           m,
-          inr (record {
-            side = side;
-            of = (other, k);
-            prefix = record { after = h.after; is = ap (λ z. w₀ ++ z) h.is ∙ sym (append_assoc w₀ p h.after) };
-          }),
+          inr (side, (other, k), record { after = h.after; is = ap (λ z. w₀ ++ z) h.is ∙ sym (append_assoc w₀ p h.after) }),
         ) in
         let defined : (side other p : Word) → EitherWay c.presentation.relations side other → IsPrefix p side → ClosedAt c (RowGiven c U w) w (w₀ ++ p) (w₀ ++ p) = λ side other p k h. given (inl (given (inl (refl, inr (traced side other p k h))))) in
         let back = either_symm c.presentation.relations r (s ++ a ∷ []) e in
@@ -74,7 +74,7 @@ hlt_row_closed c U w u v = (to, from)
         (itself s (s ++ a ∷ []) r back (record { after = a ∷ []; is = refl })) in
         transitive (symmetric left) (transitive (given (inl here)) right)
 
-    from : RowFacts c U w u v → ClosedAt c (RowGiven c U w) w u v
+    from : FactsFrom c (Drawn c U) (w ∷ U) u v → ClosedAt c (RowGiven c U w) w u v
     from =
         follows_least c.presentation.relations c.pairs (λ x y. Defines (HltDefines c (w ∷ U)) x y ⊎ Drawn c U x y) (Contains (w ∷ U))
         (ClosedAt c (RowGiven c U w) w) (record {
@@ -117,7 +117,7 @@ felsch_next c D w =
 
 -- closing a table that has no more than its row gives is enough
 pub hlt_row_between : (c : Congruence) (U : List Word) (w : Word) (V : Word → Word → Type 0) → ((u v : Word) → RowGiven c U w u v → V u v)
-    → ((u v : Word) → V u v → RowFacts c U w u v) → (u v : Word) → ClosedAt c V w u v ↔ RowFacts c U w u v
+    → ((u v : Word) → V u v → FactsFrom c (Drawn c U) (w ∷ U) u v) → (u v : Word) → ClosedAt c V w u v ↔ FactsFrom c (Drawn c U) (w ∷ U) u v
 hlt_row_between c U w V up down u v =
     let between =
     follows_between c.presentation.relations c.pairs (RowGiven c U w) V (λ x. x ≡ w) up (λ x y h. (hlt_row_closed c U w x y).1 (down x y h)) u v in
@@ -125,9 +125,9 @@ hlt_row_between c U w V up down u v =
     (λ f. closed.0 (between.0 f), λ f. between.1 (closed.1 f))
 
 -- so is closing a table everywhere, at a lookahead after the row
-pub hlt_lookahead_between : (c : Congruence) (U : List Word) (w : Word) (V : Word → Word → Type 0) → IsLookahead (suc (length U))
-    → ((u v : Word) → V u v ↔ RowFacts c U w u v) → (u v : Word) → ClosedAll c V u v ↔ HltFacts c (w ∷ U) u v
+pub hlt_lookahead_between : (c : Congruence) (U : List Word) (w : Word) (V : Word → Word → Type 0) → IsTrue (has_lookahead (suc (length U)))
+    → ((u v : Word) → V u v ↔ FactsFrom c (Drawn c U) (w ∷ U) u v) → (u v : Word) → ClosedAll c V u v ↔ HltFacts c (w ∷ U) u v
 hlt_lookahead_between c U w V due same u v =
-    let all = follows_iff c.presentation.relations c.pairs V (RowFacts c U w) (λ x. Unit {0}) same u v in
+    let all = follows_iff c.presentation.relations c.pairs V (FactsFrom c (Drawn c U) (w ∷ U)) (λ x. Unit {0}) same u v in
     let drawn = hlt_lookahead c U w due u v in
     (λ f. drawn.0 (all.0 f), λ f. all.1 (drawn.1 f))

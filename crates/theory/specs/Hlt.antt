@@ -1,7 +1,7 @@
 -- The strategy of Haselgrove, Leech and Trotter with lookahead: the relations are traced at one
 -- word after another, and from time to time read at all words, without a definition (Sims 1994,
 -- ch. 5; Holt, Eick and O'Brien 2005, ch. 5).
-use Rattle.std.specs.Prelude.{◌≡◌, ℕ, suc, ◌<◌, ◌≤◌, ◌%◌, List, [], ◌∷◌, ◌++◌, length, ◌⊎◌, Contains}
+use Rattle.std.specs.Prelude.{◌≡◌, ℕ, suc, ◌<◌, ◌≤◌, ◌%◌, nat_lt, ◌==◌, Bool, IsTrue, ◌&&◌, cond, List, [], ◌∷◌, ◌++◌, length, ◌⊎◌, Contains}
 use Rattle.theory.specs.Word.{Word, IsPrefix}
 use Rattle.theory.specs.ShortLex.{◌≺◌}
 use Rattle.theory.specs.Congruence.{Congruence, EitherWay}
@@ -11,63 +11,45 @@ use Rattle.theory.specs.Facts.{Follows, Defines, ClosedAll, IsDefined, AllDefine
 abbrev pub IsSide : List (Word × Word) → Word → Type 0
 IsSide pairs r = (s : Word) × EitherWay pairs r s
 
+-- v is a prefix of x and a side of a pair in the list
+abbrev pub IsTraced : List (Word × Word) → Word → Word → Type 0
+IsTraced pairs x v = (side : Word) × IsSide pairs side × IsPrefix v (x ++ side)
+
 -- v is w and a letter
-pub record IsExtension (k : ℕ) (w v : Word) : Type 0 where
-  pub letter : ℕ
-  pub over : letter < k
-  pub is : v ≡ w ++ letter ∷ []
-
--- v is a prefix of w and a side of a relation
-pub record IsTraced (c : Congruence) (w v : Word) : Type 0 where
-  pub side : Word
-  pub of : IsSide c.presentation.relations side
-  pub prefix : IsPrefix v (w ++ side)
-
--- v is a prefix of a side of a pair
-pub record IsPairPrefix (c : Congruence) (v : Word) : Type 0 where
-  pub side : Word
-  pub of : IsSide c.pairs side
-  pub prefix : IsPrefix v side
+abbrev pub IsExtension : ℕ → Word → Word → Type 0
+IsExtension k w v = (a : ℕ) × (a < k) × (v ≡ w ++ a ∷ [])
 
 -- the row of w defines v
 abbrev pub IsInRow : Congruence → Word → Word → Type 0
-IsInRow c w v = IsExtension c.presentation.letters w v ⊎ IsTraced c w v
+IsInRow c w v = IsExtension c.presentation.letters w v ⊎ IsTraced c.presentation.relations w v
 
--- what the pairs, and the rows of the words U, define
+-- the pairs, or the row of a word of U, define v
 abbrev pub HltDefines : Congruence → List Word → Word → Type 0
-HltDefines c U v = IsPairPrefix c v ⊎ ((w : Word) × Contains U w × IsInRow c w v)
+HltDefines c U v = IsTraced c.pairs [] v ⊎ ((w : Word) × Contains U w × IsInRow c w v)
+
+-- what follows from the rows of the words U and from what lookaheads have drawn, G
+abbrev pub FactsFrom : Congruence → (Word → Word → Type 0) → List Word → Word → Word → Type 0
+FactsFrom c G U = Follows c.presentation.relations c.pairs
+    (λ u v. Defines (HltDefines c U) u v ⊎ G u v) (Contains U)
 
 -- how many rows are made from one lookahead to the next
 abbrev pub lookahead_rows : ℕ
 lookahead_rows = 100
 
--- a lookahead comes after the row of this number
-abbrev pub IsLookahead : ℕ → Type 0
-IsLookahead i = (0 < i) × (i % lookahead_rows ≡ 0)
+-- whether a lookahead comes after the row of this number
+abbrev pub has_lookahead : ℕ → Bool
+has_lookahead i = nat_lt 0 i && (i % lookahead_rows == 0)
 
--- what follows from the rows of the words U and from what G relates
-abbrev pub FactsFrom : Congruence → (Word → Word → Type 0) → List Word → Word → Word → Type 0
-FactsFrom c G U = Follows c.presentation.relations c.pairs
-    (λ u v. Defines (HltDefines c U) u v ⊎ G u v) (Contains U)
-
--- what lookaheads have drawn after the rows of the words U, the newest first: all that follows from
--- the facts at their time when relations are read at every word
+-- what lookaheads have drawn once the words U have had their row, the newest first: at a lookahead
+-- all that follows when relations are read at every word, and else what was drawn before
 abbrev pub Drawn : Congruence → List Word → Word → Word → Type 0
 Drawn c [] = λ u v. ⊥
-Drawn c (w ∷ U) = λ u v. Drawn c U u v
-    ⊎ (IsLookahead (length (w ∷ U)) × ClosedAll c (FactsFrom c (Drawn c U) (w ∷ U)) u v)
+Drawn c (w ∷ U) = cond (has_lookahead (length (w ∷ U)))
+    (ClosedAll c (FactsFrom c (Drawn c U) (w ∷ U))) (Drawn c U)
 
--- the facts after the rows of the words U, with what lookaheads have drawn
+-- the facts once the words U have had their row
 abbrev pub HltFacts : Congruence → List Word → Word → Word → Type 0
 HltFacts c U = FactsFrom c (Drawn c U) U
-
--- the facts after one more row, that of w, before a lookahead
-abbrev pub RowFacts : Congruence → List Word → Word → Word → Word → Type 0
-RowFacts c U w = FactsFrom c (Drawn c U) (w ∷ U)
-
--- what a table has before the row of w is closed: the facts so far, and what the row defines
-abbrev pub RowGiven : Congruence → List Word → Word → Word → Word → Type 0
-RowGiven c U w u v = HltFacts c U u v ⊎ Defines (HltDefines c (w ∷ U)) u v
 
 -- w is related to a word of the list
 abbrev pub IsMet : (Word → Word → Type 0) → List Word → Word → Type 0
@@ -93,7 +75,7 @@ AllMet c U = (w : Word) → IsDefined (HltFacts c U) w → IsMet (HltFacts c U) 
 -- that is so, or all words are defined after a lookahead
 abbrev pub HasEnded : Congruence → List Word → Type 0
 HasEnded c U = AllMet c U
-    ⊎ (IsLookahead (length U) × AllDefined c.presentation.letters (HltFacts c U))
+    ⊎ (IsTrue (has_lookahead (length U)) × AllDefined c.presentation.letters (HltFacts c U))
 
 -- that is so after at most m rows
 pub record HltEnds (c : Congruence) (m : ℕ) : Type 0 where

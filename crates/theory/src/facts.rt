@@ -1,11 +1,11 @@
 // What partial tables know, and the stages of Felsch and of Haselgrove, Leech and Trotter.
-ghost use Rattle.std.specs.Prelude.{◌≡◌, ℕ, suc, ◌<◌, ◌≤◌, ◌↔◌, List, [], ◌∷◌, length, Contains};
+ghost use Rattle.std.specs.Prelude.{◌≡◌, ℕ, suc, ◌<◌, ◌≤◌, ◌⊎◌, ◌↔◌, IsTrue, List, [], ◌∷◌, length, Contains};
 ghost use Rattle.theory.specs.Word.{Word, IsOver, IsPrefix};
 ghost use Rattle.theory.specs.Congruence.{Congruence, IsWellFormed, IsRightSided, as_right, as_right_word};
 ghost use Rattle.theory.specs.Chain.{Related};
 ghost use Rattle.theory.specs.Facts.{Facts, HasFacts, Defines, Merged, ClosedAt, ClosedAll, AllDefined};
 ghost use Rattle.theory.specs.Felsch.{FelschFacts, FelschStage, FelschEnds};
-ghost use Rattle.theory.specs.Hlt.{HltFacts, HltDefines, lookahead_rows, IsLookahead, RowFacts, RowGiven, IsMet, HltStage, AllMet, HasEnded, HltEnds};
+ghost use Rattle.theory.specs.Hlt.{HltFacts, HltDefines, lookahead_rows, has_lookahead, FactsFrom, Drawn, IsMet, HltStage, AllMet, HasEnded, HltEnds};
 ghost use Rattle.theory.specs.Graph.{Graph, SameEnd, PathsRelate, IsModel};
 
 use crate::predicates::{Relation, Words};
@@ -87,13 +87,13 @@ pub fn hlt_stage_is_one()
         → U ≡ U' }
     ensures more { (c : Congruence) (m n : ℕ) → m ≤ n → HltEnds c m → HltEnds c n }
     ensures past { (c : Congruence) (m : ℕ) (U : List Word) → HltStage c (suc m) U
-        → (ends : HltEnds c m) → IsLookahead (length ends.words)
+        → (ends : HltEnds c m) → IsTrue (has_lookahead (length ends.words))
         × AllDefined c.presentation.letters (HltFacts c ends.words) }
     ensures next { (c : Congruence) (m : ℕ) (U : List Word) → ((i : ℕ) → i < m → HltEnds c i → ⊥)
         → HltStage c m U → (HasEnded c U → ⊥) → HltEnds c m → ⊥ }
     ensures fails { (c : Congruence) (i : ℕ) (U : List Word) (w : Word) → HltStage c i U
         → HltFacts c U w w → (IsMet (HltFacts c U) U w → ⊥)
-        → (IsLookahead i → AllDefined c.presentation.letters (HltFacts c U) → ⊥)
+        → (IsTrue (has_lookahead i) → AllDefined c.presentation.letters (HltFacts c U) → ⊥)
         → HasEnded c U → ⊥ }
     ensures none { (c : Congruence) → HltEnds c 0 → ⊥ }
 {}
@@ -131,18 +131,19 @@ pub fn felsch_goes_on()
 /// Closing at the word of a row alone gives the facts after the row, before a lookahead.
 pub fn hlt_row_closes()
     ensures { (c : Congruence) (U : List Word) (w : Word) (g : Graph)
-        → ((u v : Word) → RowGiven c U w u v → SameEnd g u v)
-        → ((u v : Word) → SameEnd g u v → RowFacts c U w u v)
-        → (u v : Word) → ClosedAt c (SameEnd g) w u v ↔ RowFacts c U w u v }
+        → ((u v : Word) → HltFacts c U u v ⊎ Defines (HltDefines c (w ∷ U)) u v → SameEnd g u v)
+        → ((u v : Word) → SameEnd g u v → FactsFrom c (Drawn c U) (w ∷ U) u v)
+        → (u v : Word) → ClosedAt c (SameEnd g) w u v ↔ FactsFrom c (Drawn c U) (w ∷ U) u v }
 {}
 
 /// Where no lookahead comes after the row, these are the facts of the stage; where one comes,
 /// closing everywhere gives them. Before the first one they are those of the rows alone.
 pub fn hlt_looks_ahead()
-    ensures none { (c : Congruence) (U : List Word) (w : Word) → (IsLookahead (suc (length U)) → ⊥)
-        → (u v : Word) → RowFacts c U w u v ↔ HltFacts c (w ∷ U) u v }
+    ensures none { (c : Congruence) (U : List Word) (w : Word)
+        → (IsTrue (has_lookahead (suc (length U))) → ⊥)
+        → (u v : Word) → FactsFrom c (Drawn c U) (w ∷ U) u v ↔ HltFacts c (w ∷ U) u v }
     ensures drawn { (c : Congruence) (U : List Word) (w : Word) (g : Graph)
-        → IsLookahead (suc (length U)) → PathsRelate g (RowFacts c U w)
+        → IsTrue (has_lookahead (suc (length U))) → PathsRelate g (FactsFrom c (Drawn c U) (w ∷ U))
         → (u v : Word) → ClosedAll c (SameEnd g) u v ↔ HltFacts c (w ∷ U) u v }
     ensures first { (c : Congruence) (U : List Word) → length U < lookahead_rows
         → (u v : Word) → HltFacts c U u v ↔ Facts c (HltDefines c U) (Contains U) u v }

@@ -2,8 +2,8 @@ use Rattle.std.proofs.Common.{◌≡◌, ◌∙◌, ap, subst, ℕ, List}
 use Rattle.std.proofs.lemmas.Result.{IfOk-weaker}
 use Rattle.theory.specs.Word.{Word}
 use Rattle.theory.specs.Congruence.{Congruence, Presentation}
-use Rattle.theory.specs.Hlt.{IsInRow, IsExtension, IsSide}
-use Rattle.tc_hlt.specs.Tracing.{AreSidesAny, IsGrown, IsAlongAny, NoDrawing}
+use Rattle.theory.specs.Hlt.{IsInRow, IsTraced, IsExtension, IsSide}
+use Rattle.tc_hlt.specs.Tracing.{AreSidesAny, IsGrown, NoDrawing}
 use Rattle.tc_hlt.proofs.GrowLaws.{row_grown, sides_over}
 use Rattle.tc_hlt.proofs.rows.trace_row.Goals as goal
 
@@ -26,6 +26,6 @@ returns-clause-grown c =
     (λ _. IsGrown (IsInRow c.args.table.now.congruence) (AreSidesAny c.args.table.now.congruence.presentation.relations) c.args.table.now c.define_letters.new.table c.args.node)
     (λ _ grown.
     row_grown c.args.table.now.congruence c.args.table.now c.trace_sides.new.table c.define_letters.new.table c.args.node
-    (subst (λ (rs : List (Word × Word)). IsGrown (IsAlongAny rs) (AreSidesAny rs) c.args.table.now c.trace_sides.new.table c.args.node) relations c.in_ok-trace_sides.ensures.grown)
+    (subst (λ (rs : List (Word × Word)). IsGrown (IsTraced rs) (AreSidesAny rs) c.args.table.now c.trace_sides.new.table c.args.node) relations c.in_ok-trace_sides.ensures.grown)
     (subst (λ (k : ℕ). IsGrown (IsExtension k) NoDrawing c.trace_sides.new.table c.define_letters.new.table c.args.node) letters grown))
     c.define_letters.ensures.grown
