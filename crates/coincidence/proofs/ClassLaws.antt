@@ -4,7 +4,7 @@ use Rattle.std.proofs.lemmas.Bool.{cases_eq, cases_lt}
 use Rattle.std.proofs.lemmas.List.{length-map, get_or_past}
 use Rattle.theory.specs.Word.{Word}
 use Rattle.theory.specs.Graph.{Graph, path, IsGraph}
-use Rattle.theory.specs.Facts.{given, symmetric}
+use Rattle.theory.proofs.PartLaws.{given, symmetric}
 use Rattle.coincidence.specs.Merged.{MergedNodes}
 use Rattle.coincidence.specs.Merging.{IsReached, EdgesReached, IsClassing, IsClash, relabel, joined}
 use Rattle.word_graph.proofs.StandardLaws.{path_in}

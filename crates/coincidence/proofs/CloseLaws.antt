@@ -4,7 +4,8 @@ use Rattle.theory.specs.Word.{Word}
 use Rattle.theory.specs.Congruence.{Congruence}
 use Rattle.theory.specs.Graph.{Graph, target, path, SameEnd, IsClosedAt, PathsRelate}
 use Rattle.theory.proofs.GraphLaws.{path_append}
-use Rattle.theory.specs.Facts.{ClosedAt, given, symmetric, transitive, extended, relation, pair}
+use Rattle.theory.specs.Facts.{ClosedAt}
+use Rattle.theory.proofs.PartLaws.{given, symmetric, transitive, extended, relation, pair}
 use Rattle.theory.proofs.FactsLaws.{follows_least}
 use Rattle.coincidence.specs.Merged.{WithPair, MergedNodes}
 use Rattle.coincidence.specs.Closing.{IsEdged, IsReadAt, LeadsThere, ClosedThere, IsDue, by_relation, by_pair}

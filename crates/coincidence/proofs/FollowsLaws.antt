@@ -1,7 +1,8 @@
 -- What follows by letters alone, and what closed graphs have.
 use Rattle.std.proofs.Common.{◌≡◌, ℕ, List, [], ◌∷◌, ◌++◌, sym, ◌∙◌, Some}
 use Rattle.theory.specs.Word.{Word}
-use Rattle.theory.specs.Facts.{Follows, symmetric, transitive, extended}
+use Rattle.theory.specs.Facts.{Follows}
+use Rattle.theory.proofs.PartLaws.{symmetric, transitive, extended}
 use Rattle.theory.specs.Graph.{Graph, target, path, SameEnd, IsClosedAt}
 use Rattle.theory.proofs.FactsLaws.{follows_least}
 use Rattle.theory.proofs.GraphLaws.{path_append, path_front, path_letter, same_end_symm, same_end_trans, same_end_extended}

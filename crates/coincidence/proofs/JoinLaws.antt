@@ -6,7 +6,7 @@ use Rattle.std.proofs.lemmas.List.{get_or-set_same, get_or-set_other, get_or_pas
 use Rattle.std.proofs.lemmas.List.FromFn.{get_or-range_with_len, length-range_with_len}
 use Rattle.theory.specs.Word.{Word}
 use Rattle.theory.specs.Graph.{Graph, target, path, IsGraph}
-use Rattle.theory.specs.Facts.{given, symmetric, transitive}
+use Rattle.theory.proofs.PartLaws.{given, symmetric, transitive}
 use Rattle.word_graph.proofs.EdgeLaws.{target_in}
 use Rattle.coincidence.specs.Merged.{MergedNodes}
 use Rattle.coincidence.specs.Merging.{relabel, IsReached, EdgesReached, IsClash, IsClassing}

@@ -2,7 +2,7 @@
 use Rattle.std.proofs.Common.{◌≡◌, ℕ, List, [], ◌∷◌, ◌++◌, refl, sym, ◌∙◌, ap, inl, inr, Option, Some, None, append_assoc, append-nil, subst, slice_index, option_and_then}
 use Rattle.theory.specs.Word.{Word}
 use Rattle.theory.specs.Graph.{Graph, target, path, SameEnd, PathsRelate}
-use Rattle.theory.specs.Facts.{given, symmetric, transitive, extended}
+use Rattle.theory.proofs.PartLaws.{given, symmetric, transitive, extended}
 use Rattle.coincidence.specs.Merged.{WithPair, MergedNodes}
 use Rattle.coincidence.specs.Merging.{IsFolded, IsClash, IsSound, EdgesReached}
 use Rattle.word_graph.proofs.WalkLaws.{some_same}

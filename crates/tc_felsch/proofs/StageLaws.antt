@@ -4,7 +4,8 @@ use Rattle.std.proofs.lemmas.Bool.{cases_lt}
 use Rattle.theory.specs.Word.{Word}
 use Rattle.theory.specs.Congruence.{Congruence}
 use Rattle.theory.specs.Graph.{Graph, target, path, SameEnd, IsGraph, PathsRelate}
-use Rattle.theory.specs.Facts.{Facts, Defines, ClosedAll, given, symmetric, transitive, extended}
+use Rattle.theory.specs.Facts.{Facts, Defines, ClosedAll}
+use Rattle.theory.proofs.PartLaws.{given, symmetric, transitive, extended}
 use Rattle.theory.specs.Felsch.{FelschFacts}
 use Rattle.theory.proofs.GraphLaws.{path_append, path_letter}
 use Rattle.theory.proofs.FactsLaws.{follows_between, facts_grow, defines_within}

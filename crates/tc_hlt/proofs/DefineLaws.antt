@@ -5,7 +5,7 @@ use Rattle.std.proofs.lemmas.List.{get_or_append_left, get_or_push, get_or_past,
 use Rattle.theory.specs.Word.{Word}
 use Rattle.theory.specs.Congruence.{Congruence}
 use Rattle.theory.specs.Graph.{Graph, target, path, IsGraph}
-use Rattle.theory.specs.Facts.{symmetric, transitive, extended}
+use Rattle.theory.proofs.PartLaws.{symmetric, transitive, extended}
 use Rattle.word_graph.specs.Edges.{with_edge, with_node}
 use Rattle.coincidence.specs.Live.{IsOn}
 use Rattle.coincidence.specs.Table.{CosetTable, IsTable, IsLive, IsDefined}

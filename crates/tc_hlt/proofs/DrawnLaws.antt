@@ -3,7 +3,7 @@ use Rattle.std.proofs.Common.{◌≡◌, ◌↔◌, ℕ, ◌<◌, List, [], ◌�
 use Rattle.theory.specs.Word.{Word, IsPrefix}
 use Rattle.theory.specs.Congruence.{Congruence}
 use Rattle.theory.specs.Graph.{Graph, target, path}
-use Rattle.theory.specs.Facts.{symmetric, transitive, extended}
+use Rattle.theory.proofs.PartLaws.{symmetric, transitive, extended}
 use Rattle.theory.proofs.GraphLaws.{path_append}
 use Rattle.theory.proofs.FactsLaws.{prefix_last}
 use Rattle.coincidence.specs.Closing.{IsEdged}

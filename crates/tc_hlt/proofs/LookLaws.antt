@@ -4,7 +4,8 @@ use Rattle.std.specs.Result.{OnOk}
 use Rattle.theory.specs.Word.{Word}
 use Rattle.theory.specs.Congruence.{Congruence}
 use Rattle.theory.specs.Graph.{path, SameEnd, PathsRelate}
-use Rattle.theory.specs.Facts.{ClosedAll, given}
+use Rattle.theory.specs.Facts.{ClosedAll}
+use Rattle.theory.proofs.PartLaws.{given}
 use Rattle.theory.specs.Hlt.{HltFacts, HltStage, HltEnds, has_lookahead, IsMet}
 use Rattle.theory.proofs.GraphLaws.{same_end_trans}
 use Rattle.theory.proofs.HltLaws.{hlt_plain, hlt_stage_length}

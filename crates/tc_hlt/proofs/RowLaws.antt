@@ -6,7 +6,8 @@ use Rattle.std.proofs.lemmas.List.{get_or-set_same, get_or-set_other}
 use Rattle.theory.specs.Word.{Word, IsPrefix}
 use Rattle.theory.specs.Congruence.{Congruence, EitherWay}
 use Rattle.theory.specs.Graph.{Graph, path, SameEnd, PathsRelate}
-use Rattle.theory.specs.Facts.{ClosedAt, given, relation, symmetric}
+use Rattle.theory.specs.Facts.{ClosedAt}
+use Rattle.theory.proofs.PartLaws.{given, relation, symmetric}
 use Rattle.theory.specs.Hlt.{Drawn, FactsFrom, HltFacts, HltStage, HltEnds, IsInRow, IsLeastUnmet, IsMet, start, row}
 use Rattle.theory.proofs.Related.{none_contained}
 use Rattle.theory.proofs.Counting.{in_from_contains, contains_from_in}

@@ -6,7 +6,8 @@ use Rattle.theory.specs.Word.{Word, IsPrefix}
 use Rattle.theory.specs.ShortLex.{◌≺◌}
 use Rattle.theory.specs.Congruence.{Congruence, EitherWay}
 use Rattle.theory.specs.Graph.{Graph, path, SameEnd, PathsRelate}
-use Rattle.theory.specs.Facts.{Defines, given, symmetric, transitive, pair}
+use Rattle.theory.specs.Facts.{Defines}
+use Rattle.theory.proofs.PartLaws.{given, symmetric, transitive, pair}
 use Rattle.theory.specs.Hlt.{HltFacts, HltDefines, Drawn, start}
 use Rattle.theory.proofs.HltLaws.{lookahead_some, hlt_first_rows}
 use Rattle.theory.proofs.Words.{before_no_longer, before_irrefl}

@@ -3,7 +3,8 @@ use Rattle.std.proofs.Common.{◌≡◌, ℕ, zero, suc, ◌<◌, List, [], ◌�
 use Rattle.theory.specs.Word.{Word, IsOver}
 use Rattle.theory.specs.ShortLex.{◌≺◌}
 use Rattle.theory.specs.Congruence.{EitherWay}
-use Rattle.theory.specs.Facts.{Facts, AllDefined, given, symmetric, transitive, extended, relation}
+use Rattle.theory.specs.Facts.{Facts, AllDefined}
+use Rattle.theory.proofs.PartLaws.{given, symmetric, transitive, extended, relation}
 use Rattle.theory.specs.Felsch.{FelschFacts, IsLeastUndefined, FelschStage, FelschEnds, start, define}
 use Rattle.theory.specs.Graph.{Graph, path, IsModel}
 use Rattle.theory.specs.Examples.{a1, a2, a3, order_three, cyclic}

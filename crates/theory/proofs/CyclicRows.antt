@@ -3,7 +3,8 @@ use Rattle.std.proofs.Common.{◌≡◌, ◌≢◌, ℕ, zero, suc, ◌<◌, Lis
 use Rattle.theory.specs.Word.{Word, IsOver}
 use Rattle.theory.specs.ShortLex.{◌≺◌}
 use Rattle.theory.specs.Congruence.{IsWellFormed}
-use Rattle.theory.specs.Facts.{Facts, AllDefined, given, symmetric, transitive, extended, relation}
+use Rattle.theory.specs.Facts.{Facts, AllDefined}
+use Rattle.theory.proofs.PartLaws.{given, symmetric, transitive, extended, relation}
 use Rattle.theory.specs.Hlt.{lookahead_rows, HltFacts, HltDefines, IsMet, HltStage, HltEnds, start, row, AllMet}
 use Rattle.theory.specs.Graph.{Graph, path, target, IsModel}
 use Rattle.theory.specs.Examples.{a1, a2, a3, cyclic}

@@ -4,7 +4,8 @@ use Rattle.std.proofs.lemmas.List.{same_from_push, nil_from_length}
 use Rattle.theory.specs.Word.{Word, IsOver, IsPrefix}
 use Rattle.theory.specs.Congruence.{Congruence, EitherWay, IsWellFormed, IsRightSided}
 use Rattle.theory.specs.Chain.{MayStand, Step, StepBy, Chain, Related}
-use Rattle.theory.specs.Facts.{Follows, HasParts, Facts, HasFacts, Defines, Merged, AllDefined, given, symmetric, transitive, extended, relation, pair}
+use Rattle.theory.specs.Facts.{Follows, Facts, HasFacts, Defines, Merged, AllDefined}
+use Rattle.theory.proofs.PartLaws.{HasEach, has_parts, within_parts, follows_each, given, symmetric, transitive, extended, relation, pair}
 use Rattle.theory.specs.declared.Kind.TheVariants.{TwoSided}
 use Rattle.theory.proofs.Words.{over_append, over_left, over_right}
 use Rattle.theory.proofs.Chains.{either_symm, related_congruence}
@@ -14,16 +15,10 @@ use Rattle.theory.proofs.Related.{element_over, side_element, step_over, related
 abbrev pub Known : Congruence → (Word → Word → Type 0) → (Word → Type 0) → Word → Word → Type 0
 Known c G U = Follows c.presentation.relations c.pairs G U
 
--- what follows lies within each relation that has it
+-- what follows lies within each relation that has each part
 pub follows_least : (relations pairs : List (Word × Word)) (Given : Word → Word → Type 0) (U : Word → Type 0) (V : Word → Word → Type 0)
-    → HasParts relations pairs Given U V → {u v : Word} → Follows relations pairs Given U u v → V u v
-follows_least R P G U V h (given {u} {v} g) = h.given u v g
-follows_least R P G U V h (symmetric {u} {v} f) = h.symmetric u v (follows_least R P G U V h f)
-follows_least R P G U V h (transitive {u} {v} {w} f g) = h.transitive u v w (follows_least R P G U V h f) (follows_least R P G U V h g)
-follows_least R P G U V h (extended u v a f g) = h.extended u v a (follows_least R P G U V h f) (follows_least R P G U V h g)
-follows_least R P G U V h (relation u w r s a f m e g k) =
-    h.relation u w r s a (follows_least R P G U V h f) m e (follows_least R P G U V h g) (follows_least R P G U V h k)
-follows_least R P G U V h (pair r s a e g k) = h.pair r s a e (follows_least R P G U V h g) (follows_least R P G U V h k)
+    → HasEach relations pairs Given U V → {u v : Word} → Follows relations pairs Given U u v → V u v
+follows_least R P G U V h = within_parts R P G U V (has_parts R P G U V h)
 
 -- it grows with what is given, and with the words where relations are read
 pub follows_grow : (relations pairs : List (Word × Word)) (G H : Word → Word → Type 0) (U X : Word → Type 0)
@@ -60,9 +55,9 @@ merged_follows R P G V U x y known one u v =
       pair = λ r s a e g k. absurd (none_either r (s ++ a ∷ []) e);
     })
 
--- Facts lies within each relation that has the five parts
-pub facts_least : (c : Congruence) (D U : Word → Type 0) (V : Word → Word → Type 0) → HasFacts c D U V → {u v : Word} → Facts c D U u v
-    → V u v
+-- Facts lies within each relation that has each part
+pub facts_least : (c : Congruence) (D U : Word → Type 0) (V : Word → Word → Type 0)
+    → HasEach c.presentation.relations c.pairs (Defines D) U V → {u v : Word} → Facts c D U u v → V u v
 facts_least c D U = follows_least c.presentation.relations c.pairs (Defines D) U
 
 -- what is defined at the start lies within a relation in which it is defined
@@ -77,16 +72,14 @@ empty_fact c D U = given (refl, inl refl)
 pub given_fact : (c : Congruence) (D U : Word → Type 0) (w : Word) → D w → Facts c D U w w
 given_fact c D U w d = given (refl, inr d)
 
+-- and within each that has the parts, which it has itself
+pub facts_within : (c : Congruence) (D U : Word → Type 0) (V : Word → Word → Type 0) → HasFacts c D U V → {u v : Word} → Facts c D U u v → V u v
+facts_within c D U = within_parts c.presentation.relations c.pairs (Defines D) U
+
 pub facts_have : (c : Congruence) (D U : Word → Type 0) → HasFacts c D U (Facts c D U)
 facts_have c D U =
-    record {
-      given = λ u v d. given d;
-      symmetric = λ u v f. symmetric f;
-      transitive = λ u v w f g. transitive f g;
-      extended = λ u v a f g. extended u v a f g;
-      relation = λ u w r s a f m e g k. relation u w r s a f m e g k;
-      pair = λ r s a e g k. pair r s a e g k;
-    }
+    let all = follows_each c.presentation.relations c.pairs (Defines D) U in
+    has_parts c.presentation.relations c.pairs (Defines D) U (Facts c D U) all
 
 -- Facts grows with D and U
 pub facts_grow : (c : Congruence) (D U D' U' : Word → Type 0) → ((w : Word) → D w → D' w) → ((w : Word) → U w → U' w) → (u v : Word)
@@ -252,7 +245,7 @@ follows_covered c G U D covered u v f = let all = follows_least c.presentation.r
     V : Word → Word → Type 0
     V u v = Known c G U u v × IsCovered D (Known c G U) u × IsCovered D (Known c G U) v
 
-    have : HasParts c.presentation.relations c.pairs G U V
+    have : HasEach c.presentation.relations c.pairs G U V
     have =
         record {
           given = λ u v g. let both = covered u v g in (given g, both.0, both.1);
@@ -321,7 +314,7 @@ follows_prefixes c G U closed u v f = let all = follows_least c.presentation.rel
     itself : {u v : Word} → Known c G U u v → Known c G U v v
     itself f = transitive (symmetric f) f
 
-    have : HasParts c.presentation.relations c.pairs G U V
+    have : HasEach c.presentation.relations c.pairs G U V
     have =
         record {
           given = λ u v g. let both = closed u v g in (given g, both.0, both.1);

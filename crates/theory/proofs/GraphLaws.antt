@@ -4,7 +4,8 @@ use Rattle.theory.specs.Word.{Word, IsOver}
 use Rattle.theory.specs.Felsch.{IsLeastUndefined}
 use Rattle.theory.proofs.Words.{over_append}
 use Rattle.theory.specs.Congruence.{Congruence}
-use Rattle.theory.specs.Facts.{Facts, HasFacts, AllDefined}
+use Rattle.theory.specs.Facts.{Facts, Defines, AllDefined}
+use Rattle.theory.proofs.PartLaws.{HasEach}
 use Rattle.theory.specs.Graph.{Graph, target, path, SameEnd, IsModel, Shows, IsGraph, IsComplete, PathsRelate}
 use Rattle.theory.proofs.FactsLaws.{facts_least, defines_within}
 
@@ -53,7 +54,8 @@ same_end_extended g u v y h k =
     (k.0, k.1, path_append g 0 h.0 v y h.2 ∙ sym (path_append g 0 h.0 u y h.1) ∙ k.1)
 
 -- a graph that is a model relates by its paths whatever follows
-pub model_has_facts : (c : Congruence) (D U : Word → Type 0) (g : Graph) → IsModel c D U g → HasFacts c D U (SameEnd g)
+model_has_facts : (c : Congruence) (D U : Word → Type 0) (g : Graph) → IsModel c D U g
+    → HasEach c.presentation.relations c.pairs (Defines D) U (SameEnd g)
 model_has_facts c D U g model =
     record {
       given = defines_within D (SameEnd g) (0, refl, refl) (λ w d. let at = model.defined w d in (at.0, at.1, at.1));

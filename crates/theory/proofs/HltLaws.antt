@@ -6,7 +6,8 @@ use Rattle.theory.specs.Congruence.{Congruence, IsWellFormed, IsRightSided, as_r
 use Rattle.theory.specs.Graph.{Graph, SameEnd, PathsRelate}
 use Rattle.theory.proofs.KindLaws.{as_right_related, as_right_well_formed, as_right_sided}
 use Rattle.theory.specs.Chain.{Related}
-use Rattle.theory.specs.Facts.{Facts, Defines, ClosedAll, AllDefined, given, transitive, symmetric, extended, relation, pair}
+use Rattle.theory.specs.Facts.{Facts, Defines, ClosedAll, AllDefined}
+use Rattle.theory.proofs.PartLaws.{given, transitive, symmetric, extended, relation, pair}
 use Rattle.theory.specs.Hlt.{HltFacts, HltDefines, lookahead_rows, has_lookahead, FactsFrom, Drawn, IsLeastUnmet, HltStage, AllMet, HasEnded, HltEnds, start, row, IsMet}
 use Rattle.theory.proofs.Words.{order_cases, over_append, over_left}
 use Rattle.theory.proofs.Related.{none_contained, element_over, side_element}

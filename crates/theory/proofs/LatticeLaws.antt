@@ -5,7 +5,8 @@ use Rattle.std.proofs.lemmas.List.{length-map, get_or-map}
 use Rattle.theory.specs.Word.{Word, IsOver}
 use Rattle.theory.specs.Congruence.{Presentation, AreElements}
 use Rattle.theory.specs.Chain.{Joined}
-use Rattle.theory.specs.Facts.{Merged, given, symmetric, transitive, extended}
+use Rattle.theory.specs.Facts.{Merged}
+use Rattle.theory.proofs.PartLaws.{given, symmetric, transitive, extended}
 use Rattle.theory.specs.Graph.{Graph, target, path, SameEnd, IsGraph, IsComplete, IsCompleteTable, PathsRelate}
 use Rattle.theory.specs.Facts.{AllDefined}
 use Rattle.theory.specs.LowIndex.{Rows, graph_of, IsStandard, IsCompatible}

@@ -3,6 +3,7 @@ pub mod PieceLaws
 pub mod Counting
 pub mod Chains
 pub mod Related
+pub mod PartLaws
 pub mod FactsLaws
 pub mod FelschLaws
 pub mod HltLaws

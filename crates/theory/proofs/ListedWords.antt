@@ -5,7 +5,8 @@ use Rattle.std.proofs.lemmas.List.Elements.{Contains-append_left, Contains-appen
 use Rattle.theory.specs.Word.{Word, IsOver, IsPrefix}
 use Rattle.theory.specs.Congruence.{Congruence, IsRightSided}
 use Rattle.theory.specs.Chain.{Related}
-use Rattle.theory.specs.Facts.{Defines, ClosedAll, given}
+use Rattle.theory.specs.Facts.{Defines, ClosedAll}
+use Rattle.theory.proofs.PartLaws.{given}
 use Rattle.theory.specs.Hlt.{IsSide, IsExtension, IsTraced, IsInRow, HltDefines, FactsFrom, Drawn, HltFacts, HasEnded}
 use Rattle.theory.proofs.Counting.{IsIn, in_from_contains, contains_from_in}
 use Rattle.theory.proofs.FactsLaws.{IsCovered, follows_covered, defines_covered}

@@ -4,7 +4,8 @@ use Rattle.std.proofs.lemmas.Bool.{cases_lt}
 use Rattle.std.proofs.lemmas.List.{nil_from_length}
 use Rattle.theory.specs.Word.{Word, IsOver, IsPrefix}
 use Rattle.theory.specs.Congruence.{Congruence}
-use Rattle.theory.specs.Facts.{Defines, ClosedAll, given}
+use Rattle.theory.specs.Facts.{Defines, ClosedAll}
+use Rattle.theory.proofs.PartLaws.{given}
 use Rattle.theory.specs.Felsch.{FelschFacts, FelschStage, IsLeastUndefined, start, define}
 use Rattle.theory.specs.Hlt as hlt
 use Rattle.theory.specs.Hlt.{HltFacts, HltDefines, FactsFrom, Drawn, HltStage}

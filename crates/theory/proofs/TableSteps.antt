@@ -2,7 +2,8 @@
 use Rattle.std.proofs.Common.{arith, ◌≡◌, ◌⊎◌, ℕ, suc, IsTrue, length, List, [], ◌∷◌, ◌++◌, refl, sym, ◌∙◌, ap, subst, subst₂, append_assoc, append-nil, inl, inr, ◌↔◌, Contains}
 use Rattle.theory.specs.Word.{Word, IsPrefix}
 use Rattle.theory.specs.Congruence.{Congruence, EitherWay}
-use Rattle.theory.specs.Facts.{Follows, Defines, ClosedAt, ClosedAll, given, symmetric, transitive, extended, relation, pair, Merged}
+use Rattle.theory.specs.Facts.{Follows, Defines, ClosedAt, ClosedAll, Merged}
+use Rattle.theory.proofs.PartLaws.{given, symmetric, transitive, extended, relation, pair}
 use Rattle.theory.specs.Felsch.{FelschFacts}
 use Rattle.theory.specs.Hlt.{HltFacts, HltDefines, has_lookahead, FactsFrom, Drawn}
 use Rattle.theory.proofs.Chains.{either_symm}

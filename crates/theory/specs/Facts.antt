@@ -1,46 +1,41 @@
 -- What a partial coset table knows (Todd and Coxeter 1936; Sims 1994, ch. 5). A word is defined
 -- where it is related to itself.
-use Rattle.std.specs.Prelude.{◌≡◌, ℕ, List, [], ◌∷◌, ◌++◌, ◌⊎◌}
+use Rattle.std.specs.Prelude.{◌≡◌, ℕ, List, [], ◌∷◌, ◌++◌, ◌⊎◌, Contains}
 use Rattle.theory.specs.Word.{Word, IsOver}
 use Rattle.theory.specs.Congruence.{Congruence, EitherWay}
 
 -- relations are read at the words that are related to one of U, pairs at the empty word
 module _ (relations pairs : List (Word × Word)) (Given : Word → Word → Type 0)
     (U : Word → Type 0) where
-  -- the least relation with these parts
-  pub data Follows : Word → Word → Type 0 where
-    given : {u v : Word} → Given u v → Follows u v
-    symmetric : {u v : Word} → Follows u v → Follows v u
-    transitive : {u v w : Word} → Follows u v → Follows v w → Follows u w
+  -- what is given, and what V makes known of two words
+  pub data Part (V : Word → Word → Type 0) : Word → Word → Type 0 where
+    given : {u v : Word} → Given u v → Part V u v
+    symmetric : {u v : Word} → V u v → Part V v u
+    transitive : {u v w : Word} → V u v → V v w → Part V u w
     -- related words, each with the same letter at its end
     extended : (u v : Word) (a : ℕ)
-        → Follows u v → Follows (u ++ a ∷ []) (u ++ a ∷ [])
-        → Follows (u ++ a ∷ []) (v ++ a ∷ [])
+        → V u v → V (u ++ a ∷ []) (u ++ a ∷ [])
+        → Part V (u ++ a ∷ []) (v ++ a ∷ [])
     -- a relation read at u, all but its last letter defined
     relation : (u w r s : Word) (a : ℕ)
-        → Follows u w → U w → EitherWay relations r (s ++ a ∷ [])
-        → Follows (u ++ r) (u ++ r) → Follows (u ++ s) (u ++ s)
-        → Follows (u ++ r) (u ++ (s ++ a ∷ []))
-    -- a pair, all but its last letter defined
-    pair : (r s : Word) (a : ℕ)
-        → EitherWay pairs r (s ++ a ∷ []) → Follows r r → Follows s s
-        → Follows r (s ++ a ∷ [])
-
-  -- V has the parts
-  pub record HasParts (V : Word → Word → Type 0) : Type 0 where
-    pub given : (u v : Word) → Given u v → V u v
-    pub symmetric : (u v : Word) → V u v → V v u
-    pub transitive : (u v w : Word) → V u v → V v w → V u w
-    pub extended : (u v : Word) (a : ℕ)
-        → V u v → V (u ++ a ∷ []) (u ++ a ∷ [])
-        → V (u ++ a ∷ []) (v ++ a ∷ [])
-    pub relation : (u w r s : Word) (a : ℕ)
         → V u w → U w → EitherWay relations r (s ++ a ∷ [])
         → V (u ++ r) (u ++ r) → V (u ++ s) (u ++ s)
-        → V (u ++ r) (u ++ (s ++ a ∷ []))
-    pub pair : (r s : Word) (a : ℕ)
+        → Part V (u ++ r) (u ++ (s ++ a ∷ []))
+    -- a pair, all but its last letter defined
+    pair : (r s : Word) (a : ℕ)
         → EitherWay pairs r (s ++ a ∷ []) → V r r → V s s
-        → V r (s ++ a ∷ [])
+        → Part V r (s ++ a ∷ [])
+
+  -- V has its parts
+  abbrev pub HasParts : (Word → Word → Type 0) → Type 0
+  HasParts V = (u v : Word) → Part V u v → V u v
+
+  -- the least relation that has its parts: what is a part of finitely many facts, each of which
+  -- follows
+  pub data Follows : Word → Word → Type 0 where
+    from_facts : {u v : Word} (facts : List (Word × Word))
+        → ((x y : Word) → Contains facts (x, y) → Follows x y)
+        → Part (λ x y. Contains facts (x, y)) u v → Follows u v
 
 -- the empty word and each word of D are related to themselves
 abbrev pub Defines : (Word → Type 0) → Word → Word → Type 0
@@ -50,7 +45,7 @@ Defines D u v = (u ≡ v) × ((u ≡ []) ⊎ D u)
 abbrev pub Facts : Congruence → (Word → Type 0) → (Word → Type 0) → Word → Word → Type 0
 Facts c D U = Follows c.presentation.relations c.pairs (Defines D) U
 
--- V has the five parts of which Facts is the least relation
+-- V has the parts of which Facts is the least relation
 abbrev pub HasFacts : Congruence → (Word → Type 0) → (Word → Type 0) → (Word → Word → Type 0)
     → Type 0
 HasFacts c D U = HasParts c.presentation.relations c.pairs (Defines D) U

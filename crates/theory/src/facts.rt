@@ -10,7 +10,7 @@ ghost use Rattle.theory.specs.Graph.{Graph, SameEnd, PathsRelate, IsModel};
 
 use crate::predicates::{Relation, Words};
 
-/// The facts are the least relation with their five parts.
+/// The facts are the least relation that has its parts.
 pub fn facts_are_least<D: Words, U: Words, V: Relation>()
     ensures parts { (c : Congruence) → HasFacts c D.has U.has (Facts c D.has U.has) }
     ensures least { (c : Congruence) → HasFacts c D.has U.has V.relates → (u v : Word)

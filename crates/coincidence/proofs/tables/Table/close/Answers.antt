@@ -1,5 +1,5 @@
 use Rattle.coincidence.specs.Table.{CosetTable}
-use Rattle.theory.specs.Facts.{given}
+use Rattle.theory.proofs.PartLaws.{given}
 use Rattle.theory.specs.Graph.{PathsRelate}
 use Rattle.coincidence.specs.Closing.{ClosedThere}
 use Rattle.coincidence.proofs.HeldLaws.{between, closed_whole, failed_held, held_whole, whole}

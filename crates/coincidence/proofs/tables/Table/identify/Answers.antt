@@ -1,6 +1,6 @@
 use Rattle.coincidence.specs.Table.{CosetTable}
 use Rattle.std.proofs.Common.{inl}
-use Rattle.theory.specs.Facts.{given}
+use Rattle.theory.proofs.PartLaws.{given}
 use Rattle.theory.specs.Graph.{PathsRelate}
 use Rattle.coincidence.specs.Merged.{MergedNodes}
 use Rattle.coincidence.proofs.HeldLaws.{between, closed_whole, failed_held, held_whole, whole}
