@@ -1,5 +1,5 @@
 -- The rule of the winner word, and what each kind of step makes of a view.
-use Rattle.std.specs.Prelude.{◌≡◌, ℕ, ◌+◌, ◌≤◌, ◌==◌, true, false, if◌then◌else◌, List, [], ◌∷◌, ◌++◌, map}
+use Rattle.std.specs.Prelude.{◌≡◌, ℕ, ◌+◌, ◌≤◌, ◌==◌, ◌⊎◌, true, false, if◌then◌else◌, List, [], ◌∷◌, ◌++◌, map, Contains}
 use Rattle.atomic_table.specs.Table.{State, Me, Step}
 use Rattle.race.specs.Lanes.{looked, published}
 use Rattle.race.specs.declared.winner.Phase.{Phase}
@@ -65,46 +65,29 @@ entries f views = total (λ v. total f v.entries) views
 abbrev pub has_number : ℕ → Entry → ℕ
 has_number n e = if e.number == n then 1 else 0
 
--- the entry is not Looking; it is Won; it is Lost or Cancelled and carries another number than i
-abbrev pub settles : Phase → ℕ
-settles phase.Looking = 0
-settles _ = 1
-
-abbrev pub wins : Phase → ℕ
-wins phase.Won = 1
-wins _ = 0
-
-abbrev pub carries_other : ℕ → Phase → ℕ
-carries_other i (phase.Lost j) = if j == i then 0 else 1
-carries_other i (phase.Cancelled j) = if j == i then 0 else 1
-carries_other i _ = 0
-
-abbrev pub is_settled : Entry → ℕ
-is_settled e = settles e.phase
-
-abbrev pub is_won : Entry → ℕ
-is_won e = wins e.phase
-
-abbrev pub is_won_by : ℕ → Entry → ℕ
-is_won_by i e = if e.number == i then wins e.phase else 0
-
-abbrev pub is_other : ℕ → Entry → ℕ
-is_other i e = carries_other i e.phase
-
 abbrev pub keeps_one : View → ℕ
 keeps_one v = if v.keeps then 1 else 0
 
 abbrev pub next_of : View → ℕ
 next_of v = if v.keeps then v.next else 0
 
--- where the word is 0 every lane is Looking. Where it is i + 1, exactly one lane is Won and it has
--- number i, and each Lost or Cancelled one carries i. `count` says how many entries a weight counts
-pub record WordFits (w : ℕ) (count : (Entry → ℕ) → ℕ) : Type 0 where
+-- e is an entry of one of the views
+abbrev pub IsEntry : List View → Entry → Type 0
+IsEntry views e = (v : View) × Contains views v × Contains v.entries e
+
+-- what its phase says of the word, where the lane has number n: it has won, or names the winner
+abbrev pub PhaseFits : ℕ → ℕ → Phase → Type 0
+PhaseFits w n phase.Looking = Unit {0}
+PhaseFits w n phase.Won = w ≡ n + 1
+PhaseFits w n (phase.Lost j) = w ≡ j + 1
+PhaseFits w n (phase.Cancelled j) = w ≡ j + 1
+
+-- where the word is 0 every lane is Looking. Where it is i + 1, lane i is Won and no other is, and
+-- each that is Lost or Cancelled names i
+pub record WordFits (w : ℕ) (IsHere : Entry → Type 0) : Type 0 where
   pub small : w ≤ 64
-  pub looking : w ≡ 0 → count is_settled ≡ 0
-  pub won : (i : ℕ) → w ≡ i + 1 → count is_won ≡ 1
-  pub number : (i : ℕ) → w ≡ i + 1 → count (is_won_by i) ≡ 1
-  pub carried : (i : ℕ) → w ≡ i + 1 → count (is_other i) ≡ 0
+  pub each : (e : Entry) → IsHere e → PhaseFits w e.number e.phase
+  pub winner : (w ≡ 0) ⊎ ((i : ℕ) × (w ≡ i + 1) × IsHere (entry i phase.Won))
 
 -- exactly one view is the keeper's. The numbers of all entries are distinct, and below the keeper's
 -- next number, which is at most 64
@@ -115,4 +98,4 @@ pub record IsRuled (s : State (Unit {0}) View) : Type 0 where
   pub most : total next_of s.views ≤ 64
   pub apart : (n : ℕ) → entries (has_number n) s.views ≤ 1
   pub below : (n : ℕ) → total next_of s.views ≤ n → entries (has_number n) s.views ≡ 0
-  pub fits : WordFits word (λ f. entries f s.views)
+  pub fits : WordFits word (IsEntry s.views)
