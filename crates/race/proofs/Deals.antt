@@ -114,15 +114,15 @@ module _ {A : Type 0} (kind : Ghosts A) where
   abbrev WordSeat : Type 0
   WordSeat = Seat (Unit {0}) View
 
-  took_new : (z : TableId) (first : List (Lane A)) (k : ℕ) (l : Lane A) (s : WordSeat) → Started first → slice_get first k ≡ Some l → k < 64 → s.table_id ≡ z → s.me ≡ (lane_view k phase.Looking, []) → Took_ z l (record { lane = l; seat = s })
-  took_new z first k l s starts at small id me =
+  took_new : (z : TableId) (first : List (Lane A)) (k : ℕ) (l : Lane A) (s : WordSeat) → Started first → slice_get first k ≡ Some l → s.table_id ≡ z → s.me ≡ (lane_view k phase.Looking, []) → Took_ z l (record { lane = l; seat = s })
+  took_new z first k l s starts at id me =
       let f = starts k l at in
       let num = f.0.number in
       record {
         seated = record {
           table = id;
           view = me ∙ (λ j. (lane_view (sym num j) (phase_of (sym f.1 j)), []));
-          honest = record { small = omega arith; step = f.0.step; state = subst (λ (c : LaneState). Rattle.race.specs.SeatedLane.StateIsHonest kind c l.racer) (sym f.1) tt };
+          honest = record { step = f.0.step; state = subst (λ (c : LaneState). Rattle.race.specs.SeatedLane.StateIsHonest kind c l.racer) (sym f.1) tt };
         };
         same = refl;
       }
@@ -173,12 +173,12 @@ module _ {A : Type 0} (kind : Ghosts A) where
       none_left (suc n) (x ∷ xs) h = none_left n xs (omega arith)
 
   pub seating_step : (z : TableId) (w cap : ℕ) (first : List (Lane A)) (lanes lanes' : Vec (Lane A) Global) (seats seats' : Vec WordSeat Global) (groups : List (Vec (SeatedLane A) Global)) (l : Lane A) (s : WordSeat) (g g' : Vec (SeatedLane A) Global)
-      → Seating z w cap first lanes seats groups → Started first → length first ≤ 64
+      → Seating z w cap first lanes seats groups → Started first
       → lanes.items ≡ lanes'.items ++ l ∷ [] → vec_len lanes' + 1 ≡ vec_len lanes → vec_capacity lanes' ≡ vec_capacity lanes
       → seats.items ≡ seats'.items ++ s ∷ [] → vec_len seats' + 1 ≡ vec_len seats
       → slice_get groups (vec_len lanes' % w) ≡ Some g → g'.items ≡ g.items ++ (record { lane = l; seat = s }) ∷ [] → vec_len g' ≡ vec_len g + 1 → vec_capacity g' ≡ vec_capacity g
       → Seating z w cap first lanes' seats' (slice_set groups (vec_len lanes' % w) g')
-  seating_step z w cap first lanes lanes' seats seats' groups l s g g' h starts small li ln lc si sn at gi gn gc =
+  seating_step z w cap first lanes lanes' seats seats' groups l s g g' h starts li ln lc si sn at gi gn gc =
       let k = vec_len lanes' in
       let few = h.few in
       let n : vec_len lanes ≡ suc k = omega arith in
@@ -189,7 +189,7 @@ module _ {A : Type 0} (kind : Ghosts A) where
       let place : length seats'.items ≡ k = omega arith in
       let there : slice_get seats.items k ≡ Some s = rw si (subst (λ (m : ℕ). slice_get (seats'.items ++ s ∷ []) m ≡ Some s) place (get_last seats'.items s)) in
       let known = h.new k s there in
-      let t = took_new z first k l s starts r.1 (omega arith) known.0 known.1 in
+      let t = took_new z first k l s starts r.1 known.0 known.1 in
       let old : Pairwise (GroupTook_ z) (dealt w (k + 1) (drop (suc k) first)) groups =
       let e : vec_len lanes ≡ k + 1 = omega arith in
       subst (λ (m : ℕ). Pairwise (GroupTook_ z) (dealt w m (drop (suc k) first)) groups) e (subst (λ (m : ℕ). Pairwise (GroupTook_ z) (dealt w (vec_len lanes) (drop m first)) groups) n h.took) in
@@ -210,13 +210,13 @@ module _ {A : Type 0} (kind : Ghosts A) where
       }
 
   pub seating_put : (z : TableId) (w cap : ℕ) (first : List (Lane A)) (lanes lanes' : Vec (Lane A) Global) (seats seats' : Vec WordSeat Global) (groups : Vec (Vec (SeatedLane A) Global) Global) (l : Lane A) (s : WordSeat) (g g' : Vec (SeatedLane A) Global) (m n : ℕ)
-      → Seating z w cap first lanes seats groups.items → Started first → length first ≤ 64
+      → Seating z w cap first lanes seats groups.items → Started first
       → lanes.items ≡ lanes'.items ++ l ∷ [] → vec_len lanes' + 1 ≡ vec_len lanes → vec_capacity lanes' ≡ vec_capacity lanes
       → seats.items ≡ seats'.items ++ s ∷ [] → vec_len seats' + 1 ≡ vec_len seats
       → m ≡ vec_len lanes' → n ≡ vec_len groups → 1 ≤ w
       → g ≡ slice_index_or groups.items (m % n) g → g'.items ≡ g.items ++ (record { lane = l; seat = s }) ∷ [] → vec_len g' ≡ vec_len g + 1 → vec_capacity g' ≡ vec_capacity g
       → Seating z w cap first lanes' seats' (slice_set groups.items (m % n) g')
-  seating_put z w cap first lanes lanes' seats seats' groups l s g g' m n h starts small li ln lc si sn me ne some is gi gn gc =
+  seating_put z w cap first lanes lanes' seats seats' groups l s g g' m n h starts li ln lc si sn me ne some is gi gn gc =
       let ok = groups.ok.0 in
       let wide = h.wide in
       let nw : n ≡ w = omega arith in
@@ -225,7 +225,7 @@ module _ {A : Type 0} (kind : Ghosts A) where
       let at : slice_get groups.items (m % n) ≡ Some g = at_get groups.items (m % n) g (omega arith) is in
       let at' : slice_get groups.items (vec_len lanes' % w) ≡ Some g = subst (λ (k : ℕ). slice_get groups.items k ≡ Some g) i at in
       subst (λ (k : ℕ). Seating z w cap first lanes' seats' (slice_set groups.items k g')) (sym i)
-      (seating_step z w cap first lanes lanes' seats seats' groups.items l s g g' h starts small li ln lc si sn at' gi gn gc)
+      (seating_step z w cap first lanes lanes' seats seats' groups.items l s g g' h starts li ln lc si sn at' gi gn gc)
 
   pub seating_room : (z : TableId) (w cap : ℕ) (first : List (Lane A)) (lanes : Vec (Lane A) Global) (seats : Vec WordSeat Global) (groups : Vec (Vec (SeatedLane A) Global) Global) (g : Vec (SeatedLane A) Global) (m n k : ℕ)
       → Seating z w cap first lanes seats groups.items → k + 1 ≡ vec_len lanes → n ≡ vec_len groups → 1 ≤ w → g ≡ slice_index_or groups.items (m % n) g → vec_len g < vec_capacity g

@@ -193,9 +193,6 @@ module _ {A : Type 0} (kind : Ghosts A) where
   pub turned_nowhere : (s : RaceState A) (i : ℕ) → Good s → length s.lanes ≤ i → Gone (i ∷ []) s s
   turned_nowhere s i good past = gone_one i s s good (rw (get_past s.lanes i past) refl)
 
-  pub number_small : (s : RaceState A) (i : ℕ) (l : Lane A) → Good s → i < length s.lanes → l ≡ slice_index_or s.lanes i l → l.number ≡ i
-  number_small s i l good within is = (good.each i l (at_get s.lanes i l within is)).number
-
   plays_append : (xs ys : List ℕ) (s t u : RaceState A) → Plays kind xs s t → Plays kind ys t u → Plays kind (xs ++ ys) s u
   plays_append [] ys s t u a b = subst (λ (v : RaceState A). Plays kind ys v u) a b
   plays_append (x ∷ xs) ys s t u a b = (a.0, a.1, plays_append xs ys a.0 t u a.2 b)

@@ -1,6 +1,6 @@
 -- Steps of a seated lane.
 use Rattle.race.specs.declared.engines.Racer.{Ghosts}
-use Rattle.std.proofs.Common.{◌≡◌, ℕ, zero, suc, ◌+◌, ◌<◌, ◌==◌, [], Some, refl, sym, ap, ◌∙◌, subst}
+use Rattle.std.proofs.Common.{◌≡◌, ℕ, zero, suc, ◌+◌, ◌==◌, [], Some, refl, sym, ap, ◌∙◌, subst}
 use Rattle.std.specs.Prelude.{Option}
 use mathlib.Core.Option.{none}
 use prog.Atomic.{either}
@@ -62,13 +62,13 @@ module _ {A : Type 0} (kind : Ghosts A) where
   lane_is : (l : Lane A) (t : Option Step) → l.state ≡ Running → l.step ≡ t → l ≡ lane l.number l.racer t Running
   lane_is l t c s = λ j. record { number = l.number; racer = l.racer; step = s j; state = c j }
 
-  look_honest : (n k : ℕ) (r : A) → k < 64 → Good (lane k r (Some Load) (looked n))
-  look_honest zero k r h = record { small = h; step = λ e. absurd (cc); state = tt }
-  look_honest (suc n) k r h = rw (not_zero n) (record { small = h; step = λ e. absurd (cc); state = tt })
+  look_honest : (n k : ℕ) (r : A) → Good (lane k r (Some Load) (looked n))
+  look_honest zero k r = record { step = λ e. absurd (cc); state = tt }
+  look_honest (suc n) k r = rw (not_zero n) (record { step = λ e. absurd (cc); state = tt })
 
-  publish_honest : (n k : ℕ) (r : A) → k < 64 → IsDecided kind r → Good (lane k r (Some Exchange) (published n))
-  publish_honest zero k r h d = record { small = h; step = λ e. d; state = d }
-  publish_honest (suc n) k r h d = rw (not_zero n) (record { small = h; step = λ e. d; state = d })
+  publish_honest : (n k : ℕ) (r : A) → IsDecided kind r → Good (lane k r (Some Exchange) (published n))
+  publish_honest zero k r d = record { step = λ e. d; state = d }
+  publish_honest (suc n) k r d = rw (not_zero n) (record { step = λ e. d; state = d })
 
   pub look_sits : (z : TableId) (t u : SeatedLane A) (n : ℕ) → Sits z t → t.lane.state ≡ Running → t.lane.step ≡ Some Load → u.lane ≡ settled t.lane n → u.seat.table_id ≡ t.seat.table_id → u.seat.me ≡ (moves looked n t.seat.me.0, t.seat.me.1) → Sits z u
   look_sits z t u n sits c s l id me =
@@ -78,7 +78,7 @@ module _ {A : Type 0} (kind : Ghosts A) where
       record {
         table = id ∙ sits.table;
         view = v ∙ ap (λ (x : Lane A). (lane_view x.number (phase_of x.state), [])) (sym e);
-        honest = subst (λ (x : Lane A). Good x) (sym e) (look_honest n k r sits.honest.small);
+        honest = subst (λ (x : Lane A). Good x) (sym e) (look_honest n k r);
       }
 
   pub publish_sits : (z : TableId) (t u : SeatedLane A) (n : ℕ) → Sits z t → t.lane.state ≡ Running → t.lane.step ≡ Some Exchange → u.lane ≡ settled t.lane n → u.seat.table_id ≡ t.seat.table_id → u.seat.me ≡ (moves published n t.seat.me.0, t.seat.me.1) → Sits z u
@@ -89,7 +89,7 @@ module _ {A : Type 0} (kind : Ghosts A) where
       record {
         table = id ∙ sits.table;
         view = v ∙ ap (λ (x : Lane A). (lane_view x.number (phase_of x.state), [])) (sym e);
-        honest = subst (λ (x : Lane A). Good x) (sym e) (publish_honest n k r sits.honest.small (sits.honest.step s));
+        honest = subst (λ (x : Lane A). Good x) (sym e) (publish_honest n k r (sits.honest.step s));
       }
 
   abbrev HasTurn : Lane A → Lane A → Type 0

@@ -1,6 +1,6 @@
 -- A lane with its seat at the word, and what its turns keep.
 use Rattle.race.specs.declared.engines.Racer.{Ghosts}
-use Rattle.std.specs.Prelude.{◌≡◌, ◌≢◌, ℕ, ◌<◌, List, [], ◌∷◌, Some, slice_get}
+use Rattle.std.specs.Prelude.{◌≡◌, ◌≢◌, ℕ, List, [], ◌∷◌, Some, slice_get}
 use Rattle.atomic_table.specs.Seated.{TableId}
 use Rattle.race.specs.Machine.{IsDecided, IsSpent, weight_of}
 use Rattle.race.specs.Winner.{phase_of, lane_view, total}
@@ -30,7 +30,6 @@ module _ {A : Type 0} (kind : Ghosts A) where
   StateIsHonest _ r = Unit {0}
 
   pub record IsHonest (l : Lane A) : Type 0 where
-    pub small : l.number < 64
     pub step : l.step ≡ Some Exchange → IsDecided kind l.racer
     pub state : StateIsHonest l.state l.racer
 

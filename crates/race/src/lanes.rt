@@ -3,6 +3,7 @@ ghost use Rattle.std.specs.Prelude.{◌≡◌, ℕ, ◌<◌, ◌≤◌, ◌≢�
 ghost use Rattle.race.specs.Lanes.{is_running as runs, settled, Begins, Turns, IsSteps, fresh};
 
 use crate::engines::{Progress, Racer};
+use crate::numbers::LaneNumber;
 
 /// What a turn of a lane does with the word, after its engine was advanced.
 #[derive(Clone, Copy, Debug, PartialEq, Eq)]
@@ -36,7 +37,7 @@ pub enum LaneState {
 /// come.
 #[derive(Drop)]
 pub struct Lane<R> {
-    pub(crate) number: usize,
+    pub(crate) number: LaneNumber,
     pub(crate) racer: R,
     pub(crate) step: Option<Step>,
     pub(crate) state: LaneState,
@@ -49,7 +50,7 @@ impl<R> Lane<R> {
         ensures { result ≡ fresh number racer }
     {
         Lane {
-            number,
+            number: LaneNumber::new(number),
             racer,
             step: None,
             state: LaneState::Running,
@@ -124,11 +125,9 @@ pub fn settle<R: Racer>(lane: &mut Lane<R>, seen: u64)
 }
 
 /// One whole turn of a lane: [`begin`], the step that it gave on the word, and [`settle`]; after
-/// `Ended` neither. The lane's number is below 64, as that of each lane is that [`Lane::new`] made,
-/// so that one more is a word.
+/// `Ended` neither.
 pub fn turn<R: Racer>(lane: &mut Lane<R>, word: &mut u64)
-    requires number { lane.old.number < 64 }
-    requires word { word.old ≤ 64 }
+    requires { word.old ≤ 64 }
     ensures turn { Turns R.Racer lane.old.number lane.old word.old lane.new word.new }
     ensures word { word.new ≤ 64 }
 {
@@ -137,7 +136,7 @@ pub fn turn<R: Racer>(lane: &mut Lane<R>, word: &mut u64)
         Step::Load => settle(lane, seen),
         Step::Exchange => {
             if seen == 0 {
-                *word = lane.number as u64 + 1;
+                *word = lane.number.word();
             }
             settle(lane, seen);
         }

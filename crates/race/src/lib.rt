@@ -12,6 +12,7 @@ mod engines;
 pub mod facts;
 mod groups;
 mod lanes;
+mod numbers;
 mod playing;
 mod scripted;
 mod seated_lane;

@@ -33,7 +33,7 @@ fn publish<R: Racer>(word: &Word, seated: &mut SeatedLane<R>) -> u64
     ensures lane { seated.new.lane ≡ settled seated.old.lane result }
     ensures seated { IsSeated R.Racer word.now.table_id seated.new }
 {
-    let mine = seated.lane.number as u64 + 1;
+    let mine = seated.lane.number.word();
     let seen = word.compare_exchange::<Publishes>(&mut seated.seat, 0, 0, mine);
     settle(&mut seated.lane, seen);
     seen
@@ -50,7 +50,7 @@ pub(crate) fn turn_seated<R: Racer, G: Gate>(word: &Word, gate: &G, seated: &mut
     ensures ran { TookTurns R.Racer word.now.table_id seated.old seated.new }
     ensures fewer { turns_left_of R.Racer seated.new < turns_left_of R.Racer seated.old }
 {
-    gate.pass(seated.lane.number);
+    gate.pass(seated.lane.number.get());
     match begin(&mut seated.lane) {
         Step::Load => {
             look(word, seated);

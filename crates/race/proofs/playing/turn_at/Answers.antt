@@ -1,16 +1,10 @@
 use Rattle.std.proofs.Common.{arith}
-use Rattle.race.proofs.Plays.{word_small, number_small, turned_here, nearer_here}
+use Rattle.race.proofs.Plays.{word_small, turned_here, nearer_here}
 use Rattle.race.specs.Machine.{state_at}
 use Rattle.race.proofs.playing.turn_at.Goals as goal
 
-pub turn-requires-clause-number : goal.turn-requires-clause-number
-turn-requires-clause-number g c =
-    let r = g.R.Racer in
-    let n = number_small r (state_at c.args.word.now c.args.lanes.now.items) c.args.number c.index_mut-lane.result.now c.requires.sound (omega arith) c.index_mut-lane.ensures.value in
-    omega arith
-
-pub turn-requires-clause-word : goal.turn-requires-clause-word
-turn-requires-clause-word g c =
+pub turn-requires : goal.turn-requires
+turn-requires g c =
     let r = g.R.Racer in word_small r (state_at c.args.word.now c.args.lanes.now.items) c.requires.sound c.requires.count
 
 pub returns-clause-goes : goal.returns-clause-goes
