@@ -48,27 +48,18 @@ module _ (R : Word → Word → Type 0) (decided : (u v : Word) → R u v ⊎ (R
       by (inr none) (inl e) further = absurd (none (subst (R w) e r))
       by (inr none) (inr n) further = behind none (further n)
 
-  -- no word is related to a later one
-  abbrev AreUnrelated : List Word → Type 0
-  AreUnrelated [] = Unit {0}
-  AreUnrelated (x ∷ xs) = ((y : Word) → IsIn y xs → R x y → ⊥) × AreUnrelated xs
-
   in_at : (xs : List Word) (i : ℕ) → i < length xs → IsIn (get_or xs i []) xs
   in_at [] i h = absurd (omega arith)
   in_at (x ∷ xs) zero h = inl refl
   in_at (x ∷ xs) (suc i) h = inr (in_at xs i (omega arith))
 
-  -- so a word is related to one at most
-  one_place : (xs : List Word) → AreUnrelated xs → (w : Word) (i j : ℕ) → i < length xs → j < length xs → R w (get_or xs i []) → R w (get_or xs j []) → i ≡ j
+  -- a word is related to one at most of words that are apart
+  one_place : (xs : List Word) → AreApart R xs → (w : Word) (i j : ℕ) → i < length xs → j < length xs → R w (get_or xs i []) → R w (get_or xs j []) → i ≡ j
   one_place [] apart w i j h l r s = absurd (omega arith)
   one_place (x ∷ xs) apart w zero zero h l r s = refl
-  one_place (x ∷ xs) apart w zero (suc j) h l r s = absurd (apart.0 (get_or xs j []) (in_at xs j (omega arith)) (transitive x w (get_or xs j []) (symmetric w x r) s))
-  one_place (x ∷ xs) apart w (suc i) zero h l r s = absurd (apart.0 (get_or xs i []) (in_at xs i (omega arith)) (transitive x w (get_or xs i []) (symmetric w x s) r))
+  one_place (x ∷ xs) apart w zero (suc j) h l r s = absurd (apart.0 (get_or xs j []) w (in_at xs j (omega arith)) (symmetric w x r) (symmetric w (get_or xs j []) s))
+  one_place (x ∷ xs) apart w (suc i) zero h l r s = absurd (apart.0 (get_or xs i []) w (in_at xs i (omega arith)) (symmetric w x s) (symmetric w (get_or xs i []) r))
   one_place (x ∷ xs) apart w (suc i) (suc j) h l r s = ap suc (one_place xs apart.1 w i j (omega arith) (omega arith) r s)
-
-  apart_from : (xs : List Word) → AreUnrelated xs → AreApart (λ x w. R x w) xs
-  apart_from [] apart = tt
-  apart_from (x ∷ xs) apart = (λ y w m r s. apart.0 y m (transitive x w y r (symmetric y w s)), apart_from xs apart.1)
 
   -- a word is related to one of the list, or to none
   pub among : (w : Word) (xs : List Word) → ((x : Word) × IsIn x xs × R w x) ⊎ ((x : Word) → IsIn x xs → R w x → ⊥)
@@ -115,14 +106,14 @@ module _ (R : Word → Word → Type 0) (decided : (u v : Word) → R u v ⊎ (R
       by (inr new) (inl e) same more = new y k (subst (λ (v : Word). R v y) e r)
       by (inr new) (inr n) same more = more n
 
-  are_unrelated : (known xs : List Word) → AreUnrelated (new_words known xs)
-  are_unrelated known [] = tt
-  are_unrelated known (x ∷ xs) = by (among x known) (are_unrelated known xs) (are_unrelated (x ∷ known) xs)
+  are_apart : (known xs : List Word) → AreApart R (new_words known xs)
+  are_apart known [] = tt
+  are_apart known (x ∷ xs) = by (among x known) (are_apart known xs) (are_apart (x ∷ known) xs)
     where
-      by : (f : Found x known) → AreUnrelated (new_words known xs) → AreUnrelated (new_words (x ∷ known) xs)
-          → AreUnrelated (with_new f x (new_words known xs) (new_words (x ∷ known) xs))
+      by : (f : Found x known) → AreApart R (new_words known xs) → AreApart R (new_words (x ∷ known) xs)
+          → AreApart R (with_new f x (new_words known xs) (new_words (x ∷ known) xs))
       by (inl old) same more = same
-      by (inr new) same more = (λ y m r. are_new (x ∷ known) xs y x m (inl refl) (symmetric x y r), more)
+      by (inr new) same more = (λ y w m r s. are_new (x ∷ known) xs y x m (inl refl) (transitive y w x s (symmetric x w r)), more)
 
   -- each of the words is related to one that is known or new
   abbrev Stands : Word → List Word → List Word → Type 0
@@ -166,10 +157,10 @@ module _ (p : Presentation) (n : ℕ) (R : Word → Word → Type 0) (elements :
   word_over : (i : ℕ) → i < length words → IsOver p.letters (word i)
   word_over i h = over_in (word i) (in_at R is.decided is.right.symmetric is.right.transitive words i h)
 
-  unrelated : AreUnrelated R is.decided is.right.symmetric is.right.transitive words
-  unrelated = (
-    λ y m r. are_new R is.decided is.right.symmetric is.right.transitive ([] ∷ []) elements y [] m (inl refl) (is.right.symmetric [] y r),
-    are_unrelated R is.decided is.right.symmetric is.right.transitive ([] ∷ []) elements,
+  apart : AreApart R words
+  apart = (
+    λ y w m r s. are_new R is.decided is.right.symmetric is.right.transitive ([] ∷ []) elements y [] m (inl refl) (is.right.transitive y w [] s (is.right.symmetric [] w r)),
+    are_apart R is.decided is.right.symmetric is.right.transitive ([] ∷ []) elements,
   )
 
   -- each word is related to one of them
@@ -197,7 +188,7 @@ module _ (p : Presentation) (n : ℕ) (R : Word → Word → Type 0) (elements :
       at_place R is.decided is.right.symmetric is.right.transitive words u f.0 f.1 f.2
 
   one_number : (u : Word) (i j : ℕ) → i < length words → j < length words → R u (word i) → R u (word j) → i ≡ j
-  one_number = one_place R is.decided is.right.symmetric is.right.transitive words unrelated
+  one_number = one_place R is.decided is.right.symmetric is.right.transitive words apart
 
   -- a row for each of them: the numbers of its products with letters
   abbrev row : Word → List ℕ
@@ -316,12 +307,12 @@ module _ (p : Presentation) (n : ℕ) (R : Word → Word → Type 0) (elements :
 
   few_new : length new ≤ length elements
   few_new =
-      pigeonhole (λ x w. R x w) new elements (apart_from R is.decided is.right.symmetric is.right.transitive new unrelated.1)
+      pigeonhole R new elements apart.1
       (λ x m. placed x (new_element x m))
 
   few_at : (is_monoid : Bool) → p.is_monoid ≡ is_monoid → AreAtMost is_monoid n graph
   few_at true e =
-      let all = pigeonhole (λ x w. R x w) words elements (apart_from R is.decided is.right.symmetric is.right.transitive words unrelated)
+      let all = pigeonhole R words elements apart
       (λ x m. placed x (subst (λ b. IsElement b p.letters x) (sym e) (over_in x m))) in
       omega (arith, all, is.few, long)
   few_at false e = (omega (arith, few_new, is.few, long), free)
