@@ -1,24 +1,25 @@
 -- What a reducer reduces and lists.
-use Rattle.std.proofs.Common.{◌≡◌, ℕ, suc, true, false, List, [], ◌∷◌, ◌++◌, refl, sym, ◌∙◌, ap, subst, arith, ◌↔◌}
+use Rattle.std.proofs.Common.{◌≡◌, ℕ, suc, List, [], ◌∷◌, sym, ◌∙◌, ap, subst, arith, ◌↔◌}
 use Rattle.theory.specs.declared.Kind.{Kind}
 use Rattle.theory.specs.declared.Kind.TheVariants.{TwoSided, Right, Left}
 use Rattle.theory.specs.Word.{Word, IsOver}
 use Rattle.theory.specs.Congruence.{Congruence}
 use Rattle.theory.specs.Completion.{IsReduced, Listed}
 use Rattle.theory.specs.Marked.{completed_word, marked_word}
+use Rattle.theory.proofs.CompletedKinds.{word_marked, word_plain}
 use Rattle.theory.proofs.MarkedLaws.{marked_framed}
 use Rattle.theory.proofs.Words.{over_append}
 use Rattle.reduced_automaton.specs.declared.frames.Frame.{Frame}
 use Rattle.congruence.specs.declared.reducers.Reducer.{Reducer}
 use Rattle.congruence.specs.declared.reducers.Reducer.TheVariants.{Plain, Marked}
-use Rattle.congruence.specs.Rewriting.{IsReducedIn, IsReducerOf, ReducesFor, marker_frame, rules_in, within_frame, word_in}
-use Rattle.congruence.proofs.RewrittenRules.{DecidesBy, decides_by, word_by}
+use Rattle.congruence.specs.Rewriting.{IsReducedIn, IsReducerOf, ReducesFor, rules_in, within_frame, word_in}
+use Rattle.congruence.proofs.RewrittenRules.{DecidesBy, decides_by}
 
 -- the word that is reduced for a word is the one that stands for it
 pub word_in_is : (c : Congruence) (r : Reducer) → ReducesFor c r → (u : Word) → word_in r u ≡ completed_word c u
-word_in_is c (Plain a) (test, letters) u = ap (λ b. word_by c b u) (sym test)
+word_in_is c (Plain a) (test, letters) u = sym (word_plain c u test)
 word_in_is c (Marked f) (test, frame, letters) u =
-    ap (λ (g : Frame). within_frame g u) frame ∙ sym (marked_framed c.kind c.presentation.letters u) ∙ ap (λ b. word_by c b u) (sym test)
+    ap (λ (g : Frame). within_frame g u) frame ∙ sym (marked_framed c.kind c.presentation.letters u) ∙ sym (word_marked c u test)
 
 over_more : (k : ℕ) (u : Word) → IsOver k u → IsOver (suc k) u
 over_more k [] h = tt

@@ -1,7 +1,5 @@
 -- The rules of a completion decide the congruence.
-use Rattle.std.proofs.Common.{◌≡◌, ℕ, suc, Bool, true, false, List, [], ◌∷◌, length, refl, ap, subst, ◌∙◌, ◌⊎◌, inl, inr, ◌↔◌, Option, Some, None}
-use Rattle.std.proofs.lemmas.Bool.{eqb-true}
-use Rattle.std.proofs.lemmas.List.{nil_from_length}
+use Rattle.std.proofs.Common.{◌≡◌, ℕ, suc, true, false, List, [], ◌∷◌, length, refl, ap, subst, ◌∙◌, ◌↔◌, Option, Some, None}
 use Rattle.std.proofs.lemmas.List.Elements.{All-nil, All-cons}
 use Rattle.theory.specs.declared.Kind.{Kind}
 use Rattle.theory.specs.declared.Kind.TheVariants.{TwoSided, Right, Left}
@@ -9,17 +7,15 @@ use Rattle.theory.specs.Word.{Word, IsOver, IsElement}
 use Rattle.theory.specs.Congruence.{Congruence, Presentation, IsTwoSided, IsWellFormed, of_presentation, is_two_sided, with_relations}
 use Rattle.theory.specs.Chain.{Related, Step}
 use Rattle.theory.specs.Class.{SameClass, IsLeast, IsNormal, IsReducedRule, IsRuleList, RuleBefore}
-use Rattle.theory.specs.Completion.{CompletionEnds, IsReduced, Listed, Reduces, Rule}
+use Rattle.theory.specs.Completion.{IsReduced, Listed, Reduces, Rule}
 use Rattle.theory.specs.Listing.{IsListOf}
-use Rattle.theory.specs.Marked.{as_marked_word, completed, completed_word, marked}
-use Rattle.theory.proofs.Chains.{joined_map, joined_refl, step_more}
-use Rattle.theory.proofs.Completed.{completed_least, completed_reduced}
-use Rattle.theory.proofs.CompletedKinds.{completed_decides_kinds, completed_least_kinds, two_sided_from_test}
-use Rattle.theory.proofs.KindLaws.{pairs_as_relations, relations_well_formed}
-use Rattle.theory.proofs.MarkedLaws.{marked_normal}
-use Rattle.theory.proofs.Related.{element_over, related_element}
+use Rattle.theory.specs.Marked.{completed, completed_word, marked}
+use Rattle.theory.proofs.Chains.{joined_map, step_more}
+use Rattle.theory.proofs.CompletedKinds.{completed_decides_kinds, completed_least_kinds, completed_marked, completed_normal_kinds, completed_plain, two_sided_from_test}
+use Rattle.theory.proofs.KindLaws.{pairs_as_relations}
+use Rattle.theory.proofs.Related.{element_over}
+use Rattle.theory.proofs.SameClasses.{rule_list_same}
 use Rattle.reduced_automaton.specs.Rules.{AreOver}
-use Rattle.reduced_automaton.proofs.ReadingLaws.{list_same}
 use Rattle.congruence.specs.Rewriting.{AreRulesOf}
 
 -- Rules that are among others.
@@ -30,31 +26,6 @@ module _ (B C : Word → Word → Type 0) (more : (u v : Word) → B u v → C u
   reduced_less : (u : Word) → IsReduced C u → IsReduced B u
   reduced_less u h v s = h v (step_more B C TwoSided more u v s)
 
--- Relations that are the same have the same classes.
-module _ (R S : Word → Word → Type 0) (same : (u v : Word) → R u v ↔ S u v) where
-  least_same : (u : Word) → IsLeast R u → IsLeast S u
-  least_same u h = record { element = (same u u).0 h.element; none_less = λ v s less. h.none_less v ((same u v).1 s) less }
-
-  normal_same : (u v : Word) → IsNormal R u v → IsNormal S u v
-  normal_same u v h = record { related = (same u v).0 h.related; least = least_same v h.least }
-
-  rule_same : (u v : Word) → IsReducedRule R u v → IsReducedRule S u v
-  rule_same u v h =
-      record { normal = normal_same u v h.normal; falls = h.falls; factors = λ f proper s. least_same f (h.factors f proper ((same f f).1 s)) }
-
-rule_list_same : (R S : Word → Word → Type 0) → ((u v : Word) → R u v ↔ S u v) → (rules : List (Word × Word)) → IsRuleList R rules
-    → IsRuleList S rules
-rule_list_same R S same =
-    list_same (λ (p : Word × Word). IsReducedRule R p.0 p.1) (λ (p : Word × Word). IsReducedRule S p.0 p.1) RuleBefore
-    (λ p. (rule_same R S same p.0 p.1, rule_same S R (λ u v. ((same u v).1, (same u v).0)) p.0 p.1)) None
-
--- the presentation that is completed, and the word that is reduced, by the test of what is two-sided
-abbrev pub presentation_by : Congruence → Bool → Presentation
-presentation_by c b = elim b [ true ↦ with_relations c.presentation c.pairs | false ↦ marked c ]
-
-abbrev pub word_by : Congruence → Bool → Word → Word
-word_by c b u = elim b [ true ↦ u | false ↦ as_marked_word c u ]
-
 -- the classes of a two-sided congruence are those of its presentation with the pairs as relations
 class_same : (c : Congruence) → IsTwoSided c → (u v : Word) → SameClass (of_presentation (with_relations c.presentation c.pairs)) u v ↔ SameClass c u v
 class_same c two u v = (
@@ -62,34 +33,12 @@ class_same c two u v = (
   λ h. record { left = h.left; right = h.right; related = (pairs_as_relations c two u v).0 h.related },
 )
 
--- the word to which the rules of a completion lead stands for the normal form
-normal_from : (c : Congruence) → IsWellFormed c → (b : Bool) → is_two_sided c ≡ b → (L : ℕ) → CompletionEnds (presentation_by c b) L → (u x : Word)
-    → IsElement c.presentation.is_monoid c.presentation.letters u → Reduces (Rule (presentation_by c b) L) (word_by c b u) x
-    → IsReduced (Rule (presentation_by c b) L) x → (w : Word) × (x ≡ word_by c b w) × IsNormal (SameClass c) u w
-normal_from c formed false one L ends u x element down here = marked_normal c formed L ends u x element down here
-normal_from c formed true test L ends u x element down here =
-    let two = two_sided_from_test c test in
-    let P : Presentation = with_relations c.presentation c.pairs in
-    let whole = relations_well_formed c formed in
-    let related = (pairs_as_relations c two u x).1
-    ((completed_reduced P L whole ends u x x x down here (joined_refl (Step (Rule P L) TwoSided) x) here).1 refl) in
-    let right = related_element c formed u x related element in (
-      x,
-      refl,
-      record {
-        related = record { left = element; right = right; related = related };
-        least =
-            least_same (SameClass (of_presentation P)) (SameClass c) (class_same c two) x ((completed_least P L whole ends x right).1 here);
-      },
-    )
-
 -- the rules of a two-sided congruence are its reduced rules
-list_from : (c : Congruence) (rules : List (Word × Word)) (b : Bool) → is_two_sided c ≡ b
-    → IsRuleList (SameClass (of_presentation (presentation_by c b))) rules → b ≡ true → IsRuleList (SameClass c) rules
-list_from c rules true test list e =
-    let two = two_sided_from_test c test in
-    rule_list_same (SameClass (of_presentation (with_relations c.presentation c.pairs))) (SameClass c) (class_same c two) rules list
-list_from c rules false test list e = cc
+list_from : (c : Congruence) (rules : List (Word × Word)) → is_two_sided c ≡ true
+    → IsRuleList (SameClass (of_presentation (completed c))) rules → IsRuleList (SameClass c) rules
+list_from c rules test list =
+    rule_list_same (SameClass (of_presentation (with_relations c.presentation c.pairs))) (SameClass c) (class_same c (two_sided_from_test c test)) rules
+    (subst (λ (p : Presentation). IsRuleList (SameClass (of_presentation p)) rules) (completed_plain c test) list)
 
 -- what rules decide: two words are related exactly where the words that are reduced for them have one reduced word, an element is least
 -- exactly where that word is reduced, and a reduced word stands for a normal form
@@ -130,8 +79,8 @@ module _ (c : Congruence) (rules : List (Word × Word)) (formed : IsWellFormed c
           λ h. q.1 (stays (completed_word c u) h),
         );
     normal = λ u x element down_u here.
-        normal_from c formed (is_two_sided c) refl are.length are.ends u x element (down (completed_word c u) x down_u) (stays x here);
-    list = λ two. list_from c rules (is_two_sided c) refl are.list two;
+        completed_normal_kinds c formed are.length are.ends u x element (down (completed_word c u) x down_u) (stays x here);
+    list = λ two. list_from c rules two are.list;
   }
 
 -- the sides of reduced rules are words over the letters
@@ -151,10 +100,10 @@ sides_over c rules are =
 
 -- which are one more with the marker
 pub letters_plain : (c : Congruence) → is_two_sided c ≡ true → (completed c).letters ≡ c.presentation.letters
-letters_plain c test = ap (λ b. (presentation_by c b).letters) test
+letters_plain c test = ap (λ (p : Presentation). p.letters) (completed_plain c test)
 
 pub letters_marked : (c : Congruence) → is_two_sided c ≡ false → (completed c).letters ≡ suc c.presentation.letters
-letters_marked c test = ap (λ b. (presentation_by c b).letters) test ∙ go c.presentation c.kind c.pairs test
+letters_marked c test = ap (λ (p : Presentation). p.letters) (completed_marked c test) ∙ go c.presentation c.kind c.pairs test
   where
     go : (p : Presentation) (kind : Kind) (pairs : List (Word × Word)) → let k : Congruence = record { presentation = p; kind = kind; pairs = pairs } in
         is_two_sided k ≡ false → (marked k).letters ≡ suc p.letters

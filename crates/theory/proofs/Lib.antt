@@ -23,6 +23,7 @@ pub mod GreenLaws
 pub mod TwoSidedLaws
 pub mod EdgePairs
 pub mod PlacedChains
+pub mod SameClasses
 pub mod CompletedKinds
 pub mod BandExample
 pub mod LatticeExample

@@ -15,14 +15,10 @@ marked_word Left m u = u ++ m ∷ []
 
 -- what stands before the word, and what stands behind it
 abbrev pub marker_before : Kind → ℕ → Word
-marker_before TwoSided m = []
-marker_before Right m = m ∷ []
-marker_before Left m = []
+marker_before kind m = elim kind [ Right ↦ m ∷ [] | _ ↦ [] ]
 
 abbrev pub marker_behind : Kind → ℕ → Word
-marker_behind TwoSided m = []
-marker_behind Right m = []
-marker_behind Left m = m ∷ []
+marker_behind kind m = elim kind [ Left ↦ m ∷ [] | _ ↦ [] ]
 
 -- both words of each pair with the marker
 abbrev pub marked_pairs : Kind → ℕ → List (Word × Word) → List (Word × Word)
@@ -33,30 +29,31 @@ marked_pairs kind m = map (λ p. (marked_word kind m p.0, marked_word kind m p.1
 abbrev pub with_marker : Presentation → Presentation
 with_marker p = record { letters = suc p.letters; is_monoid = p.is_monoid; relations = p.relations }
 
--- the presentation that stands for c: two-sided pairs are relations as they are
+-- the presentation that stands for c: two-sided pairs are relations as they are, others with the
+-- marker
 abbrev pub marked : Congruence → Presentation
 marked c =
     elim c.kind [
       | TwoSided ↦ with_relations c.presentation c.pairs
-      | Right ↦ with_relations (with_marker c.presentation)
-          (marked_pairs Right c.presentation.letters c.pairs)
-      | Left ↦ with_relations (with_marker c.presentation)
-          (marked_pairs Left c.presentation.letters c.pairs)
+      | _ ↦ with_relations (with_marker c.presentation)
+          (marked_pairs c.kind c.presentation.letters c.pairs)
     ]
 
 -- the word that stands for u there
 abbrev pub as_marked_word : Congruence → Word → Word
 as_marked_word c u = marked_word c.kind c.presentation.letters u
 
--- the presentation that is completed for c: two-sided pairs are relations as they are, and where
--- there are pairs of another kind they are marked
+-- c, of kind TwoSided where it is generated as a two-sided congruence
+abbrev pub as_two_sided : Congruence → Congruence
+as_two_sided c = record c { kind = elim (is_two_sided c) [ true ↦ TwoSided | false ↦ c.kind ] }
+
+-- the presentation that is completed for c: the marker is used only where it is needed
 abbrev pub completed : Congruence → Presentation
-completed c = elim (is_two_sided c)
-    [ true ↦ with_relations c.presentation c.pairs | false ↦ marked c ]
+completed c = marked (as_two_sided c)
 
 -- the word that stands for u there
 abbrev pub completed_word : Congruence → Word → Word
-completed_word c u = elim (is_two_sided c) [ true ↦ u | false ↦ as_marked_word c u ]
+completed_word c u = as_marked_word (as_two_sided c) u
 
 -- an element to which no rule applies, with the marker, once the marked presentation is completed
 -- within the bound
