@@ -17,3 +17,4 @@ pub mod GreenLists
 pub mod TextLaws
 pub mod SameTables
 pub mod LineLaws
+pub mod NeedLaws

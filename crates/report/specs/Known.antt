@@ -1,10 +1,14 @@
 -- What is known of the elements of a problem.
-use Rattle.std.specs.Prelude.{◌≡◌, length, IfSome, Some}
+use Rattle.std.specs.Prelude.{◌≡◌, length, IfSome, IsSome, Some}
 use Rattle.froidure_pin.specs.declared.tables.CayleyTables.{CayleyTables}
 use Rattle.problem.specs.declared.kinds.Problem.{Problem}
 use Rattle.problem.specs.Problem.{letters_of}
+use Rattle.theory.specs.declared.Relation.{Relation}
+use Rattle.theory.specs.declared.Relation.TheVariants.{H}
+use Rattle.query_lang.specs.declared.script.Query.{Query}
+use Rattle.query_lang.specs.declared.script.Query.TheVariants.{Green, Idempotents}
 use Rattle.congruence.specs.CayleyGraphs.{AreTablesFor}
-use Rattle.green.specs.Known.{AreNamesIn, KeepsNames}
+use Rattle.green.specs.Known.{AreNamesIn, HasNames, KeepsNames}
 use Rattle.report.specs.Texts.{AreTexts, JoinedTexts}
 use Rattle.report.specs.declared.known.KnownElements.{KnownElements}
 
@@ -21,3 +25,13 @@ pub record AreKnownOf (p : Problem) (known : KnownElements) : Type 0 where
 pub record KeepsKnown (old new : KnownElements) : Type 0 where
   pub names : KeepsNames old.names new.names
   pub texts : IfSome old.texts (λ texts. new.texts ≡ Some texts)
+
+-- the names of Green's classes and the texts, of which their lines are made, are known
+abbrev pub HasGreen : Relation → KnownElements → Type 0
+HasGreen relation known = HasNames relation known.names × IsSome known.texts
+
+-- what the answer of a query needs of elements is known
+abbrev pub HasElements : Query → KnownElements → Type 0
+HasElements (Green relation) known = HasGreen relation known
+HasElements Idempotents known = HasNames H known.names
+HasElements query known = Unit {0}

@@ -1,5 +1,5 @@
 // The answers of queries.
-ghost use Rattle.std.specs.Prelude.{◌≡◌, ◌<◌, IsSome, MatchOption, OnOk};
+ghost use Rattle.std.specs.Prelude.{◌≡◌, ◌<◌, IfOk, IsSome, MatchOption, OnOk};
 ghost use Rattle.ports.specs.Writes.{Writes};
 ghost use Rattle.congruence.specs.Verdicts.{IsVerdictOf};
 ghost use Rattle.problem.specs.Problem.{IsPosable};
@@ -8,6 +8,7 @@ ghost use Rattle.report.specs.Answer.{awaited_by};
 ghost use Rattle.report.specs.Chains.{IsLogOf};
 ghost use Rattle.report.specs.Gains.{AreAnswerBytes};
 ghost use Rattle.report.specs.Kept.{HasFound, KeepsFound, KeepsOf, KeepsSettings};
+ghost use Rattle.report.specs.Known.{HasElements};
 
 use crate::awaited::{Awaited, awaited_by};
 use crate::logged::write_logged;
@@ -47,6 +48,8 @@ fn write_decided<O: Sink>(
     ensures settings { KeepsSettings state.old state.new }
     ensures stays { KeepsFound state.old state.new }
     ensures found { OnOk result (IsSome state.new.verdict) }
+    ensures elements { IfOk result (λ answered. answered ≡ Answered.Defined
+        → HasElements query.now state.new.elements) }
     ensures written { Writes O.Sink (AreAnswerBytes problem.now state.old.budgets state.old.classes
         query.now) sink.old sink.new result }
 {
@@ -105,7 +108,8 @@ fn write_completed<O: Sink>(
 /// `Failed` comes only where the sink failed, and `NoMemory` for want of memory; the sink has then
 /// gained a prefix of the answer. What the state keeps is of this script's problem, and what it
 /// keeps afterwards too: what was found before stays, what the query waits for is kept where it is
-/// answered, and nothing else in it changes.
+/// answered, and nothing else in it changes. Where Green's classes are told, the names that they
+/// are found by and the texts of words are kept, and where the idempotents are, the names.
 pub fn write_answer<R: Threads + Sync, O: Sink, G: Gate + Sync>(
     rt: &R,
     alloc: Global,
@@ -122,6 +126,8 @@ pub fn write_answer<R: Threads + Sync, O: Sink, G: Gate + Sync>(
     ensures settings { KeepsSettings state.old state.new }
     ensures stays { KeepsFound state.old state.new }
     ensures found { OnOk result (HasFound (awaited_by query.now) state.new) }
+    ensures elements { IfOk result (λ answered. answered ≡ Answered.Defined
+        → HasElements query.now state.new.elements) }
     ensures written { Writes O.Sink (AreAnswerBytes script.now.problem state.old.budgets
         state.old.classes query.now) sink.old sink.new result }
 {

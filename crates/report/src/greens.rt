@@ -1,9 +1,9 @@
 // Green's classes and idempotents, as lines.
-ghost use Rattle.std.specs.Prelude.{◌≡◌, ◌<◌, ◌≤◌, ◌++◌, ◌∷◌, ℕ, List, [], length, map, slice_index_or, All, IfOk, false};
+ghost use Rattle.std.specs.Prelude.{◌≡◌, ◌<◌, ◌≤◌, ◌++◌, ◌∷◌, ℕ, List, [], length, map, slice_index_or, All, IfOk, OnOk, false};
 ghost use Rattle.ports.specs.Writes.{Writes, WritesBytes};
 ghost use Rattle.theory.specs.Green.{AreClasses};
 ghost use Rattle.cayley.specs.Tables.{FitTogether};
-ghost use Rattle.green.specs.Known.{AreNamesIn, KeepsNames};
+ghost use Rattle.green.specs.Known.{AreNamesIn, HasNames, KeepsNames};
 ghost use Rattle.green.specs.Related.{AreRelated, DoCommute};
 ghost use Rattle.congruence.specs.CayleyGraphs.{AreTablesFor};
 ghost use Rattle.problem.specs.Problem.{HasOneShape, letters_of, pairs_of};
@@ -11,7 +11,7 @@ ghost use Rattle.report.specs.Collected.{AreLinesOf, AreOfWords};
 ghost use Rattle.report.specs.Gains.{AreBytesOf, bytes_of};
 ghost use Rattle.report.specs.Greens.{AreGreenLines, AreIdempotentLines};
 ghost use Rattle.report.specs.Lines.{end_line, word_line};
-ghost use Rattle.report.specs.Known.{AreKnownOf, KeepsKnown};
+ghost use Rattle.report.specs.Known.{AreKnownOf, HasGreen, KeepsKnown};
 
 use crate::class_lines::ClassLines;
 use crate::known::KnownElements;
@@ -38,6 +38,7 @@ fn class_lines<'a>(
     requires count { length tables.now.words ≤ texts.now.count }
     ensures known { AreNamesIn tables.now names.new }
     ensures kept { KeepsNames names.old names.new }
+    ensures found { OnOk result (HasNames relation names.new) }
     ensures texts { IfOk result (λ c. c.texts ≡ texts.now) }
     ensures lines { IfOk result (λ c. (classes : List (List ℕ))
         × AreClasses (length tables.now.words) (AreRelated relation tables.now) classes
@@ -85,6 +86,7 @@ pub fn write_green<O: Sink>(
     requires known { AreKnownOf problem.now elements.old }
     ensures known { AreKnownOf problem.now elements.new }
     ensures kept { KeepsKnown elements.old elements.new }
+    ensures found { OnOk result (HasGreen relation elements.new) }
     ensures written { Writes O.Sink (λ _. AreBytesOf (AreGreenLines relation problem.now))
         sink.old sink.new result }
 {
@@ -109,6 +111,7 @@ pub fn write_idempotents<O: Sink>(
     requires known { AreKnownOf problem.now elements.old }
     ensures known { AreKnownOf problem.now elements.new }
     ensures kept { KeepsKnown elements.old elements.new }
+    ensures found { OnOk result (HasNames Relation.H elements.new.names) }
     ensures written { Writes O.Sink (λ _. AreBytesOf (AreIdempotentLines problem.now))
         sink.old sink.new result }
 {

@@ -2,9 +2,11 @@
 ghost use Rattle.std.specs.Prelude.{◌≡◌, ◌<◌, [], IfOk, OnOk, None};
 ghost use Rattle.std.specs.Option.{IsSome};
 ghost use Rattle.theory.specs.Listing.{IsListOf};
+ghost use Rattle.theory.specs.declared.Relation.TheVariants.{H};
 ghost use Rattle.problem.specs.declared.kinds.Problem.{Problem as Posed};
 ghost use Rattle.problem.specs.Problem.{HasOneShape, pairs_of};
 ghost use Rattle.congruence.specs.CayleyGraphs.{AreTablesFor};
+ghost use Rattle.green.specs.Known.{HasNames};
 ghost use Rattle.green.specs.Related.{IsIdempotentAt};
 ghost use Rattle.report.specs.Known.{AreKnownOf, KeepsKnown};
 
@@ -47,6 +49,7 @@ impl KnownElements {
         requires known { AreKnownOf problem.now self.old }
         ensures known { AreKnownOf problem.now self.new }
         ensures kept { KeepsKnown self.old self.new }
+        ensures found { OnOk result (HasNames H self.new.names) }
         ensures idempotents { IfOk result (λ found.
             IsListOf (IsIdempotentAt tables.now) ◌<◌ None found.items) }
     {

@@ -1,5 +1,5 @@
 // The answers where the problem is decided.
-ghost use Rattle.std.specs.Prelude.{◌≡◌, length, IfOk};
+ghost use Rattle.std.specs.Prelude.{◌≡◌, length, IfOk, OnOk};
 ghost use Rattle.std.specs.Option.{option_copied};
 ghost use Rattle.ports.specs.Writes.{Writes};
 ghost use Rattle.theory.specs.Class.{IsLeast};
@@ -8,7 +8,7 @@ ghost use Rattle.problem.specs.Problem.{SameClassOf, count_of, letters_of};
 ghost use Rattle.query_lang.specs.Query.{IsQueryOf};
 ghost use Rattle.report.specs.Answer.{AreLines, awaited_by};
 ghost use Rattle.report.specs.Gains.{AreBytesOf};
-ghost use Rattle.report.specs.Known.{AreKnownOf, KeepsKnown};
+ghost use Rattle.report.specs.Known.{AreKnownOf, HasElements, KeepsKnown};
 ghost use Rattle.report.specs.Lines.{word_line};
 ghost use Rattle.report.specs.Pages.{ArePageLines};
 
@@ -84,6 +84,7 @@ pub fn write_solved<O: Sink>(
     ensures kept { solved.new ≡ solved.old }
     ensures known { AreKnownOf problem.now elements.new }
     ensures keeps { KeepsKnown elements.old elements.new }
+    ensures found { OnOk result (HasElements query.now elements.new) }
     ensures written { Writes O.Sink (λ _. AreBytesOf (AreLines problem.now bound query.now))
         sink.old sink.new result }
 {

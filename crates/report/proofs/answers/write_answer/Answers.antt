@@ -1,12 +1,16 @@
-use Rattle.std.proofs.Common.{Ok, Err, refl, ◌∙◌, subst, subst₂, sym}
+use Rattle.std.proofs.Common.{◌≡◌, Ok, Err, refl, ◌∙◌, subst, subst₂, sym}
 use Rattle.ports.specs.Writes.{Writes}
 use Rattle.ports.proofs.WriteLemmas.{handed_on, refused}
 use Rattle.problem.specs.declared.budgets.Budgets.{Budgets}
 use Rattle.problem.specs.declared.kinds.Problem.{Problem}
-use Rattle.report.specs.declared.awaited.Awaited.TheVariants.{Nothing}
+use Rattle.report.specs.declared.answers.Answered.{Answered}
+use Rattle.report.specs.declared.answers.Answered.TheVariants.{Defined}
+use Rattle.report.specs.declared.awaited.Awaited.TheVariants.{Nothing, Log}
 use Rattle.report.specs.Answer.{AreLines, ComesAbout, awaited_by}
 use Rattle.report.specs.Gains.{AreAnswerBytes, AreBytesOf}
+use Rattle.report.specs.Known.{HasElements}
 use Rattle.report.proofs.AnswerBytes.{comes_about, defined_begun, defined_told}
+use Rattle.report.proofs.NeedLaws.{needs_none, of_each}
 use Rattle.report.proofs.answers.write_answer.Goals as goal
 
 pub returns-in_err-write_told-in-Nothing-clause-written : goal.returns-in_err-write_told-in-Nothing-clause-written
@@ -45,3 +49,12 @@ returns-in_ok-complete-in-Log-clause-written g c =
     let kept = c.complete.ensures.settings in
     subst₂ (λ budgets bound. Writes g.O.Sink (AreAnswerBytes c.args.script.now.problem budgets bound c.args.query.now) c.args.sink.now c.write_completed.new.sink c.write_completed.result) kept.budgets kept.classes
     (subst (λ p. Writes g.O.Sink (AreAnswerBytes p c.complete.new.self.budgets c.complete.new.self.classes c.args.query.now) c.args.sink.now c.write_completed.new.sink c.write_completed.result) c.problem-problem.ensures.problem c.write_completed.ensures)
+
+pub returns-in_ok-write_told-in-Nothing-clause-elements : goal.returns-in_ok-write_told-in-Nothing-clause-elements
+returns-in_ok-write_told-in-Nothing-clause-elements g c =
+    λ _. needs_none c.args.query.now Nothing (sym c.awaited_by.ensures ∙ c.in-Nothing.is) (λ e. cc) c.args.state.now.elements
+
+pub returns-in_ok-complete-in-Log-clause-elements : goal.returns-in_ok-complete-in-Log-clause-elements
+returns-in_ok-complete-in-Log-clause-elements g c =
+    of_each c.write_completed.result (λ (answered : Answered). answered ≡ Defined → HasElements c.args.query.now c.complete.new.self.elements)
+    (λ _ _. needs_none c.args.query.now Log (sym c.awaited_by.ensures ∙ c.in-Log.is) (λ e. cc) c.complete.new.self.elements)

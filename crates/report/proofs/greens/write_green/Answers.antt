@@ -4,11 +4,12 @@ use Rattle.froidure_pin.specs.declared.tables.CayleyTables.{CayleyTables}
 use Rattle.congruence.specs.CayleyGraphs.{AreTablesFor}
 use Rattle.problem.specs.declared.kinds.Problem.{Problem}
 use Rattle.problem.specs.Problem.{letters_of}
-use Rattle.report.specs.Known.{AreKnownOf, AreTextsOf}
+use Rattle.report.specs.Known.{AreKnownOf, AreTextsOf, HasGreen}
 use Rattle.report.specs.Texts.{AreTexts, JoinedTexts}
 use Rattle.report.specs.declared.known.KnownElements.{KnownElements}
 use Rattle.report.proofs.GreenLists.{green_told}
 use Rattle.report.proofs.GreenTables.{commutes}
+use Rattle.report.proofs.NeedLaws.{of_each}
 use Rattle.report.proofs.SameTables.{known_alike}
 use Rattle.report.proofs.greens.write_green.Goals as goal
 
@@ -46,3 +47,8 @@ returns-clause-written g c =
     subst (AreTexts (letters_of p) t.words) (sym c.in_ok-lines.ensures.texts) (known_texts p t c.find_texts.new.self c.unwrap-texts.result.now c.requires.tables c.find_texts.ensures.known known).1 in
     let found = c.in_ok-lines.ensures.lines in
     green_told p t c.requires.shape c.requires.unpaired c.requires.tables g.O.Sink c.args.relation c.in_ok-lines.lines found.0 found.1 texts found.2 _ _ _ c.write.ensures
+
+pub returns-clause-found : goal.returns-clause-found
+returns-clause-found g c =
+    of_each c.write.result (λ _. HasGreen c.args.relation (record { names = c.class_lines.new.names; texts = c.find_texts.new.self.texts }))
+    (λ _. (c.in_ok-lines.ensures.found, c.in_ok-find_texts.ensures.some))

@@ -1,8 +1,11 @@
 use Rattle.std.proofs.Common.{List, ℕ, ◌<◌, None, length, sym, subst}
 use Rattle.ports.proofs.WriteLemmas.{handed_on, refused}
 use Rattle.theory.specs.Listing.{IsListOf}
+use Rattle.green.specs.Known.{HasNames}
 use Rattle.green.specs.Related.{IsIdempotentAt}
+use Rattle.theory.specs.declared.Relation.TheVariants.{H}
 use Rattle.report.proofs.GreenLists.{idempotents_told, listed_below}
+use Rattle.report.proofs.NeedLaws.{of_each}
 use Rattle.report.proofs.greens.write_idempotents.Goals as goal
 
 pub returns-in_err-found-clause-written : goal.returns-in_err-found-clause-written
@@ -18,3 +21,6 @@ returns-clause-written g c =
     idempotents_told c.args.problem.now c.args.tables.now c.requires.shape c.requires.unpaired c.requires.tables c.deref.result.now
     (subst (λ (found : List ℕ). IsListOf (IsIdempotentAt c.args.tables.now) ◌<◌ None found) (sym c.deref.ensures.value) c.in_ok-found.ensures.idempotents)
     g.O.Sink _ _ _ c.write_words.ensures
+
+pub returns-clause-found : goal.returns-clause-found
+returns-clause-found g c = of_each c.write_words.result (λ _. HasNames H c.idempotents.new.self.names) (λ _. c.in_ok-found.ensures.found)

@@ -1,4 +1,4 @@
-use Rattle.std.proofs.Common.{ℕ, Bool, false, List, [], ◌∷◌, ◌++◌, map, refl, sym, ap, subst, ◌∙◌}
+use Rattle.std.proofs.Common.{ℕ, Bool, false, List, [], ◌∷◌, ◌++◌, map, refl, sym, ap, subst, ◌∙◌, OnOk}
 use Rattle.std.specs.Option.{option_copied}
 use Rattle.ports.proofs.WriteLemmas.{handed_on, refused}
 use Rattle.theory.specs.Word.{Word}
@@ -8,10 +8,12 @@ use Rattle.cayley.specs.Tables.{edge}
 use Rattle.problem.specs.declared.kinds.Problem.{Problem}
 use Rattle.problem.specs.Problem.{SameClassOf, count_of, letters_of}
 use Rattle.congruence.specs.CayleyGraphs.{AreTablesFor}
+use Rattle.query_lang.specs.declared.script.Query.{Query}
 use Rattle.query_lang.specs.declared.script.Query.TheVariants as query
 use Rattle.report.specs.Answer.{cayley_lines}
 use Rattle.report.specs.Lines.{count_line, over_line, infinite_line, equal_line, normal_line, rule_line, end_line}
 use Rattle.report.specs.Gains.{bytes_of}
+use Rattle.report.specs.Known.{HasElements}
 use Rattle.report.proofs.AnswerLemmas.{writes_lines, one_line}
 use Rattle.report.proofs.SolvedLemmas.{solved_count, solved_infinite, solved_over, solved_equal, normal_over, solved_normal, solved_rules, solved_rules_over, solved_page, solved_cayley, solved_shape, solved_unpaired}
 use Rattle.report.proofs.TableAnswers.{lines_told}
@@ -111,3 +113,11 @@ write_idempotents-requires-clause-unpaired g c = solved_unpaired c.args.problem.
 
 pub returns-in-Idempotents-clause-written : goal.returns-in-Idempotents-clause-written
 returns-in-Idempotents-clause-written g c = lines_told g.O.Sink c.args.problem.now c.args.bound c.args.query.now query.Idempotents c.in-Idempotents.is _ _ _ c.write_idempotents.ensures.written
+
+pub returns-in-Green-clause-found : goal.returns-in-Green-clause-found
+returns-in-Green-clause-found g c =
+    subst (λ (q : Query). OnOk c.write_green.result (HasElements q c.write_green.new.elements)) (sym c.in-Green.is) c.write_green.ensures.found
+
+pub returns-in-Idempotents-clause-found : goal.returns-in-Idempotents-clause-found
+returns-in-Idempotents-clause-found g c =
+    subst (λ (q : Query). OnOk c.write_idempotents.result (HasElements q c.write_idempotents.new.elements)) (sym c.in-Idempotents.is) c.write_idempotents.ensures.found
