@@ -1,9 +1,8 @@
 -- Edges that tables have, and paths along them.
-use Rattle.std.proofs.Common.{◌≡◌, ◌≢◌, ℕ, zero, suc, ◌+◌, ◌*◌, ◌<◌, ◌≤◌, max, List, [], ◌∷◌, length, take, get_or, set, replicate, Contains, Bool, true, IsTrue, Result, Ok, Err, IfOk, slice_get, Option, Some, None, option_and_then, refl, sym, ◌∙◌, ap, subst, arith, inl, inr, ◌==◌}
-use Rattle.std.proofs.lemmas.Bool.{cases_lt}
+use Rattle.std.proofs.Common.{◌≡◌, ℕ, zero, suc, ◌+◌, ◌*◌, ◌<◌, ◌≤◌, max, List, [], ◌∷◌, length, take, get_or, set, replicate, Contains, Bool, true, IsTrue, Result, Ok, Err, IfOk, slice_get, Option, Some, None, option_and_then, refl, sym, ◌∙◌, ap, subst, arith, ◌⊎◌, inl, inr, ◌==◌}
 use Rattle.std.proofs.lemmas.List.Elements.{Contains-get_or}
-use Rattle.std.proofs.lemmas.List.{take_all, length-set, get_or-set_same, get_or-set_other, get_or-replicate}
-use Rattle.std.proofs.lemmas.Option.{get_or_from_slice_get, slice_get_within, slice_get-get_or}
+use Rattle.std.proofs.lemmas.List.{take_all}
+use Rattle.std.proofs.lemmas.Option.{get_or_from_slice_get, same_Some, slice_get_within, slice_get-get_or}
 use Rattle.theory.specs.Word.{Word, IsOver}
 use Rattle.theory.specs.Congruence.{Presentation}
 use Rattle.word_graph.proofs.NumberLaws.{entry_below}
@@ -76,28 +75,31 @@ module _ (p : Presentation) (n : ℕ) (u : List ℕ) (table : IsTable p n u) whe
         let whole : path_in p.letters u node s ≡ Some there.0 = ap (path_in p.letters u node) (sym all) ∙ path_take p.letters u node s j q c there.0 right letter there.1 in
         there.1 ∙ ap (λ (z : ℕ). Some z) (sym (meets m there.0 left whole))
 
+-- what is known at a place after a target has been put
+target_set : (known : List (Option ℕ)) (place m q node : ℕ) → get_or (set known place (Some m)) q None ≡ Some node
+    → ((q ≡ place) × (m ≡ node)) ⊎ (get_or known q None ≡ Some node)
+target_set [] place m q node e = inr e
+target_set (x ∷ known) zero m zero node e = inl (refl, same_Some m node e)
+target_set (x ∷ known) zero m (suc q) node e = inr e
+target_set (x ∷ known) (suc place) m zero node e = inr e
+target_set (x ∷ known) (suc place) m (suc q) node e = elim (target_set known place m q node e) [ inl s ↦ inl (ap suc s.0, s.1) | inr d ↦ inr d ]
+
 -- edges that are known from now on
-pub edges_set : (known u : List ℕ) (place m : ℕ) → HasEdges known u → slice_get u place ≡ Some m → HasEdges (set known place m) u
-edges_set known u place m has edge q within small = elim (cases_lt q place) [
-  | inl less ↦ other (omega arith)
-  | inr most ↦ elim (cases_lt place q) [
-    | inl more ↦ other (omega arith)
-    | inr less ↦
-        let same : place ≡ q = omega arith in
-        let long : place < length known = omega (arith, within, length-set known place m, same) in
-        let is : get_or (set known place m) place 0 ≡ m = get_or-set_same known place m 0 long in
-        subst (λ z. slice_get u z ≡ Some (get_or (set known place m) z 0)) same (edge ∙ ap (λ (z : ℕ). Some z) (sym is))
-  ]
+pub edges_set : (known : List (Option ℕ)) (u : List ℕ) (place m : ℕ) → HasEdges known u → slice_get u place ≡ Some m
+    → HasEdges (set known place (Some m)) u
+edges_set known u place m has edge q node e = elim (target_set known place m q node e) [
+  | inl s ↦ ap (slice_get u) s.0 ∙ edge ∙ ap (λ (z : ℕ). Some z) s.1
+  | inr d ↦ has q node d
 ]
-  where
-    other : q ≢ place → slice_get u q ≡ Some (get_or (set known place m) q 0)
-    other ne =
-        let is : get_or (set known place m) q 0 ≡ get_or known q 0 = get_or-set_other known place q m 0 ne in
-        has q (omega (arith, within, length-set known place m)) (omega (arith, small, is)) ∙ ap (λ (z : ℕ). Some z) (sym is)
 
 -- nothing is known
-pub edges_none : (n : ℕ) (u : List ℕ) (place : ℕ) → get_or (replicate n 17) place 0 < 17 → place < n → slice_get u place ≡ Some (get_or (replicate n 17) place 0)
-edges_none n u place small within = absurd (omega (arith, small, get_or-replicate {A = ℕ} n place 17 0 within))
+none_known : (n place : ℕ) → get_or (replicate {A = Option ℕ} n None) place None ≡ None
+none_known zero place = refl
+none_known (suc n) zero = refl
+none_known (suc n) (suc place) = none_known n place
+
+pub edges_none : (n : ℕ) (u : List ℕ) → HasEdges (replicate n None) u
+edges_none n u place node e = let bad : None ≡ Some node = sym (none_known n place) ∙ e in cc
 
 -- a relation at its place
 pub relation_there : (rs all : List (Word × Word)) (i : ℕ) (q : Word × Word) → rs ≡ all → i < length all → q ≡ get_or rs i q → Contains all (q.0, q.1)
@@ -139,7 +141,7 @@ module _ (p : Presentation) (k : ℕ) (letters : k ≡ p.letters) (known : Known
       (subst (λ z. IsTrue (m == z)) same (let e : (m == m) ≡ true = grind arith in e), fits)
 
   pub kept_last : (new : Known) (i m j q c : ℕ) → IsOver k s → Leads k known node r i m → Leads k known node s j q → i ≡ length r → j + 1 ≡ length s
-      → slice_get s j ≡ Some c → new.nodes ≡ known.nodes → new.targets ≡ set known.targets (q * k + c) m → Keeps p known new true
+      → slice_get s j ≡ Some c → new.nodes ≡ known.nodes → new.targets ≡ set known.targets (q * k + c) (Some m) → Keeps p known new true
   kept_last new i m j q c over left right all last letter nodes targets = λ n u table fits.
       let edge : slice_get u (q * p.letters + c) ≡ Some m =
       last_edge p n u table node (seen_by u fits) r s (meet n u table (seen_by u fits)) m q j c (subst (λ z. IsOver z s) letters over)
@@ -148,7 +150,7 @@ module _ (p : Presentation) (k : ℕ) (letters : k ≡ p.letters) (known : Known
         refl,
         record {
           nodes = omega (arith, fits.nodes, nodes);
-          edges = subst (λ (ts : List ℕ). HasEdges ts u) (sym targets) (edges_set known.targets u (q * k + c) m fits.edges edge');
+          edges = subst (λ (ts : List (Option ℕ)). HasEdges ts u) (sym targets) (edges_set known.targets u (q * k + c) m fits.edges edge');
         },
       )
 
@@ -176,11 +178,11 @@ module _ (p : Presentation) (old : Known) (place target nodes : ℕ) (most : nod
       let e : (other == target) ≡ true = grind arith in
       (e, record { nodes = omega (arith, fits.nodes, entry_seen u place target edge, most); edges = fits.edges })
 
-  pub extended : (put new : Known) (holds : Bool) → put.nodes ≡ nodes → put.targets ≡ set old.targets place target
+  pub extended : (put new : Known) (holds : Bool) → put.nodes ≡ nodes → put.targets ≡ set old.targets place (Some target)
       → Keeps p put new holds → Extends p old place target new holds
   extended put new holds count targets kept = λ n u table fits edge. kept n u table (record {
     nodes = omega (arith, fits.nodes, entry_seen u place target edge, most, count);
-    edges = subst (λ (ts : List ℕ). HasEdges ts u) (sym targets) (edges_set old.targets u place target fits.edges edge);
+    edges = subst (λ (ts : List (Option ℕ)). HasEdges ts u) (sym targets) (edges_set old.targets u place target fits.edges edge);
   })
 
 -- what holds of a success where another fact does

@@ -1,3 +1,4 @@
+pub mod CodeLaws
 pub mod FrontLaws
 pub mod PathLaws
 pub mod EdgeLaws

@@ -1,13 +1,13 @@
 -- Edges that each table behind a front part has, known before their rows are filled.
-use Rattle.std.specs.Prelude.{◌≡◌, ℕ, ◌<◌, ◌≤◌, Bool, List, length, suc, take, slice_index, slice_get, IsTrue, Some}
+use Rattle.std.specs.Prelude.{◌≡◌, ℕ, ◌≤◌, Bool, List, Option, length, suc, take, slice_index_or, slice_get, IsTrue, None, Some}
 use Rattle.theory.specs.Congruence.{Presentation}
 use Rattle.sims_one.specs.declared.known.Known.{Known}
 use Rattle.sims_one.specs.Targets.{seen, IsTable, IsFront, AreAllowed, IsWithin}
 
--- the targets u have the known edges; 17 stands for a target that is not known
-abbrev pub HasEdges : List ℕ → List ℕ → Type 0
-HasEdges known u = (place : ℕ) → place < length known → slice_index known place < 17
-    → slice_get u place ≡ Some (slice_index known place)
+-- the targets u have the known edges
+abbrev pub HasEdges : List (Option ℕ) → List ℕ → Type 0
+HasEdges known u = (place node : ℕ) → slice_index_or known place None ≡ Some node
+    → slice_get u place ≡ Some node
 
 -- the targets u have the nodes and edges that are known
 pub record HasKnown (known : Known) (u : List ℕ) : Type 0 where

@@ -1,4 +1,5 @@
 pub mod Targets
+pub mod Codes
 pub mod Known
 pub mod Search
 pub mod Graphs

@@ -1,5 +1,5 @@
 // Edges that follow from others by relations.
-ghost use Rattle.std.specs.Prelude.{◌≡◌, ◌≢◌, ℕ, ◌+◌, ◌*◌, ◌<◌, ◌≤◌, List, length, max, suc, slice_set, IfOk, true};
+ghost use Rattle.std.specs.Prelude.{◌≡◌, ◌≢◌, ℕ, ◌+◌, ◌*◌, ◌<◌, ◌≤◌, List, length, max, suc, slice_set, IfOk, Some, true};
 ghost use Rattle.theory.specs.Word.{IsOver};
 ghost use Rattle.sims_one.specs.Known.{Keeps, Extends};
 
@@ -32,7 +32,7 @@ fn deduce(
     requires target { target < MOST_NODES }
     ensures nodes { known.new.nodes ≡ known.old.nodes }
     ensures targets { known.new.targets
-        ≡ slice_set known.old.targets (node * letters + letter) target }
+        ≡ slice_set known.old.targets (node * letters + letter) (Some target) }
 {
     known.set(node * letters + letter, target);
     fresh.push(Edge { node, letter })?;

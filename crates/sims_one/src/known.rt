@@ -1,10 +1,11 @@
 // Edges that each table behind a front part has.
-ghost use Rattle.std.specs.Prelude.{◌≡◌, ℕ, ◌+◌, ◌<◌, ◌≤◌, List, length, take, slice_get, slice_index, slice_set, Some, IfNone, IfSome};
+ghost use Rattle.std.specs.Prelude.{◌≡◌, ℕ, ◌+◌, ◌<◌, ◌≤◌, List, length, take, replicate, slice_index_or, slice_set, None, Some, IfSome};
 ghost use Rattle.theory.specs.Word.{IsOver};
 ghost use Rattle.sims_one.specs.Targets.{path_in};
 ghost use Rattle.sims_one.specs.Known.{HasEdges};
 
 use crate::paths::MOST_NODES;
+use std::marker::Model;
 use words::Word;
 
 /// The most edges of a table: 53 for each node.
@@ -13,13 +14,68 @@ pub const MOST_EDGES: usize = 901;
 // Stands for a target that is not known.
 const UNKNOWN: u8 = 17;
 
+// A node or none for each place.
+#[derive(Clone, Copy)]
+struct Targets {
+    codes: [u8; MOST_EDGES],
+}
+
+impl Model for Targets {
+    ghost use Rattle.std.specs.Prelude.{◌≡◌, ℕ, List, Option, map};
+    ghost use Rattle.sims_one.specs.Codes.{node_of, code_of};
+
+    ghost Value = { List (Option ℕ) };
+
+    ghost view = { λ t. map node_of t.codes };
+
+    ghost invariant = { λ t. map code_of (map node_of t.codes) ≡ t.codes };
+
+    ghost inverse = { λ targets. record { codes = map code_of targets } };
+
+    ghost inverse_ok = { λ t h i. record { codes = h i } };
+}
+
+impl Targets {
+    // None at each place.
+    fn none() -> Targets
+        ensures { result ≡ replicate MOST_EDGES None }
+    {
+        Targets {
+            codes: [UNKNOWN; MOST_EDGES],
+        }
+    }
+
+    // The node at the place, if there is one.
+    fn get(&self, place: usize) -> Option<usize>
+        requires { place < MOST_EDGES }
+        ensures node { result ≡ slice_index_or self.now place None }
+        ensures small { IfSome result (λ m. m < MOST_NODES) }
+    {
+        let code = self.codes[place];
+        if code < UNKNOWN {
+            Some(usize::from(code))
+        } else {
+            None
+        }
+    }
+
+    // Puts a node at the place.
+    fn put(&mut self, place: usize, node: usize)
+        requires place { place < MOST_EDGES }
+        requires node { node < MOST_NODES }
+        ensures { self.new ≡ slice_set self.old place (Some node) }
+    {
+        self.codes[place] = node as u8;
+    }
+}
+
 /// The nodes seen and the edges known of all tables behind a front part: those of the front part,
 /// and those that follow from them by relations.
 #[derive(Clone, Copy)]
 pub struct Known {
     /// How many nodes have been seen.
     pub nodes: usize,
-    targets: [u8; MOST_EDGES],
+    targets: Targets,
 }
 
 /// Where the known edges end on the path of a word.
@@ -39,24 +95,17 @@ impl Known {
     {
         Known {
             nodes: 1,
-            targets: [UNKNOWN; MOST_EDGES],
+            targets: Targets::none(),
         }
     }
 
     /// The target at a place, where it is known.
     pub fn target(&self, place: usize) -> Option<usize>
         requires { place < MOST_EDGES }
-        ensures none { IfNone result (MOST_NODES ≤ slice_index self.now.targets place) }
+        ensures target { result ≡ slice_index_or self.now.targets place None }
         ensures small { IfSome result (λ m. m < MOST_NODES) }
-        ensures edge { (u : List ℕ) → HasEdges self.now.targets u
-            → IfSome result (λ m. slice_get u place ≡ Some m) }
     {
-        let target = self.targets[place];
-        if target < UNKNOWN {
-            Some(usize::from(target))
-        } else {
-            None
-        }
+        self.targets.get(place)
     }
 
     /// The target at the place is known from now on.
@@ -64,9 +113,9 @@ impl Known {
         requires place { place < MOST_EDGES }
         requires target { target < MOST_NODES }
         ensures nodes { self.new.nodes ≡ self.old.nodes }
-        ensures targets { self.new.targets ≡ slice_set self.old.targets place target }
+        ensures targets { self.new.targets ≡ slice_set self.old.targets place (Some target) }
     {
-        self.targets[place] = target as u8;
+        self.targets.put(place, target);
     }
 
     /// How far the word leads from the node by known edges.

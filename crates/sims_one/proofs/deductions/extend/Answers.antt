@@ -1,11 +1,12 @@
-use Rattle.std.proofs.Common.{false, Bool, subst}
+use Rattle.std.proofs.Common.{false, Bool, subst, sym}
 use Rattle.sims_one.specs.Known.{Keeps}
 use Rattle.sims_one.proofs.EdgeLaws.{kept_on, extended, extended_known, on_ok}
 use Rattle.sims_one.proofs.deductions.extend.Goals as goal
 
 pub returns-in-Some-clause-extends : goal.returns-in-Some-clause-extends
 returns-in-Some-clause-extends c =
-    extended_known c.args.presentation.now.presentation c.args.known.now c.args.place c.args.target c.max-known.result c.max-known.ensures c.in-Some.other c.in-Some.ensures.edge
+    extended_known c.args.presentation.now.presentation c.args.known.now c.args.place c.args.target c.max-known.result c.max-known.ensures c.in-Some.other
+    (λ u has. has c.args.place c.in-Some.other (sym c.in-Some.ensures.target))
 
 pub returns-then-not-branch-clause-extends : goal.returns-then-not-branch-clause-extends
 returns-then-not-branch-clause-extends c =
