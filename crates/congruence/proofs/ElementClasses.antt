@@ -28,7 +28,7 @@ use Rattle.cayley.specs.Whole.{AreTablesOf, AreClassesOf}
 use Rattle.congruence.specs.CayleyGraphs.{AreCayleyGraphs, AreTablesFor}
 use Rattle.congruence.proofs.ListedWords.{listed_ascend, listed_at}
 use Rattle.congruence.specs.ElementLists.{AreClassesIn, AreClassesFor}
-use Rattle.congruence.specs.Engines.{Transformations, PartialPermutations, BooleanMatrices, TruncatedMatrices, IsTaskFor}
+use Rattle.congruence.specs.Engines.{Search, Transformations, PartialPermutations, BooleanMatrices, TruncatedMatrices, IsTaskFor}
 
 module _ {V : Type 0} {shape : V → ℕ × ℕ} {product : V → V → V} {equal : V → V → Bool}
     (laws : (one : ℕ × ℕ) → IsProduct (λ x. shape x ≡ one) product equal) (generators : List V) (unused : V)
@@ -69,7 +69,7 @@ module _ {V : Type 0} {shape : V → ℕ × ℕ} {product : V → V → V} {equa
     }
 
 -- the tables of a search are those of the problem whose task it has
-pub transf_tables : (p : Problem) (task : PairsTask (List ℕ)) (t : CayleyTables) → IsTaskFor p (Transformations task)
+pub transf_tables : (p : Problem) (task : PairsTask (List ℕ)) (t : CayleyTables) → IsTaskFor p (Search (Transformations task))
     → ((unused : List ℕ) → AreTablesOf composed (pointwise ◌==◌) task.generators unused t) → AreTablesFor p t
 transf_tables (problem.Presented p) task t is tables = absurd is
 transf_tables (problem.Transf p) task t is tables =
@@ -79,7 +79,7 @@ transf_tables (problem.PPerm p) task t is tables = absurd is
 transf_tables (problem.BMat p) task t is tables = absurd is
 transf_tables (problem.MaxPlus p) task t is tables = absurd is
 
-pub pperm_tables : (p : Problem) (task : PairsTask (List (Option ℕ))) (t : CayleyTables) → IsTaskFor p (PartialPermutations task)
+pub pperm_tables : (p : Problem) (task : PairsTask (List (Option ℕ))) (t : CayleyTables) → IsTaskFor p (Search (PartialPermutations task))
     → ((unused : List (Option ℕ)) → AreTablesOf partially_composed (pointwise (option_eq ◌==◌)) task.generators unused t) → AreTablesFor p t
 pperm_tables (problem.Presented p) task t is tables = absurd is
 pperm_tables (problem.Transf p) task t is tables = absurd is
@@ -89,7 +89,7 @@ pperm_tables (problem.PPerm p) task t is tables =
 pperm_tables (problem.BMat p) task t is tables = absurd is
 pperm_tables (problem.MaxPlus p) task t is tables = absurd is
 
-pub bmat_tables : (p : Problem) (task : PairsTask BooleanMatrix) (t : CayleyTables) → IsTaskFor p (BooleanMatrices task)
+pub bmat_tables : (p : Problem) (task : PairsTask BooleanMatrix) (t : CayleyTables) → IsTaskFor p (Search (BooleanMatrices task))
     → ((unused : BooleanMatrix) → AreTablesOf boolean_product boolean_matrix_eq task.generators unused t) → AreTablesFor p t
 bmat_tables (problem.Presented p) task t is tables = absurd is
 bmat_tables (problem.Transf p) task t is tables = absurd is
@@ -99,7 +99,7 @@ bmat_tables (problem.BMat p) task t is tables =
     record { fit = are.fit; letters = are.letters; graphs = graphs boolean_products p.generators no_matrix t are; every = are.every }
 bmat_tables (problem.MaxPlus p) task t is tables = absurd is
 
-pub mpt_tables : (p : Problem) (task : PairsTask TruncatedMatrix) (t : CayleyTables) → IsTaskFor p (TruncatedMatrices task)
+pub mpt_tables : (p : Problem) (task : PairsTask TruncatedMatrix) (t : CayleyTables) → IsTaskFor p (Search (TruncatedMatrices task))
     → ((unused : TruncatedMatrix) → AreTablesOf truncated_product truncated_matrix_eq task.generators unused t) → AreTablesFor p t
 mpt_tables (problem.Presented p) task t is tables = absurd is
 mpt_tables (problem.Transf p) task t is tables = absurd is
@@ -111,7 +111,7 @@ mpt_tables (problem.MaxPlus p) task t is tables =
 
 -- and the classes too
 pub transf_classes : (p : Problem) (task : PairsTask (List ℕ)) (t : CayleyTables) (classes : List ℕ) → IsWellPosed p
-    → IsTaskFor p (Transformations task) → ((unused : List ℕ) → AreTablesOf composed (pointwise ◌==◌) task.generators unused t)
+    → IsTaskFor p (Search (Transformations task)) → ((unused : List ℕ) → AreTablesOf composed (pointwise ◌==◌) task.generators unused t)
     → ((unused : List ℕ) → AreClassesOf composed (pointwise ◌==◌) task.generators unused task.kind task.pairs t classes) → AreClassesFor p t classes
 transf_classes (problem.Presented p) task t classes posed is tables are = absurd is
 transf_classes (problem.Transf p) task t classes posed is tables are =
@@ -126,7 +126,7 @@ transf_classes (problem.BMat p) task t classes posed is tables are = absurd is
 transf_classes (problem.MaxPlus p) task t classes posed is tables are = absurd is
 
 pub pperm_classes : (p : Problem) (task : PairsTask (List (Option ℕ))) (t : CayleyTables) (classes : List ℕ) → IsWellPosed p
-    → IsTaskFor p (PartialPermutations task) → ((unused : List (Option ℕ)) → AreTablesOf partially_composed (pointwise (option_eq ◌==◌)) task.generators unused t)
+    → IsTaskFor p (Search (PartialPermutations task)) → ((unused : List (Option ℕ)) → AreTablesOf partially_composed (pointwise (option_eq ◌==◌)) task.generators unused t)
     → ((unused : List (Option ℕ)) → AreClassesOf partially_composed (pointwise (option_eq ◌==◌)) task.generators unused task.kind task.pairs t classes) → AreClassesFor p t classes
 pperm_classes (problem.Presented p) task t classes posed is tables are = absurd is
 pperm_classes (problem.Transf p) task t classes posed is tables are = absurd is
@@ -141,7 +141,7 @@ pperm_classes (problem.BMat p) task t classes posed is tables are = absurd is
 pperm_classes (problem.MaxPlus p) task t classes posed is tables are = absurd is
 
 pub bmat_classes : (p : Problem) (task : PairsTask BooleanMatrix) (t : CayleyTables) (classes : List ℕ) → IsWellPosed p
-    → IsTaskFor p (BooleanMatrices task) → ((unused : BooleanMatrix) → AreTablesOf boolean_product boolean_matrix_eq task.generators unused t)
+    → IsTaskFor p (Search (BooleanMatrices task)) → ((unused : BooleanMatrix) → AreTablesOf boolean_product boolean_matrix_eq task.generators unused t)
     → ((unused : BooleanMatrix) → AreClassesOf boolean_product boolean_matrix_eq task.generators unused task.kind task.pairs t classes) → AreClassesFor p t classes
 bmat_classes (problem.Presented p) task t classes posed is tables are = absurd is
 bmat_classes (problem.Transf p) task t classes posed is tables are = absurd is
@@ -156,7 +156,7 @@ bmat_classes (problem.BMat p) task t classes posed is tables are =
 bmat_classes (problem.MaxPlus p) task t classes posed is tables are = absurd is
 
 pub mpt_classes : (p : Problem) (task : PairsTask TruncatedMatrix) (t : CayleyTables) (classes : List ℕ) → IsWellPosed p
-    → IsTaskFor p (TruncatedMatrices task) → ((unused : TruncatedMatrix) → AreTablesOf truncated_product truncated_matrix_eq task.generators unused t)
+    → IsTaskFor p (Search (TruncatedMatrices task)) → ((unused : TruncatedMatrix) → AreTablesOf truncated_product truncated_matrix_eq task.generators unused t)
     → ((unused : TruncatedMatrix) → AreClassesOf truncated_product truncated_matrix_eq task.generators unused task.kind task.pairs t classes) → AreClassesFor p t classes
 mpt_classes (problem.Presented p) task t classes posed is tables are = absurd is
 mpt_classes (problem.Transf p) task t classes posed is tables are = absurd is

@@ -17,7 +17,7 @@ use Rattle.race.specs.declared.playing.Outcome.{Outcome}
 use Rattle.race.specs.declared.playing.Outcome.TheVariants.{Won, AllSpent}
 use Rattle.congruence.specs.declared.engine.Engine.{Engine}
 use Rattle.congruence.specs.Added.{IsAdded}
-use Rattle.congruence.specs.Engines.{EngineTask, Definitions, Rows, Rewriting, Transformations, PartialPermutations, BooleanMatrices, TruncatedMatrices, HasDecided, HasMoreElements, IsEndOf, IsTaskFor, as_racer, congruence_tasks, ends_within, pairs_task, said_of, task_of, tasks_for}
+use Rattle.congruence.specs.Engines.{EngineTask, Definitions, Rows, Rewriting, Search, Transformations, PartialPermutations, BooleanMatrices, TruncatedMatrices, HasDecided, HasMoreElements, IsEndOf, IsTaskFor, as_racer, congruence_tasks, ends_within, pairs_task, said_of, task_of, tasks_for}
 
 -- a lane that has had no turn, at its place
 fresh_fits : (i : ℕ) (e : Engine) (l : Lane Engine) → fresh i e ≡ l → LaneFits as_racer 0 i l × (l.state ≡ Running)
@@ -87,13 +87,13 @@ one_task s t (suc i) at = cc
 each_task : (p : Problem) (b : Budgets) (t : EngineTask) (i : ℕ) → slice_get (tasks_for p b) i ≡ Some t → IsTaskWithin p b t
 each_task (problem.Presented p) b t i at = congruence_task p b t i at
 each_task (problem.Transf p) b t i at =
-    subst (λ s. IsTaskWithin (problem.Transf p) b s) (one_task (Transformations (pairs_task p b.elements)) t i at) (record { task = refl; ends = λ h. h [] })
+    subst (λ s. IsTaskWithin (problem.Transf p) b s) (one_task (Search (Transformations (pairs_task p b.elements))) t i at) (record { task = refl; ends = λ h. h [] })
 each_task (problem.PPerm p) b t i at =
-    subst (λ s. IsTaskWithin (problem.PPerm p) b s) (one_task (PartialPermutations (pairs_task p b.elements)) t i at) (record { task = refl; ends = λ h. h [] })
+    subst (λ s. IsTaskWithin (problem.PPerm p) b s) (one_task (Search (PartialPermutations (pairs_task p b.elements))) t i at) (record { task = refl; ends = λ h. h [] })
 each_task (problem.BMat p) b t i at =
-    subst (λ s. IsTaskWithin (problem.BMat p) b s) (one_task (BooleanMatrices (pairs_task p b.elements)) t i at) (record { task = refl; ends = λ h. h no_matrix })
+    subst (λ s. IsTaskWithin (problem.BMat p) b s) (one_task (Search (BooleanMatrices (pairs_task p b.elements))) t i at) (record { task = refl; ends = λ h. h no_matrix })
 each_task (problem.MaxPlus p) b t i at =
-    subst (λ s. IsTaskWithin (problem.MaxPlus p) b s) (one_task (TruncatedMatrices (pairs_task p b.elements)) t i at) (record { task = refl; ends = λ h. h no_truncated_matrix })
+    subst (λ s. IsTaskWithin (problem.MaxPlus p) b s) (one_task (Search (TruncatedMatrices (pairs_task p b.elements))) t i at) (record { task = refl; ends = λ h. h no_truncated_matrix })
 
 -- the task of a lane stands in the list of tasks
 task_at : (ls : List (Lane Engine)) (i : ℕ) (l : Lane Engine) → slice_get ls i ≡ Some l → slice_get (tasks as_racer ls) i ≡ Some (task_of l.racer)
@@ -150,13 +150,13 @@ spent_never (problem.Presented p) b lanes same told more = no_engine
     no_engine (inl (inr ends)) = fails_at (problem.Presented p) b lanes same 1 (Rows (record { congruence = as_right p.congruence; budget = b.rows })) told refl ends
     no_engine (inr ends) = fails_at (problem.Presented p) b lanes same 2 (Rewriting (record { presentation = completed p.congruence; length = b.length })) told refl ends
 spent_never (problem.Transf p) b lanes same told more =
-    more_at (problem.Transf p) b lanes same (Transformations (pairs_task p b.elements)) told refl more []
+    more_at (problem.Transf p) b lanes same (Search (Transformations (pairs_task p b.elements))) told refl more []
 spent_never (problem.PPerm p) b lanes same told more =
-    more_at (problem.PPerm p) b lanes same (PartialPermutations (pairs_task p b.elements)) told refl more []
+    more_at (problem.PPerm p) b lanes same (Search (PartialPermutations (pairs_task p b.elements))) told refl more []
 spent_never (problem.BMat p) b lanes same told more =
-    more_at (problem.BMat p) b lanes same (BooleanMatrices (pairs_task p b.elements)) told refl more no_matrix
+    more_at (problem.BMat p) b lanes same (Search (BooleanMatrices (pairs_task p b.elements))) told refl more no_matrix
 spent_never (problem.MaxPlus p) b lanes same told more =
-    more_at (problem.MaxPlus p) b lanes same (TruncatedMatrices (pairs_task p b.elements)) told refl more no_truncated_matrix
+    more_at (problem.MaxPlus p) b lanes same (Search (TruncatedMatrices (pairs_task p b.elements))) told refl more no_truncated_matrix
 
 -- lanes that have ended are those of the problem, at an end
 pub end_of : (p : Problem) (b : Budgets) (old new : List (Lane Engine)) (outcome : Outcome) → tasks as_racer old ≡ tasks_for p b → EndsAs as_racer old outcome new

@@ -1,19 +1,14 @@
 -- The engines of a race for a problem, and the ends of such races.
-use Rattle.std.specs.Prelude.{◌≡◌, ℕ, ◌==◌, List, [], ◌∷◌, Option, Some, slice_get}
-use Rattle.std.specs.Cmp.Lexicographic.{pointwise}
-use Rattle.std.specs.Option.{option_eq}
+use Rattle.std.specs.Prelude.{◌≡◌, ℕ, List, [], ◌∷◌, Option, Some, slice_get}
 use Rattle.theory.specs.Congruence.{Congruence, as_right}
 use Rattle.theory.specs.Felsch.{FelschEnds}
 use Rattle.theory.specs.Hlt.{HltEnds}
 use Rattle.theory.specs.Completion.{CompletionEnds}
 use Rattle.theory.specs.Marked.{completed}
-use Rattle.elements.specs.Transf.{composed}
-use Rattle.elements.specs.PPerm.{partially_composed}
-use Rattle.elements.specs.BMat.{BooleanMatrix, boolean_product}
-use Rattle.elements.specs.BMatLaws.{boolean_matrix_eq}
-use Rattle.elements.specs.MaxPlus.{TruncatedMatrix, truncated_product}
-use Rattle.elements.specs.MaxPlusLaws.{truncated_matrix_eq}
+use Rattle.elements.specs.BMat.{BooleanMatrix}
+use Rattle.elements.specs.MaxPlus.{TruncatedMatrix}
 use Rattle.problem.specs.Posed.{PosedOf}
+use Rattle.problem.specs.Problem.{ElementKind, transformations, partial_permutations, boolean_matrices, truncated_matrices}
 use Rattle.problem.specs.declared.budgets.Budgets.{Budgets}
 use Rattle.problem.specs.declared.kinds.Problem.{Problem}
 use Rattle.problem.specs.declared.kinds.Problem.TheVariants as problem
@@ -33,54 +28,57 @@ use Rattle.knuth_bendix.specs.Runs.{CompletionRun, CompletionTask}
 use Rattle.congruence.specs.declared.engine.Engine.{Engine}
 use Rattle.congruence.specs.declared.engine.Engine.TheVariants.{Felsch, Hlt, Completion, Transf, PPerm, BMat, MaxPlus}
 
+-- the classes of at most so many elements of some kind, by their generators
+pub data ElementTask : Type 0 where
+  Transformations : PairsTask (List ℕ) → ElementTask
+  PartialPermutations : PairsTask (List (Option ℕ)) → ElementTask
+  BooleanMatrices : PairsTask BooleanMatrix → ElementTask
+  TruncatedMatrices : PairsTask TruncatedMatrix → ElementTask
+
+-- what holds of such a task, told for every kind
+abbrev pub OfElements : ((V : Type 0) → ElementKind V → PairsTask V → Type 0) → ElementTask
+    → Type 0
+OfElements holds (Transformations t) = holds (List ℕ) transformations t
+OfElements holds (PartialPermutations t) = holds (List (Option ℕ)) partial_permutations t
+OfElements holds (BooleanMatrices t) = holds BooleanMatrix boolean_matrices t
+OfElements holds (TruncatedMatrices t) = holds TruncatedMatrix truncated_matrices t
+
 -- whether a strategy ends for a right congruence within a budget, or completion of a presentation
 -- within a length, or generators of a kind have so many values
 pub data EngineTask : Type 0 where
   Definitions : FelschTask → EngineTask
   Rows : HltTask → EngineTask
   Rewriting : CompletionTask → EngineTask
-  Transformations : PairsTask (List ℕ) → EngineTask
-  PartialPermutations : PairsTask (List (Option ℕ)) → EngineTask
-  BooleanMatrices : PairsTask BooleanMatrix → EngineTask
-  TruncatedMatrices : PairsTask TruncatedMatrix → EngineTask
+  Search : ElementTask → EngineTask
 
 abbrev pub ends_within : EngineTask → Type 0
 ends_within (Definitions t) = FelschEnds t.congruence t.budget
 ends_within (Rows t) = HltEnds t.congruence t.budget
 ends_within (Rewriting t) = CompletionEnds t.presentation t.length
-ends_within (Transformations t) = HasFew composed (pointwise ◌==◌) t
-ends_within (PartialPermutations t) = HasFew partially_composed (pointwise (option_eq ◌==◌)) t
-ends_within (BooleanMatrices t) = HasFew boolean_product boolean_matrix_eq t
-ends_within (TruncatedMatrices t) = HasFew truncated_product truncated_matrix_eq t
+ends_within (Search t) = OfElements (λ _ kind t. HasFew kind.product kind.equal t) t
 
 -- whether the task is a search for elements
 abbrev pub SearchesElements : EngineTask → Type 0
 SearchesElements (Definitions t) = ⊥
 SearchesElements (Rows t) = ⊥
 SearchesElements (Rewriting t) = ⊥
-SearchesElements (Transformations t) = Unit {0}
-SearchesElements (PartialPermutations t) = Unit {0}
-SearchesElements (BooleanMatrices t) = Unit {0}
-SearchesElements (TruncatedMatrices t) = Unit {0}
+SearchesElements (Search t) = Unit {0}
 
 -- the generators of a kind have more values than the bound
 abbrev pub HasMoreElements : EngineTask → Type 0
 HasMoreElements (Definitions t) = Unit {0}
 HasMoreElements (Rows t) = Unit {0}
 HasMoreElements (Rewriting t) = Unit {0}
-HasMoreElements (Transformations t) = HasMore composed (pointwise ◌==◌) t
-HasMoreElements (PartialPermutations t) = HasMore partially_composed (pointwise (option_eq ◌==◌)) t
-HasMoreElements (BooleanMatrices t) = HasMore boolean_product boolean_matrix_eq t
-HasMoreElements (TruncatedMatrices t) = HasMore truncated_product truncated_matrix_eq t
+HasMoreElements (Search t) = OfElements (λ _ kind t. HasMore kind.product kind.equal t) t
 
 abbrev pub task_of : Engine → EngineTask
 task_of (Felsch f) = Definitions (record { congruence = f.congruence; budget = f.budget })
 task_of (Hlt h) = Rows (record { congruence = h.congruence; budget = h.budget })
 task_of (Completion k) = Rewriting (record { presentation = k.presentation; length = k.length })
-task_of (Transf r) = Transformations r.task
-task_of (PPerm r) = PartialPermutations r.task
-task_of (BMat r) = BooleanMatrices r.task
-task_of (MaxPlus r) = TruncatedMatrices r.task
+task_of (Transf r) = Search (Transformations r.task)
+task_of (PPerm r) = Search (PartialPermutations r.task)
+task_of (BMat r) = Search (BooleanMatrices r.task)
+task_of (MaxPlus r) = Search (TruncatedMatrices r.task)
 
 abbrev pub said_of : Engine → Progress
 said_of (Felsch f) = f.said
@@ -126,10 +124,10 @@ pairs_task p bound =
 -- the tasks of the lanes for a problem
 abbrev pub tasks_for : Problem → Budgets → List EngineTask
 tasks_for (problem.Presented p) b = congruence_tasks p.congruence b
-tasks_for (problem.Transf p) b = Transformations (pairs_task p b.elements) ∷ []
-tasks_for (problem.PPerm p) b = PartialPermutations (pairs_task p b.elements) ∷ []
-tasks_for (problem.BMat p) b = BooleanMatrices (pairs_task p b.elements) ∷ []
-tasks_for (problem.MaxPlus p) b = TruncatedMatrices (pairs_task p b.elements) ∷ []
+tasks_for (problem.Transf p) b = Search (Transformations (pairs_task p b.elements)) ∷ []
+tasks_for (problem.PPerm p) b = Search (PartialPermutations (pairs_task p b.elements)) ∷ []
+tasks_for (problem.BMat p) b = Search (BooleanMatrices (pairs_task p b.elements)) ∷ []
+tasks_for (problem.MaxPlus p) b = Search (TruncatedMatrices (pairs_task p b.elements)) ∷ []
 
 -- the task is one for the congruence, within some budget
 abbrev pub IsCongruenceTask : Congruence → EngineTask → Type 0
@@ -141,10 +139,10 @@ IsCongruenceTask c t = ⊥
 -- the task is one for the problem, within some budget
 abbrev pub IsTaskFor : Problem → EngineTask → Type 0
 IsTaskFor (problem.Presented p) t = IsCongruenceTask p.congruence t
-IsTaskFor (problem.Transf p) (Transformations t) = t ≡ pairs_task p t.bound
-IsTaskFor (problem.PPerm p) (PartialPermutations t) = t ≡ pairs_task p t.bound
-IsTaskFor (problem.BMat p) (BooleanMatrices t) = t ≡ pairs_task p t.bound
-IsTaskFor (problem.MaxPlus p) (TruncatedMatrices t) = t ≡ pairs_task p t.bound
+IsTaskFor (problem.Transf p) (Search (Transformations t)) = t ≡ pairs_task p t.bound
+IsTaskFor (problem.PPerm p) (Search (PartialPermutations t)) = t ≡ pairs_task p t.bound
+IsTaskFor (problem.BMat p) (Search (BooleanMatrices t)) = t ≡ pairs_task p t.bound
+IsTaskFor (problem.MaxPlus p) (Search (TruncatedMatrices t)) = t ≡ pairs_task p t.bound
 IsTaskFor p t = ⊥
 
 -- a completion that has made no turn, for the congruence within a length

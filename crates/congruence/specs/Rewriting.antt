@@ -1,9 +1,9 @@
 -- Congruences that the rules of a completion decide.
-use Rattle.std.specs.Prelude.{◌≡◌, ◌↔◌, ℕ, suc, ◌++◌, Bool, true, false, List}
+use Rattle.std.specs.Prelude.{◌≡◌, ◌↔◌, ℕ, suc, ◌++◌, true, false, List}
 use Rattle.theory.specs.Word.{Word}
 use Rattle.theory.specs.Congruence.{Congruence, IsWellFormed, of_presentation, is_two_sided}
 use Rattle.theory.specs.Class.{SameClass, IsRuleList}
-use Rattle.theory.specs.Completion.{CompletionEnds, IsReduced, Listed, Reduces, Rule}
+use Rattle.theory.specs.Completion.{CompletionEnds, Listed, Rule}
 use Rattle.theory.specs.Marked.{completed, marker_before, marker_behind}
 use Rattle.reduced_automaton.specs.Automaton.{IsReducedWord}
 use Rattle.reduced_automaton.specs.Frames.{IsFramed}

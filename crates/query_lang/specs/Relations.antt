@@ -5,7 +5,7 @@ use Rattle.theory.specs.Congruence.{of_presentation, with_relations}
 use Rattle.words.specs.Alphabet.{marker}
 use Rattle.presentation.specs.Presented.{Presented, Posed}
 use Rattle.problem.specs.declared.kinds.Problem.{Problem}
-use Rattle.problem.specs.declared.kinds.Problem.TheVariants as problem
+use Rattle.problem.specs.Problem.{of_problem}
 
 -- the most relations
 abbrev pub most_relations : ℕ
@@ -13,11 +13,7 @@ most_relations = 4096
 
 -- the relations of a problem; generators have none
 abbrev pub relations_of : Problem → List (Word × Word)
-relations_of (problem.Presented p) = p.congruence.presentation.relations
-relations_of (problem.Transf p) = []
-relations_of (problem.PPerm p) = []
-relations_of (problem.BMat p) = []
-relations_of (problem.MaxPlus p) = []
+relations_of = of_problem (λ p. p.congruence.presentation.relations) (λ _ _ _. [])
 
 -- a presentation without pairs
 abbrev pub outlined : Presented → Posed

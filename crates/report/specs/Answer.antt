@@ -13,8 +13,7 @@ use Rattle.theory.specs.Class.{IsLeast, IsNormal, HasIndex, IsInfinite, IsRuleLi
 use Rattle.lattice.specs.Tables.{IsTableOf}
 use Rattle.problem.specs.declared.budgets.Budgets.{Budgets}
 use Rattle.problem.specs.declared.kinds.Problem.{Problem}
-use Rattle.problem.specs.declared.kinds.Problem.TheVariants.{Presented, Transf, PPerm, BMat, MaxPlus}
-use Rattle.problem.specs.Problem.{SameClassOf, IsDecided, IsUndecided, letters_of, count_of, value_text}
+use Rattle.problem.specs.Problem.{OfProblem, SameClassOf, IsDecided, IsUndecided, letters_of, count_of, value_text}
 use Rattle.query_lang.specs.Tables.{rows_in}
 use Rattle.query_lang.specs.declared.script.Query.{Query}
 use Rattle.query_lang.specs.declared.script.Query.TheVariants.{Index, Equal, Normal, Classes, RuleList, ElementOf, Cayley, LowIndex, Meet, Join, Chain, Green, Idempotents}
@@ -40,13 +39,10 @@ IsListed true p classes = IsTwoSidedLowIndex p classes
 -- the lines of a page of tables of at most so many classes, where relations are given
 abbrev pub AreTableLines : Problem → (two_sided : Bool) → ℕ → ℕ → Option Graph → List (List ℕ)
     → Type 0
-AreTableLines (Presented p) two_sided classes count after =
-    ArePageLines (IsListed two_sided p.congruence.presentation classes) TableLess table_line
-    (option_map rows_in after) count
-AreTableLines (Transf p) two_sided classes count after = λ lines. ⊥
-AreTableLines (PPerm p) two_sided classes count after = λ lines. ⊥
-AreTableLines (BMat p) two_sided classes count after = λ lines. ⊥
-AreTableLines (MaxPlus p) two_sided classes count after = λ lines. ⊥
+AreTableLines problem two_sided classes count after = OfProblem
+    (λ p. ArePageLines (IsListed two_sided p.congruence.presentation classes) TableLess table_line
+    (option_map rows_in after) count)
+    (λ _ _ _ _. ⊥) problem
 
 -- the line of the standard table over k letters whose equal paths are a relation
 pub record IsTableAnswer (line : Graph → List ℕ) (k : ℕ) (V : Word → Word → Type 0)

@@ -9,8 +9,7 @@ use Rattle.race.specs.declared.engines.Progress.{Progress}
 use Rattle.race.specs.declared.engines.Progress.TheVariants.{Decided, Spent}
 use Rattle.knuth_bendix.specs.Runs.{CompletionRun}
 use Rattle.problem.specs.declared.kinds.Problem.{Problem}
-use Rattle.problem.specs.declared.kinds.Problem.TheVariants.{Presented, Transf, PPerm, BMat, MaxPlus}
-use Rattle.problem.specs.Problem.{SameClassOf}
+use Rattle.problem.specs.Problem.{OfProblem, SameClassOf}
 use Rattle.report.specs.Lines.{chain_lines, no_chain_line}
 
 -- the relations, and the pairs behind them
@@ -27,27 +26,18 @@ pub record IsChain (p : Presentation) (u v : Word) (words : List Word) : Type 0 
 
 -- a chain of the problem, where relations are given
 abbrev pub IsChainOf : Problem → Word → Word → List Word → Type 0
-IsChainOf (Presented p) u v words = IsChain (with_its_pairs p.congruence) u v words
-IsChainOf (Transf p) u v words = ⊥
-IsChainOf (PPerm p) u v words = ⊥
-IsChainOf (BMat p) u v words = ⊥
-IsChainOf (MaxPlus p) u v words = ⊥
+IsChainOf = OfProblem (λ p. IsChain (with_its_pairs p.congruence)) (λ _ _ _ _ _ _. ⊥)
 
 -- the completion of the relations and the pairs ends within the length, where relations are given
 abbrev pub ChainsAreLogged : Problem → ℕ → Type 0
-ChainsAreLogged (Presented p) L = CompletionEnds (with_its_pairs p.congruence) L
-ChainsAreLogged (Transf p) L = ⊥
-ChainsAreLogged (PPerm p) L = ⊥
-ChainsAreLogged (BMat p) L = ⊥
-ChainsAreLogged (MaxPlus p) L = ⊥
+ChainsAreLogged =
+    OfProblem (λ p. CompletionEnds (with_its_pairs p.congruence)) (λ _ _ _ _. ⊥)
 
 -- the completion is of the relations and the pairs, and logs
 abbrev pub LogsFor : Problem → CompletionRun → Type 0
-LogsFor (Presented p) k = (k.presentation ≡ with_its_pairs p.congruence) × (k.logged ≡ true)
-LogsFor (Transf p) k = ⊥
-LogsFor (PPerm p) k = ⊥
-LogsFor (BMat p) k = ⊥
-LogsFor (MaxPlus p) k = ⊥
+LogsFor = OfProblem
+    (λ p k. (k.presentation ≡ with_its_pairs p.congruence) × (k.logged ≡ true))
+    (λ _ _ _ _. ⊥)
 
 -- the last turn says whether this holds
 abbrev pub Tells : Progress → Type 0 → Type 0

@@ -1,5 +1,4 @@
-use Rattle.std.proofs.Common.{◌≡◌, ◌<◌, sym, subst, arith}
-use Rattle.congruence.specs.ListedRules.{rest_place}
+use Rattle.std.proofs.Common.{◌<◌, sym, subst, arith}
 use Rattle.congruence.proofs.ListedRuleLaws.{place_over, rest_by, step_within}
 use Rattle.congruence.proofs.listing.rest_falls.Goals as goal
 

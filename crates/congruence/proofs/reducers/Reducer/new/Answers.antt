@@ -1,6 +1,5 @@
-use Rattle.std.proofs.Common.{◌≡◌, ℕ, suc, true, false, ◌+◌, ◌∙◌, sym, ap, subst, arith}
+use Rattle.std.proofs.Common.{◌≡◌, suc, true, false, ◌+◌, ◌∙◌, sym, ap, subst, arith}
 use Rattle.theory.specs.Congruence.{Presentation, is_two_sided}
-use Rattle.theory.specs.Marked.{completed}
 use Rattle.reduced_automaton.specs.Rules.{AreOver}
 use Rattle.congruence.proofs.RewrittenRules.{letters_marked, letters_plain, sides_over}
 use Rattle.congruence.proofs.reducers.Reducer.new.Goals as goal

@@ -1,0 +1,11 @@
+use Rattle.std.proofs.Common.{sym, ◌∙◌, subst}
+use Rattle.report.specs.Chains.{IsLogOf}
+use Rattle.report.proofs.ChainAnswers.{log_of}
+use Rattle.report.proofs.completing.logged_completion.Goals as goal
+
+pub returns : goal.returns
+returns c =
+    subst (λ p. IsLogOf p c.args.length c.run.new.completion) (sym c.in-Presented.is)
+    (log_of c.in-Presented.congruence c.args.length c.run.new.completion
+    (c.in_ok-run.ensures.presentation ∙ c.in_ok-completion.ensures.presentation ∙ c.in_ok-relations.ensures)
+    (c.in_ok-run.ensures.length ∙ c.in_ok-completion.ensures.length) (c.in_ok-run.ensures.logged ∙ c.in_ok-completion.ensures.logged) c.in_ok-run.ensures.ended)
