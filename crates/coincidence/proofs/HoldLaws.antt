@@ -1,21 +1,68 @@
 -- Nodes at which relations hold.
-use Rattle.std.proofs.Common.{◌≡◌, refl, ℕ, ◌+◌, ◌<◌, arith, List, [], ◌∷◌, ◌++◌, sym, ◌∙◌, length, inl, inr, Bool, true, false, get_or, Some, subst}
-use Rattle.std.proofs.lemmas.Bool.{cases_eq}
+use Rattle.std.proofs.Common.{◌≡◌, refl, ℕ, ◌+◌, ◌<◌, ◌≤◌, ◌⊎◌, arith, List, [], ◌∷◌, ◌++◌, sym, ◌∙◌, length, inl, inr, Bool, true, false, get_or, slice_index, option_map, Option, Some, None, subst}
+use Rattle.std.proofs.lemmas.Bool.{cases_eq, cases_lt}
+use Rattle.std.proofs.lemmas.List.{get_or_read}
+use Rattle.std.specs.Option.{ForSome}
 use Rattle.theory.specs.Word.{Word}
 use Rattle.theory.specs.Graph.{Graph, target, IsClosedAt}
-use Rattle.coincidence.specs.Holding.{HoldAt}
+use Rattle.word_graph.proofs.WalkLaws.{some_same}
+use Rattle.coincidence.specs.Closing.{IsEdged}
+use Rattle.coincidence.specs.Merging.{IsFolded}
+use Rattle.coincidence.specs.Holding.{HoldAt, HoldBefore, MeetAt}
 use Rattle.coincidence.specs.Live.{IsOn}
 use Rattle.coincidence.specs.Pending.{IsAmong, IsClosedBut}
 use Rattle.coincidence.specs.declared.pending.Pending.{Pending}
 use Rattle.coincidence.specs.declared.pending.Pending.TheVariants.{NewNode}
+use Rattle.coincidence.proofs.CloseLaws.{edged_path}
+use Rattle.coincidence.proofs.DueLaws.{IsQuiet}
 use Rattle.coincidence.proofs.FollowsLaws.{path_more}
 use Rattle.coincidence.proofs.MarkLaws.{on_within}
+use Rattle.coincidence.proofs.MergeLaws.{folded_path}
+use Rattle.coincidence.proofs.ReadLaws.{met_quiet}
 
 -- where they hold they are closed
 pub hold_closed : (pairs : List (Word × Word)) (g : Graph) (node : ℕ) → HoldAt pairs g node → IsClosedAt pairs g node
 hold_closed pairs g node hold r s a m j sides first second =
     let both = hold r (s ++ a ∷ []) sides in
     sym (path_more g node j s a second) ∙ both.2 ∙ sym both.1 ∙ first
+
+-- one pair more that holds
+pub held_more : (pairs : List (Word × Word)) (g : Graph) (node i : ℕ) (p : Word × Word) → i < length pairs → p ≡ get_or pairs i p → MeetAt g node p → HoldBefore pairs g node i → HoldBefore pairs g node (i + 1)
+held_more pairs g node i p less e meets held = λ k d h. go k d h (cases_lt k i)
+  where
+    go : (k : ℕ) (d : Word × Word) → k < i + 1 → (k < i) ⊎ (i ≤ k) → MeetAt g node (get_or pairs k d)
+    go k d h (inl l) = held k d l
+    go k d h (inr l) =
+        let k_is : i ≡ k = omega (arith, l, h) in
+        subst (λ z. MeetAt g node (get_or pairs z d)) k_is (subst (MeetAt g node) (get_or_read pairs i p less e d) meets)
+
+-- pairs that hold ask for nothing
+pub held_quiet : (pairs : List (Word × Word)) (g : Graph) (node i : ℕ) → HoldBefore pairs g node i → IsQuiet g node pairs i
+held_quiet pairs g node i held k d h =
+    let met = held k d h in
+    met_quiet g node met.0 (get_or pairs k d).0 (get_or pairs k d).1 met.1 met.2
+
+-- they hold behind an edge more, and where nodes are merged
+pub held_edged : (pairs : List (Word × Word)) (old new : Graph) (j a m node i : ℕ) → IsEdged old new j a m → HoldBefore pairs old node i → HoldBefore pairs new node i
+held_edged pairs old new j a m node i edged held k d h =
+    let met = held k d h in
+    (met.0, edged_path old new j a m edged node met.0 (get_or pairs k d).0 met.1, edged_path old new j a m edged node met.0 (get_or pairs k d).1 met.2)
+
+pub held_folded : (pairs : List (Word × Word)) (old : Graph) (class : List ℕ) (new : Graph) (node i : ℕ) → IsFolded old class new → HoldBefore pairs old node i → HoldBefore pairs new (slice_index class node) i
+held_folded pairs old class new node i folded held k d h =
+    let met = held k d h in
+    (slice_index class met.0, folded_path old class new folded node met.0 (get_or pairs k d).0 met.1, folded_path old class new folded node met.0 (get_or pairs k d).1 met.2)
+
+-- at the node where relations are read, if there is one, wherever it goes
+pub place_held_edged : (pairs : List (Word × Word)) (old new : Graph) (j a m i : ℕ) (at : Option ℕ) → IsEdged old new j a m → ForSome at (λ n. HoldBefore pairs old n i) → ForSome at (λ n. HoldBefore pairs new n i)
+place_held_edged pairs old new j a m i at edged held = λ n is. held_edged pairs old new j a m n i edged (held n is)
+
+pub place_held_folded : (pairs : List (Word × Word)) (old : Graph) (class : List ℕ) (new : Graph) (i : ℕ) (at to : Option ℕ) → IsFolded old class new → to ≡ option_map (slice_index class) at → ForSome at (λ n. HoldBefore pairs old n i) → ForSome to (λ n. HoldBefore pairs new n i)
+place_held_folded pairs old class new i at to folded gone held = λ n is. go at held n (sym gone ∙ is)
+  where
+    go : (at : Option ℕ) → ForSome at (λ n. HoldBefore pairs old n i) → (n : ℕ) → option_map (slice_index class) at ≡ Some n → HoldBefore pairs new n i
+    go None held n e = cc
+    go (Some m) held n e = subst (λ z. HoldBefore pairs new z i) (some_same (slice_index class m) n e) (held_folded pairs old class new m i folded (held m refl))
 
 -- nothing is asked of nodes where they hold, nor of new ones
 pub closed_unmarked : (pairs : List (Word × Word)) (g : Graph) (live marked : List Bool) (pending : List Pending) → ((node : ℕ) → IsOn marked node → HoldAt pairs g node)

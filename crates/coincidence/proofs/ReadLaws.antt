@@ -53,6 +53,13 @@ stopped_quiet g node side other none = (λ j a m k. absurd (whole m k.2), λ j a
         let is : take (length side - 1) side ≡ w = ap (λ z. take z side) long ∙ ap (take (length w)) e ∙ take-append_seam w (a ∷ []) in
         let no : None ≡ Some j = sym none ∙ ap (path g node) is ∙ h in cc
 
+-- sides that lead to one node ask for nothing
+pub met_quiet : (g : Graph) (node n : ℕ) (r s : Word) → path g node r ≡ Some n → path g node s ≡ Some n → IsDueFrom g node r s Nothing × IsDueFrom g node s r Nothing
+met_quiet g node n r s one two = (quiet r s one two, quiet s r two one)
+  where
+    quiet : (r s : Word) → path g node r ≡ Some n → path g node s ≡ Some n → IsDueFrom g node r s Nothing
+    quiet r s one two j a m k = sym (path_more g node j k.0 a k.3) ∙ ap (path g node) (sym k.1) ∙ two ∙ sym one ∙ k.2
+
 -- a walk along the list of a node's sources: those that are still to come, and those for which P holds
 pub record IsListing (t : Links) (node letter : ℕ) (P : ℕ → Type 0) (at : Option ℕ) : Type 0 where
   pub rest : List ℕ

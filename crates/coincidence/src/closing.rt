@@ -7,6 +7,7 @@ ghost use Rattle.theory.specs.Graph.{target as target_of, IsGraph, PathsRelate};
 ghost use Rattle.word_graph.specs.Edges.{with_edge, with_node};
 ghost use Rattle.coincidence.specs.Closing.{ClosedThere};
 ghost use Rattle.coincidence.specs.DueSpec.{IsDueIn};
+ghost use Rattle.coincidence.specs.Holding.{HoldBefore};
 ghost use Rattle.coincidence.specs.Kept.{IsMended, IsOfGraph};
 ghost use Rattle.coincidence.specs.Live.{IsIdentified, IsLiveGraph, IsOn};
 ghost use Rattle.coincidence.specs.Marks.{KeepsMarks, KeepsNumbers};
@@ -19,7 +20,7 @@ use crate::indexed::Indexed;
 use crate::joins::merge;
 use crate::order::Order;
 use crate::pending::{Pending, Worklist};
-use crate::reads::{due_at, due_through};
+use crate::reads::{due_at, due_from, due_through, past_held};
 use ports::NoMemory;
 use std::alloc::Global;
 use words::Letter;
@@ -70,17 +71,31 @@ fn due_next(congruence: &Indexed, edges: &Edges, live: &Vec<bool>, pending: &mut
     due_at(edges, 0, congruence.pairs())
 }
 
-// What relations ask for at one node, or the pairs at the root.
-fn due_there(congruence: &Indexed, edges: &Edges, live: &Vec<bool>, node: usize) -> Due
+// What relations ask for at one node, or the pairs at the root. The relations before a place are
+// known to hold at the node, and the place goes on.
+fn due_there(
+    congruence: &Indexed,
+    edges: &Edges,
+    live: &Vec<bool>,
+    node: usize,
+    held: &mut usize,
+) -> Due
     requires live { IsLiveGraph edges.now.graph live.now.items }
     requires node { IsOn live.now.items node }
-    ensures { IsDueIn congruence.now.congruence edges.now.graph live.now.items (Some node) result }
+    requires held { HoldBefore congruence.now.congruence.presentation.relations edges.now.graph
+        node held.old }
+    ensures due { IsDueIn congruence.now.congruence edges.now.graph live.now.items (Some node)
+        result }
+    ensures held { HoldBefore congruence.now.congruence.presentation.relations edges.now.graph
+        node held.new }
 {
     match due_at(edges, 0, congruence.pairs()) {
         Due::Nothing => {}
         due => return due,
     }
-    due_at(edges, node, congruence.relations())
+    let relations = congruence.relations();
+    *held = past_held(edges, node, relations, *held);
+    due_from(edges, node, relations, *held)
 }
 
 // What is asked for next: anywhere, or at one node.
@@ -90,18 +105,23 @@ fn due_in(
     live: &Vec<bool>,
     pending: &mut Worklist,
     at: Option<usize>,
+    held: &mut usize,
 ) -> Due
     requires live { IsLiveGraph edges.now.graph live.now.items }
     requires at { ForSome at (IsOn live.now.items) }
+    requires held { ForSome at (λ node. HoldBefore
+        congruence.now.congruence.presentation.relations edges.now.graph node held.old) }
     requires closed { IsClosedBut congruence.now.congruence.presentation.relations edges.now.graph
         live.now.items pending.old }
+    ensures held { ForSome at (λ node. HoldBefore
+        congruence.now.congruence.presentation.relations edges.now.graph node held.new) }
     ensures due { IsDueIn congruence.now.congruence edges.now.graph live.now.items at result }
     ensures closed { IsClosedBut congruence.now.congruence.presentation.relations edges.now.graph
         live.now.items pending.new }
 {
     match at {
         None => due_next(congruence, edges, live, pending),
-        Some(node) => due_there(congruence, edges, live, node),
+        Some(node) => due_there(congruence, edges, live, node, held),
     }
 }
 
@@ -144,8 +164,9 @@ pub fn close_in(
         edges.new.graph live.new.items pending.new) }
 {
     let mut place = at;
+    let mut held = 0;
     loop {
-        match due_in(congruence, edges, live, pending, place) {
+        match due_in(congruence, edges, live, pending, place, &mut held) {
             Due::Nothing => return Ok(()),
             Due::Edge(node, letter, to) => {
                 pending.push(Pending::NewEdge(node, letter))?;

@@ -1,8 +1,9 @@
 // What relations and pairs ask for, read along edges and back along lists of sources.
-ghost use Rattle.std.specs.Prelude.{◌≡◌, ℕ, ◌-◌, ◌<◌, ◌≤◌, false, List, None, Some, length, slice_get, take};
+ghost use Rattle.std.specs.Prelude.{◌≡◌, ℕ, ◌-◌, ◌<◌, ◌≤◌, false, true, List, None, Some, length, slice_get, take};
 ghost use Rattle.theory.specs.Word.{Word as Letters};
 ghost use Rattle.theory.specs.Graph.{path as path_of, target as target_of};
 ghost use Rattle.coincidence.specs.DueSpec.{IsDueFrom, IsDueAt};
+ghost use Rattle.coincidence.specs.Holding.{HoldBefore, MeetAt};
 ghost use Rattle.coincidence.specs.Live.{IsLiveGraph, IsOn};
 ghost use Rattle.coincidence.specs.Reading.{IsCut, IsDueBoth, IsDueBehind, IsDueAlong, IsDueThrough};
 ghost use Rattle.coincidence.specs.Uses.{AreUses, ArePlaces, IsDueAtPlaces, IsDueInPowers, IsDueBefore, IsDueBeforeAny, IsDueInSides};
@@ -76,6 +77,16 @@ fn due_to(edges: &Edges, end: Option<usize>, at: usize, side: &Word) -> Due
     }
 }
 
+// Whether both lead somewhere, and to one node.
+fn meet(first: Option<usize>, second: Option<usize>) -> bool
+    ensures { result ≡ true → (n : ℕ) × (first ≡ Some n) × (second ≡ Some n) }
+{
+    match first {
+        None => false,
+        Some(end) => second == Some(end),
+    }
+}
+
 // What a pair asks for at the node, read both ways.
 fn due_both(edges: &Edges, node: usize, first: &Word, second: &Word) -> Due
     ensures { IsDueBoth edges.now.graph node first.now second.now result }
@@ -86,17 +97,45 @@ fn due_both(edges: &Edges, node: usize, first: &Word, second: &Word) -> Due
     let Some(two) = front_end(edges, node, second) else {
         return Due::Nothing;
     };
-    match due_to(edges, side_end(edges, one, first), two, second) {
-        Due::Nothing => due_to(edges, side_end(edges, two, second), one, first),
+    let first_end = side_end(edges, one, first);
+    let second_end = side_end(edges, two, second);
+    if meet(first_end, second_end) {
+        return Due::Nothing;
+    }
+    match due_to(edges, first_end, two, second) {
+        Due::Nothing => due_to(edges, second_end, one, first),
         due => due,
     }
 }
 
-/// What the pairs ask for at the node.
-pub fn due_at(edges: &Edges, node: usize, pairs: &Pairs) -> Due
+// Whether both sides of the pair lead from the node, to one node.
+fn holds(edges: &Edges, node: usize, pair: &(Word, Word)) -> bool
+    ensures { result ≡ true → MeetAt edges.now.graph node pair.now }
+{
+    let first = prefix_path(edges, node, &pair.0, pair.0.len());
+    let second = prefix_path(edges, node, &pair.1, pair.1.len());
+    meet(first, second)
+}
+
+/// Goes from a place past the pairs that hold at the node. Those before the place hold there.
+pub fn past_held(edges: &Edges, node: usize, pairs: &Pairs, place: usize) -> usize
+    requires { HoldBefore pairs.now edges.now.graph node place }
+    ensures { HoldBefore pairs.now edges.now.graph node result }
+{
+    for i in place..pairs.len() {
+        if !holds(edges, node, pairs.pair(i)) {
+            return i;
+        }
+    }
+    pairs.len()
+}
+
+/// What the pairs from a place on ask for at the node. Those before it hold there.
+pub fn due_from(edges: &Edges, node: usize, pairs: &Pairs, place: usize) -> Due
+    requires { HoldBefore pairs.now edges.now.graph node place }
     ensures { IsDueAt edges.now.graph node pairs.now result }
 {
-    for i in 0..pairs.len() {
+    for i in place..pairs.len() {
         let pair = pairs.pair(i);
         match due_both(edges, node, &pair.0, &pair.1) {
             Due::Nothing => {}
@@ -104,6 +143,13 @@ pub fn due_at(edges: &Edges, node: usize, pairs: &Pairs) -> Due
         }
     }
     Due::Nothing
+}
+
+/// What the pairs ask for at the node.
+pub fn due_at(edges: &Edges, node: usize, pairs: &Pairs) -> Due
+    ensures { IsDueAt edges.now.graph node pairs.now result }
+{
+    due_from(edges, node, pairs, 0)
 }
 
 // What a pair asks for at the nodes from which the first letters of the one side lead to this one.

@@ -1,5 +1,8 @@
 use Rattle.std.proofs.Common.{[], sym, ◌∙◌, arith}
 use Rattle.coincidence.proofs.CloseLaws.{within_end}
+use Rattle.word_graph.specs.Edges.{with_edge}
+use Rattle.coincidence.proofs.HoldLaws.{place_held_edged, place_held_folded}
+use Rattle.coincidence.proofs.FoldLaws.{edged_with}
 use Rattle.coincidence.proofs.LiveLaws.{left_edge, left_join}
 use Rattle.coincidence.proofs.MarkLaws.{marks_kept, live_marks}
 use Rattle.coincidence.proofs.StepLaws.{due_inside, join_live}
@@ -11,6 +14,7 @@ pub loop-node-init : goal.loop-node-init
 loop-node-init c = record {
   drawing = drawing_start c.args.congruence.now.congruence c.args.edges.now.graph c.args.live.now.items c.args.marked.now.items c.args.pending.now c.args.at c.requires.live c.requires.at c.requires.graph c.requires.shape c.requires.closed;
   order = mended_start c.args.order.now c.args.live.now.items;
+  held = λ n is k d h. absurd (omega (arith, h));
 }
 
 pub due_in-requires-clause-at : goal.due_in-requires-clause-at
@@ -52,6 +56,10 @@ loop-node-preserved-in-Edge c = record {
   drawing = rw (c.set_edge.ensures, c.in_ok-push-in-Edge.ensures.items)
       (drawing_edge c.args.congruence.now.congruence c.args.edges.now.graph c.args.at c.args.live.now.items c.args.marked.now.items c.loop-node.edges.graph c.loop-node.live.items c.loop-node.marked.items c.due_in.new.pending c.loop-node.place c.requires.graph c.requires.live c.requires.at c.requires.well_formed (drawing_dropped c.args.congruence.now.congruence c.args.edges.now.graph c.args.at c.args.marked.now.items c.loop-node.edges.graph c.loop-node.live.items c.loop-node.marked.items c.loop-node.pending c.due_in.new.pending c.loop-node.place c.due_in.ensures.closed c.loop-node.invariant.drawing) c.in-Edge.node c.in-Edge.letter c.in-Edge.to c.in-Edge.ensures.due.0 c.in-Edge.ensures.due.1);
   order = c.loop-node.invariant.order;
+  held = rw (c.set_edge.ensures)
+      (place_held_edged c.args.congruence.now.congruence.presentation.relations c.loop-node.edges.graph (with_edge c.loop-node.edges.graph c.in-Edge.node c.in-Edge.letter c.in-Edge.to) c.in-Edge.node c.in-Edge.letter c.in-Edge.to c.due_in.new.held c.loop-node.place
+      (edged_with c.loop-node.edges.graph c.in-Edge.node c.in-Edge.letter c.in-Edge.to (due_inside c.args.congruence.now.congruence c.loop-node.edges.graph c.loop-node.place c.in-Edge.node c.in-Edge.letter c.in-Edge.to c.loop-node.invariant.drawing.graph c.requires.well_formed c.in-Edge.ensures.due.0).0 (due_inside c.args.congruence.now.congruence c.loop-node.edges.graph c.loop-node.place c.in-Edge.node c.in-Edge.letter c.in-Edge.to c.loop-node.invariant.drawing.graph c.requires.well_formed c.in-Edge.ensures.due.0).1 c.in-Edge.ensures.due.1)
+      c.due_in.ensures.held);
 }
 
 pub merge-requires-clause-x : goal.merge-requires-clause-x
@@ -76,6 +84,7 @@ pub loop-node-preserved : goal.loop-node-preserved
 loop-node-preserved c = record {
   drawing = (drawing_join c.args.congruence.now.congruence c.args.edges.now.graph c.args.at c.args.live.now.items c.args.marked.now.items c.loop-node.edges.graph c.loop-node.live.items c.loop-node.marked.items c.due_in.new.pending c.loop-node.place c.requires.graph c.requires.live c.requires.at c.requires.well_formed (drawing_dropped c.args.congruence.now.congruence c.args.edges.now.graph c.args.at c.args.marked.now.items c.loop-node.edges.graph c.loop-node.live.items c.loop-node.marked.items c.loop-node.pending c.due_in.new.pending c.loop-node.place c.due_in.ensures.closed c.loop-node.invariant.drawing) c.merge.new.edges.graph c.merge.new.live.items c.merge.new.marked.items c.merge.new.pending c.in-Join.field-0 c.in-Join.field-1 c.in-Join.y c.in-Join.x c.in_ok-place-in-Join.place c.in-Join.ensures.due.0 c.in-Join.ensures.due.1 (join_live c.args.congruence.now.congruence c.loop-node.edges.graph c.loop-node.place c.loop-node.live.items c.in-Join.field-0 c.in-Join.field-1 c.in-Join.y c.in-Join.x c.loop-node.invariant.drawing.live_graph c.in-Join.ensures.due.0 c.in-Join.ensures.due.1).0 (join_live c.args.congruence.now.congruence c.loop-node.edges.graph c.loop-node.place c.loop-node.live.items c.in-Join.field-0 c.in-Join.field-1 c.in-Join.y c.in-Join.x c.loop-node.invariant.drawing.live_graph c.in-Join.ensures.due.0 c.in-Join.ensures.due.1).1 c.in_ok-place-in-Join.ensures.joined).1;
   order = mended_on c.args.order.now c.loop-node.order c.merge.new.order c.args.live.now.items c.loop-node.live.items c.merge.new.live.items c.loop-node.invariant.order c.in_ok-place-in-Join.ensures.order;
+  held = place_held_folded c.args.congruence.now.congruence.presentation.relations c.loop-node.edges.graph c.in_ok-place-in-Join.ensures.joined.class c.merge.new.edges.graph c.due_in.new.held c.loop-node.place c.in_ok-place-in-Join.place c.in_ok-place-in-Join.ensures.joined.merging.folded c.in_ok-place-in-Join.ensures.joined.gone c.due_in.ensures.held;
 }
 
 pub merge-requires-clause-order : goal.merge-requires-clause-order

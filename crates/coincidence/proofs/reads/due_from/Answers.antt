@@ -1,7 +1,8 @@
-use Rattle.std.proofs.Common.{◌≡◌, ◌<◌, length, subst, arith}
-use Rattle.coincidence.proofs.DueLaws.{IsQuiet, quiet_more, quiet_closed, pair_contained}
+use Rattle.std.proofs.Common.{◌<◌, length, arith}
+use Rattle.coincidence.proofs.DueLaws.{quiet_more, quiet_closed, pair_contained}
+use Rattle.coincidence.proofs.HoldLaws.{held_quiet}
 use Rattle.coincidence.proofs.ReadLaws.{at_found}
-use Rattle.coincidence.proofs.reads.due_at.Goals as goal
+use Rattle.coincidence.proofs.reads.due_from.Goals as goal
 
 pub loop-i-preserved : goal.loop-i-preserved
 loop-i-preserved c =
@@ -10,8 +11,10 @@ loop-i-preserved c =
 
 pub returns : goal.returns
 returns c =
-    let end : c.loop-i.i ≡ length c.args.pairs.now = omega arith in
-    quiet_closed c.args.edges.now.graph c.args.node c.args.pairs.now (subst (λ z. IsQuiet c.args.edges.now.graph c.args.node c.args.pairs.now z) end c.loop-i.invariant)
+    quiet_closed c.args.edges.now.graph c.args.node c.args.pairs.now (λ k d h. c.loop-i.invariant k d (omega (arith, h)))
+
+pub loop-i-init : goal.loop-i-init
+loop-i-init c = held_quiet c.args.pairs.now c.args.edges.now.graph c.args.node c.args.place c.requires
 
 pub returns-in_default : goal.returns-in_default
 returns-in_default c =
