@@ -87,13 +87,11 @@ fn meet(first: Option<usize>, second: Option<usize>) -> bool
     }
 }
 
-// What a pair asks for at the node, read both ways.
-fn due_both(edges: &Edges, node: usize, first: &Word, second: &Word) -> Due
+// What a pair asks for at the node, read both ways. The first side is read but for its last letter.
+fn due_beside(edges: &Edges, node: usize, first: &Word, one: usize, second: &Word) -> Due
+    requires { path_of edges.now.graph node (take (length first.now - 1) first.now) ≡ Some one }
     ensures { IsDueBoth edges.now.graph node first.now second.now result }
 {
-    let Some(one) = front_end(edges, node, first) else {
-        return Due::Nothing;
-    };
     let Some(two) = front_end(edges, node, second) else {
         return Due::Nothing;
     };
@@ -106,6 +104,16 @@ fn due_both(edges: &Edges, node: usize, first: &Word, second: &Word) -> Due
         Due::Nothing => due_to(edges, second_end, one, first),
         due => due,
     }
+}
+
+// What a pair asks for at the node, read both ways.
+fn due_both(edges: &Edges, node: usize, first: &Word, second: &Word) -> Due
+    ensures { IsDueBoth edges.now.graph node first.now second.now result }
+{
+    let Some(one) = front_end(edges, node, first) else {
+        return Due::Nothing;
+    };
+    due_beside(edges, node, first, one, second)
 }
 
 // Whether both sides of the pair lead from the node, to one node.
@@ -152,25 +160,81 @@ pub fn due_at(edges: &Edges, node: usize, pairs: &Pairs) -> Due
     due_from(edges, node, pairs, 0)
 }
 
-// What a pair asks for at the nodes from which the first letters of the one side lead to this one.
-fn due_behind(edges: &Edges, node: usize, side: &Word, count: usize, other: &Word) -> Due
-    requires { count ≤ length side.now }
+// Where all but the last letter of the side lead, read on from a place of it, from each node from
+// which the letters before the place lead to this one.
+fn front_from(edges: &Edges, node: usize, side: &Word, place: usize) -> Option<usize>
+    requires { place < length side.now }
+    ensures { (n : ℕ) → path_of edges.now.graph n (take place side.now) ≡ Some node
+        → result ≡ path_of edges.now.graph n (take (length side.now - 1) side.now) }
+{
+    let mut at = node;
+    for i in place..side.len() - 1 {
+        match edges.target(at, side.letter(i)) {
+            None => return None,
+            Some(next) => at = next,
+        }
+    }
+    Some(at)
+}
+
+// What a pair asks for at a node from which the one side leads to a place of it.
+fn due_beyond(
+    edges: &Edges,
+    node: usize,
+    side: &Word,
+    place: usize,
+    middle: usize,
+    other: &Word,
+) -> Due
+    requires place { place < length side.now }
+    requires middle { path_of edges.now.graph node (take place side.now) ≡ Some middle }
+    ensures { IsDueBoth edges.now.graph node side.now other.now result }
+{
+    match front_from(edges, middle, side, place) {
+        None => Due::Nothing,
+        Some(one) => due_beside(edges, node, side, one, other),
+    }
+}
+
+// What a pair asks for at the nodes from which the first letters of the one side lead to this one,
+// and on to a place of it.
+fn due_behind(
+    edges: &Edges,
+    node: usize,
+    side: &Word,
+    count: usize,
+    place: usize,
+    middle: usize,
+    other: &Word,
+) -> Due
+    requires count { count ≤ place }
+    requires place { place < length side.now }
+    requires middle { (n : ℕ) → path_of edges.now.graph n (take count side.now) ≡ Some node
+        → path_of edges.now.graph n (take place side.now) ≡ Some middle }
     ensures { IsDueBehind edges.now.graph node (take count side.now) side.now other.now result }
 {
     if count == 0 {
-        return due_both(edges, node, side, other);
+        return due_beyond(edges, node, side, place, middle, other);
     }
     let _letters = edges.letters();
     let letter = side.letter(count - 1);
     let mut at = edges.first_source(node, letter);
     while let Some(source) = at {
-        match due_behind(edges, source, side, count - 1, other) {
+        match due_behind(edges, source, side, count - 1, place, middle, other) {
             Due::Nothing => {}
             due => return due,
         }
         at = edges.next_source(source, letter);
     }
     Due::Nothing
+}
+
+// What a pair asks for where the one side is read across this node, with so many letters behind it.
+fn due_across(edges: &Edges, node: usize, side: &Word, place: usize, other: &Word) -> Due
+    requires { place < length side.now }
+    ensures { IsDueBehind edges.now.graph node (take place side.now) side.now other.now result }
+{
+    due_behind(edges, node, side, place, place, node, other)
 }
 
 // Whether the side may be read across the edge of the letter from the node with its letter at the
@@ -202,7 +266,7 @@ fn due_along(edges: &Edges, node: usize, letter: Letter, side: &Word, other: &Wo
     }
     for place in 0..side.len() {
         if may_cross(edges, node, letter, side, place) {
-            match due_behind(edges, node, side, place, other) {
+            match due_across(edges, node, side, place, other) {
                 Due::Nothing => {}
                 due => return due,
             }
@@ -225,7 +289,7 @@ fn due_at_places(
 {
     for k in 0..places.len() {
         let pair = pairs.pair(places[k].0);
-        match due_behind(
+        match due_across(
             edges,
             node,
             side(pair, second),

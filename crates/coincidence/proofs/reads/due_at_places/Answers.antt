@@ -8,8 +8,8 @@ use Rattle.coincidence.proofs.reads.due_at_places.Goals as goal
 pub pair-pair-requires : goal.pair-pair-requires
 pair-pair-requires c = (place_within c.args.second c.args.pairs.now c.args.places.now c.loop-k.k ([], []) (omega arith) c.requires).0
 
-pub due_behind-requires : goal.due_behind-requires
-due_behind-requires c =
+pub due_across-requires : goal.due_across-requires
+due_across-requires c =
     let within : (get_or c.args.places.now c.loop-k.k (0, 0)).1 < length c.side.result.now =
     subst (λ (z : Word). (get_or c.args.places.now c.loop-k.k (0, 0)).1 < length z) (sym c.side.ensures)
     (subst (λ (z : Word × Word). (get_or c.args.places.now c.loop-k.k (0, 0)).1 < length (side_of c.args.second z)) (sym c.pair-pair.ensures)
@@ -18,9 +18,9 @@ due_behind-requires c =
 
 pub returns-in_default : goal.returns-in_default
 returns-in_default c =
-    places_found c.args.second c.args.edges.now.graph c.args.pairs.now c.args.node c.args.letter (get_or c.args.places.now c.loop-k.k (0, 0)).0 (get_or c.args.places.now c.loop-k.k (0, 0)).1 c.args.places.now c.pair-pair.result.now c.due_behind.result
+    places_found c.args.second c.args.edges.now.graph c.args.pairs.now c.args.node c.args.letter (get_or c.args.places.now c.loop-k.k (0, 0)).0 (get_or c.args.places.now c.loop-k.k (0, 0)).1 c.args.places.now c.pair-pair.result.now c.due_across.result
     (λ e. c.in_default.not-Nothing e) (place_within c.args.second c.args.pairs.now c.args.places.now c.loop-k.k ([], []) (omega arith) c.requires).0 c.pair-pair.ensures
-    (behind_of c.args.second c.args.edges.now.graph c.args.node (get_or c.args.places.now c.loop-k.k (0, 0)).1 c.pair-pair.result.now c.side.result.now c.other_side.result.now c.due_behind.result c.side.ensures c.other_side.ensures c.due_behind.ensures)
+    (behind_of c.args.second c.args.edges.now.graph c.args.node (get_or c.args.places.now c.loop-k.k (0, 0)).1 c.pair-pair.result.now c.side.result.now c.other_side.result.now c.due_across.result c.side.ensures c.other_side.ensures c.due_across.ensures)
 
 pub loop-k-preserved : goal.loop-k-preserved
 loop-k-preserved c =
