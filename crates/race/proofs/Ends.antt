@@ -2,13 +2,13 @@
 use Rattle.race.specs.declared.engines.Racer.{Ghosts}
 use Rattle.std.proofs.Common.{◌≡◌, ◌≢◌, ℕ, zero, suc, ◌+◌, ◌<◌, ◌≤◌, ◌⊎◌, inl, inr, List, [], ◌∷◌, map, set, Some, Contains, length, refl, sym, ap, ◌∙◌, subst, arith, eq-eqb}
 use Rattle.std.specs.Prelude.{Option, slice_get, slice_index_or}
+use Rattle.std.specs.List.{AllZip}
+use Rattle.std.proofs.lemmas.List.Elements.{length_all_zip}
 use Rattle.atomic_table.specs.Table.{State, Seen}
-use Rattle.race.proofs.GroupTurns.{pairwise_right, pairwise_length}
 use Rattle.race.proofs.Winners.{total_set, of_one, only, counts, entry_at, entry_kept}
 use Rattle.race.specs.Machine.{state_at, IsSound, StateFits, Starts, tasks, EndsAs, outcome_of}
 use Rattle.race.specs.Winner.{phase_of, entry, keeper, spent, total, has_number, next_of, IsEntry, PhaseFits, WordFits, IsRuled}
-use Rattle.race.specs.SeatedLane.{Pairwise, IsHonest, StateIsHonest}
-use Rattle.race.specs.Dealt.{LaneEnded, entry_of}
+use Rattle.race.specs.SeatedLane.{IsHonest, StateIsHonest, LaneEnded, entry_of}
 use Rattle.race.specs.declared.playing.Outcome.{Outcome}
 use Rattle.race.specs.declared.winner.Phase.TheVariants as phase
 use Rattle.race.specs.declared.winner.Entry.{Entry}
@@ -89,10 +89,18 @@ module _ {A : Type 0} (kind : Ghosts A) where
   abbrev HasEnded : Lane A → Lane A → Type 0
   HasEnded l m = LaneEnded kind l m
 
-  numbered : (first ls : List (Lane A)) → Starts kind first → Pairwise HasEnded first ls → (i : ℕ) (l : Lane A) → slice_get ls i ≡ Some l → (l.number ≡ i) × IsHonest kind l × (l.state ≢ Running)
-  numbered first ls starts each i l at = let h = pairwise_right HasEnded first ls i l each at in (h.2.number ∙ (starts i h.0 h.1).0.number, h.2.honest, h.2.ended)
+  -- what a lane was
+  ended_of : (first ls : List (Lane A)) (i : ℕ) (l : Lane A) → AllZip HasEnded first ls → slice_get ls i ≡ Some l → (x : Lane A) × (slice_get first i ≡ Some x) × HasEnded x l
+  ended_of [] [] i l e at = absurd (cc)
+  ended_of [] (m ∷ ls) i l e at = absurd e
+  ended_of (x ∷ first) [] i l e at = absurd e
+  ended_of (x ∷ first) (m ∷ ls) zero l e at = let h : m ≡ l = cc in (x, refl, subst (HasEnded x) h e.0)
+  ended_of (x ∷ first) (m ∷ ls) (suc i) l e at = ended_of first ls i l e.1 at
 
-  same_tasks : (first ls : List (Lane A)) → Pairwise HasEnded first ls → tasks kind ls ≡ tasks kind first
+  numbered : (first ls : List (Lane A)) → Starts kind first → AllZip HasEnded first ls → (i : ℕ) (l : Lane A) → slice_get ls i ≡ Some l → (l.number ≡ i) × IsHonest kind l × (l.state ≢ Running)
+  numbered first ls starts each i l at = let h = ended_of first ls i l each at in (h.2.number ∙ (starts i h.0 h.1).0.number, h.2.honest, h.2.ended)
+
+  same_tasks : (first ls : List (Lane A)) → AllZip HasEnded first ls → tasks kind ls ≡ tasks kind first
   same_tasks [] [] e = refl
   same_tasks [] (l ∷ ls) e = absurd e
   same_tasks (x ∷ first) [] e = absurd e
@@ -103,11 +111,11 @@ module _ {A : Type 0} (kind : Ghosts A) where
   there (x ∷ ls) zero h = (x, refl)
   there (x ∷ ls) (suc i) h = there ls i (omega arith)
 
-  pub sound_end : (id n w : ℕ) (first ls : List (Lane A)) (s : S) → Seen IsRuled id (keeper n (map entry_of ls)) s → s.words ≡ w ∷ [] → Starts kind first → length first ≡ n → Pairwise HasEnded first ls
+  pub sound_end : (id n w : ℕ) (first ls : List (Lane A)) (s : S) → Seen IsRuled id (keeper n (map entry_of ls)) s → s.words ≡ w ∷ [] → Starts kind first → length first ≡ n → AllZip HasEnded first ls
       → (w ≤ 64) × IsSound kind (state_at w ls)
   sound_end id n w first ls s seen is starts len each =
       let known = numbered first ls starts each in
-      let count = pairwise_length HasEnded first ls each in
+      let count = sym (length_all_zip HasEnded first ls each) in
       let all : (i : ℕ) → i < n → 1 ≤ total (has_number i) (map entry_of ls) =
       λ i h. let l = there ls i (omega arith) in
       let lone : has_number i (entry_of l.0) ≡ 1 = rw (eq-eqb l.0.number i (known i l.0 l.1).0) refl in
@@ -125,7 +133,7 @@ module _ {A : Type 0} (kind : Ghosts A) where
           → (i : ℕ) × (l : Lane A) × (w ≡ i + 1) × (slice_get ls i ≡ Some l) × (l.state ≡ Won)
       wins j e f known = let n = (known f.0 f.1 f.2).0 in let d = f.3 in (f.0, f.1, omega arith, f.2, f.4)
 
-  pub ends_as : (id n w : ℕ) (first ls : List (Lane A)) (s : S) (o : Outcome) → Seen IsRuled id (keeper n (map entry_of ls)) s → s.words ≡ w ∷ [] → Starts kind first → length first ≡ n → Pairwise HasEnded first ls
+  pub ends_as : (id n w : ℕ) (first ls : List (Lane A)) (s : S) (o : Outcome) → Seen IsRuled id (keeper n (map entry_of ls)) s → s.words ≡ w ∷ [] → Starts kind first → length first ≡ n → AllZip HasEnded first ls
       → o ≡ outcome_of (state_at w ls) → EndsAs kind first o ls
   ends_as id n w first ls s o seen is starts len each e =
       let h = sound_end id n w first ls s seen is starts len each in
@@ -135,10 +143,10 @@ module _ {A : Type 0} (kind : Ghosts A) where
         ended = λ i l at. (numbered first ls starts each i l at).2;
         outcome_is = e;
         kept = same_tasks first ls each;
-        count = pairwise_length HasEnded first ls each;
+        count = sym (length_all_zip HasEnded first ls each);
       }
 
-  pub ends_by : (id n w : ℕ) (me : View × List (ℕ × Unit {0})) (first ls : List (Lane A)) (o : Outcome) → me ≡ (keeper n (map entry_of ls), []) → ((s : S) × Seen IsRuled id me.0 s × (s.words ≡ w ∷ [])) → Starts kind first → length first ≡ n → Pairwise HasEnded first ls
+  pub ends_by : (id n w : ℕ) (me : View × List (ℕ × Unit {0})) (first ls : List (Lane A)) (o : Outcome) → me ≡ (keeper n (map entry_of ls), []) → ((s : S) × Seen IsRuled id me.0 s × (s.words ≡ w ∷ [])) → Starts kind first → length first ≡ n → AllZip HasEnded first ls
       → o ≡ outcome_of (state_at w ls) → EndsAs kind first o ls
   ends_by id n w me first ls o e seen starts len each is =
       ends_as id n w first ls seen.0 o (subst (λ (m : View × List (ℕ × Unit {0})). Seen IsRuled id m.0 seen.0) e seen.1) seen.2 starts len each is

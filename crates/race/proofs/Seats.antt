@@ -76,6 +76,7 @@ module _ {A : Type 0} (kind : Ghosts A) where
       let e : u.lane ≡ lane k r (Some Load) (looked n) = l ∙ ap (λ (x : Lane A). settled x n) (lane_is t.lane (Some Load) c s) ∙ look_state n k r in
       let v : u.seat.me ≡ (lane_view k (phase_of (looked n)), []) = me ∙ ap (λ (m : Me (Unit {0}) View). (moves looked n m.0, m.1)) sits.view in
       record {
+        words = sits.words;
         table = id ∙ sits.table;
         view = v ∙ ap (λ (x : Lane A). (lane_view x.number (phase_of x.state), [])) (sym e);
         honest = subst (λ (x : Lane A). Good x) (sym e) (look_honest n k r);
@@ -87,6 +88,7 @@ module _ {A : Type 0} (kind : Ghosts A) where
       let e : u.lane ≡ lane k r (Some Exchange) (published n) = l ∙ ap (λ (x : Lane A). settled x n) (lane_is t.lane (Some Exchange) c s) in
       let v : u.seat.me ≡ (lane_view k (phase_of (published n)), []) = me ∙ ap (λ (m : Me (Unit {0}) View). (moves published n m.0, m.1)) sits.view in
       record {
+        words = sits.words;
         table = id ∙ sits.table;
         view = v ∙ ap (λ (x : Lane A). (lane_view x.number (phase_of x.state), [])) (sym e);
         honest = subst (λ (x : Lane A). Good x) (sym e) (publish_honest n k r (sits.honest.step s));

@@ -1,5 +1,4 @@
 pub mod Answer
-pub mod Dealt
 pub mod Lanes
 pub mod Machine
 pub mod Script

@@ -1,7 +1,7 @@
-// Groups of seated lanes, which run at the same time.
-ghost use Rattle.std.specs.Prelude.{◌≡◌, ◌<◌, MatchBool, length};
-ghost use denote.Param.Send.{IsSync, IsSend};
-ghost use Rattle.race.specs.SeatedLane.{AreSeated, NoneRuns, turns_left, Pairwise, TookTurns, GroupsAreSeated, GroupTookAllTurns};
+// Groups of seated lanes, which go in rotation.
+ghost use Rattle.std.specs.Prelude.{◌<◌, MatchBool};
+ghost use Rattle.std.specs.List.{AllZip};
+ghost use Rattle.race.specs.SeatedLane.{AreSeated, NoneRuns, turns_left, TookTurns};
 
 use crate::engines::Racer;
 use crate::lanes::is_running;
@@ -9,13 +9,12 @@ use crate::seated_lane::SeatedLane;
 use crate::steps::turn_seated;
 use crate::winner::Word;
 use ports::Gate;
-use std::thread::{Threads, join_mut};
+use workers::Crew;
 
 // A turn of each lane that runs. Whether one ran.
 fn pass_over<R: Racer, G: Gate>(word: &Word, gate: &G, group: &mut [SeatedLane<R>]) -> bool
-    requires word { word.now.table_id.words ≡ 1 }
-    requires seated { AreSeated R.Racer word.now.table_id group.old }
-    ensures ran { Pairwise (TookTurns R.Racer word.now.table_id) group.old group.new }
+    requires { AreSeated R.Racer word.now.table_id group.old }
+    ensures ran { AllZip (TookTurns R.Racer word.now.table_id) group.old group.new }
     ensures nearer { MatchBool result (turns_left R.Racer group.new < turns_left R.Racer group.old)
         (NoneRuns R.Racer group.new) }
 {
@@ -30,65 +29,21 @@ fn pass_over<R: Racer, G: Gate>(word: &Word, gate: &G, group: &mut [SeatedLane<R
     any_ran
 }
 
-// Turns of a group in rotation, until each lane has ended.
-fn run_group<R: Racer, G: Gate>(word: &Word, gate: &G, group: &mut Vec<SeatedLane<R>>)
-    requires word { word.now.table_id.words ≡ 1 }
-    requires seated { AreSeated R.Racer word.now.table_id group.old.items }
-    ensures { GroupTookAllTurns R.Racer word.now.table_id group.old group.new }
-{
-    while pass_over(word, gate, group.as_mut_slice()) {}
+// Turns of the lanes of a group in rotation, until each has ended.
+#[derive(Drop)]
+pub(crate) struct Rotation<'a, G> {
+    pub(crate) word: &'a Word,
+    pub(crate) gate: &'a G,
 }
 
-// Runs the groups at the same time, by halves of their list.
-fn run_groups<T: Threads + Sync, R: Racer + Send, G: Gate + Sync>(
-    rt: &T,
-    word: &Word,
-    gate: &G,
-    groups: &mut [Vec<SeatedLane<R>>],
-)
-    requires word { word.now.table_id.words ≡ 1 }
-    requires seated { GroupsAreSeated R.Racer word.now.table_id groups.old }
-    ensures { Pairwise (GroupTookAllTurns R.Racer word.now.table_id) groups.old groups.new }
-{
-    if groups.len() == 0 {
-        return;
-    }
-    if groups.len() == 1 {
-        run_group(word, gate, &mut groups[0]);
-        return;
-    }
-    let (front, back) = groups.split_at_mut(groups.len() / 2);
-    join_mut(
-        rt,
-        &mut ||
-            requires threads { IsSync T.row × IsSend R.row × IsSync G.row }
-            requires word { word.now.table_id.words ≡ 1 }
-            requires seated { GroupsAreSeated R.Racer word.now.table_id front.now }
-            ensures { Pairwise (GroupTookAllTurns R.Racer word.entry.now.table_id)
-                front.entry.now front.exit.now }
-        { run_groups(rt, word, gate, front) },
-        &mut ||
-            requires threads { IsSync T.row × IsSend R.row × IsSync G.row }
-            requires word { word.now.table_id.words ≡ 1 }
-            requires seated { GroupsAreSeated R.Racer word.now.table_id back.now }
-            ensures { Pairwise (GroupTookAllTurns R.Racer word.entry.now.table_id)
-                back.entry.now back.exit.now }
-        { run_groups(rt, word, gate, back) },
-    );
-}
+impl<'a, R: Racer, G: Gate> Crew<SeatedLane<R>> for Rotation<'a, G> {
+    ghost use Rattle.race.specs.SeatedLane.{IsSeated, TookAllTurns};
 
-// Runs the groups of a list.
-pub(crate) fn run_all<T: Threads + Sync, R: Racer + Send, G: Gate + Sync>(
-    rt: &T,
-    word: &Word,
-    gate: &G,
-    groups: &mut Vec<Vec<SeatedLane<R>>>,
-)
-    requires word { word.now.table_id.words ≡ 1 }
-    requires seated { GroupsAreSeated R.Racer word.now.table_id groups.old.items }
-    ensures ran { Pairwise (GroupTookAllTurns R.Racer word.now.table_id)
-        groups.old.items groups.new.items }
-    ensures count { length groups.new.items ≡ length groups.old.items }
-{
-    run_groups(rt, word, gate, groups.as_mut_slice());
+    ghost is_ready = { λ c. IsSeated R.Racer c.word.now.table_id };
+
+    ghost makes = { λ c. TookAllTurns R.Racer c.word.now.table_id };
+
+    fn work(&self, group: &mut [SeatedLane<R>]) {
+        while pass_over(self.word, self.gate, group) {}
+    }
 }

@@ -11,7 +11,6 @@ use ports::Gate;
 
 // A running lane whose engine goes on loads the word once, and takes it in.
 fn look<R: Racer>(word: &Word, seated: &mut SeatedLane<R>) -> u64
-    requires word { word.now.table_id.words ≡ 1 }
     requires seated { IsSeated R.Racer word.now.table_id seated.old }
     requires running { seated.old.lane.state ≡ LaneState.Running }
     requires step { seated.old.lane.step ≡ Some Step.Load }
@@ -26,7 +25,6 @@ fn look<R: Racer>(word: &Word, seated: &mut SeatedLane<R>) -> u64
 // A running lane whose engine has decided exchanges 0 for its number once, and takes in the word
 // that it found.
 fn publish<R: Racer>(word: &Word, seated: &mut SeatedLane<R>) -> u64
-    requires word { word.now.table_id.words ≡ 1 }
     requires seated { IsSeated R.Racer word.now.table_id seated.old }
     requires running { seated.old.lane.state ≡ LaneState.Running }
     requires step { seated.old.lane.step ≡ Some Step.Exchange }
@@ -42,7 +40,6 @@ fn publish<R: Racer>(word: &Word, seated: &mut SeatedLane<R>) -> u64
 // A whole turn of a seated lane that runs, once the gate lets it pass: a turn of the machine at the
 // word that it finds.
 pub(crate) fn turn_seated<R: Racer, G: Gate>(word: &Word, gate: &G, seated: &mut SeatedLane<R>)
-    requires word { word.now.table_id.words ≡ 1 }
     requires seated { IsSeated R.Racer word.now.table_id seated.old }
     requires running { seated.old.lane.state ≡ LaneState.Running }
     ensures turned { (found : ℕ) × (new : ℕ)

@@ -1,38 +1,22 @@
 // A race over threads.
-ghost use Rattle.std.specs.Prelude.{List, ◌∷◌, ◌≡◌, ◌≤◌, [], length, map, IfOk, OnErr, vec_len, vec_capacity};
-ghost use Rattle.race.specs.SeatedLane.{Pairwise};
-ghost use Rattle.race.specs.Machine.{Starts, EndsAs, Tells};
-ghost use Rattle.race.specs.Winner.{IsRuled};
+ghost use Rattle.std.specs.Prelude.{◌∷◌, ◌≡◌, ◌≤◌, [], length, map, IfOk, OnErr, vec_len, vec_capacity};
+ghost use Rattle.workers.specs.Dealt.{dealt};
 ghost use Rattle.atomic_table.specs.Table.{State, Seen};
+ghost use Rattle.race.specs.Machine.{Starts, EndsAs, Tells};
+ghost use Rattle.race.specs.SeatedLane.{IsKeeper, NewSeats, AreSeated, entry_of, lane_of};
+ghost use Rattle.race.specs.Winner.{IsRuled};
 ghost use Rattle.race.specs.declared.winner.View.{View};
-ghost use Rattle.race.specs.Dealt.{dealt, IsKeeper, AllRanToEnd, EmptyGroups, NewSeats, GroupWasSeated, LaneEnded, entry_of};
 
 use crate::engines::Racer;
-use crate::groups::run_all;
+use crate::groups::Rotation;
 use crate::lanes::Lane;
 use crate::playing::{Outcome, outcome_at, play};
 use crate::seated_lane::SeatedLane;
 use crate::winner::{Collects, Seats, Word, WordSeat, WordTable};
 use ports::{Gate, NoMemory};
-use std::alloc::{AllocError, Global};
-use std::cmp::min;
+use std::alloc::Global;
 use std::thread::Threads;
-
-// Room for this many lanes in each of this many groups.
-fn make_groups<R: Drop>(
-    alloc: Global,
-    count: usize,
-    groups: usize,
-) -> Result<Vec<Vec<SeatedLane<R>>>, AllocError>
-    ensures { IfOk result (λ gs. EmptyGroups count groups gs.items) }
-{
-    let mut all = Vec::with_capacity(alloc, groups)?;
-    for _ in 0..groups {
-        let group = Vec::with_capacity(alloc, count)?;
-        all.push(group)?;
-    }
-    Ok(all)
-}
+use workers::Groups;
 
 // A seat for each number, from the keeper's.
 fn take_seats(word: &Word, keeper: &mut WordSeat, seats: &mut Vec<WordSeat>, count: usize)
@@ -54,31 +38,25 @@ fn seat_all<R: Racer>(
     keeper: &mut WordSeat,
     seats: &mut Vec<WordSeat>,
     lanes: &mut Vec<Lane<R>>,
-    groups: &mut Vec<Vec<SeatedLane<R>>>,
+    groups: &mut Groups<SeatedLane<R>>,
 )
     requires word { word.now.table_id.words ≡ 1 }
     requires keeper { IsKeeper word.now.table_id 0 [] keeper.old }
     requires room { (vec_len seats.old ≡ 0) × (length lanes.old.items ≤ vec_capacity seats.old)
         × (length lanes.old.items ≤ 64) }
-    requires groups { EmptyGroups (length lanes.old.items)
-        (length groups.old.items) groups.old.items
-        × (1 ≤ length groups.old.items) }
+    requires groups { groups.old ≡ dealt (length lanes.old.items) [] }
     requires lanes { Starts R.Racer lanes.old.items }
     ensures keeper { IsKeeper word.now.table_id (length lanes.old.items) [] keeper.new }
-    ensures groups { Pairwise (GroupWasSeated R.Racer word.now.table_id)
-        (dealt (length groups.old.items) 0 lanes.old.items) groups.new.items
-        × (length groups.new.items ≡ length groups.old.items) }
-    ensures lanes { (vec_len lanes.new ≡ 0) × (vec_capacity lanes.new ≡ vec_capacity lanes.old)
-        × (lanes.new.items ≡ []) }
+    ensures groups { map lane_of groups.new.items ≡ lanes.old.items }
+    ensures seated { AreSeated R.Racer word.now.table_id groups.new.items }
+    ensures lanes { (lanes.new.items ≡ []) × (vec_capacity lanes.new ≡ vec_capacity lanes.old) }
 {
     take_seats(word, keeper, seats, lanes.len());
     while let Some(lane) = lanes.pop() {
         let Some(seat) = seats.pop() else {
             unreachable!()
         };
-        let home = lanes.len() % groups.len();
-        let group = &mut groups[home];
-        group.push_reserved(SeatedLane { lane, seat });
+        groups.put(SeatedLane { lane, seat });
     }
 }
 
@@ -86,27 +64,19 @@ fn seat_all<R: Racer>(
 fn gather<R: Racer>(
     word: &Word,
     keeper: &mut WordSeat,
-    groups: &mut Vec<Vec<SeatedLane<R>>>,
+    groups: &mut Groups<SeatedLane<R>>,
     lanes: &mut Vec<Lane<R>>,
-    count: usize,
 )
     requires word { word.now.table_id.words ≡ 1 }
-    requires keeper { IsKeeper word.now.table_id count [] keeper.old }
-    requires room { (vec_len lanes.old ≡ 0) × (count ≤ vec_capacity lanes.old)
-        × (lanes.old.items ≡ []) }
-    requires groups { (1 ≤ length groups.old.items) × ((first : List (Lane R))
-        × AllRanToEnd R.Racer word.now.table_id count first groups.old.items) }
-    ensures keeper { IsKeeper word.now.table_id count (map entry_of lanes.new.items) keeper.new }
-    ensures lanes { (first : List (Lane R))
-        → AllRanToEnd R.Racer word.now.table_id count first groups.old.items
-        → Pairwise (LaneEnded R.Racer) first lanes.new.items }
+    requires keeper { IsKeeper word.now.table_id (length groups.old.items) [] keeper.old }
+    requires seated { AreSeated R.Racer word.now.table_id groups.old.items }
+    requires room { (lanes.old.items ≡ [])
+        × (length groups.old.items ≤ vec_capacity lanes.old) }
+    ensures keeper { IsKeeper word.now.table_id (length groups.old.items)
+        (map entry_of lanes.new.items) keeper.new }
+    ensures lanes { lanes.new.items ≡ map lane_of groups.old.items }
 {
-    let wide = groups.len();
-    for number in 0..count {
-        let group = &mut groups[number % wide];
-        let Some(seated) = group.pop() else {
-            unreachable!()
-        };
+    while let Some(seated) = groups.take() {
         let SeatedLane { lane, seat } = seated;
         word.join_seat::<Collects>(keeper, seat);
         lanes.push_reserved(lane);
@@ -152,10 +122,11 @@ pub fn race<T: Threads + Sync, R: Racer + Send, G: Gate + Sync>(
     let count = lanes.len();
     let (table, mut keeper) = WordTable::of_words(alloc, &[0], &())?;
     let mut seats = Vec::with_capacity(alloc, count)?;
-    let mut groups = make_groups(alloc, count, min(workers, count))?;
-    seat_all(&table.shared, &mut keeper, &mut seats, lanes, &mut groups);
-    run_all(rt, &table.shared, gate, &mut groups);
-    gather(&table.shared, &mut keeper, &mut groups, lanes, count);
+    let mut groups = Groups::with_room(alloc, count, workers)?;
+    let shared = &table.shared;
+    seat_all(shared, &mut keeper, &mut seats, lanes, &mut groups);
+    groups.run(rt, &Rotation { word: shared, gate });
+    gather(shared, &mut keeper, &mut groups, lanes);
     let word = last_word(table, keeper);
     Ok(outcome_at(lanes.as_slice(), word))
 }

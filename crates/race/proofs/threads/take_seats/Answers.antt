@@ -18,7 +18,7 @@ loop-preserved c =
     let i3 = i.3 in let i4 = i.4 in let i5 = i.5 in (
       e.0 ∙ i.0,
       e.2 ∙ ap (λ (m : Me (Unit {0}) View). (seat_given m.0, m.1)) i.1,
-      seats_more c.args.word.now.table_id c.loop.seats.items c.push_reserved.new.self.items c.split_seat-seat.result c.loop.counter i.2 i.3 c.push_reserved.ensures.items (e.3 ∙ i.0) (e.4 ∙ ap (λ (m : Me (Unit {0}) View). (newcomer m.0, [])) i.1),
+      seats_more c.args.word.now.table_id c.loop.seats.items c.push_reserved.new.self.items c.split_seat-seat.result c.loop.counter i.2 i.3 c.push_reserved.ensures.items (e.3 ∙ i.0, e.4 ∙ ap (λ (m : Me (Unit {0}) View). (newcomer m.0, [])) i.1),
       omega arith,
       omega arith,
       omega arith,
