@@ -1,69 +1,44 @@
 // Runs of all parts of a work, over threads.
-ghost use Rattle.std.specs.Prelude.{◌≡◌, ◌≤◌, All, List, [], length, map, IfOk, OnOk, vec_len, vec_capacity};
-ghost use Rattle.sims_one.specs.Parts.{EmptyGroups, tasks_by_group, dealt, AreAllDone};
+ghost use Rattle.std.specs.Prelude.{◌≡◌, ◌≤◌, All, [], true, length, map, OnOk, vec_capacity};
+ghost use Rattle.workers.specs.Dealt.{dealt};
+ghost use Rattle.sims_one.specs.Parts.{part_of, HasRun, IsFresh};
 
-use crate::groups::{Numbered, run_all};
+use crate::groups::{InTurn, Numbered};
 use crate::parts::Part;
 use ports::{Gate, NoMemory};
-use std::alloc::{AllocError, Global};
-use std::cmp::min;
+use std::alloc::Global;
 use std::thread::Threads;
+use workers::Groups;
 
-// Room for this many parts in each of this many groups.
-fn make_groups<P: Drop>(
-    alloc: Global,
-    count: usize,
-    groups: usize,
-) -> Result<Vec<Vec<Numbered<P>>>, AllocError>
-    ensures { IfOk result (λ gs. EmptyGroups count groups gs.items) }
-{
-    let mut all = Vec::with_capacity(alloc, groups)?;
-    for _ in 0..groups {
-        let group = Vec::with_capacity(alloc, count)?;
-        all.push(group)?;
-    }
-    Ok(all)
-}
-
-// Part i goes to group i modulo the number of groups.
-fn deal<P: Part>(parts: &mut Vec<P>, groups: &mut Vec<Vec<Numbered<P>>>)
-    requires groups { EmptyGroups (length parts.old.items)
-        (length groups.old.items) groups.old.items }
-    requires some { 1 ≤ length groups.old.items }
-    ensures groups { tasks_by_group P.Part groups.new.items
-        ≡ dealt (length groups.old.items) 0 (map P.task parts.old.items) }
-    ensures count { length groups.new.items ≡ length groups.old.items }
-    ensures parts { parts.new.items ≡ [] }
-    ensures room { (vec_len parts.new ≡ 0) × (vec_capacity parts.new ≡ vec_capacity parts.old) }
+// The parts go to groups.
+fn deal<P: Part>(parts: &mut Vec<P>, groups: &mut Groups<Numbered<P>>)
+    requires { groups.old ≡ dealt (length parts.old.items) [] }
+    ensures groups { map part_of groups.new.items ≡ parts.old.items }
+    ensures fresh { All IsFresh groups.new.items }
+    ensures parts { (parts.new.items ≡ []) × (vec_capacity parts.new ≡ vec_capacity parts.old) }
 {
     while let Some(part) = parts.pop() {
         let number = parts.len();
-        let home = number % groups.len();
-        let group = &mut groups[home];
-        group.push_reserved(Numbered { number, part });
+        groups.put(Numbered {
+            number,
+            part,
+            ran: false,
+        });
     }
 }
 
-// The parts come back in order.
-fn gather<P: Part>(groups: &mut Vec<Vec<Numbered<P>>>, parts: &mut Vec<P>, count: usize)
-    requires some { 1 ≤ length groups.old.items }
-    requires groups { (tasks : List P.Task) × (length tasks ≡ count)
-        × (tasks_by_group P.Part groups.old.items ≡ dealt (length groups.old.items) 0 tasks) }
-    requires room { (vec_len parts.old ≡ 0) × (count ≤ vec_capacity parts.old)
-        × (parts.old.items ≡ []) }
-    ensures tasks { (tasks : List P.Task) → length tasks ≡ count
-        → tasks_by_group P.Part groups.old.items ≡ dealt (length groups.old.items) 0 tasks
-        → map P.task parts.new.items ≡ tasks }
-    ensures done { AreAllDone P.Part groups.old.items → All P.is_done parts.new.items }
+// The parts come back in order. Whether each has run.
+fn gather<P: Part>(groups: &mut Groups<Numbered<P>>, parts: &mut Vec<P>) -> bool
+    requires { (parts.old.items ≡ []) × (length groups.old.items ≤ vec_capacity parts.old) }
+    ensures parts { parts.new.items ≡ map part_of groups.old.items }
+    ensures ran { result ≡ true → All HasRun groups.old.items }
 {
-    let wide = groups.len();
-    for number in 0..count {
-        let group = &mut groups[number % wide];
-        let Some(numbered) = group.pop() else {
-            unreachable!()
-        };
+    let mut all_ran = true;
+    while let Some(numbered) = groups.take() {
+        all_ran &= numbered.ran;
         parts.push_reserved(numbered.part);
     }
+    all_ran
 }
 
 /// Runs all parts. With one worker they run in order, and the gate is not passed. With more, part i
@@ -89,11 +64,14 @@ pub fn run_parts<T: Threads + Sync, P: Part + Send, G: Gate + Sync>(
         return Ok(());
     }
     let count = parts.len();
-    let mut groups = make_groups(alloc, count, min(workers, count))?;
+    let mut groups = Groups::with_room(alloc, count, workers)?;
     deal(parts, &mut groups);
-    let ran = run_all(rt, gate, &mut groups);
-    gather(&mut groups, parts, count);
-    ran
+    groups.run(rt, &InTurn { gate });
+    if gather(&mut groups, parts) {
+        Ok(())
+    } else {
+        Err(NoMemory)
+    }
 }
 
 // Runs the parts one after another.

@@ -1,14 +1,8 @@
-use Rattle.std.proofs.Common.{length, ◌∙◌}
-use Rattle.sims_one.proofs.PartLaws.{gather_some, gather_step}
+use Rattle.sims_one.proofs.PartLaws.{gathering_none, gathering_more}
 use Rattle.sims_one.proofs.runs.gather.Goals as goal
 
-pub unreachable-requires : goal.unreachable-requires
-unreachable-requires g c =
-    let r = c.requires.groups in
-    gather_some g.P.Part (length c.args.groups.now.items) c.args.count c.loop-number.number c.args.groups.now.items c.loop-number.groups c.loop-number.parts c.index_mut-group.result.now c.len-wide.result
-    c.loop-number.invariant c.loop-number-test.true (c.len-wide.ensures ∙ c.args.groups.now.ok.0) c.requires.some c.index_mut-group.ensures.value r.0 r.1 r.2 c.in_default.ensures.cases.0
+pub loop-numbered-init : goal.loop-numbered-init
+loop-numbered-init g c = gathering_none c.args.groups.now c.args.parts.now c.requires.0 c.requires.1
 
-pub loop-number-preserved : goal.loop-number-preserved
-loop-number-preserved g c =
-    gather_step g.P.Part (length c.args.groups.now.items) c.args.count c.loop-number.number c.args.groups.now.items c.loop-number.groups c.loop-number.parts c.index_mut-group.result.now c.len-wide.result
-    c.loop-number.invariant c.loop-number-test.true (c.len-wide.ensures ∙ c.args.groups.now.ok.0) c.requires.some c.index_mut-group.ensures.value c.pop.new.self c.in-Some.numbered c.push_reserved.new.self c.in-Some.ensures.items c.push_reserved.ensures.items c.push_reserved.ensures.capacity
+pub loop-numbered-preserved : goal.loop-numbered-preserved
+loop-numbered-preserved g c = gathering_more c.args.groups.now.items c.loop-numbered.all_ran c.loop-numbered.groups c.take.new.self c.loop-numbered.parts c.push_reserved.new.self c.in-Some.numbered c.loop-numbered.invariant c.in-Some.ensures.0 c.push_reserved.ensures.items c.push_reserved.ensures.capacity
