@@ -15,7 +15,7 @@ use Rattle.workers.proofs.Moves.{GoIn, none_in, one_in, ComeOut, none_out, one_o
 use Rattle.race.proofs.Winners.{seats, collects}
 use Rattle.race.specs.Machine.{Starts}
 use Rattle.race.specs.Winner.{phase_of, keeper, lane_view, spent, seat_given, newcomer, gained, IsRuled}
-use Rattle.race.specs.SeatedLane.{StateIsHonest, IsSeated, TookAllTurns, AreSeated, IsNewSeat, NewSeats, LaneEnded, entry_of, lane_of}
+use Rattle.race.specs.SeatedLane.{StateIsHonest, IsSeated, TookAllTurns, AreSeated, IsNewSeat, NewSeats, LaneEnded, entry_of, unseated}
 use Rattle.race.specs.declared.winner.Phase.{Phase}
 use Rattle.race.specs.declared.winner.View.{View}
 use Rattle.race.specs.declared.lanes.LaneState.{LaneState}
@@ -71,14 +71,14 @@ module _ {A : Type 0} (kind : Ghosts A) where
 
   -- the last lanes have got their seats
   pub record Seating (z : TableId) (capacity : ℕ) (first : List (Lane A)) (lanes : Lanes) (seats : Vec WordSeat Global) (groups : Seated) : Type 0 where
-    pub gone : GoIn lane_of first capacity lanes groups
+    pub gone : GoIn unseated first capacity lanes groups
     pub seated : AreSeated kind z groups.items
     pub new : NewSeats z seats.items
     pub count : vec_len seats ≡ vec_len lanes
 
   pub seating_none : (z : TableId) (lanes : Lanes) (seats : Vec WordSeat Global) (groups : Seated) → NewSeats z seats.items → length seats.items ≡ vec_len lanes → groups ≡ dealt (length lanes.items) [] → Seating z (vec_capacity lanes) lanes.items lanes seats groups
   seating_none z lanes seats groups new count none = record {
-    gone = none_in lane_of lanes groups none;
+    gone = none_in unseated lanes groups none;
     seated = rw none (All-nil (IsSeated kind z));
     new = new;
     count = seats.ok.0 ∙ count;
@@ -89,13 +89,13 @@ module _ {A : Type 0} (kind : Ghosts A) where
       → Seating z capacity first left others (dealt (groups.room - 1) ((record { lane = l; seat = s }) ∷ groups.items))
   seating_more z capacity first lanes left seats others groups l s one starts h popped cap taken =
       let fewer = seats_less z seats.items others.items s h.new taken in
-      let gone = one_in lane_of first capacity lanes left groups (record { lane = l; seat = s }) h.gone popped cap in
+      let gone = one_in unseated first capacity lanes left groups (record { lane = l; seat = s }) h.gone popped cap in
       let count : vec_len others ≡ vec_len left = omega (arith, lanes.ok.0, left.ok.0, seats.ok.0, others.ok.0, ap length popped, length_push left.items l, ap length taken, length_push others.items s, h.count) in
       let place : length others.items ≡ length left.items = sym others.ok.0 ∙ count ∙ left.ok.0 in
       record {
         gone = gone;
         seated = All-cons (IsSeated kind z) (record { lane = l; seat = s }) groups.items
-            (seated_new z first (length left.items) l s one starts (subst (λ ls. slice_get ls (length left.items) ≡ Some l) gone.same (at_middle left.items l (map lane_of groups.items))) (subst (λ k. IsNewSeat z k s) place fewer.1))
+            (seated_new z first (length left.items) l s one starts (subst (λ ls. slice_get ls (length left.items) ≡ Some l) gone.same (at_middle left.items l (map unseated groups.items))) (subst (λ k. IsNewSeat z k s) place fewer.1))
             h.seated;
         new = fewer.0;
         count = count;
@@ -103,13 +103,13 @@ module _ {A : Type 0} (kind : Ghosts A) where
 
   -- the first lanes have come back, and the keeper has gained their seats
   pub record Gathering (z : TableId) (was : List (SeatedLane A)) (groups : Seated) (lanes : Lanes) (me : Me (Unit {0}) View) : Type 0 where
-    pub back : ComeOut lane_of was groups lanes
+    pub back : ComeOut unseated was groups lanes
     pub seated : AreSeated kind z groups.items
     pub view : me ≡ (keeper (length was) (map entry_of lanes.items), [])
 
   pub gathering_none : (z : TableId) (groups : Seated) (lanes : Lanes) (me : Me (Unit {0}) View) → AreSeated kind z groups.items → me ≡ (keeper (length groups.items) [], []) → lanes.items ≡ [] → length groups.items ≤ vec_capacity lanes → Gathering z groups.items groups lanes me
   gathering_none z groups lanes me seated view none room = record {
-    back = none_out lane_of groups lanes none room;
+    back = none_out unseated groups lanes none room;
     seated = seated;
     view = view ∙ ap (λ ls. (keeper (length groups.items) (map entry_of ls), [])) (sym none);
   }
@@ -123,7 +123,7 @@ module _ {A : Type 0} (kind : Ghosts A) where
 
     pub gathering_more : (more : Lanes) (then : Me (Unit {0}) View) → more.items ≡ lanes.items ++ t.lane ∷ [] → vec_capacity more ≡ vec_capacity lanes → then ≡ (gained me.0 t.seat.me.0, me.1) → Gathering z was left more then
     gathering_more more then pushed cap joined = record {
-      back = one_out lane_of was groups left lanes more t h.back taken pushed cap;
+      back = one_out unseated was groups left lanes more t h.back taken pushed cap;
       seated = All-tail (IsSeated kind z) t left.items both;
       view = joined ∙ (λ j. (gained (h.view j).0 (next_sits.view j).0, (h.view j).1)) ∙ ap (λ es. (keeper (length was) es, [])) (sym (map_push entry_of lanes.items t.lane) ∙ ap (map entry_of) (sym pushed));
     }
@@ -136,12 +136,12 @@ module _ {A : Type 0} (kind : Ghosts A) where
     pub ended_sit : AreSeated kind z ts
     ended_sit i d low = (AllZip-get_or (TookAllTurns kind z) ss ts i d d each (omega (arith, low, same_count))).ran.seated
 
-    pub ended_count : (first : List (Lane A)) → map lane_of ss ≡ first → length ts ≡ length first
-    ended_count first same = sym same_count ∙ sym (length-map ss lane_of) ∙ ap length same
+    pub ended_count : (first : List (Lane A)) → map unseated ss ≡ first → length ts ≡ length first
+    ended_count first same = sym same_count ∙ sym (length-map ss unseated) ∙ ap length same
 
-    pub lanes_ended : (first ls : List (Lane A)) → map lane_of ss ≡ first → ls ≡ map lane_of ts → AllZip (LaneEnded kind) first ls
+    pub lanes_ended : (first ls : List (Lane A)) → map unseated ss ≡ first → ls ≡ map unseated ts → AllZip (LaneEnded kind) first ls
     lanes_ended first ls same back =
-        subst (λ ms. AllZip (LaneEnded kind) ms ls) same (subst (AllZip (LaneEnded kind) (map lane_of ss)) (sym back)
-        (zip_map (LaneEnded kind) lane_of ss ts (zip_from_each (λ s t. LaneEnded kind s.lane t.lane) ss ts (sym same_count) (λ i d low.
+        subst (λ ms. AllZip (LaneEnded kind) ms ls) same (subst (AllZip (LaneEnded kind) (map unseated ss)) (sym back)
+        (zip_map (LaneEnded kind) unseated ss ts (zip_from_each (λ s t. LaneEnded kind s.lane t.lane) ss ts (sym same_count) (λ i d low.
         let r = AllZip-get_or (TookAllTurns kind z) ss ts i d d each low in
         record { honest = r.ran.seated.honest; number = r.ran.number; kept = r.ran.kept; ended = r.ended }))))

@@ -19,8 +19,9 @@ use Rattle.race.specs.declared.seated_lane.SeatedLane.{SeatedLane}
 abbrev pub entry_of : {A : Type 0} → Lane A → Entry
 entry_of l = entry l.number (phase_of l.state)
 
-abbrev pub lane_of : {A : Type 0} → SeatedLane A → Lane A
-lane_of t = t.lane
+-- the lane without its seat
+abbrev pub unseated : {A : Type 0} → SeatedLane A → Lane A
+unseated t = t.lane
 
 -- the seat is the keeper's at this table, with this next number and these lanes
 abbrev pub IsKeeper : TableId → ℕ → List Entry → Seat (Unit {0}) View → Type 0

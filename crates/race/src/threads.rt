@@ -3,7 +3,7 @@ ghost use Rattle.std.specs.Prelude.{◌∷◌, ◌≡◌, ◌≤◌, [], length,
 ghost use Rattle.workers.specs.Dealt.{dealt};
 ghost use Rattle.atomic_table.specs.Table.{State, Seen};
 ghost use Rattle.race.specs.Machine.{Starts, EndsAs, Tells};
-ghost use Rattle.race.specs.SeatedLane.{IsKeeper, NewSeats, AreSeated, entry_of, lane_of};
+ghost use Rattle.race.specs.SeatedLane.{IsKeeper, NewSeats, AreSeated, entry_of, unseated};
 ghost use Rattle.race.specs.Winner.{IsRuled};
 ghost use Rattle.race.specs.declared.winner.View.{View};
 
@@ -47,7 +47,7 @@ fn seat_all<R: Racer>(
     requires groups { groups.old ≡ dealt (length lanes.old.items) [] }
     requires lanes { Starts R.Racer lanes.old.items }
     ensures keeper { IsKeeper word.now.table_id (length lanes.old.items) [] keeper.new }
-    ensures groups { map lane_of groups.new.items ≡ lanes.old.items }
+    ensures groups { map unseated groups.new.items ≡ lanes.old.items }
     ensures seated { AreSeated R.Racer word.now.table_id groups.new.items }
     ensures lanes { (lanes.new.items ≡ []) × (vec_capacity lanes.new ≡ vec_capacity lanes.old) }
 {
@@ -74,7 +74,7 @@ fn gather<R: Racer>(
         × (length groups.old.items ≤ vec_capacity lanes.old) }
     ensures keeper { IsKeeper word.now.table_id (length groups.old.items)
         (map entry_of lanes.new.items) keeper.new }
-    ensures lanes { lanes.new.items ≡ map lane_of groups.old.items }
+    ensures lanes { lanes.new.items ≡ map unseated groups.old.items }
 {
     while let Some(seated) = groups.take() {
         let SeatedLane { lane, seat } = seated;

@@ -1,6 +1,6 @@
 use Rattle.std.proofs.Common.{arith, ◌∙◌, ap}
 use Rattle.race.specs.Winner.{phase_of}
-use Rattle.race.specs.SeatedLane.{lane_of}
+use Rattle.race.specs.SeatedLane.{unseated}
 use Rattle.workers.proofs.Moves.{room_out}
 use Rattle.race.proofs.Deals.{gathering_none, gathering_more, next_sits, collect_may}
 use Rattle.race.proofs.threads.gather.Goals as goal
@@ -23,7 +23,7 @@ join_seat-requires g c =
     )
 
 pub push_reserved-requires : goal.push_reserved-requires
-push_reserved-requires g c = room_out lane_of c.args.groups.now.items c.loop-seated.groups c.take.new.self c.loop-seated.lanes c.in-Some.seated c.loop-seated.invariant.1.back c.in-Some.ensures.0
+push_reserved-requires g c = room_out unseated c.args.groups.now.items c.loop-seated.groups c.take.new.self c.loop-seated.lanes c.in-Some.seated c.loop-seated.invariant.1.back c.in-Some.ensures.0
 
 pub loop-seated-preserved : goal.loop-seated-preserved
 loop-seated-preserved g c =
