@@ -10,7 +10,7 @@ use Rattle.atomic_table.specs.Table.{Me, Splits, Joins}
 use Rattle.atomic_table.specs.Seated.{TableId}
 use Rattle.atomic_table.specs.declared.shared.Seat.{Seat}
 use Rattle.workers.specs.Dealt.{Dealt, dealt}
-use Rattle.workers.proofs.Zips.{zip_from_each, zip_map}
+use Rattle.workers.proofs.Zips.{zip_from_each, zip_get, zip_map}
 use Rattle.workers.proofs.Moves.{GoIn, none_in, one_in, ComeOut, none_out, one_out}
 use Rattle.race.proofs.Winners.{seats, collects}
 use Rattle.race.specs.Machine.{Starts}
@@ -134,7 +134,7 @@ module _ {A : Type 0} (kind : Ghosts A) where
     same_count = length_all_zip (TookAllTurns kind z) ss ts each
 
     pub ended_sit : AreSeated kind z ts
-    ended_sit i d low = (AllZip-get_or (TookAllTurns kind z) ss ts i d d each (omega (arith, low, same_count))).ran.seated
+    ended_sit i d low = (zip_get (TookAllTurns kind z) ss ts i d each low).ran.seated
 
     pub ended_count : (first : List (Lane A)) → map unseated ss ≡ first → length ts ≡ length first
     ended_count first same = sym same_count ∙ sym (length-map ss unseated) ∙ ap length same

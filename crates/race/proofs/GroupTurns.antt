@@ -5,7 +5,7 @@ use Rattle.std.specs.Prelude.{MatchBool}
 use Rattle.std.specs.List.{AllZip}
 use Rattle.std.proofs.lemmas.List.{get_or_read, set-get_or}
 use Rattle.std.proofs.lemmas.List.Elements.{AllZip-get_or, length_all_zip}
-use Rattle.workers.proofs.Zips.{zip_from_each, zip_set}
+use Rattle.workers.proofs.Zips.{zip_from_each, zip_get, zip_again}
 use Rattle.atomic_table.specs.Seated.{TableId}
 use Rattle.race.specs.Lanes.{is_running}
 use Rattle.race.specs.SeatedLane.{IsSeated, TookTurns, TookAllTurns, AreSeated, NoneRuns, turns_left, turns_left_of}
@@ -37,22 +37,14 @@ module _ {A : Type 0} (kind : Ghosts A) where
   sits_on : (z : TableId) (s t u : SeatedLane A) → Runs z s t → Runs z t u → Runs z s u
   sits_on z s t u a b = record { seated = b.seated; number = b.number ∙ a.number; kept = b.kept ∙ a.kept }
 
-  -- what stands at a place has had turns
-  ran_here : (z : TableId) (old now : List (SeatedLane A)) (i : ℕ) (t : SeatedLane A) → AllZip (Runs z) old now → i < length now → t ≡ get_or now i t → Runs z (get_or old i t) t
-  ran_here z old now i t e low at = subst (Runs z (get_or old i t)) (sym at) (AllZip-get_or (Runs z) old now i t t e (omega (arith, low, length_all_zip (Runs z) old now e)))
-
   pub sits_here : (z : TableId) (old now : List (SeatedLane A)) (i : ℕ) (t : SeatedLane A) → AllZip (Runs z) old now → i < length now → t ≡ get_or now i t → IsSeated kind z t
-  sits_here z old now i t e low at = (ran_here z old now i t e low at).seated
+  sits_here z old now i t e low at = subst (IsSeated kind z) (sym at) (zip_get (Runs z) old now i t e low).seated
 
   -- the round after one lane, where it ran and where it did not
   pub pass_then : (z : TableId) (old now new : List (SeatedLane A)) (i : ℕ) (t u : SeatedLane A) (ran b : Bool) → AllZip (Runs z) old now × Passed ran i old now → i < length now → t ≡ get_or now i t
       → Runs z t u → one_left u < one_left t → new ≡ set now i u → b ≡ true → AllZip (Runs z) old new × Passed b (i + 1) old new
   pass_then z old now new i t u ran b p low at run less e f =
-      let s = left_set now i t u low at in
-      rw (e, f) (
-        subst (λ xs. AllZip (Runs z) xs (set now i u)) (set-get_or old i t) (zip_set (Runs z) old now i (get_or old i t) u p.0 (sits_on z (get_or old i t) t u (ran_here z old now i t p.0 low at) run)),
-        fewer ran p.1,
-      )
+      rw (e, f) (zip_again (Runs z) old now i t u p.0 low at (λ s r. sits_on z s t u r run), fewer ran p.1)
     where
       fewer : (c : Bool) → Passed c i old now → Left (set now i u) < Left old
       fewer true q = omega (arith, left_set now i t u low at, less, q)
@@ -79,7 +71,7 @@ module _ {A : Type 0} (kind : Ghosts A) where
   pass_end false n old now h p = λ i d low. subst (λ (ts : List (SeatedLane A)). (get_or ts i d).lane.state ≢ Running) (sym p.0) (p.1 i (omega (arith, low, h)) d)
 
   pub all_sit : (z : TableId) (old now : List (SeatedLane A)) → AllZip (Runs z) old now → AreSeated kind z now
-  all_sit z old now e i d low = (AllZip-get_or (Runs z) old now i d d e (omega (arith, low, length_all_zip (Runs z) old now e))).seated
+  all_sit z old now e i d low = (zip_get (Runs z) old now i d e low).seated
 
   pub runs_on : (z : TableId) (xs ys zs : List (SeatedLane A)) → AllZip (Runs z) xs ys → AllZip (Runs z) ys zs → AllZip (Runs z) xs zs
   runs_on z xs ys zs a b =

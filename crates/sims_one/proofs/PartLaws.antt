@@ -1,10 +1,9 @@
 -- Parts go to groups, run there, and come back in order.
-use Rattle.std.proofs.Common.{◌≡◌, ℕ, zero, suc, ◌-◌, ◌<◌, ◌≤◌, Bool, true, false, ◌&&◌, List, [], ◌∷◌, ◌++◌, All, length, map, get_or, set, Vec, vec_capacity, Global, refl, sym, ◌∙◌, ap, subst, arith}
+use Rattle.std.proofs.Common.{◌≡◌, ℕ, zero, suc, ◌-◌, ◌<◌, ◌≤◌, Bool, true, false, ◌&&◌, List, [], ◌∷◌, ◌++◌, All, length, map, get_or, set, Vec, vec_capacity, Global, refl, sym, ◌∙◌, ap, subst}
 use Rattle.std.specs.List.{AllZip}
-use Rattle.std.proofs.lemmas.List.{set-get_or}
-use Rattle.std.proofs.lemmas.List.Elements.{All-nil, All-cons, All-map, AllZip-get_or, length_all_zip}
+use Rattle.std.proofs.lemmas.List.Elements.{All-nil, All-cons, All-map}
 use Rattle.workers.specs.Dealt.{Dealt, dealt}
-use Rattle.workers.proofs.Zips.{zip_from_each, zip_set}
+use Rattle.workers.proofs.Zips.{zip_from_each, zip_get, zip_again}
 use Rattle.workers.proofs.Moves.{GoIn, none_in, one_in, ComeOut, none_out, one_out, all_out}
 use Rattle.sims_one.specs.declared.parts.Part.{Ghosts}
 use Rattle.sims_one.specs.declared.groups.Numbered.{Numbered}
@@ -61,9 +60,7 @@ module _ {A : Type 0} (kind : Ghosts A) where
 
   -- one more has run
   pub one_ran : (old now : List (Numbered A)) (i : ℕ) (n m : Numbered A) → AllZip (Runs kind) old now → i < length now → n ≡ get_or now i n → Runs kind n m → AllZip (Runs kind) old (set now i m)
-  one_ran old now i n m e low at run =
-      let was = subst (Runs kind (get_or old i n)) (sym at) (AllZip-get_or (Runs kind) old now i n n e (omega (arith, low, length_all_zip (Runs kind) old now e))) in
-      subst (λ xs. AllZip (Runs kind) xs (set now i m)) (set-get_or old i n) (zip_set (Runs kind) old now i (get_or old i n) m e (record { kept = run.kept ∙ was.kept; done = run.done }))
+  one_ran old now i n m e low at run = zip_again (Runs kind) old now i n m e low at (λ o r. record { kept = run.kept ∙ r.kept; done = run.done })
 
   pub tasks_kept : (ns ms : List (Numbered A)) → AllZip (Runs kind) ns ms → map kind.task (map part_of ms) ≡ map kind.task (map part_of ns)
   tasks_kept [] [] e = refl
@@ -72,4 +69,4 @@ module _ {A : Type 0} (kind : Ghosts A) where
   tasks_kept (n ∷ ns) (m ∷ ms) e = λ i. e.0.kept i ∷ tasks_kept ns ms e.1 i
 
   pub all_done : (ns ms : List (Numbered A)) → AllZip (Runs kind) ns ms → All HasRun ms → All kind.is_done (map part_of ms)
-  all_done ns ms e ran = All-map kind.is_done part_of ms (λ i d low. (AllZip-get_or (Runs kind) ns ms i d d e (omega (arith, low, length_all_zip (Runs kind) ns ms e))).done (ran i d low))
+  all_done ns ms e ran = All-map kind.is_done part_of ms (λ i d low. (zip_get (Runs kind) ns ms i d e low).done (ran i d low))

@@ -1,6 +1,8 @@
 -- Lists of which one is made of the other, item by item.
 use Rattle.std.proofs.Common.{◌≡◌, ℕ, zero, suc, ◌<◌, List, [], ◌∷◌, ◌++◌, length, map, get_or, set, refl, sym, ap, subst, arith}
 use Rattle.std.specs.List.{AllZip}
+use Rattle.std.proofs.lemmas.List.{set-get_or}
+use Rattle.std.proofs.lemmas.List.Elements.{AllZip-get_or, length_all_zip}
 
 module _ {X : Type 0} (R : X → X → Type 0) where
   pub zip_from_each : (xs ys : List X) → length ys ≡ length xs → ((i : ℕ) (d : X) → i < length xs → R (get_or xs i d) (get_or ys i d)) → AllZip R xs ys
@@ -18,6 +20,15 @@ module _ {X : Type 0} (R : X → X → Type 0) where
   zip_set (v ∷ xs) [] i x y z r = absurd z
   zip_set (v ∷ xs) (w ∷ ys) zero x y z r = (r, z.1)
   zip_set (v ∷ xs) (w ∷ ys) (suc i) x y z r = (z.0, zip_set xs ys i x y z.1 r)
+
+  pub zip_get : (xs ys : List X) (i : ℕ) (d : X) → AllZip R xs ys → i < length ys → R (get_or xs i d) (get_or ys i d)
+  zip_get xs ys i d z low = AllZip-get_or R xs ys i d d z (omega (arith, low, length_all_zip R xs ys z))
+
+  -- an item that was made is made anew
+  pub zip_again : (xs ys : List X) (i : ℕ) (y new : X) → AllZip R xs ys → i < length ys → y ≡ get_or ys i y → ((x : X) → R x y → R x new) → AllZip R xs (set ys i new)
+  zip_again xs ys i y new z low at more =
+      subst (λ zs. AllZip R zs (set ys i new)) (set-get_or xs i y)
+      (zip_set xs ys i (get_or xs i y) new z (more (get_or xs i y) (subst (R (get_or xs i y)) (sym at) (zip_get xs ys i y z low))))
 
   -- what is made of a list with a last item has one
   pub zip_last : (xs : List X) (x : X) (ys : List X) → AllZip R (xs ++ x ∷ []) ys → (h : List X) × (y : X) × (ys ≡ h ++ y ∷ []) × AllZip R xs h × R x y
