@@ -1,5 +1,5 @@
-use Rattle.std.proofs.Common.{◌≡◌, ◌*◌, ◌<◌, ◌≤◌, ◌++◌, ◌∷◌, [], ℕ, List, length, slice_get, Some, subst, sym, ◌∙◌, arith, refl, rules}
-use Rattle.sims_one.specs.Targets.{seen, least_target, IsWithin}
+use Rattle.std.proofs.Common.{◌≡◌, ◌<◌, ◌++◌, ◌∷◌, [], ℕ, List, length, slice_get, Some, subst, sym, ◌∙◌, arith, refl, rules}
+use Rattle.sims_one.specs.Targets.{least_target, IsWithin}
 use Rattle.sims_one.specs.Asked.{asked}
 use Rattle.sims_one.specs.Fronts.{lists_in, IsOpen, AddsLonger}
 use Rattle.sims_one.proofs.FrontLaws.{before_both, times_more, place_small, wanting_here, few_seen}
