@@ -3,18 +3,18 @@ use Rattle.std.proofs.Common.{◌≡◌, ◌≢◌, ℕ, zero, suc, ◌+◌, ◌
 use Rattle.std.proofs.lemmas.Bool.{cases_eq}
 use Rattle.std.proofs.lemmas.List.{get_or-set_same}
 use Rattle.theory.specs.Graph.{Graph, target, IsGraph}
-use Rattle.word_graph.proofs.EdgeLaws.{target_in, target_is}
+use Rattle.word_graph.proofs.EdgeLaws.{target_in}
+use Rattle.cells.proofs.EntryLaws.{entry_length, entry_put, graph_put, target_is}
 use Rattle.word_graph.proofs.WalkLaws.{some_same}
-use Rattle.coincidence.specs.Cells.{with_entry}
+use Rattle.cells.specs.Rows.{IsPut, with_entry}
 use Rattle.coincidence.specs.Merging.{relabel}
 use Rattle.coincidence.specs.Pending.{IsAmong}
-use Rattle.coincidence.specs.Links.{Links, IsChain, IsLinked, IsPut}
+use Rattle.coincidence.specs.Links.{Links, IsChain, IsLinked}
 use Rattle.coincidence.specs.Absorbing.{Extends, IsSameShape, IsRedirected, IsMoved, IsMet, IsAbsorbedAt, IsAbsorbed}
 use Rattle.coincidence.specs.declared.pending.Pending.{Pending}
 use Rattle.coincidence.specs.declared.pending.Pending.TheVariants.{NewEdge}
 use Rattle.coincidence.proofs.ClassLaws.{relabel_same, relabel_other}
 use Rattle.coincidence.proofs.PendingLaws.{among_push, among_before, among_last}
-use Rattle.coincidence.proofs.LinkLaws.{entry_put, entry_length, graph_put}
 
 -- an end is the node or not
 is_some : (x : Option ℕ) (m : ℕ) → (x ≡ Some m) ⊎ (x ≡ Some m → ⊥)

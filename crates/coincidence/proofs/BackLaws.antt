@@ -8,12 +8,12 @@ use Rattle.theory.specs.Graph.{Graph, target}
 use Rattle.word_graph.specs.Edges.{with_node}
 use Rattle.word_graph.proofs.EdgeLaws.{target_in}
 use Rattle.word_graph.proofs.WalkLaws.{some_same}
-use Rattle.coincidence.specs.Cells.{with_entry, with_entry_at}
+use Rattle.cells.specs.Rows.{IsPut, with_entry}
 use Rattle.coincidence.specs.Pending.{IsAmong}
-use Rattle.coincidence.specs.Links.{Links, IsChain, IsSources, IsLinked, IsPut, IsBehind, IsBack, IsBacked}
-use Rattle.coincidence.proofs.FoldLaws.{target_bare}
-use Rattle.coincidence.proofs.LinkLaws.{entry_put, entry_width, entry_length, among_back}
-use Rattle.coincidence.proofs.TableLaws.{root_graph, target_node}
+use Rattle.coincidence.specs.Links.{Links, IsChain, IsSources, IsLinked, IsBehind, IsBack, IsBacked, with_entry_at}
+use Rattle.coincidence.proofs.LinkLaws.{among_back}
+use Rattle.cells.proofs.EntryLaws.{entry_length, entry_put, entry_width, target_bare, target_node}
+use Rattle.coincidence.proofs.TableLaws.{root_graph}
 
 -- where a list goes on behind one of its nodes
 split_behind : (next : ℕ → Option ℕ) (start : Option ℕ) (list : List ℕ) (p n : ℕ) → IsChain next start list → IsAmong p list → next p ≡ Some n → (front back : List ℕ) × (list ≡ front ++ p ∷ n ∷ back)

@@ -11,7 +11,8 @@ use Rattle.word_graph.proofs.WalkLaws.{some_same}
 use Rattle.coincidence.specs.Closing.{IsEdged}
 use Rattle.coincidence.proofs.CloseLaws.{edged_path}
 use Rattle.word_graph.proofs.StandardLaws.{path_in}
-use Rattle.coincidence.proofs.TableLaws.{target_node, define_edged, define_graph, path_same}
+use Rattle.coincidence.proofs.TableLaws.{define_edged, define_graph, path_same}
+use Rattle.cells.proofs.EntryLaws.{target_node}
 
 module _ (k : ℕ) (g : Graph) (n a : ℕ) (is : IsGraph k g) (hn : n < length g) (ha : a < k) (none : target g n a ≡ None) where
   pub edged : IsEdged (with_node k g) (with_edge (with_node k g) n a (length g)) n a (length g)

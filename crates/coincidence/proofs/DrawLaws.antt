@@ -5,7 +5,8 @@ use Rattle.std.proofs.lemmas.Bool.{cases_lt}
 use Rattle.std.proofs.lemmas.List.FromFn.{get_or-range_with_len, length-range_with_len}
 use Rattle.std.proofs.Common.{length-set}
 use Rattle.word_graph.specs.Edges.{with_edge, with_node}
-use Rattle.coincidence.proofs.TableLaws.{target_node, define_edged, define_live, on_inside}
+use Rattle.coincidence.proofs.TableLaws.{define_edged, define_live, on_inside}
+use Rattle.cells.proofs.EntryLaws.{target_node}
 use Rattle.coincidence.specs.Merging.{IsReached}
 use Rattle.coincidence.proofs.CloseLaws.{IsPlaced, IsWithin, within_start, within_merge}
 use Rattle.coincidence.proofs.FoldLaws.{edged_with}

@@ -1,26 +1,16 @@
 -- The loop that folds a graph.
-use Rattle.std.proofs.Common.{◌≡◌, ◌≢◌, ℕ, zero, suc, ◌+◌, ◌<◌, ◌≤◌, List, [], refl, sym, ◌∙◌, ap, arith, ◌⊎◌, inl, inr, Option, Some, None, length, subst, slice_index, replicate, get_or, slice_get, unwrap_or}
+use Rattle.std.proofs.Common.{◌≡◌, ◌≢◌, ℕ, ◌+◌, ◌<◌, ◌≤◌, List, [], refl, sym, ◌∙◌, ap, arith, ◌⊎◌, inl, inr, Option, Some, None, length, subst, slice_index, replicate, get_or}
 use Rattle.std.proofs.lemmas.Bool.{cases_eq, cases_lt}
 use Rattle.std.proofs.lemmas.List.{length-replicate, get_or_read}
 use Rattle.std.proofs.lemmas.List.Elements.{All-replicate}
 use Rattle.theory.specs.Graph.{Graph, target, IsGraph}
+use Rattle.cells.proofs.EntryLaws.{target_bare}
 use Rattle.word_graph.specs.Edges.{with_edge}
 use Rattle.word_graph.proofs.EdgeLaws.{target_edged, target_other, target_in}
 use Rattle.coincidence.specs.Closing.{IsEdged}
 use Rattle.word_graph.specs.Walk.{IsBefore}
 use Rattle.word_graph.proofs.WalkLaws.{before_next}
 use Rattle.coincidence.specs.Merging.{IsFoldedUpTo, IsFolded, IsClash}
-
--- no edge in rows without edges
-row_bare : (k a : ℕ) → unwrap_or {T = Option ℕ} (slice_get (replicate k None) a) None ≡ None
-row_bare zero a = refl
-row_bare (suc k) zero = refl
-row_bare (suc k) (suc a) = row_bare k a
-
-pub target_bare : (nodes k n a : ℕ) → target (replicate nodes (replicate k None)) n a ≡ None
-target_bare zero k n a = refl
-target_bare (suc nodes) k zero a = row_bare k a
-target_bare (suc nodes) k (suc n) a = target_bare nodes k n a
 
 pub bare_upto : (k : ℕ) (old : Graph) (class : List ℕ) → 0 < length old → IsFoldedUpTo k old class (replicate (length old) (replicate k None)) 0 0
 bare_upto k old class h =

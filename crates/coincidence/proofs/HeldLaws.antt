@@ -15,7 +15,8 @@ use Rattle.word_graph.proofs.WalkLaws.{some_same}
 use Rattle.coincidence.specs.Marks.{KeepsMarks, KeepsNumbers}
 use Rattle.coincidence.proofs.FollowsLaws.{path_more}
 use Rattle.coincidence.proofs.KeptLaws.{kept_lives, kept_more}
-use Rattle.coincidence.proofs.TableLaws.{target_node, define_edged, define_graph, on_inside}
+use Rattle.coincidence.proofs.TableLaws.{define_edged, define_graph, on_inside}
+use Rattle.cells.proofs.EntryLaws.{target_node}
 use Rattle.coincidence.specs.Kept.{IsKept, IsPlaced, IsMended, step_at}
 use Rattle.coincidence.specs.declared.order.Order.{Order}
 use Rattle.coincidence.specs.Table.{CosetTable, IsTable, IsHeld, shown, bare}

@@ -1,45 +1,18 @@
 -- Lists of sources where edges come and go.
-use Rattle.std.proofs.Common.{append_assoc, ◌≡◌, ◌≢◌, ℕ, zero, suc, ◌<◌, ◌≤◌, All, List, [], ◌∷◌, ◌++◌, refl, sym, ◌∙◌, ap, arith, ◌⊎◌, inl, inr, Option, Some, None, length, subst, get_or, set, replicate, length-set}
+use Rattle.std.proofs.Common.{append_assoc, ◌≡◌, ◌≢◌, ℕ, zero, suc, ◌<◌, ◌≤◌, All, List, [], ◌∷◌, ◌++◌, refl, sym, ◌∙◌, ap, arith, ◌⊎◌, inl, inr, Option, Some, None, length, subst, replicate}
 use Rattle.std.proofs.lemmas.Bool.{cases_eq}
 use Rattle.std.proofs.lemmas.List.{length-replicate}
-use Rattle.std.proofs.lemmas.List.Elements.{All-set, All-push}
+use Rattle.std.proofs.lemmas.List.Elements.{All-push}
 use Rattle.theory.specs.Graph.{Graph, target, IsGraph}
 use Rattle.theory.proofs.Counting.{IsIn, AreApart, in_numbers, length_numbers, numbers_below, pigeonhole}
-use Rattle.word_graph.proofs.EdgeLaws.{target_is, target_in}
+use Rattle.word_graph.proofs.EdgeLaws.{target_in}
+use Rattle.cells.proofs.EntryLaws.{entry_length, entry_put, entry_width, graph_put, node_graph, target_bare, target_node}
 use Rattle.word_graph.proofs.WalkLaws.{some_same}
-use Rattle.std.proofs.lemmas.List.{get_or-set_same, get_or-set_other}
-use Rattle.coincidence.specs.Cells.{with_entry}
+use Rattle.cells.specs.Rows.{IsPut, with_entry}
 use Rattle.coincidence.specs.Pending.{IsAmong}
-use Rattle.coincidence.specs.Links.{Links, IsChain, IsOnce, IsSources, IsLinked, IsPut, IsBehind, chain_count}
+use Rattle.coincidence.specs.Links.{Links, IsChain, IsOnce, IsSources, IsLinked, IsBehind, chain_count}
 use Rattle.word_graph.specs.Edges.{with_node}
-use Rattle.coincidence.proofs.FoldLaws.{target_bare}
-use Rattle.coincidence.proofs.TableLaws.{root_graph, target_node, node_graph}
-
--- an entry that is put
-pub entry_put : (g : Graph) (j a : ℕ) (x : Option ℕ) → j < length g → a < length (get_or g j []) → IsPut g (with_entry g j a x) j a x
-entry_put g j a x hj ha = record { put = put; other = other }
-  where
-    row : List (Option ℕ)
-    row = set (get_or g j []) a x
-
-    put : target (with_entry g j a x) j a ≡ x
-    put =
-        target_is (with_entry g j a x) j a ∙ ap (λ r. get_or r a None) (get_or-set_same g j row [] hj) ∙ get_or-set_same (get_or g j []) a x None ha
-
-    other : (n b : ℕ) → ((n ≡ j) × (b ≡ a) → ⊥) → target (with_entry g j a x) n b ≡ target g n b
-    other n b apart = target_is (with_entry g j a x) n b ∙ go (cases_eq n j) (cases_eq b a) ∙ sym (target_is g n b)
-      where
-        go : (n ≡ j) ⊎ (n ≢ j) → (b ≡ a) ⊎ (b ≢ a) → get_or (get_or (with_entry g j a x) n []) b None ≡ get_or (get_or g n []) b None
-        go (inr d) y = ap (λ r. get_or r b None) (get_or-set_other g j n row [] d)
-        go (inl e) (inl e') = absurd (apart (e, e'))
-        go (inl e) (inr d) = subst (λ z. get_or (get_or (with_entry g j a x) z []) b None ≡ get_or (get_or g z []) b None) (sym e)
-            (ap (λ r. get_or r b None) (get_or-set_same g j row [] hj) ∙ get_or-set_other (get_or g j []) a b x None d)
-
-pub entry_width : (k : ℕ) (g : Graph) (j a : ℕ) (x : Option ℕ) → j < length g → All (λ row. length row ≡ k) g → All (λ row. length row ≡ k) (with_entry g j a x)
-entry_width k g j a x hj w = All-set (λ row. length row ≡ k) g j (set (get_or g j []) a x) (length-set (get_or g j []) a x ∙ w j [] hj) w
-
-pub entry_length : (g : Graph) (j a : ℕ) (x : Option ℕ) → length (with_entry g j a x) ≡ length g
-entry_length g j a x = length-set g j (set (get_or g j []) a x)
+use Rattle.coincidence.proofs.TableLaws.{root_graph}
 
 -- a list stays where its nodes are followed as before
 pub chain_same : (next next' : ℕ → Option ℕ) (start : Option ℕ) (list : List ℕ) → ((n : ℕ) → IsAmong n list → next' n ≡ next n) → IsChain next start list → IsChain next' start list
@@ -265,22 +238,6 @@ sources_later old new n a m p front back edge s graph nexts firsts node letter l
         here = ((front ++ p ∷ []) ++ back, sources_gone old new n a m edge graph (front ++ p ∷ []) back parts (rw append_assoc chain))
     go (inr e) y = elsewhere (λ both. e both.0)
     go (inl e) (inr d) = elsewhere (λ both. d both.1)
-
--- a graph with an entry put
-pub graph_put : (k : ℕ) (g : Graph) (j a : ℕ) (x : Option ℕ) → IsGraph k g → j < length g → a < k → ((m : ℕ) → x ≡ Some m → m < length g) → IsGraph k (with_entry g j a x)
-graph_put k g j a x is hj ha hx = record {
-  rooted = omega (arith, is.rooted, entry_length g j a x);
-  width = entry_width k g j a x hj is.width;
-  nodes = λ n b t e. let less : t < length g = go n b t e (cases_eq n j) (cases_eq b a) in omega (arith, less, entry_length g j a x);
-}
-  where
-    put : IsPut g (with_entry g j a x) j a x
-    put = entry_put g j a x hj (omega (arith, is.width j [] hj, ha))
-
-    go : (n b t : ℕ) → target (with_entry g j a x) n b ≡ Some t → (n ≡ j) ⊎ (n ≢ j) → (b ≡ a) ⊎ (b ≢ a) → t < length g
-    go n b t e (inl d) (inl f) = hx t (sym put.put ∙ subst (λ z. target (with_entry g j a x) z a ≡ Some t) d (subst (λ z. target (with_entry g j a x) n z ≡ Some t) f e))
-    go n b t e (inr d) y = is.nodes n b t (sym (put.other n b (λ both. d both.0)) ∙ e)
-    go n b t e (inl d) (inr f) = is.nodes n b t (sym (put.other n b (λ both. f both.1)) ∙ e)
 
 -- links that read the same
 pub linked_same : (k : ℕ) (old new : Links) → IsLinked k old → IsGraph k new.graph → All (λ row. length row ≡ k) new.firsts → All (λ row. length row ≡ k) new.nexts

@@ -5,7 +5,7 @@ use Rattle.std.proofs.Math.Nat.{mul-le-mul_left}
 use Rattle.std.proofs.lemmas.List.Elements.{All-head, All-tail}
 use Rattle.std.proofs.Common.{All, set}
 use Rattle.word_graph.specs.Edges.{with_edge}
-use Rattle.word_graph.proofs.EdgeLaws.{target_is}
+use Rattle.cells.proofs.EntryLaws.{target_is}
 use Rattle.theory.specs.Word.{Word}
 use Rattle.theory.specs.Graph.{Graph, target, path}
 use Rattle.theory.proofs.GraphLaws.{path_front, path_letter}

@@ -1,21 +1,21 @@
 -- New tables, and tables with one more node.
 use Rattle.std.proofs.Common.{◌≡◌, ℕ, zero, suc, ◌+◌, ◌<◌, ◌≤◌, List, [], ◌∷◌, ◌++◌, refl, sym, ◌∙◌, ap, arith, ◌⊎◌, inl, inr, Option, Some, None, length, subst, get_or, replicate, Bool, true, false, option_and_then, length-set, set}
 use Rattle.std.proofs.lemmas.Bool.{cases_eq, cases_lt}
-use Rattle.std.proofs.lemmas.List.{get_or_append_left, get_or_push, get_or_past, length_push, length-replicate}
+use Rattle.std.proofs.lemmas.List.{get_or_append_left, get_or_push, get_or_past, length_push}
 use Rattle.theory.specs.Word.{Word}
 use Rattle.theory.specs.Graph.{Graph, target, path, IsGraph}
 use Rattle.theory.proofs.GraphLaws.{path_front, path_letter}
 use Rattle.theory.proofs.FactsLaws.{last_letter}
 use Rattle.word_graph.specs.Edges.{with_edge, with_node}
 use Rattle.word_graph.proofs.EdgeLaws.{graph_edged}
-use Rattle.std.proofs.lemmas.List.Elements.{All-push}
 use Rattle.coincidence.specs.Merging.{IsReached, EdgesReached}
 use Rattle.coincidence.specs.Closing.{IsEdged}
 use Rattle.coincidence.specs.Live.{IsOn, IsLiveGraph}
 use Rattle.word_graph.proofs.WalkLaws.{some_same}
 use Rattle.coincidence.proofs.FollowsLaws.{path_more}
 use Rattle.coincidence.proofs.CloseLaws.{edged_path}
-use Rattle.coincidence.proofs.FoldLaws.{bare_upto, target_bare, edged_with}
+use Rattle.coincidence.proofs.FoldLaws.{bare_upto, edged_with}
+use Rattle.cells.proofs.EntryLaws.{node_graph, target_bare, target_node}
 
 pub root_graph : (k : ℕ) → IsGraph k (replicate k None ∷ [])
 root_graph k = (bare_upto k (replicate k None ∷ []) [] (omega arith)).graph
@@ -42,13 +42,6 @@ root_live k = record { shape = refl; reached = reached; lives = lives; edges = �
             let p = path_front (replicate k None ∷ []) 0 n (h.0) (h.1 ∷ []) (sym (ap (λ z. path (replicate k None ∷ []) 0 z) h.2) ∙ r.1) in
             absurd (none p.0 (h.1) n (sym (path_letter (replicate k None ∷ []) p.0 (h.1)) ∙ p.2))
 
--- a node without edges changes no target
-pub target_node : (k : ℕ) (g : Graph) (n a : ℕ) → target (with_node k g) n a ≡ target g n a
-target_node k [] zero a = target_bare 1 k 0 a
-target_node k [] (suc n) a = refl
-target_node k (r ∷ g) zero a = refl
-target_node k (r ∷ g) (suc n) a = target_node k g n a
-
 pub path_same : (g h : Graph) → ((n a : ℕ) → target g n a ≡ target h n a) → (n m : ℕ) (u : Word) → path g n u ≡ Some m → path h n u ≡ Some m
 path_same g h e n m [] p = p
 path_same g h e n m (a ∷ u) p = go (target g n a) refl (λ t q. path_same g h e t m u q) p
@@ -56,14 +49,6 @@ path_same g h e n m (a ∷ u) p = go (target g n a) refl (λ t q. path_same g h 
     go : (t : Option ℕ) → target g n a ≡ t → ((t : ℕ) → path g t u ≡ Some m → path h t u ≡ Some m) → option_and_then (λ next. path g next u) t ≡ Some m → option_and_then (λ next. path h next u) (target h n a) ≡ Some m
     go None d further p = cc
     go (Some t) d further p = let d' : target h n a ≡ Some t = sym (e n a) ∙ d in rw d' (further t p)
-
-pub node_graph : (k : ℕ) (g : Graph) → IsGraph k g → IsGraph k (with_node k g)
-node_graph k g is =
-    record {
-      rooted = omega (arith, length_push {X = List (Option ℕ)} g (replicate k None), is.rooted);
-      width = All-push (λ row. length row ≡ k) g (replicate k None) is.width (length-replicate k None);
-      nodes = λ n a m e. let less : m < length g = is.nodes n a m (sym (target_node k g n a) ∙ e) in omega (arith, less, length_push {X = List (Option ℕ)} g (replicate k None));
-    }
 
 -- the edge to the new node
 pub define_edged : (k : ℕ) (g : Graph) (n a : ℕ) → IsGraph k g → n < length g → a < k → target g n a ≡ None → IsEdged (with_node k g) (with_edge (with_node k g) n a (length g)) n a (length g)

@@ -8,7 +8,6 @@ pub mod Marks
 pub mod Table
 pub mod Holding
 pub mod Pending
-pub mod Cells
 pub mod Links
 pub mod Absorbing
 pub mod Joining

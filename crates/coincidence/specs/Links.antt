@@ -1,6 +1,7 @@
 -- Edges, and for each node and letter the list of the nodes where the edges into it start.
 use Rattle.std.specs.Prelude.{◌≡◌, ℕ, zero, suc, ◌≤◌, All, List, [], ◌∷◌, ◌++◌, length, Option, Some, None}
 use Rattle.theory.specs.Graph.{Graph, target, IsGraph}
+use Rattle.cells.specs.Rows.{with_entry}
 use Rattle.coincidence.specs.Pending.{IsAmong}
 
 -- the edges; the first source of each node and letter; and the source after each node in the list
@@ -37,10 +38,10 @@ pub record IsLinked (k : ℕ) (t : Links) : Type 0 where
   pub next_rows : length t.graph ≤ length t.nexts
   pub lists : (node letter : ℕ) → (list : List ℕ) × IsSources t node letter list
 
--- new is old but for the entry x at the node j and letter a
-pub record IsPut (old new : Graph) (j a : ℕ) (x : Option ℕ) : Type 0 where
-  pub put : target new j a ≡ x
-  pub other : (n b : ℕ) → ((n ≡ j) × (b ≡ a) → ⊥) → target new n b ≡ target old n b
+-- g with the entry x at the node, if there is one, and letter a
+abbrev pub with_entry_at : Graph → Option ℕ → ℕ → Option ℕ → Graph
+with_entry_at g None a x = g
+with_entry_at g (Some j) a x = with_entry g j a x
 
 -- how many come one after the other, at most so many
 abbrev pub chain_count : ℕ → (ℕ → Option ℕ) → Option ℕ → ℕ

@@ -3,10 +3,10 @@ ghost use Rattle.std.specs.Prelude.{◌≡◌, ◌≢◌, ℕ, ◌<◌, ◌≤�
 ghost use Rattle.std.specs.Option.{ForSome};
 ghost use Rattle.theory.specs.Graph.{target as target_of};
 ghost use Rattle.word_graph.specs.Edges.{with_edge, with_node};
-ghost use Rattle.coincidence.specs.Cells.{with_entry, with_entry_at};
-ghost use Rattle.coincidence.specs.Links.{IsLinked};
+ghost use Rattle.cells.specs.Rows.{with_entry};
+ghost use Rattle.coincidence.specs.Links.{IsLinked, with_entry_at};
 
-use crate::cells::Cells;
+use cells::Cells;
 use ports::NoMemory;
 use std::alloc::Global;
 use std::marker::Model;

@@ -7,12 +7,10 @@
 #![tactic(auto)]
 
 mod absorb;
-mod cells;
 mod closing;
 mod copies;
 mod due;
 mod edges;
-mod entries;
 mod indexed;
 mod joins;
 mod marks;

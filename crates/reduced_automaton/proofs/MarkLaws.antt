@@ -1,15 +1,15 @@
 -- Nodes that are marked, and how many letters lead from them to an end.
-use Rattle.std.proofs.Common.{◌≡◌, ◌↔◌, ℕ, zero, suc, ◌+◌, ◌-◌, ◌<◌, ◌≤◌, List, [], ◌∷◌, ◌++◌, length, map, take, get_or, refl, sym, ◌∙◌, ap, subst, arith, ◌⊎◌, inl, inr, Bool, true, false, Option, Some, None, Vec, Global, if◌then◌else◌}
+use Rattle.std.proofs.Common.{◌≡◌, ◌↔◌, ℕ, zero, suc, ◌+◌, ◌-◌, ◌<◌, ◌≤◌, List, [], ◌∷◌, ◌++◌, length, map, take, get_or, refl, sym, ◌∙◌, ap, subst, arith, inl, inr, Bool, true, false, Option, Some, None, Vec, Global, if◌then◌else◌}
 use Rattle.std.specs.Option.{is_some}
-use Rattle.std.proofs.lemmas.Bool.{cases_lt, cases_eq}
+use Rattle.std.proofs.lemmas.Bool.{cases_lt}
 use Rattle.std.proofs.lemmas.List.{get_or-map, get_or-take, get_or_past, get_or_append_left, get_or_push, length-map, length-take-le, length_push, take_more}
 use Rattle.theory.specs.Word.{Word}
 use Rattle.theory.specs.Graph.{Graph, target, path, IsGraph}
-use Rattle.word_graph.proofs.EdgeLaws.{target_in, target_is}
+use Rattle.cells.proofs.EntryLaws.{target_is}
 use Rattle.reduced_automaton.specs.Paths.{AreIn, GoesFar, GoesOn, HasPath, Paths, narrowed}
-use Rattle.reduced_automaton.specs.Framings.{AreLayers, AreMarks, IsGrown, IsLimit, IsMarked, IsSpread, IsUnder, LeadsTo, count_marked, frame_paths}
+use Rattle.reduced_automaton.specs.Framings.{AreLayers, AreMarks, IsGrown, IsLimit, IsMarked, IsSpread, LeadsTo, count_marked, frame_paths}
 use Rattle.reduced_automaton.specs.declared.frames.Frame.{Frame}
-use Rattle.reduced_automaton.proofs.PathLaws.{far_behind, far_first, far_less, goes_as, goes_behind, goes_first, path_first}
+use Rattle.reduced_automaton.proofs.PathLaws.{far_behind, far_first, far_less, goes_behind, goes_first, path_first}
 use Rattle.reduced_automaton.proofs.NextPaths.{end_here}
 
 -- The graph with fewer letters.

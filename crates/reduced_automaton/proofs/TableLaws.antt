@@ -10,7 +10,7 @@ use Rattle.theory.proofs.FactsLaws.{last_letter}
 use Rattle.reduced_automaton.proofs.Standing.{filled, listed_at, listed_falls}
 use Rattle.reduced_automaton.proofs.LevelLaws.{state_over}
 use Rattle.theory.specs.Graph.{IsGraph, target}
-use Rattle.word_graph.proofs.EdgeLaws.{target_is}
+use Rattle.cells.proofs.EntryLaws.{target_is}
 use Rattle.reduced_automaton.specs.Rules.{AreFalling}
 use Rattle.reduced_automaton.specs.States.{Leads}
 use Rattle.reduced_automaton.specs.Automaton.{IsReader}

@@ -13,7 +13,7 @@ use Rattle.word_graph.specs.Steps.{step_at, walked, IsWalkedTo}
 use Rattle.word_graph.specs.Renumber.{renumber}
 use Rattle.word_graph.specs.Standard.{IsStandardGraph, renumbered}
 use Rattle.word_graph.specs.declared.walks.Step.{Step}
-use Rattle.word_graph.proofs.EdgeLaws.{target_is}
+use Rattle.cells.proofs.EntryLaws.{target_is}
 use Rattle.word_graph.proofs.WalkLaws.{some_same}
 use Rattle.word_graph.proofs.RenumberLaws.{renumbered_paths, word_leads, renumbered_nodes, place_edge, appears_before, renumbered_complete}
 use Rattle.word_graph.proofs.RowLaws.{rows_of, rows_exact, entries_all, numbered}

@@ -1,7 +1,7 @@
 use Rattle.std.proofs.Common.{◌≡◌, ◌<◌, Some, None, sym, ◌∙◌, subst, arith, length}
 use Rattle.theory.specs.Graph.{Graph, target}
 use Rattle.word_graph.proofs.EdgeLaws.{target_in}
-use Rattle.coincidence.specs.Cells.{with_entry}
+use Rattle.cells.specs.Rows.{with_entry}
 use Rattle.coincidence.proofs.AbsorbLaws.{redirect_step, redirect_end, first_leads, none_leads, leading, remade_put, remade_shape, remade_count}
 use Rattle.coincidence.proofs.absorb.redirect.Goals as goal
 

@@ -6,7 +6,8 @@ use Rattle.coincidence.specs.Links.{Links, IsLinked}
 use Rattle.coincidence.specs.declared.pending.Pending.{Pending}
 use Rattle.coincidence.specs.declared.pending.Pending.TheVariants.{NewNode, NewEdge}
 use Rattle.coincidence.proofs.FoldLaws.{width_is}
-use Rattle.coincidence.proofs.TableLaws.{define_live, define_graph, on_inside, node_graph, target_node}
+use Rattle.coincidence.proofs.TableLaws.{define_live, define_graph, on_inside}
+use Rattle.cells.proofs.EntryLaws.{node_graph, target_node}
 use Rattle.coincidence.proofs.DrawLaws.{defined_closed}
 use Rattle.coincidence.proofs.closing.define_in.Goals as goal
 

@@ -1,7 +1,8 @@
 use Rattle.std.proofs.Common.{◌≡◌, ◌<◌, ℕ, [], None, length, arith, subst, sym, ◌∙◌, ap}
 use Rattle.theory.specs.Graph.{target}
 use Rattle.coincidence.specs.Links.{Links, IsLinked}
-use Rattle.coincidence.proofs.LinkLaws.{entry_length, entry_width, first_within, linked_set}
+use Rattle.coincidence.proofs.LinkLaws.{first_within, linked_set}
+use Rattle.cells.proofs.EntryLaws.{entry_length, entry_width}
 use Rattle.coincidence.proofs.BackLaws.{backed_set}
 use Rattle.word_graph.proofs.WalkLaws.{some_same}
 use Rattle.coincidence.proofs.edges.Edges.set_edge.Goals as goal
@@ -21,7 +22,7 @@ put-requires-clause-letter c =
 
 pub put-requires-clause-entry : goal.put-requires-clause-entry
 put-requires-clause-entry c = λ n is.
-    omega (arith, first_within c.self.inside.letters _ c.args.to c.args.letter n c.self.invariant.linked (sym c.get-first.ensures ∙ is), c.self.invariant.linked.next_rows)
+    omega (arith, first_within c.self.inside.letters _ c.args.to c.args.letter n c.self.invariant.linked (sym c.get-first.ensures.entry ∙ is), c.self.invariant.linked.next_rows)
 
 pub put-requires-2-clause-node : goal.put-requires-2-clause-node
 put-requires-2-clause-node c =
@@ -35,7 +36,7 @@ put-requires-2-clause-letter c =
 
 pub put_at-requires-clause-node : goal.put_at-requires-clause-node
 put_at-requires-clause-node c = λ n is.
-    omega (arith, first_within c.self.inside.letters _ c.args.to c.args.letter n c.self.invariant.linked (sym c.get-first.ensures ∙ is), c.self.invariant.backed.rows, ap length c.put-2.ensures, entry_length c.self.inside.befores c.args.node c.args.letter None)
+    omega (arith, first_within c.self.inside.letters _ c.args.to c.args.letter n c.self.invariant.linked (sym c.get-first.ensures.entry ∙ is), c.self.invariant.backed.rows, ap length c.put-2.ensures, entry_length c.self.inside.befores c.args.node c.args.letter None)
 
 pub put_at-requires-clause-letter : goal.put_at-requires-clause-letter
 put_at-requires-clause-letter c =
@@ -71,8 +72,8 @@ invariant_of-self c =
     let a = bound c.self.inside.letters c.args.letter t c.args.self.now c.self.view_is i c.requires.letter in
     let missing : target c.self.inside.targets c.args.node c.args.letter ≡ None = subst (λ (z : Links). target z.graph c.args.node c.args.letter ≡ None) (sym c.self.view_is) c.requires.missing in
     record {
-      linked = rw (c.put-4.ensures, c.put-3.ensures, c.put.ensures, c.get-first.ensures)
+      linked = rw (c.put-4.ensures, c.put-3.ensures, c.put.ensures, c.get-first.ensures.entry)
           (linked_set c.self.inside.letters t c.args.node c.args.letter c.args.to i n a m missing);
-      backed = rw (c.put-4.ensures, c.put-3.ensures, c.put_at.ensures, c.put-2.ensures, c.put.ensures, c.get-first.ensures)
+      backed = rw (c.put-4.ensures, c.put-3.ensures, c.put_at.ensures, c.put-2.ensures, c.put.ensures, c.get-first.ensures.entry)
           (backed_set c.self.inside.letters t c.self.inside.befores c.args.node c.args.letter c.args.to i c.self.invariant.backed n a m missing);
     }

@@ -1,7 +1,7 @@
 use Rattle.std.proofs.Common.{◌≡◌, ℕ, [], true, false, sym, ◌∙◌, subst, arith}
 use Rattle.theory.specs.Graph.{Graph, IsGraph, IsComplete}
 use Rattle.theory.specs.LowIndex.{graph_of}
-use Rattle.word_graph.proofs.EdgeLaws.{target_is}
+use Rattle.cells.proofs.EntryLaws.{target_is}
 use Rattle.word_graph.proofs.RowLaws.{rows_of, rows_exact}
 use Rattle.word_graph.proofs.NumberLaws.{rows_complete}
 use Rattle.word_graph.proofs.graphs.WordGraph.is_standard.Goals as goal

@@ -1,5 +1,5 @@
 use Rattle.std.proofs.Common.{◌≡◌, ◌++◌, replicate, None}
-use Rattle.coincidence.proofs.cells.push_row.Given as goal
+use Rattle.cells.proofs.flat.push_empty.Given as goal
 
 abbrev pub invariant-loop : goal.invariant-loop
 invariant-loop l = l.entries.items ≡ l.initial.entries.items ++ replicate l.counter None

@@ -1,9 +1,8 @@
-// Tables of nodes times letters that stand in one vector.
+// Rows of entries that stand in one vector.
 ghost use Rattle.std.specs.Prelude.{◌≡◌, ℕ, ◌+◌, ◌*◌, ◌<◌, ◌≤◌, All, List, [], ◌∷◌, ◌++◌, length, replicate, slice_index_or, None, IfOk, OnOk, OnErr};
 ghost use Rattle.std.specs.Option.{ForSome};
 ghost use Rattle.theory.specs.Graph.{target};
-ghost use Rattle.word_graph.specs.Edges.{with_node};
-ghost use Rattle.coincidence.specs.Cells.{with_entry};
+ghost use Rattle.cells.specs.Rows.{with_entry, with_node};
 
 use crate::entries::Entry;
 use ports::NoMemory;
@@ -11,10 +10,10 @@ use std::alloc::Global;
 use std::marker::Model;
 use words::Letter;
 
-// More nodes do not fit in the table: their entries would not fit in four bytes.
-const NODES_AT_MOST: usize = 4_294_967_295;
+/// So many numbers, from 0, fit in entries of four bytes. More nodes have no room in [`Cells`].
+pub const NUMBERS_AT_MOST: usize = 4_294_967_295;
 
-// A node or none for each node and letter, row after row in one vector.
+/// For each node and letter a number or none: a row for each node, and at least one.
 #[derive(Drop)]
 pub struct Cells {
     nodes: usize,
@@ -26,7 +25,7 @@ impl Model for Cells {
     ghost use Rattle.std.below.core.specs.declared.int.u32.TheConstants.{MAX};
     ghost use Rattle.std.specs.Prelude.{◌≡◌, ◌*◌, ◌<◌, ◌≤◌, length};
     ghost use Rattle.theory.specs.Graph.{Graph};
-    ghost use Rattle.coincidence.specs.Cells.{rows_of};
+    ghost use Rattle.cells.specs.Rows.{rows_of};
 
     ghost Value = { Graph };
 
@@ -50,14 +49,14 @@ fn place(nodes: usize, letters: usize, node: usize, letter: usize) -> usize
     node * letters + letter
 }
 
-// One entry more for each letter, and nothing in it. Only want of memory refuses it, and then
-// nothing has changed.
-fn push_row(entries: &mut Vec<Entry>, letters: usize) -> Result<(), NoMemory>
-    ensures ok { OnOk result (entries.new.items ≡ entries.old.items ++ replicate letters None) }
+// So many entries more, and nothing in them. Only want of memory refuses it, and then nothing has
+// changed.
+fn push_empty(entries: &mut Vec<Entry>, count: usize) -> Result<(), NoMemory>
+    ensures ok { OnOk result (entries.new.items ≡ entries.old.items ++ replicate count None) }
     ensures err { OnErr result (entries.new.items ≡ entries.old.items) }
 {
     let len = entries.len();
-    for _ in 0..letters {
+    for _ in 0..count {
         let Ok(()) = entries.push(Entry::new(None)) else {
             entries.truncate(len);
             return Err(NoMemory);
@@ -80,10 +79,26 @@ impl Cells {
     pub fn new(alloc: Global, letters: usize) -> Result<Cells, NoMemory>
         ensures { IfOk result (λ c. c ≡ replicate letters None ∷ []) }
     {
-        let mut entries = Vec::new(alloc);
-        push_row(&mut entries, letters)?;
+        Cells::of(alloc, 1, letters)
+    }
+
+    /// So many nodes, the root among them, without entries, in a vector that is made at once.
+    /// Refused only where memory is wanting: more nodes than entries of four bytes can tell apart do
+    /// not fit.
+    pub fn of(alloc: Global, nodes: usize, letters: usize) -> Result<Cells, NoMemory>
+        requires { 0 < nodes }
+        ensures { IfOk result (λ c. c ≡ replicate nodes (replicate letters None)) }
+    {
+        if NUMBERS_AT_MOST < nodes {
+            return Err(NoMemory);
+        }
+        let Some(count) = nodes.checked_mul(letters) else {
+            return Err(NoMemory);
+        };
+        let mut entries = Vec::with_capacity(alloc, count)?;
+        push_empty(&mut entries, count)?;
         Ok(Cells {
-            nodes: 1,
+            nodes,
             letters,
             entries,
         })
@@ -106,7 +121,8 @@ impl Cells {
 
     /// The entry of the node and letter. `None` also where there is no such node or letter.
     pub fn get(&self, node: usize, letter: Letter) -> Option<usize>
-        ensures { result ≡ target self.now node letter }
+        ensures entry { result ≡ target self.now node letter }
+        ensures few { ForSome result (λ n. n < NUMBERS_AT_MOST) }
     {
         if self.nodes <= node {
             return None;
@@ -115,7 +131,7 @@ impl Cells {
             return None;
         }
         let place = place(self.nodes, self.letters, node, letter.number());
-        self.entries[place].node()
+        self.entries[place].value()
     }
 
     /// Puts an entry in the place of the one that was there: a node or none.
@@ -123,6 +139,18 @@ impl Cells {
         requires node { node < length self.old }
         requires letter { letter < length (slice_index_or self.old node []) }
         requires entry { ForSome entry (λ n. n < length self.old) }
+        ensures { self.new ≡ with_entry self.old node letter entry }
+    {
+        let _nodes = self.nodes;
+        self.put_number(node, letter, entry);
+    }
+
+    /// Puts an entry in the place of the one that was there: a number, which need not be that of a
+    /// node, or none.
+    pub fn put_number(&mut self, node: usize, letter: Letter, entry: Option<usize>)
+        requires node { node < length self.old }
+        requires letter { letter < length (slice_index_or self.old node []) }
+        requires entry { ForSome entry (λ n. n < NUMBERS_AT_MOST) }
         ensures { self.new ≡ with_entry self.old node letter entry }
     {
         let place = place(self.nodes, self.letters, node, letter.number());
@@ -136,10 +164,10 @@ impl Cells {
             → self.new ≡ with_node k self.old) }
         ensures err { OnErr result (self.new ≡ self.old) }
     {
-        if NODES_AT_MOST <= self.nodes {
+        if NUMBERS_AT_MOST <= self.nodes {
             return Err(NoMemory);
         }
-        push_row(&mut self.entries, self.letters)?;
+        push_empty(&mut self.entries, self.letters)?;
         self.nodes += 1;
         Ok(())
     }

@@ -1,7 +1,7 @@
 use Rattle.std.proofs.Common.{◌≡◌, ◌<◌, ℕ, List, Option, length, get_or, subst, arith}
 use Rattle.theory.specs.Graph.{Graph}
-use Rattle.coincidence.proofs.CellLaws.{width_rows, length_rows}
-use Rattle.coincidence.proofs.cells.Cells.letters.Goals as goal
+use Rattle.cells.proofs.CellLaws.{width_rows, length_rows}
+use Rattle.cells.proofs.flat.Cells.letters.Goals as goal
 
 pub returns-clause-rows : goal.returns-clause-rows
 returns-clause-rows c =

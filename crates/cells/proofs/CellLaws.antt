@@ -1,14 +1,14 @@
--- Tables that stand in one list.
-use Rattle.std.proofs.Common.{◌≡◌, ◌≢◌, ℕ, zero, suc, ◌+◌, ◌*◌, ◌<◌, ◌≤◌, List, [], ◌∷◌, ◌++◌, refl, sym, ◌∙◌, ap, arith, ◌⊎◌, inl, inr, Option, None, length, subst, get_or, set, take, drop, replicate}
-use Rattle.std.proofs.lemmas.Bool.{cases_eq, cases_lt}
+-- Rows that stand in one list.
+use Rattle.std.proofs.Common.{◌≡◌, ◌≢◌, ℕ, zero, suc, ◌+◌, ◌-◌, ◌*◌, ◌<◌, ◌≤◌, List, [], ◌∷◌, ◌++◌, refl, sym, ◌∙◌, ap, arith, ◌⊎◌, inl, inr, Option, None, length, subst, get_or, set, take, drop, replicate}
+use Rattle.std.proofs.lemmas.Bool.{cases_eq}
 use Rattle.std.proofs.Math.Nat.{suc-mul, mul-le-mul_right}
 use Rattle.std.proofs.Math.Seq.{take-set-lt, take-length}
-use Rattle.std.proofs.lemmas.List.{length-replicate, get_or-set_same, get_or-set_other, take-append-le, drop-append-le, take-set-le, drop-set-lt, drop-set-add, get_or-take, get_or-drop, length-take-le, length-drop, get_or_past}
+use Rattle.std.proofs.lemmas.List.{get_or-set_same, get_or-set_other, take-append-le, drop-append-le, take-set-le, drop-set-lt, drop-set-add, get_or-take, get_or-drop, length-take-le, length-drop, take-replicate, drop-replicate}
 use Rattle.std.specs.Option.{ForSome}
 use Rattle.std.below.core.specs.declared.int.u32.TheConstants.{MAX}
 use Rattle.theory.specs.Graph.{Graph, target}
-use Rattle.word_graph.proofs.EdgeLaws.{target_is}
-use Rattle.coincidence.specs.Cells.{rows_of, with_entry}
+use Rattle.cells.specs.Rows.{AreRows, rows_of, with_entry}
+use Rattle.cells.proofs.EntryLaws.{target_is}
 
 -- a node of the table has a code
 pub within_code : (entry : Option ℕ) (count nodes : ℕ) → count ≡ nodes → nodes ≤ MAX → ForSome entry (λ n. n < count) → ForSome entry (λ n. n < MAX)
@@ -54,20 +54,8 @@ write_rows k (suc n) xs (suc node) a x hn ha =
 pub read_target : (k n : ℕ) (xs : List (Option ℕ)) (node a : ℕ) → node < n → a < k → target (rows_of k n xs) node a ≡ get_or xs (node * k + a) None
 read_target k n xs node a hn ha = target_is (rows_of k n xs) node a ∙ read_rows k n xs node a hn ha
 
--- nothing stands past the letters and the nodes
-pub past_letters : (k n : ℕ) (xs : List (Option ℕ)) (node a : ℕ) → length xs ≡ n * k → k ≤ a → target (rows_of k n xs) node a ≡ None
-past_letters k n xs node a e h = target_is (rows_of k n xs) node a ∙ go (cases_lt node n)
-  where
-    go : (node < n) ⊎ (n ≤ node) → get_or (get_or (rows_of k n xs) node []) a None ≡ None
-    go (inl less) = get_or_past (get_or (rows_of k n xs) node []) a None (omega (arith, h, width_rows k n xs e node [] less))
-    go (inr more) =
-        let gone : get_or (rows_of k n xs) node [] ≡ [] = get_or_past (rows_of k n xs) node [] (omega (arith, more, length_rows k n xs)) in
-        rw gone refl
-
-pub past_nodes : (k n : ℕ) (xs : List (Option ℕ)) (node a : ℕ) → n ≤ node → target (rows_of k n xs) node a ≡ None
-past_nodes k n xs node a more =
-    let gone : get_or (rows_of k n xs) node [] ≡ [] = get_or_past (rows_of k n xs) node [] (omega (arith, more, length_rows k n xs)) in
-    target_is (rows_of k n xs) node a ∙ rw gone refl
+pub rows_are : (k n : ℕ) (xs : List (Option ℕ)) → length xs ≡ n * k → AreRows n k (rows_of k n xs)
+rows_are k n xs e = record { count = length_rows k n xs; width = λ i d h. width_rows k n xs e i d (omega (arith, h, length_rows k n xs)) }
 
 -- one row more
 pub add_rows : (k n : ℕ) (xs row : List (Option ℕ)) → length xs ≡ n * k → length row ≡ k → rows_of k (suc n) (xs ++ row) ≡ rows_of k n xs ++ row ∷ []
@@ -109,7 +97,9 @@ pub cleared : (k n : ℕ) (xs : List (Option ℕ)) → 0 < n → length xs ≡ n
 cleared k zero xs h e = absurd (omega (arith, h))
 cleared k (suc n) xs h e = length-take-le k xs (long k n xs e).0
 
-pub cleared_rows : (k m : ℕ) → m ≡ k → rows_of k 1 (replicate m None) ≡ replicate k None ∷ []
-cleared_rows k m e =
-    let all : take k (replicate k None) ≡ replicate {A = Option ℕ} k None = subst (λ z. take z (replicate k None) ≡ replicate {A = Option ℕ} k None) (length-replicate k None) (take-length (replicate k None)) in
-    subst (λ z. rows_of k 1 (replicate z None) ≡ replicate k None ∷ []) (sym e) (ap (λ z. z ∷ []) all)
+pub bare_rows : (k n m : ℕ) → m ≡ n * k → rows_of k n (replicate m None) ≡ replicate n (replicate k None)
+bare_rows k zero m e = refl
+bare_rows k (suc n) m e =
+    let first : take k (replicate m None) ≡ replicate {A = Option ℕ} k None = take-replicate k m None (omega (arith, e, suc-mul n k)) in
+    let rest : drop k (replicate m None) ≡ replicate {A = Option ℕ} (m - k) None = drop-replicate k m None in
+    rw (first, rest) (ap (λ z. replicate k None ∷ z) (bare_rows k n (m - k) (omega (arith, e, suc-mul n k))))

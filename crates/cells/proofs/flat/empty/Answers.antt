@@ -1,6 +1,6 @@
 use Rattle.std.proofs.Common.{◌<◌, length, None, replicate, arith, ◌∙◌, ap, length-set}
-use Rattle.coincidence.proofs.CellLaws.{all_none, none_more}
-use Rattle.coincidence.proofs.cells.empty.Goals as goal
+use Rattle.cells.proofs.CellLaws.{all_none, none_more}
+use Rattle.cells.proofs.flat.empty.Goals as goal
 
 pub loop-place-preserved : goal.loop-place-preserved
 loop-place-preserved c =

@@ -1,16 +1,13 @@
-use Rattle.std.proofs.Common.{◌≡◌, ◌+◌, ◌*◌, ap, sym, ◌∙◌, subst, ◌<◌, length}
-use Rattle.coincidence.specs.Cells.{with_entry}
-use Rattle.coincidence.proofs.CellLaws.{length_rows, within_code, within_rows, write_rows}
-use Rattle.coincidence.proofs.cells.Cells.put.Goals as goal
+use Rattle.std.proofs.Common.{◌≡◌, ◌+◌, ◌*◌, ap, sym, ◌∙◌, subst, ◌<◌}
+use Rattle.cells.specs.Rows.{with_entry}
+use Rattle.cells.proofs.CellLaws.{within_rows, write_rows}
+use Rattle.cells.proofs.flat.Cells.put_number.Goals as goal
 
 pub place-place-requires-clause-node : goal.place-place-requires-clause-node
 place-place-requires-clause-node c = (within_rows c.self.inside.letters c.self.inside.nodes c.args.node c.args.letter c.args.self.now c.self.inside.entries.items c.self.invariant.entries c.self.view_is c.requires.node c.requires.letter).0
 
 pub place-place-requires-clause-letter : goal.place-place-requires-clause-letter
 place-place-requires-clause-letter c = subst (λ z. z < c.self.inside.letters) (sym c.number.ensures) (within_rows c.self.inside.letters c.self.inside.nodes c.args.node c.args.letter c.args.self.now c.self.inside.entries.items c.self.invariant.entries c.self.view_is c.requires.node c.requires.letter).1
-
-pub new-requires : goal.new-requires
-new-requires c = within_code c.args.entry _ _ (ap length (sym c.self.view_is) ∙ length_rows c.self.inside.letters c.self.inside.nodes c.self.inside.entries.items) c.self.invariant.few c.requires.entry
 
 pub returns : goal.returns
 returns c =
