@@ -1,9 +1,10 @@
 -- The states level by level.
-use Rattle.std.proofs.Common.{◌≡◌, ℕ, ◌+◌, ◌-◌, ◌*◌, ◌<◌, ◌≤◌, List, [], ◌∷◌, ◌++◌, length, take, drop, get_or, refl, sym, ◌∙◌, ap, subst, arith, ◌⊎◌, inl, inr, Option, Some, None, Contains, length-append, length-take, take-append-drop}
+use Rattle.std.proofs.Common.{◌≡◌, ℕ, ◌+◌, ◌-◌, ◌<◌, ◌≤◌, List, [], ◌∷◌, ◌++◌, length, take, drop, get_or, refl, sym, ◌∙◌, ap, subst, arith, ◌⊎◌, inl, inr, Option, Some, None, Contains, length-append, length-take, take-append-drop}
 use Rattle.std.proofs.lemmas.Bool.{cases_eq, cases_lt}
 use Rattle.std.proofs.lemmas.List.{get_or_append_left, get_or-append_right, get_or_default, get_or-map, get_or_past}
 use Rattle.std.proofs.lemmas.List.Elements.{Contains-push, Contains-push_cases, Contains-append_left, Contains-append_right}
 use Rattle.theory.specs.Word.{Word, IsOver}
+use Rattle.theory.specs.Graph.{Graph, target}
 use Rattle.theory.proofs.Words.{over_left, over_right}
 use Rattle.theory.proofs.FactsLaws.{last_letter}
 use Rattle.reduced_automaton.specs.Rules.{AreOver}
@@ -13,25 +14,25 @@ use Rattle.reduced_automaton.proofs.TrieLaws.{words_count}
 use Rattle.reduced_automaton.specs.declared.tries.Prefix.{Prefix}
 
 -- one letter more
-module _ (k : ℕ) (children : List (Option ℕ)) (node letter : ℕ) (old now : List ℕ) (is : Gathers k children node letter old now) where
-  later : (x : ℕ) → IsChildOf k children node letter x → IsChildOf k children node (letter + 1) x
+module _ (children : Graph) (node letter : ℕ) (old now : List ℕ) (is : Gathers children node letter old now) where
+  later : (x : ℕ) → IsChildOf children node letter x → IsChildOf children node (letter + 1) x
   later x h = record { letter = h.letter; below = omega (arith, h.below); is = h.is }
 
-  here : (x : ℕ) → IsChildOf k children node (letter + 1) x → IsChildOf k children node letter x ⊎ (get_or children (node * k + letter) None ≡ Some x)
+  here : (x : ℕ) → IsChildOf children node (letter + 1) x → IsChildOf children node letter x ⊎ (target children node letter ≡ Some x)
   here x h = elim (cases_eq h.letter letter) [
-    | inl e ↦ inr (ap (λ a. get_or children (node * k + a) None) (sym e) ∙ h.is)
+    | inl e ↦ inr (ap (λ a. target children node a) (sym e) ∙ h.is)
     | inr d ↦ inl (record { letter = h.letter; below = omega (arith, h.below, d); is = h.is })
   ]
 
-  pub gather_none : get_or children (node * k + letter) None ≡ None → Gathers k children node (letter + 1) old now
+  pub gather_none : target children node letter ≡ None → Gathers children node (letter + 1) old now
   gather_none e = record {
     kept = is.kept;
     from = λ x h. elim (is.from x h) [ inl o ↦ inl o | inr c ↦ inr (later x c) ];
     all = λ x h. elim (here x h) [ inl c ↦ is.all x c | inr s ↦ let bad : None ≡ Some x = sym e ∙ s in cc ];
   }
 
-  pub gather_some : (y : ℕ) (new : List ℕ) → get_or children (node * k + letter) None ≡ Some y → new ≡ now ++ y ∷ [] → Gathers k children node (letter + 1) old new
-  gather_some y new e made = subst (λ (z : List ℕ). Gathers k children node (letter + 1) old z) (sym made) (record {
+  pub gather_some : (y : ℕ) (new : List ℕ) → target children node letter ≡ Some y → new ≡ now ++ y ∷ [] → Gathers children node (letter + 1) old new
+  gather_some y new e made = subst (λ (z : List ℕ). Gathers children node (letter + 1) old z) (sym made) (record {
     kept = λ x h. Contains-append_left now (y ∷ []) x (is.kept x h);
     from = λ x h. elim (Contains-push_cases now y x h) [
       | inl o ↦ elim (is.from x o) [ inl o ↦ inl o | inr c ↦ inr (later x c) ]
@@ -44,19 +45,19 @@ module _ (k : ℕ) (children : List (Option ℕ)) (node letter : ℕ) (old now :
   })
 
 -- one state of the level more
-pub children_step : (k : ℕ) (children : List (Option ℕ)) (level : List ℕ) (index : ℕ) (now new : List ℕ) (node : ℕ) → index < length level → node ≡ get_or level index 0
-    → AreChildren k children level index now → Gathers k children node k now new → AreChildren k children level (index + 1) new
+pub children_step : (k : ℕ) (children : Graph) (level : List ℕ) (index : ℕ) (now new : List ℕ) (node : ℕ) → index < length level → node ≡ get_or level index 0
+    → AreChildren k children level index now → Gathers children node k now new → AreChildren k children level (index + 1) new
 children_step k children level index now new node inside e is more = record { from = from; all = all }
   where
-    from : (x : ℕ) → Contains new x → (j : ℕ) × (j < index + 1) × (j < length level) × IsChildOf k children (get_or level j 0) k x
+    from : (x : ℕ) → Contains new x → (j : ℕ) × (j < index + 1) × (j < length level) × IsChildOf children (get_or level j 0) k x
     from x h = elim (more.from x h) [
       | inl o ↦ let f = is.from x o in (f.0, omega (arith, f.1), f.2, f.3)
-      | inr c ↦ (index, omega arith, inside, subst (λ z. IsChildOf k children z k x) e c)
+      | inr c ↦ (index, omega arith, inside, subst (λ z. IsChildOf children z k x) e c)
     ]
 
-    all : (j x : ℕ) → j < index + 1 → j < length level → IsChildOf k children (get_or level j 0) k x → Contains new x
+    all : (j x : ℕ) → j < index + 1 → j < length level → IsChildOf children (get_or level j 0) k x → Contains new x
     all j x h l c = elim (cases_eq j index) [
-      | inl same ↦ more.all x (subst (λ z. IsChildOf k children z k x) (ap (λ i. get_or level i 0) same ∙ sym e) c)
+      | inl same ↦ more.all x (subst (λ z. IsChildOf children z k x) (ap (λ i. get_or level i 0) same ∙ sym e) c)
       | inr d ↦ more.kept x (is.all j x (omega (arith, h, d)) l c)
     ]
 
@@ -84,7 +85,7 @@ state_short rules prefixes most few n h =
     let at : get_or (words_of rules prefixes) n [] ≡ take p.count (left_at rules p.rule) = get_or-map (state_of rules) prefixes n (record { rule = 0; count = 0 }) [] h in
     omega (arith, ap length at, length-take p.count (left_at rules p.rule), few p.rule)
 
-module _ (k : ℕ) (rules : List (Word × Word)) (states : List Word) (children lefts : List (Option ℕ)) (is : IsTrie k rules states children lefts) where
+module _ (k : ℕ) (rules : List (Word × Word)) (states : List Word) (children lefts : Graph) (is : IsTrie k rules states children lefts) where
   pub order_start : IsOrderTo states 0 (0 ∷ []) (0 ∷ [])
   order_start = record {
     within = λ j h. (at j h, omega (arith, ap length (root j h)));
@@ -134,16 +135,16 @@ module _ (k : ℕ) (rules : List (Word × Word)) (states : List Word) (children 
           let has = before.level_each there.0 there.1 size in
           let at : get_or level has.0 0 ≡ there.0 = item_at level there.0 0 has in
           let below : l.1 < k = (over_right k l.0 (l.1 ∷ []) (subst (λ u. IsOver k u) l.2 (over n))).0 in
-          go there.0 l.1 below (word_is there.0 n l.1 l.0 parent l.2) (get_or children (there.0 * k + l.1) None) refl (is.child there.0 l.1 there.1 below) has.0 has.1 at
+          go there.0 l.1 below (word_is there.0 n l.1 l.0 parent l.2) (target children there.0 l.1) refl (is.child there.0 l.1 there.1 below) has.0 has.1 at
     ]
       where
-        go : (m a : ℕ) → a < k → longer states m a ≡ get_or states n [] → (t : Option ℕ) → get_or children (m * k + a) None ≡ t → IsChild states (longer states m a) t
+        go : (m a : ℕ) → a < k → longer states m a ≡ get_or states n [] → (t : Option ℕ) → target children m a ≡ t → IsChild states (longer states m a) t
             → (j : ℕ) → j < length level → get_or level j 0 ≡ m → Contains next n
         go m a below word None e c j inside at = absurd (c (contains_at states (longer states m a) n h (sym word)))
         go m a below word (Some x) e c j inside at =
             let same : x ≡ n = is.distinct x n c.0 h (c.1 ∙ word) in
             subst (λ z. Contains next z) same
-            (made.all j x inside inside (record { letter = a; below = below; is = ap (λ z. get_or children (z * k + a) None) at ∙ e }))
+            (made.all j x inside inside (record { letter = a; below = below; is = ap (λ z. target children z a) at ∙ e }))
 
     size : length (order ++ next) ≡ length order + length next
     size = length-append order next

@@ -1,17 +1,21 @@
 -- The tables of the automaton, an entry after another.
-use Rattle.std.proofs.Common.{◌≡◌, ℕ, ◌+◌, ◌*◌, ◌<◌, ◌≤◌, List, [], ◌∷◌, ◌++◌, length, drop, get_or, set, replicate, refl, sym, ◌∙◌, ap, ap₂, subst, subst₂, arith, ◌⊎◌, inl, inr, Option, Some, None, Contains, length-append, length-set, length-drop, unwrap_or}
+use Rattle.std.proofs.Common.{◌≡◌, ℕ, ◌+◌, ◌<◌, ◌≤◌, List, [], ◌∷◌, ◌++◌, length, drop, get_or, set, replicate, refl, sym, ◌∙◌, ap, ap₂, subst, subst₂, arith, ◌⊎◌, inl, inr, Option, Some, None, Contains, length-append, length-set, length-drop, unwrap_or}
 use Rattle.std.proofs.lemmas.Bool.{cases_eq, cases_lt}
 use Rattle.std.proofs.lemmas.List.{get_or_default, get_or-set_same, get_or-set_other, get_or-replicate, length-replicate, append_assoc}
+use Rattle.std.specs.Option.{ForSome, option_or}
 use Rattle.theory.specs.Word.{Word, IsOver}
+use Rattle.theory.specs.Graph.{Graph, target}
+use Rattle.cells.specs.Rows.{IsPut, with_entry}
+use Rattle.cells.proofs.EntryLaws.{put_cases, rows_bare, rows_entry, rows_put, target_bare}
 use Rattle.theory.proofs.Words.{over_right}
 use Rattle.theory.proofs.FactsLaws.{last_letter}
 use Rattle.reduced_automaton.specs.Rules.{AreFalling}
 use Rattle.reduced_automaton.specs.States.{HasEnd, IsLongest}
-use Rattle.reduced_automaton.specs.Tries.{left_at, longer, IsChild, IsLeft, IsGrown, IsOrder, IsEnd, Reads, IsDone, AreTables, IsLinkedTo, IsBehind, first_of, linked}
+use Rattle.reduced_automaton.specs.Tries.{left_at, longer, IsChild, IsLeft, IsGrown, IsOrder, IsEnd, Reads, IsDone, AreTables, IsLinkedTo, IsBehind, linked, state_at}
 use Rattle.reduced_automaton.proofs.Standing.{filled, listed_at, listed_falls}
 use Rattle.reduced_automaton.proofs.StateLists.{contains_at, item_at}
 use Rattle.reduced_automaton.proofs.StateLaws.{end_kept, longest_more, empty_longest}
-use Rattle.reduced_automaton.proofs.TrieLaws.{place_within, place_one, longer_one}
+use Rattle.reduced_automaton.proofs.TrieLaws.{longer_one}
 
 -- a word in front of its last letters
 front_dropped : (u : Word) → 0 < length u → (a : ℕ) × (u ≡ a ∷ drop 1 u)
@@ -26,13 +30,18 @@ nil_short : (u : Word) → length u ≤ 0 → [] ≡ u
 nil_short [] h = refl
 nil_short (a ∷ u) h = absurd (omega (arith, h))
 
-module _ (k : ℕ) (rules : List (Word × Word)) (falling : AreFalling rules) (states : List Word) (children lefts : List (Option ℕ)) (is : IsGrown k rules (length rules) states children lefts)
+-- the first number, or the second, where both are few
+pub first_few : (most : ℕ) (first second : Option ℕ) → ForSome first (λ n. n < most) → ForSome second (λ n. n < most) → ForSome (option_or first second) (λ n. n < most)
+first_few most None second f s = s
+first_few most (Some number) second f s = f
+
+module _ (k : ℕ) (rules : List (Word × Word)) (falling : AreFalling rules) (states : List Word) (children lefts : Graph) (is : IsGrown k rules (length rules) states children lefts)
     (over : (n : ℕ) → IsOver k (get_or states n [])) (order : List ℕ) (ordered : IsOrder states order) where
   -- a child is the state that it makes
-  child_is : (m a n : ℕ) → m < length states → a < k → n < length states → longer states m a ≡ get_or states n [] → get_or children (m * k + a) None ≡ Some n
-  child_is m a n hm ha hn word = go (get_or children (m * k + a) None) refl (is.trie.child m a hm ha)
+  child_is : (m a n : ℕ) → m < length states → a < k → n < length states → longer states m a ≡ get_or states n [] → target children m a ≡ Some n
+  child_is m a n hm ha hn word = go (target children m a) refl (is.trie.child m a hm ha)
     where
-      go : (t : Option ℕ) → get_or children (m * k + a) None ≡ t → IsChild states (longer states m a) t → get_or children (m * k + a) None ≡ Some n
+      go : (t : Option ℕ) → target children m a ≡ t → IsChild states (longer states m a) t → target children m a ≡ Some n
       go None e c = absurd (c (contains_at states (longer states m a) n hn (sym word)))
       go (Some x) e c = e ∙ ap (λ z. Some z) (is.trie.distinct x n c.0 hn (c.1 ∙ word))
 
@@ -47,35 +56,35 @@ module _ (k : ℕ) (rules : List (Word × Word)) (falling : AreFalling rules) (s
         | inr m ↦ absurd (let up = ordered.rises place has.0 m has.1 in omega (arith, up, less, ap (λ z. length (get_or states z [])) at))
       ]
 
-  module _ (place letter : ℕ) (inside : place < length order) (below : letter < k) (targets links : List ℕ) (ends : List (Option ℕ))
+  module _ (place letter : ℕ) (inside : place < length order) (below : letter < k) (targets : Graph) (links : List ℕ) (ends : Graph)
       (tables : AreTables k (length states) targets links ends) (before : IsLinkedTo k rules states children order place letter targets links ends) where
-    node : ℕ
+    abbrev node : ℕ
     node = get_or order place 0
 
-    node_in : get_or order place 0 < length states
+    node_in : node < length states
     node_in = ordered.within place inside
 
-    word : Word
-    word = longer states (get_or order place 0) letter
+    abbrev word : Word
+    word = longer states node letter
 
-    behind : Word
-    behind = drop 1 (longer states (get_or order place 0) letter)
+    abbrev behind : Word
+    behind = drop 1 word
 
-    size : length (longer states (get_or order place 0) letter) ≡ length (get_or states (get_or order place 0) []) + 1
-    size = length-append (get_or states (get_or order place 0) []) (letter ∷ [])
+    size : length word ≡ length (get_or states node []) + 1
+    size = length-append (get_or states node []) (letter ∷ [])
 
     -- the link of the state, which is not the root
-    link_is : 0 < length (get_or states (get_or order place 0) [])
-        → IsLongest states (drop 1 (get_or states (get_or order place 0) [])) (get_or links (get_or order place 0) 0)
-    link_is some = elim (last_letter (get_or states (get_or order place 0) [])) [
+    link_is : 0 < length (get_or states node [])
+        → IsLongest states (drop 1 (get_or states node [])) (get_or links node 0)
+    link_is some = elim (last_letter (get_or states node [])) [
       | inl e ↦ absurd (omega (arith, ap length e, some))
       | inr l ↦
-          let there = is.trie.prefixes.closed l.0 l.1 (get_or order place 0, node_in, get_or_default states (get_or order place 0) (l.0 ++ l.1 ∷ []) [] node_in ∙ l.2) in
+          let there = is.trie.prefixes.closed l.0 l.1 (node, node_in, get_or_default states node (l.0 ++ l.1 ∷ []) [] node_in ∙ l.2) in
           let parent : get_or states there.0 [] ≡ l.0 = item_at states l.0 [] there in
-          let b : l.1 < k = (over_right k l.0 (l.1 ∷ []) (subst (λ u. IsOver k u) l.2 (over (get_or order place 0)))).0 in
-          before.link there.0 l.1 (get_or order place 0) there.1 b
+          let b : l.1 < k = (over_right k l.0 (l.1 ∷ []) (subst (λ u. IsOver k u) l.2 (over node))).0 in
+          before.link there.0 l.1 node there.1 b
           (inl (earlier place there.0 inside there.1 (omega (arith, ap length parent, ap length l.2, length-append l.0 (l.1 ∷ [])))))
-          (child_is there.0 l.1 (get_or order place 0) there.1 b node_in (ap (λ u. u ++ l.1 ∷ []) parent ∙ sym l.2))
+          (child_is there.0 l.1 node there.1 b node_in (ap (λ u. u ++ l.1 ∷ []) parent ∙ sym l.2))
     ]
 
     no_end : HasEnd rules [] → ⊥
@@ -92,45 +101,45 @@ module _ (k : ℕ) (rules : List (Word × Word)) (falling : AreFalling rules) (s
       is = ap (λ x. x ++ a ∷ []) longest.is ∙ append_assoc longest.before (get_or states at []) (a ∷ []) ∙ ap (λ x. longest.before ++ x) h.is ∙ sym (append_assoc longest.before h.before (left_at rules number));
     }
 
-    behind_root : 0 ≡ length (get_or states (get_or order place 0) []) → Reads rules states (drop 1 (longer states (get_or order place 0) letter)) 0 None
+    behind_root : 0 ≡ length (get_or states node []) → Reads rules states behind 0 None
     behind_root e =
-        let at : [] ≡ drop 1 (longer states (get_or order place 0) letter) =
-        ap (λ u. drop 1 (u ++ letter ∷ [])) (nil_short (get_or states (get_or order place 0) []) (omega (arith, e))) in
+        let at : [] ≡ behind =
+        ap (λ u. drop 1 (u ++ letter ∷ [])) (nil_short (get_or states node []) (omega (arith, e))) in
         subst (λ u. Reads rules states u 0 None) at (record { longest = empty_longest rules falling states is.are; ends = no_end })
 
-    behind_link : 0 < length (get_or states (get_or order place 0) [])
-        → Reads rules states (drop 1 (longer states (get_or order place 0) letter)) (get_or targets (get_or links (get_or order place 0) 0 * k + letter) 0) (get_or ends (get_or links (get_or order place 0) 0 * k + letter) None)
+    behind_link : 0 < length (get_or states node [])
+        → Reads rules states behind (state_at targets (get_or links node 0) letter) (target ends (get_or links node 0) letter)
     behind_link some =
         let link = link_is some in
-        let shorter : length (get_or states (get_or links (get_or order place 0) 0) []) < length (get_or states (get_or order place 0) []) =
-        omega (arith, some, ap length link.is, length-append link.before (get_or states (get_or links (get_or order place 0) 0) []), length-drop 1 (get_or states (get_or order place 0) [])) in
-        let read = before.reads (get_or links (get_or order place 0) 0) letter link.within below (inl (earlier place (get_or links (get_or order place 0) 0) inside link.within shorter)) in
-        subst (λ u. Reads rules states u (get_or targets (get_or links (get_or order place 0) 0 * k + letter) 0) (get_or ends (get_or links (get_or order place 0) 0 * k + letter) None))
-        (sym (drop_longer (get_or states (get_or order place 0) []) letter some))
+        let shorter : length (get_or states (get_or links node 0) []) < length (get_or states node []) =
+        omega (arith, some, ap length link.is, length-append link.before (get_or states (get_or links node 0) []), length-drop 1 (get_or states node [])) in
+        let read = before.reads (get_or links node 0) letter link.within below (inl (earlier place (get_or links node 0) inside link.within shorter)) in
+        subst (λ u. Reads rules states u (state_at targets (get_or links node 0) letter) (target ends (get_or links node 0) letter))
+        (sym (drop_longer (get_or states node []) letter some))
         (record {
-          longest = longest_more rules falling states is.are (drop 1 (get_or states (get_or order place 0) [])) (get_or links (get_or order place 0) 0)
-              (get_or targets (get_or links (get_or order place 0) 0 * k + letter) 0) letter link read.longest;
-          ends = end_more (drop 1 (get_or states (get_or order place 0) [])) (get_or links (get_or order place 0) 0) letter link (get_or ends (get_or links (get_or order place 0) 0 * k + letter) None) read.ends;
+          longest = longest_more rules falling states is.are (drop 1 (get_or states node [])) (get_or links node 0)
+              (state_at targets (get_or links node 0) letter) letter link read.longest;
+          ends = end_more (drop 1 (get_or states node [])) (get_or links node 0) letter link (target ends (get_or links node 0) letter) read.ends;
         })
 
-    behind_reads : (r : ℕ × Option ℕ) → IsBehind k (get_or order place 0) letter targets links ends r → Reads rules states (drop 1 (longer states (get_or order place 0) letter)) r.0 r.1
+    behind_reads : (r : ℕ × Option ℕ) → IsBehind node letter targets links ends r → Reads rules states behind r.0 r.1
     behind_reads r (inl h) =
-        subst (λ (p : ℕ × Option ℕ). Reads rules states (drop 1 (longer states (get_or order place 0) letter)) p.0 p.1) (sym h.1)
+        subst (λ (p : ℕ × Option ℕ). Reads rules states behind p.0 p.1) (sym h.1)
         (behind_root (sym (ap length (ap (λ z. get_or states z []) h.0 ∙ is.trie.prefixes.root))))
     behind_reads r (inr h) =
-        subst (λ (p : ℕ × Option ℕ). Reads rules states (drop 1 (longer states (get_or order place 0) letter)) p.0 p.1) (sym h.1) (behind_link some)
+        subst (λ (p : ℕ × Option ℕ). Reads rules states behind p.0 p.1) (sym h.1) (behind_link some)
       where
-        some : 0 < length (get_or states (get_or order place 0) [])
-        some = elim (cases_lt 0 (length (get_or states (get_or order place 0) []))) [
+        some : 0 < length (get_or states node [])
+        some = elim (cases_lt 0 (length (get_or states node []))) [
           | inl l ↦ l
-          | inr m ↦ absurd (h.0 (is.trie.distinct (get_or order place 0) 0 node_in is.trie.prefixes.some (sym (nil_short (get_or states (get_or order place 0) []) m) ∙ sym is.trie.prefixes.root)))
+          | inr m ↦ absurd (h.0 (is.trie.distinct node 0 node_in is.trie.prefixes.some (sym (nil_short (get_or states node []) m) ∙ sym is.trie.prefixes.root)))
         ]
 
-    whole : (a : ℕ) × (longer states (get_or order place 0) letter ≡ a ∷ drop 1 (longer states (get_or order place 0) letter))
-    whole = front_dropped (longer states (get_or order place 0) letter) (omega (arith, size))
+    whole : (a : ℕ) × (word ≡ a ∷ behind)
+    whole = front_dropped word (omega (arith, size))
 
-    module _ (r : ℕ × Option ℕ) (reads : Reads rules states (drop 1 (longer states (get_or order place 0) letter)) r.0 r.1) where
-      target_right : (c : Option ℕ) → IsChild states (longer states (get_or order place 0) letter) c → IsLongest states (longer states (get_or order place 0) letter) (unwrap_or c r.0)
+    module _ (r : ℕ × Option ℕ) (reads : Reads rules states behind r.0 r.1) where
+      target_right : (c : Option ℕ) → IsChild states word c → IsLongest states word (unwrap_or c r.0)
       target_right None none = record {
         within = reads.longest.within;
         before = whole.0 ∷ reads.longest.before;
@@ -138,7 +147,7 @@ module _ (k : ℕ) (rules : List (Word × Word)) (falling : AreFalling rules) (s
         longest = longest;
       }
         where
-          longest : (x s : Word) → longer states (get_or order place 0) letter ≡ x ++ s → Contains states s → length s ≤ length (get_or states r.0 [])
+          longest : (x s : Word) → word ≡ x ++ s → Contains states s → length s ≤ length (get_or states r.0 [])
           longest [] s e has = absurd (none (subst (λ w. Contains states w) (sym e) has))
           longest (b ∷ x) s e has = reads.longest.longest x s (ap (drop 1) e) has
       target_right (Some c) there = record {
@@ -148,156 +157,149 @@ module _ (k : ℕ) (rules : List (Word × Word)) (falling : AreFalling rules) (s
         longest = λ x s e has. omega (arith, ap length there.1, ap length e, length-append x s);
       }
 
-      end_right : (t : Option ℕ) → get_or lefts (get_or order place 0 * k + letter) None ≡ t → IsLeft rules (longer states (get_or order place 0) letter) t
-          → IsEnd rules (longer states (get_or order place 0) letter) (first_of t r.1)
+      end_right : (t : Option ℕ) → target lefts node letter ≡ t → IsLeft rules word t
+          → IsEnd rules word (option_or t r.1)
       end_right (Some number) e h = record { within = h.0; before = []; is = sym h.1 }
       end_right None e h = go r.1 reads.ends
         where
-          not_left : (l w : Word) → Contains rules (l, w) → longer states (get_or order place 0) letter ≡ l → ⊥
+          not_left : (l w : Word) → Contains rules (l, w) → word ≡ l → ⊥
           not_left l w listed same =
               let m = is.marked listed.0 listed.1 listed.1 in
               let at : left_at rules listed.0 ≡ l = ap (λ (p : Word × Word). p.0) (listed_at rules l w listed) in
-              let both = longer_one k rules states children lefts is.trie (get_or order place 0) m.node letter m.letter node_in m.node_within (same ∙ sym at ∙ m.is) in
-              let some : None ≡ Some m.number = sym e ∙ ap₂ (λ (x y : ℕ). get_or lefts (x * k + y) None) both.0 both.1 ∙ m.marked in
+              let both = longer_one k rules states children lefts is.trie node m.node letter m.letter node_in m.node_within (same ∙ sym at ∙ m.is) in
+              let some : None ≡ Some m.number = sym e ∙ ap₂ (λ (x y : ℕ). target lefts x y) both.0 both.1 ∙ m.marked in
               let bad : ⊥ = cc in bad
 
-          go : (t : Option ℕ) → IsEnd rules (drop 1 (longer states (get_or order place 0) letter)) t → IsEnd rules (longer states (get_or order place 0) letter) t
+          go : (t : Option ℕ) → IsEnd rules behind t → IsEnd rules word t
           go None none = λ end. cut end.before end.left end.right end.listed end.is
             where
-              cut : (x l w : Word) → Contains rules (l, w) → longer states (get_or order place 0) letter ≡ x ++ l → ⊥
+              cut : (x l w : Word) → Contains rules (l, w) → word ≡ x ++ l → ⊥
               cut [] l w listed same = not_left l w listed same
               cut (b ∷ x) l w listed same = none (record { left = l; right = w; before = x; listed = listed; is = ap (drop 1) same })
           go (Some number) end = record { within = end.within; before = whole.0 ∷ end.before; is = whole.1 ∙ ap (λ x. whole.0 ∷ x) end.is }
 
     -- what comes before the next letter
-    done_next : (n a : ℕ) → IsDone order place (letter + 1) n a → IsDone order place letter n a ⊎ ((n ≡ get_or order place 0) × (a ≡ letter))
+    done_next : (n a : ℕ) → IsDone order place (letter + 1) n a → IsDone order place letter n a ⊎ ((n ≡ node) × (a ≡ letter))
     done_next n a (inl h) = inl (inl h)
     done_next n a (inr h) = elim (cases_eq a letter) [
       | inl e ↦ inr (sym h.1, e)
       | inr d ↦ inl (inr (h.0, h.1, omega (arith, h.2, d)))
     ]
 
-    at : ℕ
-    at = get_or order place 0 * k + letter
+    done_before : (n a : ℕ) → ((n ≡ node) × (a ≡ letter) → ⊥) → IsDone order place (letter + 1) n a → IsDone order place letter n a
+    done_before n a d done = elim (done_next n a done) [
+      | inl old ↦ old
+      | inr same ↦ absurd (d same)
+    ]
 
-    at_in : get_or order place 0 * k + letter < length states * k
-    at_in = place_within (length states) k (get_or order place 0) letter node_in below
+    child_here : IsChild states word (target children node letter)
+    child_here = is.trie.child node letter node_in below
 
-    child_here : IsChild states (longer states (get_or order place 0) letter) (get_or children (get_or order place 0 * k + letter) None)
-    child_here = is.trie.child (get_or order place 0) letter node_in below
+    pub child_within : (c : ℕ) → target children node letter ≡ Some c → c < length states
+    child_within c e = (subst (λ t. IsChild states word t) e child_here).0
 
-    pub child_within : (c : ℕ) → get_or children (get_or order place 0 * k + letter) None ≡ Some c → c < length states
-    child_within c e = (subst (λ t. IsChild states (longer states (get_or order place 0) letter) t) e child_here).0
+    module _ (r : ℕ × Option ℕ) (e : IsBehind node letter targets links ends r) where
+      abbrev child : Option ℕ
+      child = target children node letter
 
-    pub entry_step : (r : ℕ × Option ℕ) → IsBehind k (get_or order place 0) letter targets links ends r
-        → AreTables k (length states) (set targets (get_or order place 0 * k + letter) (unwrap_or (get_or children (get_or order place 0 * k + letter) None) r.0))
-        (linked (get_or children (get_or order place 0 * k + letter) None) r.0 links)
-        (set ends (get_or order place 0 * k + letter) (first_of (get_or lefts (get_or order place 0 * k + letter) None) r.1))
-        × IsLinkedTo k rules states children order place (letter + 1) (set targets (get_or order place 0 * k + letter) (unwrap_or (get_or children (get_or order place 0 * k + letter) None) r.0))
-        (linked (get_or children (get_or order place 0 * k + letter) None) r.0 links)
-        (set ends (get_or order place 0 * k + letter) (first_of (get_or lefts (get_or order place 0 * k + letter) None) r.1))
-    entry_step r e = (
-      record {
-        some = tables.some;
-        targets_count = length-set targets (get_or order place 0 * k + letter) t ∙ tables.targets_count;
-        ends_count = length-set ends (get_or order place 0 * k + letter) f ∙ tables.ends_count;
-        links_count = linked_count c;
-        targets_within = targets_within;
-        links_within = λ i h. linked_within i h c refl;
-      },
-      record { reads = reads; link = link },
-    )
-      where
-        c : Option ℕ
-        c = get_or children (get_or order place 0 * k + letter) None
+      abbrev to : ℕ
+      to = unwrap_or child r.0
 
-        t : ℕ
-        t = unwrap_or (get_or children (get_or order place 0 * k + letter) None) r.0
+      abbrev end : Option ℕ
+      end = option_or (target lefts node letter) r.1
 
-        f : Option ℕ
-        f = first_of (get_or lefts (get_or order place 0 * k + letter) None) r.1
+      abbrev new_targets : Graph
+      new_targets = with_entry targets node letter (Some to)
 
-        read : Reads rules states (drop 1 (longer states (get_or order place 0) letter)) r.0 r.1
-        read = behind_reads r e
+      abbrev new_ends : Graph
+      new_ends = with_entry ends node letter end
 
-        now : Reads rules states (longer states (get_or order place 0) letter) t f
-        now = record {
-          longest = target_right r read c child_here;
-          ends = end_right r read (get_or lefts (get_or order place 0 * k + letter) None) refl (is.trie.left (get_or order place 0) letter node_in below);
-        }
+      pub entry_within : to < length states
+      entry_within = (target_right r (behind_reads r e) child child_here).within
 
-        linked_count : (c : Option ℕ) → length (linked c r.0 links) ≡ length states
-        linked_count None = tables.links_count
-        linked_count (Some x) = length-set links x r.0 ∙ tables.links_count
+      pub entry_step : AreTables k (length states) new_targets (linked child r.0 links) new_ends × IsLinkedTo k rules states children order place (letter + 1) new_targets (linked child r.0 links) new_ends
+      entry_step = (
+        record {
+          some = tables.some;
+          target_rows = rows_put (length states) k targets tables.target_rows node letter (Some to) node_in;
+          end_rows = rows_put (length states) k ends tables.end_rows node letter end node_in;
+          links_count = linked_count child;
+          targets_within = targets_within;
+          links_within = λ i h. linked_within i h child refl;
+        },
+        record { reads = reads; there = there; link = link },
+      )
+        where
+          read : Reads rules states behind r.0 r.1
+          read = behind_reads r e
 
-        targets_within : (i : ℕ) → i < length states * k → get_or (set targets (get_or order place 0 * k + letter) t) i 0 < length states
-        targets_within i h = elim (cases_eq i (get_or order place 0 * k + letter)) [
-          | inl e ↦
-              let here : get_or (set targets (get_or order place 0 * k + letter) t) i 0 ≡ t = ap (λ z. get_or (set targets (get_or order place 0 * k + letter) t) z 0) e
-              ∙ get_or-set_same targets (get_or order place 0 * k + letter) t 0 (omega (arith, at_in, tables.targets_count)) in
-              subst (λ z. z < length states) (sym here) now.longest.within
-          | inr d ↦ subst (λ z. z < length states) (sym (get_or-set_other targets (get_or order place 0 * k + letter) i t 0 d)) (tables.targets_within i h)
-        ]
+          now : Reads rules states word to end
+          now = record { longest = target_right r read child child_here; ends = end_right r read (target lefts node letter) refl (is.trie.left node letter node_in below) }
 
-        linked_within : (i : ℕ) → i < length states → (c : Option ℕ) → get_or children (get_or order place 0 * k + letter) None ≡ c → get_or (linked c r.0 links) i 0 < length states
-        linked_within i h None e = tables.links_within i h
-        linked_within i h (Some x) e = elim (cases_eq i x) [
-          | inl s ↦
-              let here : get_or (set links x r.0) i 0 ≡ r.0 = ap (λ z. get_or (set links x r.0) z 0) s ∙ get_or-set_same links x r.0 0 (omega (arith, child_within x e, tables.links_count)) in
-              subst (λ z. z < length states) (sym here) read.longest.within
-          | inr d ↦ subst (λ z. z < length states) (sym (get_or-set_other links x i r.0 0 d)) (tables.links_within i h)
-        ]
+          target_put : IsPut targets new_targets node letter (Some to)
+          target_put = rows_entry (length states) k targets tables.target_rows node letter (Some to) node_in below
 
-        reads : (n a : ℕ) → n < length states → a < k → IsDone order place (letter + 1) n a
-            → Reads rules states (longer states n a) (get_or (set targets (get_or order place 0 * k + letter) t) (n * k + a) 0) (get_or (set ends (get_or order place 0 * k + letter) f) (n * k + a) None)
-        reads n a hn ha done = elim (cases_eq (n * k + a) (get_or order place 0 * k + letter)) [
-          | inl s ↦
-              let both = place_one k n (get_or order place 0) a letter ha below s in
-              let first : get_or (set targets (get_or order place 0 * k + letter) t) (n * k + a) 0 ≡ t = ap (λ z. get_or (set targets (get_or order place 0 * k + letter) t) z 0) s
-              ∙ get_or-set_same targets (get_or order place 0 * k + letter) t 0 (omega (arith, at_in, tables.targets_count)) in
-              let second : get_or (set ends (get_or order place 0 * k + letter) f) (n * k + a) None ≡ f = ap (λ z. get_or (set ends (get_or order place 0 * k + letter) f) z None) s
-              ∙ get_or-set_same ends (get_or order place 0 * k + letter) f None (omega (arith, at_in, tables.ends_count)) in
-              let here : Reads rules states (longer states n a) t f = subst₂ (λ n a. Reads rules states (longer states n a) t f) (sym both.0) (sym both.1) now in
-              subst₂ (λ x y. Reads rules states (longer states n a) x y) (sym first) (sym second) here
-          | inr d ↦ elim (done_next n a done) [
-            | inl old ↦
-                subst₂ (λ x y. Reads rules states (longer states n a) x y) (sym (get_or-set_other targets (get_or order place 0 * k + letter) (n * k + a) t 0 d))
-                (sym (get_or-set_other ends (get_or order place 0 * k + letter) (n * k + a) f None d)) (before.reads n a hn ha old)
-            | inr same ↦ absurd (d (ap₂ (λ (x y : ℕ). x * k + y) same.0 same.1))
+          end_put : IsPut ends new_ends node letter end
+          end_put = rows_entry (length states) k ends tables.end_rows node letter end node_in below
+
+          linked_count : (c : Option ℕ) → length (linked c r.0 links) ≡ length states
+          linked_count None = tables.links_count
+          linked_count (Some x) = length-set links x r.0 ∙ tables.links_count
+
+          targets_within : (i a : ℕ) → state_at new_targets i a < length states
+          targets_within = put_cases (λ i a z. unwrap_or z 0 < length states) targets _ node letter (Some to) target_put now.longest.within (λ i a d. tables.targets_within i a)
+
+          linked_within : (i : ℕ) → i < length states → (c : Option ℕ) → target children node letter ≡ c → get_or (linked c r.0 links) i 0 < length states
+          linked_within i h None e = tables.links_within i h
+          linked_within i h (Some x) e = elim (cases_eq i x) [
+            | inl s ↦
+                let here : get_or (set links x r.0) i 0 ≡ r.0 = ap (λ z. get_or (set links x r.0) z 0) s ∙ get_or-set_same links x r.0 0 (omega (arith, child_within x e, tables.links_count)) in
+                subst (λ z. z < length states) (sym here) read.longest.within
+            | inr d ↦ subst (λ z. z < length states) (sym (get_or-set_other links x i r.0 0 d)) (tables.links_within i h)
           ]
-        ]
 
-        linked_is : (n a to : ℕ) → n < length states → a < k → IsDone order place (letter + 1) n a → get_or children (n * k + a) None ≡ Some to
-            → (c : Option ℕ) → get_or children (get_or order place 0 * k + letter) None ≡ c → IsLongest states (drop 1 (get_or states to [])) (get_or (linked c r.0 links) to 0)
-        linked_is n a to hn ha done made None e = elim (done_next n a done) [
-          | inl old ↦ before.link n a to hn ha old made
-          | inr same ↦ let bad : None ≡ Some to = sym e ∙ ap₂ (λ (x y : ℕ). get_or children (x * k + y) None) (sym same.0) (sym same.1) ∙ made in cc
-        ]
-        linked_is n a to hn ha done made (Some x) e = elim (cases_eq to x) [
-          | inl s ↦
-              let here : get_or (set links x r.0) to 0 ≡ r.0 = ap (λ z. get_or (set links x r.0) z 0) s ∙ get_or-set_same links x r.0 0 (omega (arith, child_within x e, tables.links_count)) in
-              let word : longer states (get_or order place 0) letter ≡ get_or states to [] =
-              sym (subst (λ t. IsChild states (longer states (get_or order place 0) letter) t) e child_here).1 ∙ ap (λ z. get_or states z []) (sym s) in
-              subst₂ (λ (u : Word) (z : ℕ). IsLongest states u z) (ap (drop 1) word) (sym here) read.longest
-          | inr d ↦
-              subst (λ z. IsLongest states (drop 1 (get_or states to [])) z) (sym (get_or-set_other links x to r.0 0 d))
-              (elim (done_next n a done) [
-                | inl old ↦ before.link n a to hn ha old made
-                | inr same ↦
-                    let twice : Some x ≡ Some to = sym e ∙ ap₂ (λ (x y : ℕ). get_or children (x * k + y) None) (sym same.0) (sym same.1) ∙ made in
-                    let one : to ≡ x = cc in absurd (d one)
-              ])
-        ]
+          reads : (n a : ℕ) → n < length states → a < k → IsDone order place (letter + 1) n a
+              → Reads rules states (longer states n a) (state_at new_targets n a) (target new_ends n a)
+          reads = put_cases (λ n a z. n < length states → a < k → IsDone order place (letter + 1) n a → Reads rules states (longer states n a) (unwrap_or z 0) (target new_ends n a))
+              targets _ node letter (Some to) target_put
+              (λ hn ha done. subst (λ y. Reads rules states word to y) (sym end_put.put) now)
+              (λ n a d hn ha done. subst (λ y. Reads rules states (longer states n a) (state_at targets n a) y) (sym (end_put.other n a d)) (before.reads n a hn ha (done_before n a d done)))
 
-        link : (n a to : ℕ) → n < length states → a < k → IsDone order place (letter + 1) n a → get_or children (n * k + a) None ≡ Some to
-            → IsLongest states (drop 1 (get_or states to [])) (get_or (linked c r.0 links) to 0)
-        link n a to hn ha done made = linked_is n a to hn ha done made c refl
+          there : (n a : ℕ) → n < length states → a < k → IsDone order place (letter + 1) n a → (to : ℕ) × (target new_targets n a ≡ Some to)
+          there = put_cases (λ n a z. n < length states → a < k → IsDone order place (letter + 1) n a → (to : ℕ) × (z ≡ Some to)) targets _ node letter (Some to) target_put
+              (λ hn ha done. (to, refl)) (λ n a d hn ha done. before.there n a hn ha (done_before n a d done))
+
+          linked_is : (n a to : ℕ) → n < length states → a < k → IsDone order place (letter + 1) n a → target children n a ≡ Some to
+              → (c : Option ℕ) → target children node letter ≡ c → IsLongest states (drop 1 (get_or states to [])) (get_or (linked c r.0 links) to 0)
+          linked_is n a to hn ha done made None e = elim (done_next n a done) [
+            | inl old ↦ before.link n a to hn ha old made
+            | inr same ↦ let bad : None ≡ Some to = sym e ∙ ap₂ (λ (x y : ℕ). target children x y) (sym same.0) (sym same.1) ∙ made in cc
+          ]
+          linked_is n a to hn ha done made (Some x) e = elim (cases_eq to x) [
+            | inl s ↦
+                let here : get_or (set links x r.0) to 0 ≡ r.0 = ap (λ z. get_or (set links x r.0) z 0) s ∙ get_or-set_same links x r.0 0 (omega (arith, child_within x e, tables.links_count)) in
+                let made_is : word ≡ get_or states to [] = sym (subst (λ t. IsChild states word t) e child_here).1 ∙ ap (λ z. get_or states z []) (sym s) in
+                subst₂ (λ (u : Word) (z : ℕ). IsLongest states u z) (ap (drop 1) made_is) (sym here) read.longest
+            | inr d ↦
+                subst (λ z. IsLongest states (drop 1 (get_or states to [])) z) (sym (get_or-set_other links x to r.0 0 d))
+                (elim (done_next n a done) [
+                  | inl old ↦ before.link n a to hn ha old made
+                  | inr same ↦
+                      let twice : Some x ≡ Some to = sym e ∙ ap₂ (λ (x y : ℕ). target children x y) (sym same.0) (sym same.1) ∙ made in
+                      let one : to ≡ x = cc in absurd (d one)
+                ])
+          ]
+
+          link : (n a to : ℕ) → n < length states → a < k → IsDone order place (letter + 1) n a → target children n a ≡ Some to
+              → IsLongest states (drop 1 (get_or states to [])) (get_or (linked child r.0 links) to 0)
+          link n a to hn ha done made = linked_is n a to hn ha done made child refl
 
 -- a row at its end
-pub row_linked : (k : ℕ) (rules : List (Word × Word)) (states : List Word) (children : List (Option ℕ)) (order : List ℕ) (place letter : ℕ) (targets links : List ℕ) (ends : List (Option ℕ))
+pub row_linked : (k : ℕ) (rules : List (Word × Word)) (states : List Word) (children : Graph) (order : List ℕ) (place letter : ℕ) (targets : Graph) (links : List ℕ) (ends : Graph)
     → place < length order → k ≤ letter → IsLinkedTo k rules states children order place letter targets links ends → IsLinkedTo k rules states children order (place + 1) 0 targets links ends
 row_linked k rules states children order place letter targets links ends inside past is = record {
   reads = λ n a hn ha done. is.reads n a hn ha (sooner n a ha done);
+  there = λ n a hn ha done. is.there n a hn ha (sooner n a ha done);
   link = λ n a to hn ha done. is.link n a to hn ha (sooner n a ha done);
 }
   where
@@ -309,10 +311,11 @@ row_linked k rules states children order place letter targets links ends inside 
     sooner n a ha (inr h) = absurd (omega (arith, h.2))
 
 -- nothing comes before the first row
-pub none_linked : (k : ℕ) (rules : List (Word × Word)) (states : List Word) (children : List (Option ℕ)) (order : List ℕ) (targets links : List ℕ) (ends : List (Option ℕ))
+pub none_linked : (k : ℕ) (rules : List (Word × Word)) (states : List Word) (children : Graph) (order : List ℕ) (targets : Graph) (links : List ℕ) (ends : Graph)
     → IsLinkedTo k rules states children order 0 0 targets links ends
 none_linked k rules states children order targets links ends = record {
   reads = λ n a hn ha done. absurd (none n a done);
+  there = λ n a hn ha done. absurd (none n a done);
   link = λ n a to hn ha done. absurd (none n a done);
 }
   where
@@ -320,20 +323,24 @@ none_linked k rules states children order targets links ends = record {
     none n a (inl h) = omega (arith, h.1)
     none n a (inr h) = omega (arith, h.2)
 
-pub empty_tables : (k n m : ℕ) → 0 < n → m ≡ n * k → AreTables k n (replicate m 0) (replicate n 0) (replicate m None)
-empty_tables k n m some e = record {
+pub empty_tables : (k n : ℕ) → 0 < n → AreTables k n (replicate n (replicate k None)) (replicate n 0) (replicate n (replicate k None))
+empty_tables k n some = record {
   some = some;
-  targets_count = length-replicate m 0 ∙ e;
-  ends_count = length-replicate m None ∙ e;
+  target_rows = rows_bare n k;
+  end_rows = rows_bare n k;
   links_count = length-replicate n 0;
-  targets_within = λ i h. subst (λ z. z < n) (sym (get_or-replicate m i 0 0 (omega (arith, h, e)))) some;
+  targets_within = λ i a. subst (λ (z : Option ℕ). unwrap_or z 0 < n) (sym (target_bare n k i a)) some;
   links_within = λ i h. subst (λ z. z < n) (sym (get_or-replicate n i 0 0 h)) some;
 }
 
 -- in the end each entry is right
-pub all_read : (k : ℕ) (rules : List (Word × Word)) (states : List Word) (children : List (Option ℕ)) (order : List ℕ) (targets links : List ℕ) (ends : List (Option ℕ))
-    → IsOrder states order → IsLinkedTo k rules states children order (length order) 0 targets links ends
-    → (n a : ℕ) → n < length states → a < k → Reads rules states (longer states n a) (get_or targets (n * k + a) 0) (get_or ends (n * k + a) None)
-all_read k rules states children order targets links ends ordered is n a hn ha =
-    let has = ordered.each n hn in
-    is.reads n a hn ha (inl (has.0, has.1, has.1, item_at order n 0 has))
+module _ (k : ℕ) (rules : List (Word × Word)) (states : List Word) (children : Graph) (order : List ℕ) (targets : Graph) (links : List ℕ) (ends : Graph)
+    (ordered : IsOrder states order) (is : IsLinkedTo k rules states children order (length order) 0 targets links ends) where
+  all_done : (n a : ℕ) → n < length states → IsDone order (length order) 0 n a
+  all_done n a hn = let has = ordered.each n hn in inl (has.0, has.1, has.1, item_at order n 0 has)
+
+  pub all_read : (n a : ℕ) → n < length states → a < k → Reads rules states (longer states n a) (state_at targets n a) (target ends n a)
+  all_read n a hn ha = is.reads n a hn ha (all_done n a hn)
+
+  pub all_there : (n a : ℕ) → n < length states → a < k → (to : ℕ) × (target targets n a ≡ Some to)
+  all_there n a hn ha = is.there n a hn ha (all_done n a hn)

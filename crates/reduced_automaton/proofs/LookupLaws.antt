@@ -130,6 +130,7 @@ empty_table = record {
     only = λ n h. inl (only n h);
   };
   reads = λ n a h below. absurd (omega (arith, below));
+  full = λ n a h. absurd (omega (arith, h));
 }
   where
     only : (n : ℕ) → n < length (states_none) → get_or states_none n [] ≡ []

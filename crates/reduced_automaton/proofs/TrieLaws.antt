@@ -1,34 +1,18 @@
 -- The tree of the states as it grows.
-use Rattle.std.proofs.Common.{◌≡◌, ◌≢◌, ℕ, zero, suc, ◌+◌, ◌-◌, ◌*◌, ◌<◌, ◌≤◌, List, [], ◌∷◌, ◌++◌, length, take, get_or, set, replicate, refl, sym, ◌∙◌, ap, ap₂, subst, subst₂, arith, ◌⊎◌, inl, inr, Option, Some, None, Contains, length-append, length-set, below_more}
-use Rattle.std.proofs.Math.Nat.{suc-mul, mul-le-mul_right}
-use Rattle.std.proofs.lemmas.Bool.{cases_eq, cases_lt}
-use Rattle.std.proofs.lemmas.List.{get_or_append_left, get_or-append_right, get_or-replicate, length-replicate, get_or-set_same, get_or-set_other, get_or_push, same_from_push, take_more, get_or_read, length-map, map-append}
+use Rattle.std.proofs.Common.{◌≡◌, ℕ, zero, suc, ◌+◌, ◌<◌, ◌≤◌, List, [], ◌∷◌, ◌++◌, length, take, get_or, replicate, refl, sym, ◌∙◌, ap, subst, subst₂, arith, ◌⊎◌, inl, inr, Option, Some, None, Contains, length-append, below_more}
+use Rattle.std.proofs.lemmas.Bool.{cases_lt}
+use Rattle.std.proofs.lemmas.List.{get_or_append_left, get_or_push, same_from_push, take_more, length-map, map-append}
 use Rattle.std.proofs.lemmas.List.Elements.{Contains-push_cases}
 use Rattle.theory.specs.Word.{Word, IsOver}
+use Rattle.theory.specs.Graph.{Graph, target}
+use Rattle.cells.specs.Rows.{AreRows, IsPut, with_entry, with_node}
+use Rattle.cells.proofs.EntryLaws.{put_cases, rows_bare, rows_entry, rows_node, rows_past, rows_put, target_bare, target_node}
 use Rattle.reduced_automaton.specs.Rules.{AreFalling, AreOver}
 use Rattle.reduced_automaton.specs.States.{ArePrefixes, AreStatesTo, Grown}
 use Rattle.reduced_automaton.specs.Tries.{left_at, state_of, words_of, longer, IsChild, IsLeft, IsStateWord, IsTrie, IsMarked, IsGrown, IsGrowing, IsThere, IsNew}
 use Rattle.reduced_automaton.proofs.StateLists.{contains_at, grown_there, grown_put, states_step}
 use Rattle.reduced_automaton.proofs.Standing.{filled, rule_read}
 use Rattle.reduced_automaton.specs.declared.tries.Prefix.{Prefix}
-
-pub row_end : (n k node : ℕ) → node < n → node * k + k ≤ n * k
-row_end n k node h =
-    let up : suc node * k ≤ n * k = mul-le-mul_right k (omega (arith, h)) in
-    omega (arith, up, suc-mul node k)
-
-pub place_within : (n k node a : ℕ) → node < n → a < k → node * k + a < n * k
-place_within n k node a h l = omega (arith, row_end n k node h, l)
-
--- one place, one state and letter
-pub place_one : (k n m a b : ℕ) → a < k → b < k → n * k + a ≡ m * k + b → (n ≡ m) × (a ≡ b)
-place_one k n m a b ha hb e = elim (cases_eq n m) [
-  | inl same ↦ (same, omega (arith, e, ap (λ z. z * k) same))
-  | inr other ↦ elim (cases_lt n m) [
-    | inl less ↦ absurd (omega (arith, e, ha, row_end m k n less))
-    | inr most ↦ absurd (omega (arith, e, hb, row_end n k m (omega (arith, most, other))))
-  ]
-]
 
 pub letter_below : (k : ℕ) (u : Word) (i d : ℕ) → IsOver k u → i < length u → get_or u i d < k
 letter_below k [] i d over h = absurd (omega (arith, h))
@@ -42,14 +26,14 @@ words_more rules prefixes p = map-append (state_of rules) prefixes (p ∷ [])
 pub words_count : (rules : List (Word × Word)) (prefixes : List Prefix) → length (words_of rules prefixes) ≡ length prefixes
 words_count rules prefixes = length-map prefixes (state_of rules)
 
-module _ (k : ℕ) (rules : List (Word × Word)) (states : List Word) (children lefts : List (Option ℕ)) (is : IsTrie k rules states children lefts) where
+module _ (k : ℕ) (rules : List (Word × Word)) (states : List Word) (children lefts : Graph) (is : IsTrie k rules states children lefts) where
   -- a state and letter stand for one word
   pub longer_one : (n m a b : ℕ) → n < length states → m < length states → longer states n a ≡ longer states m b → (n ≡ m) × (a ≡ b)
   longer_one n m a b hn hm e =
       let both = same_from_push (get_or states n []) (get_or states m []) a b e in
       (is.distinct n m hn hm both.0, both.1)
 
-  module _ (node letter : ℕ) (inside : node < length states) (less : letter < k) (missing : get_or children (node * k + letter) None ≡ None) where
+  module _ (node letter : ℕ) (inside : node < length states) (less : letter < k) (missing : target children node letter ≡ None) where
     new_word : Word
     new_word = longer states node letter
 
@@ -59,22 +43,8 @@ module _ (k : ℕ) (rules : List (Word × Word)) (states : List Word) (children 
     size : length (states ++ longer states node letter ∷ []) ≡ length states + 1
     size = length-append states (longer states node letter ∷ [])
 
-    count_more : (xs : List (Option ℕ)) → length xs ≡ length states * k → length (xs ++ replicate k None) ≡ length (states ++ longer states node letter ∷ []) * k
-    count_more xs e =
-        length-append xs (replicate k None)
-        ∙ (let long : length (replicate {A = Option ℕ} k None) ≡ k = length-replicate k None in
-        let more : length xs + length (replicate {A = Option ℕ} k None) ≡ suc (length states) * k = omega (arith, e, long, suc-mul (length states) k) in more)
-        ∙ ap (λ z. z * k) (let up : suc (length states) ≡ length (states ++ longer states node letter ∷ []) = omega (arith, size) in up)
-
-    -- the entries of the old rows, and of the new one
-    old_entry : (xs : List (Option ℕ)) (n a : ℕ) → length xs ≡ length states * k → n < length states → a < k → get_or (xs ++ replicate k None) (n * k + a) None ≡ get_or xs (n * k + a) None
-    old_entry xs n a e hn ha = get_or_append_left xs (replicate k None) None (n * k + a) (omega (arith, e, place_within (length states) k n a hn ha))
-
-    new_entry : (xs : List (Option ℕ)) (n a : ℕ) → length xs ≡ length states * k → n ≡ length states → a < k → get_or (xs ++ replicate k None) (n * k + a) None ≡ None
-    new_entry xs n a e hn ha =
-        get_or-append_right xs (replicate k None) (n * k) (n * k + a) None (e ∙ ap (λ z. z * k) (sym hn)) (omega arith)
-        ∙ ap (λ z. get_or (replicate k None) z None) (let d : n * k + a - n * k ≡ a = omega arith in d)
-        ∙ get_or-replicate k a None None ha
+    more_rows : (g : Graph) → AreRows (length states) k g → AreRows (length (states ++ longer states node letter ∷ [])) k (with_node k g)
+    more_rows g rows = subst (λ n. AreRows n k (with_node k g)) (sym size) (rows_node (length states) k g rows)
 
     old_word : (n : ℕ) → n < length states → get_or (states ++ longer states node letter ∷ []) n [] ≡ get_or states n []
     old_word n h = get_or_append_left states (longer states node letter ∷ []) [] n h
@@ -83,7 +53,7 @@ module _ (k : ℕ) (rules : List (Word × Word)) (states : List Word) (children 
     last_word n h = get_or_push states (longer states node letter) [] n (sym h)
 
     pub trie_new : ArePrefixes (states ++ longer states node letter ∷ []) → IsStateWord rules (longer states node letter)
-        → IsTrie k rules (states ++ longer states node letter ∷ []) (set children (node * k + letter) (Some (length states)) ++ replicate k None) (lefts ++ replicate k None)
+        → IsTrie k rules (states ++ longer states node letter ∷ []) (with_entry (with_node k children) node letter (Some (length states))) (with_node k lefts)
     trie_new prefixes stands = record {
       prefixes = prefixes;
       distinct = distinct;
@@ -91,8 +61,8 @@ module _ (k : ℕ) (rules : List (Word × Word)) (states : List Word) (children 
         | inl l ↦ subst (λ u. IsStateWord rules u) (sym (old_word n l)) (is.only n l)
         | inr m ↦ subst (λ u. IsStateWord rules u) (sym (last_word n (omega (arith, m, h, size)))) stands
       ];
-      children_count = count_more (set children (node * k + letter) (Some (length states))) (length-set children (node * k + letter) (Some (length states)) ∙ is.children_count);
-      lefts_count = count_more lefts is.lefts_count;
+      child_rows = rows_put (length new) k (with_node k children) (more_rows children is.child_rows) node letter (Some (length states)) (omega (arith, inside, size));
+      left_rows = more_rows lefts is.left_rows;
       child = child;
       left = left;
     }
@@ -103,11 +73,8 @@ module _ (k : ℕ) (rules : List (Word × Word)) (states : List Word) (children 
         new : List Word
         new = states ++ longer states node letter ∷ []
 
-        row : List (Option ℕ)
-        row = set children (node * k + letter) (Some (length states))
-
-        row_count : length row ≡ length states * k
-        row_count = length-set children (node * k + letter) (Some (length states)) ∙ is.children_count
+        row : IsPut (with_node k children) (with_entry (with_node k children) node letter (Some (length states))) node letter (Some (length states))
+        row = rows_entry (length new) k (with_node k children) (more_rows children is.child_rows) node letter (Some (length states)) (omega (arith, inside, size)) less
 
         apart : (i j : ℕ) → i < length states → j ≡ length states → get_or new i [] ≡ get_or new j [] → ⊥
         apart i j hi hj e = not_there (contains_at states w i hi (sym (old_word i hi) ∙ e ∙ last_word j hj))
@@ -124,25 +91,17 @@ module _ (k : ℕ) (rules : List (Word × Word)) (states : List Word) (children 
           ]
         ]
 
-        kept : (n a : ℕ) → n < length states → a < k → (n * k + a ≢ node * k + letter) → (t : Option ℕ) → IsChild states (longer states n a) t → IsChild new (longer states n a) t
-        kept n a hn ha d None h = λ has. elim (Contains-push_cases states w (longer states n a) has) [
+        kept : (n a : ℕ) → n < length states → ((n ≡ node) × (a ≡ letter) → ⊥) → (t : Option ℕ) → IsChild states (longer states n a) t → IsChild new (longer states n a) t
+        kept n a hn d None h = λ has. elim (Contains-push_cases states w (longer states n a) has) [
           | inl old ↦ h old
-          | inr e ↦ let both = longer_one node n letter a inside hn e in d (ap₂ (λ (x y : ℕ). x * k + y) (sym both.0) (sym both.1))
+          | inr e ↦ let both = longer_one node n letter a inside hn e in d (sym both.0, sym both.1)
         ]
-        kept n a hn ha d (Some m) h = (omega (arith, size, h.0), old_word m h.0 ∙ h.1)
+        kept n a hn d (Some m) h = (omega (arith, size, h.0), old_word m h.0 ∙ h.1)
 
-        old_child : (n a : ℕ) → n < length states → a < k → IsChild new (longer states n a) (get_or row (n * k + a) None)
-        old_child n a hn ha = elim (cases_eq (n * k + a) (node * k + letter)) [
-          | inl e ↦
-              let both = place_one k n node a letter ha less e in
-              let at : get_or row (n * k + a) None ≡ Some (length states) =
-              ap (λ z. get_or row z None) e ∙ get_or-set_same children (node * k + letter) (Some (length states)) None (omega (arith, is.children_count, place_within (length states) k node letter inside less)) in
-              subst (λ t. IsChild new (longer states n a) t) (sym at)
-              (omega (arith, size), last_word (length states) refl ∙ ap₂ (λ (x y : ℕ). longer states x y) (sym both.0) (sym both.1))
-          | inr d ↦
-              subst (λ t. IsChild new (longer states n a) t) (sym (get_or-set_other children (node * k + letter) (n * k + a) (Some (length states)) None d))
-              (kept n a hn ha d (get_or children (n * k + a) None) (is.child n a hn ha))
-        ]
+        old_child : (n a : ℕ) → n < length states → a < k → IsChild new (longer states n a) (target (with_entry (with_node k children) node letter (Some (length states))) n a)
+        old_child = put_cases (λ n a t. n < length states → a < k → IsChild new (longer states n a) t) (with_node k children) _ node letter (Some (length states)) row
+            (λ hn ha. (omega (arith, size), last_word (length states) refl))
+            (λ n a d hn ha. subst (λ t. IsChild new (longer states n a) t) (sym (target_node k children n a)) (kept n a hn d (target children n a) (is.child n a hn ha)))
 
         childless : (a : ℕ) → Contains new (w ++ a ∷ []) → ⊥
         childless a h = elim (Contains-push_cases states w (w ++ a ∷ []) h) [
@@ -150,25 +109,25 @@ module _ (k : ℕ) (rules : List (Word × Word)) (states : List Word) (children 
           | inr e ↦ omega (arith, ap length e, length-append w (a ∷ []))
         ]
 
-        child : (n a : ℕ) → n < length new → a < k → IsChild new (longer new n a) (get_or (row ++ replicate k None) (n * k + a) None)
+        -- the new row has no entry
+        none : (g : Graph) (n a : ℕ) → AreRows (length states) k g → length states ≤ n → target (with_node k g) n a ≡ None
+        none g n a rows m = target_node k g n a ∙ rows_past (length states) k g rows n a m
+
+        child : (n a : ℕ) → n < length new → a < k → IsChild new (longer new n a) (target (with_entry (with_node k children) node letter (Some (length states))) n a)
         child n a hn ha = elim (cases_lt n (length states)) [
-          | inl l ↦
-              subst₂ (λ u t. IsChild new u t) (ap (λ u. u ++ a ∷ []) (sym (old_word n l))) (sym (old_entry row n a row_count l ha)) (old_child n a l ha)
+          | inl l ↦ subst (λ u. IsChild new u (target (with_entry (with_node k children) node letter (Some (length states))) n a)) (ap (λ u. u ++ a ∷ []) (sym (old_word n l))) (old_child n a l ha)
           | inr m ↦
-              let at : n ≡ length states = omega (arith, m, hn, size) in
-              subst₂ (λ u t. IsChild new u t) (ap (λ u. u ++ a ∷ []) (sym (last_word n at))) (sym (new_entry row n a row_count at ha)) (childless a)
+              subst₂ (λ u t. IsChild new u t) (ap (λ u. u ++ a ∷ []) (sym (last_word n (omega (arith, m, hn, size)))))
+              (sym (row.other n a (λ both. omega (arith, m, inside, both.0)) ∙ none children n a is.child_rows m)) (childless a)
         ]
 
-        left : (n a : ℕ) → n < length new → a < k → IsLeft rules (longer new n a) (get_or (lefts ++ replicate k None) (n * k + a) None)
+        left : (n a : ℕ) → n < length new → a < k → IsLeft rules (longer new n a) (target (with_node k lefts) n a)
         left n a hn ha = elim (cases_lt n (length states)) [
-          | inl l ↦
-              subst₂ (λ u t. IsLeft rules u t) (ap (λ u. u ++ a ∷ []) (sym (old_word n l))) (sym (old_entry lefts n a is.lefts_count l ha)) (is.left n a l ha)
-          | inr m ↦
-              let at : n ≡ length states = omega (arith, m, hn, size) in
-              subst (λ t. IsLeft rules (longer new n a) t) (sym (new_entry lefts n a is.lefts_count at ha)) tt
+          | inl l ↦ subst₂ (λ u t. IsLeft rules u t) (ap (λ u. u ++ a ∷ []) (sym (old_word n l))) (sym (target_node k lefts n a)) (is.left n a l ha)
+          | inr m ↦ subst (λ t. IsLeft rules (longer new n a) t) (sym (none lefts n a is.left_rows m)) tt
         ]
 
-    pub marked_new : (left : Word) → IsMarked k states lefts left → IsMarked k (states ++ longer states node letter ∷ []) (lefts ++ replicate k None) left
+    pub marked_new : (left : Word) → IsMarked k states lefts left → IsMarked k (states ++ longer states node letter ∷ []) (with_node k lefts) left
     marked_new left m = record {
       node = m.node;
       letter = m.letter;
@@ -176,11 +135,11 @@ module _ (k : ℕ) (rules : List (Word × Word)) (states : List Word) (children 
       node_within = omega (arith, m.node_within, size);
       letter_within = m.letter_within;
       is = m.is ∙ ap (λ u. u ++ m.letter ∷ []) (sym (old_word m.node m.node_within));
-      marked = old_entry lefts m.node m.letter is.lefts_count m.node_within m.letter_within ∙ m.marked;
+      marked = target_node k lefts m.node m.letter ∙ m.marked;
     }
 
 -- one letter more of a left side
-module _ (k : ℕ) (rules : List (Word × Word)) (number : ℕ) (old prefixes new_prefixes : List Prefix) (children lefts new_children new_lefts : List (Option ℕ)) (node count letter to : ℕ)
+module _ (k : ℕ) (rules : List (Word × Word)) (number : ℕ) (old prefixes new_prefixes : List Prefix) (children lefts new_children new_lefts : Graph) (node count letter to : ℕ)
     (is : IsGrowing k rules number (words_of rules old) (left_at rules number) count (words_of rules prefixes) children lefts node)
     (below : letter < k) (next : take (count + 1) (left_at rules number) ≡ take count (left_at rules number) ++ letter ∷ []) (room : count + 1 < length (left_at rules number)) (inside : number < length rules) where
   states : List Word
@@ -189,7 +148,7 @@ module _ (k : ℕ) (rules : List (Word × Word)) (number : ℕ) (old prefixes ne
   word_is : longer (words_of rules prefixes) node letter ≡ take (count + 1) (left_at rules number)
   word_is = ap (λ u. u ++ letter ∷ []) is.is ∙ sym next
 
-  there : IsThere (node * k + letter) prefixes new_prefixes children lefts new_children new_lefts to
+  there : IsThere node letter prefixes new_prefixes children lefts new_children new_lefts to
       → IsGrowing k rules number (words_of rules old) (left_at rules number) (count + 1) (words_of rules new_prefixes) new_children new_lefts to
   there h = go new_prefixes new_children new_lefts h.same_prefixes h.same_children h.same_lefts
     where
@@ -205,18 +164,18 @@ module _ (k : ℕ) (rules : List (Word × Word)) (number : ℕ) (old prefixes ne
         is = child.1 ∙ word_is;
       }
 
-      go : (ps : List Prefix) (cs ls : List (Option ℕ)) → ps ≡ prefixes → cs ≡ children → ls ≡ lefts
+      go : (ps : List Prefix) (cs ls : Graph) → ps ≡ prefixes → cs ≡ children → ls ≡ lefts
           → IsGrowing k rules number (words_of rules old) (left_at rules number) (count + 1) (words_of rules ps) cs ls to
       go ps cs ls ep ec el =
           subst (λ (z : List Prefix). IsGrowing k rules number (words_of rules old) (left_at rules number) (count + 1) (words_of rules z) cs ls to) (sym ep)
-          (subst₂ (λ (x y : List (Option ℕ)). IsGrowing k rules number (words_of rules old) (left_at rules number) (count + 1) (words_of rules prefixes) x y to) (sym ec) (sym el) here)
+          (subst₂ (λ (x y : Graph). IsGrowing k rules number (words_of rules old) (left_at rules number) (count + 1) (words_of rules prefixes) x y to) (sym ec) (sym el) here)
 
-  made : IsNew k (node * k + letter) (record { rule = number; count = count + 1 }) prefixes new_prefixes children lefts new_children new_lefts to
+  made : IsNew k node letter (record { rule = number; count = count + 1 }) prefixes new_prefixes children lefts new_children new_lefts to
       → IsGrowing k rules number (words_of rules old) (left_at rules number) (count + 1) (words_of rules new_prefixes) new_children new_lefts to
-  made h = go (words_of rules new_prefixes) new_children new_lefts to states_are (h.more_children ∙ ap (λ z. set children (node * k + letter) (Some z) ++ replicate k None) number_is) h.more_lefts number_is
+  made h = go (words_of rules new_prefixes) new_children new_lefts to states_are (h.more_children ∙ ap (λ z. with_entry (with_node k children) node letter (Some z)) number_is) h.more_lefts number_is
     where
       number_is : to ≡ length (words_of rules prefixes)
-      number_is = h.number ∙ sym (words_count rules prefixes)
+      number_is = h.number ∙ is.trie.child_rows.count
 
       states_are : words_of rules new_prefixes ≡ words_of rules prefixes ++ longer (words_of rules prefixes) node letter ∷ []
       states_are =
@@ -228,7 +187,7 @@ module _ (k : ℕ) (rules : List (Word × Word)) (number : ℕ) (old prefixes ne
           (grown_put (words_of rules old) (left_at rules number) (count + 1) (words_of rules prefixes) is.grown room)
 
       here : IsGrowing k rules number (words_of rules old) (left_at rules number) (count + 1) (words_of rules prefixes ++ longer (words_of rules prefixes) node letter ∷ [])
-          (set children (node * k + letter) (Some (length (words_of rules prefixes))) ++ replicate k None) (lefts ++ replicate k None) (length (words_of rules prefixes))
+          (with_entry (with_node k children) node letter (Some (length (words_of rules prefixes)))) (with_node k lefts) (length (words_of rules prefixes))
       here = record {
         trie = trie_new k rules (words_of rules prefixes) children lefts is.trie node letter is.within below h.missing grown.prefixes (inr (record { number = number; count = count + 1; within = inside; proper = room; is = word_is }));
         marked = λ n l inside. marked_new k rules (words_of rules prefixes) children lefts is.trie node letter is.within below h.missing (left_at rules n) (is.marked n l inside);
@@ -237,21 +196,21 @@ module _ (k : ℕ) (rules : List (Word × Word)) (number : ℕ) (old prefixes ne
         is = get_or_push (words_of rules prefixes) (longer (words_of rules prefixes) node letter) [] (length (words_of rules prefixes)) refl ∙ word_is;
       }
 
-      go : (ss : List Word) (cs ls : List (Option ℕ)) (t : ℕ) → ss ≡ words_of rules prefixes ++ longer (words_of rules prefixes) node letter ∷ []
-          → cs ≡ set children (node * k + letter) (Some (length (words_of rules prefixes))) ++ replicate k None → ls ≡ lefts ++ replicate k None → t ≡ length (words_of rules prefixes)
+      go : (ss : List Word) (cs ls : Graph) (t : ℕ) → ss ≡ words_of rules prefixes ++ longer (words_of rules prefixes) node letter ∷ []
+          → cs ≡ with_entry (with_node k children) node letter (Some (length (words_of rules prefixes))) → ls ≡ with_node k lefts → t ≡ length (words_of rules prefixes)
           → IsGrowing k rules number (words_of rules old) (left_at rules number) (count + 1) ss cs ls t
       go ss cs ls t es ec el et =
           subst₂ (λ (z : List Word) (t : ℕ). IsGrowing k rules number (words_of rules old) (left_at rules number) (count + 1) z cs ls t) (sym es) (sym et)
-          (subst₂ (λ (x y : List (Option ℕ)). IsGrowing k rules number (words_of rules old) (left_at rules number) (count + 1) (words_of rules prefixes ++ longer (words_of rules prefixes) node letter ∷ []) x y (length (words_of rules prefixes))) (sym ec) (sym el) here)
+          (subst₂ (λ (x y : Graph). IsGrowing k rules number (words_of rules old) (left_at rules number) (count + 1) (words_of rules prefixes ++ longer (words_of rules prefixes) node letter ∷ []) x y (length (words_of rules prefixes))) (sym ec) (sym el) here)
 
-  pub growing_step : IsThere (node * k + letter) prefixes new_prefixes children lefts new_children new_lefts to
-      ⊎ IsNew k (node * k + letter) (record { rule = number; count = count + 1 }) prefixes new_prefixes children lefts new_children new_lefts to
+  pub growing_step : IsThere node letter prefixes new_prefixes children lefts new_children new_lefts to
+      ⊎ IsNew k node letter (record { rule = number; count = count + 1 }) prefixes new_prefixes children lefts new_children new_lefts to
       → IsGrowing k rules number (words_of rules old) (left_at rules number) (count + 1) (words_of rules new_prefixes) new_children new_lefts to
   growing_step (inl h) = there h
   growing_step (inr h) = made h
 
 -- a left side before its first letter
-pub growing_start : (k : ℕ) (rules : List (Word × Word)) (number : ℕ) (states : List Word) (children lefts : List (Option ℕ)) → IsGrown k rules number states children lefts
+pub growing_start : (k : ℕ) (rules : List (Word × Word)) (number : ℕ) (states : List Word) (children lefts : Graph) → IsGrown k rules number states children lefts
     → IsGrowing k rules number states (left_at rules number) 0 states children lefts 0
 growing_start k rules number states children lefts is = record {
   trie = is.trie;
@@ -266,41 +225,34 @@ growing_start k rules number states children lefts is = record {
 }
 
 -- a left side at its last letter
-pub growing_end : (k : ℕ) (rules : List (Word × Word)) (number : ℕ) (old states : List Word) (children lefts : List (Option ℕ)) (node count letter : ℕ)
+pub growing_end : (k : ℕ) (rules : List (Word × Word)) (number : ℕ) (old states : List Word) (children lefts : Graph) (node count letter : ℕ)
     → AreStatesTo rules number old → IsGrowing k rules number old (left_at rules number) count states children lefts node
     → number < length rules → letter < k → count + 1 ≡ length (left_at rules number) → left_at rules number ≡ take count (left_at rules number) ++ letter ∷ []
-    → IsGrown k rules (number + 1) states children (set lefts (node * k + letter) (Some number))
+    → IsGrown k rules (number + 1) states children (with_entry lefts node letter (Some number))
 growing_end k rules number old states children lefts node count letter before is inside below long whole = record {
   trie = record {
     prefixes = is.trie.prefixes;
     distinct = is.trie.distinct;
     only = is.trie.only;
-    children_count = is.trie.children_count;
-    lefts_count = length-set lefts (node * k + letter) (Some number) ∙ is.trie.lefts_count;
+    child_rows = is.trie.child_rows;
+    left_rows = rows_put (length states) k lefts is.trie.left_rows node letter (Some number) is.within;
     child = is.trie.child;
     left = left;
   };
   are = states_step rules number old (left_at rules number) states before refl (subst (λ c. Grown old (left_at rules number) c states) long is.grown);
-  marked = below_more (λ n. n < length rules → IsMarked k states (set lefts (node * k + letter) (Some number)) (left_at rules n)) number (λ n l h. kept (left_at rules n) (is.marked n l h)) (λ _. now);
+  marked = below_more (λ n. n < length rules → IsMarked k states (with_entry lefts node letter (Some number)) (left_at rules n)) number (λ n l h. kept (left_at rules n) (is.marked n l h)) (λ _. now);
 }
   where
-    place_in : node * k + letter < length lefts
-    place_in = omega (arith, is.trie.lefts_count, place_within (length states) k node letter is.within below)
+    row : IsPut lefts (with_entry lefts node letter (Some number)) node letter (Some number)
+    row = rows_entry (length states) k lefts is.trie.left_rows node letter (Some number) is.within below
 
     word : left_at rules number ≡ longer states node letter
     word = whole ∙ ap (λ u. u ++ letter ∷ []) (sym is.is)
 
-    left : (n a : ℕ) → n < length states → a < k → IsLeft rules (longer states n a) (get_or (set lefts (node * k + letter) (Some number)) (n * k + a) None)
-    left n a hn ha = elim (cases_eq (n * k + a) (node * k + letter)) [
-      | inl e ↦
-          let both = place_one k n node a letter ha below e in
-          let at : get_or (set lefts (node * k + letter) (Some number)) (n * k + a) None ≡ Some number =
-          ap (λ z. get_or (set lefts (node * k + letter) (Some number)) z None) e ∙ get_or-set_same lefts (node * k + letter) (Some number) None place_in in
-          subst (λ t. IsLeft rules (longer states n a) t) (sym at) (inside, word ∙ ap₂ (λ (x y : ℕ). longer states x y) (sym both.0) (sym both.1))
-      | inr d ↦ subst (λ t. IsLeft rules (longer states n a) t) (sym (get_or-set_other lefts (node * k + letter) (n * k + a) (Some number) None d)) (is.trie.left n a hn ha)
-    ]
+    left : (n a : ℕ) → n < length states → a < k → IsLeft rules (longer states n a) (target (with_entry lefts node letter (Some number)) n a)
+    left = put_cases (λ n a t. n < length states → a < k → IsLeft rules (longer states n a) t) lefts _ node letter (Some number) row (λ hn ha. (inside, word)) (λ n a d. is.trie.left n a)
 
-    now : IsMarked k states (set lefts (node * k + letter) (Some number)) (left_at rules number)
+    now : IsMarked k states (with_entry lefts node letter (Some number)) (left_at rules number)
     now = record {
       node = node;
       letter = letter;
@@ -308,56 +260,33 @@ growing_end k rules number old states children lefts node count letter before is
       node_within = is.within;
       letter_within = below;
       is = word;
-      marked = get_or-set_same lefts (node * k + letter) (Some number) None place_in;
+      marked = row.put;
     }
 
-    kept : (u : Word) → IsMarked k states lefts u → IsMarked k states (set lefts (node * k + letter) (Some number)) u
-    kept u m = elim (cases_eq (m.node * k + m.letter) (node * k + letter)) [
-      | inl e ↦ record {
-        node = m.node;
-        letter = m.letter;
-        number = number;
-        node_within = m.node_within;
-        letter_within = m.letter_within;
-        is = m.is;
-        marked = ap (λ z. get_or (set lefts (node * k + letter) (Some number)) z None) e ∙ get_or-set_same lefts (node * k + letter) (Some number) None place_in;
-      }
-      | inr d ↦ record {
-        node = m.node;
-        letter = m.letter;
-        number = m.number;
-        node_within = m.node_within;
-        letter_within = m.letter_within;
-        is = m.is;
-        marked = get_or-set_other lefts (node * k + letter) (m.node * k + m.letter) (Some number) None d ∙ m.marked;
-      }
-    ]
+    still : (n a m : ℕ) → target lefts n a ≡ Some m → (q : ℕ) × (target (with_entry lefts node letter (Some number)) n a ≡ Some q)
+    still n a m = put_cases (λ n a t. target lefts n a ≡ Some m → (q : ℕ) × (t ≡ Some q)) lefts _ node letter (Some number) row (λ e. (number, refl)) (λ n a d e. (m, e)) n a
+
+    kept : (u : Word) → IsMarked k states lefts u → IsMarked k states (with_entry lefts node letter (Some number)) u
+    kept u m =
+        let mark = still m.node m.letter m.number m.marked in
+        record { node = m.node; letter = m.letter; number = mark.0; node_within = m.node_within; letter_within = m.letter_within; is = m.is; marked = mark.1 }
 
 -- the empty word alone
-pub grown_start : (k : ℕ) (rules : List (Word × Word)) → IsGrown k rules 0 ([] ∷ []) (replicate k None) (replicate k None)
+pub grown_start : (k : ℕ) (rules : List (Word × Word)) → IsGrown k rules 0 ([] ∷ []) (replicate k None ∷ []) (replicate k None ∷ [])
 grown_start k rules = record {
   trie = record {
     prefixes = prefixes;
     distinct = λ i j hi hj e. omega (arith, hi, hj);
     only = λ n h. inl (let e : n ≡ 0 = omega (arith, h) in ap (λ (i : ℕ). get_or {A = Word} ([] ∷ []) i []) e);
-    children_count = size;
-    lefts_count = size;
-    child = λ n a hn ha. subst (λ t. IsChild ([] ∷ []) (longer ([] ∷ []) n a) t) (sym (none n a hn ha)) (alone n a hn);
-    left = λ n a hn ha. subst (λ t. IsLeft rules (longer ([] ∷ []) n a) t) (sym (none n a hn ha)) tt;
+    child_rows = rows_bare 1 k;
+    left_rows = rows_bare 1 k;
+    child = λ n a hn ha. subst (λ t. IsChild ([] ∷ []) (longer ([] ∷ []) n a) t) (sym (target_bare 1 k n a)) (alone n a hn);
+    left = λ n a hn ha. subst (λ t. IsLeft rules (longer ([] ∷ []) n a) t) (sym (target_bare 1 k n a)) tt;
   };
   are = record { prefixes = prefixes; lefts = λ n h. absurd (omega (arith, h)) };
   marked = λ n h. absurd (omega (arith, h));
 }
   where
-    size : length (replicate {A = Option ℕ} k None) ≡ 1 * k
-    size = length-replicate k None ∙ (let e : k ≡ 1 * k = omega arith in e)
-
-    none : (n a : ℕ) → n < 1 → a < k → get_or {A = Option ℕ} (replicate k None) (n * k + a) None ≡ None
-    none n a hn ha =
-        let z : n ≡ 0 = omega (arith, hn) in
-        let at : n * k + a ≡ a = omega (arith, ap (λ (m : ℕ). m * k) z) in
-        ap (λ (m : ℕ). get_or {A = Option ℕ} (replicate k None) m None) at ∙ get_or-replicate k a None None ha
-
     no_longer : (p : Word) (a : ℕ) → Contains ([] ∷ []) (p ++ a ∷ []) → ⊥
     no_longer p a h =
         let z : h.0 ≡ 0 = let l = h.1 in omega (arith, l) in
@@ -388,9 +317,3 @@ module _ (rules items : List (Word × Word)) (number : ℕ) (rule : Word × Word
 
   pub left_more : (i a : ℕ) → i < length letters → a ≡ get_or letters i a → take (i + 1) (left_at rules number) ≡ take i (left_at rules number) ++ a ∷ []
   left_more i a h e = subst (λ u. take (i + 1) u ≡ take i u ++ a ∷ []) left_read (take_more letters i a h ∙ ap (λ z. take i letters ++ z ∷ []) (sym e))
-
--- an entry, as the code reads it
-pub entry_read : (n k node a place : ℕ) (xs : List (Option ℕ)) (read t : Option ℕ) → length xs ≡ n * k → node < n → a < k → place ≡ node * k + a
-    → read ≡ get_or xs place read → read ≡ t → get_or xs (node * k + a) None ≡ t
-entry_read n k node a place xs read t size hn ha at e is =
-    sym (get_or_read xs (node * k + a) read (omega (arith, size, place_within n k node a hn ha)) (e ∙ ap (λ i. get_or xs i read) at) None) ∙ is

@@ -1,6 +1,8 @@
 -- The tree of the states, and the tables that are read from it (Aho and Corasick 1975).
-use Rattle.std.specs.Prelude.{◌≡◌, ◌≢◌, ℕ, ◌+◌, ◌*◌, ◌<◌, ◌≤◌, ◌⊎◌, List, [], ◌∷◌, ◌++◌, length, map, take, drop, replicate, slice_index_or, slice_set, Contains, Option, None, Some}
+use Rattle.std.specs.Prelude.{◌≡◌, ◌≢◌, ℕ, ◌+◌, ◌<◌, ◌≤◌, ◌⊎◌, List, [], ◌∷◌, ◌++◌, length, map, take, drop, slice_index_or, slice_set, Contains, Option, None, Some, unwrap_or}
 use Rattle.theory.specs.Word.{Word}
+use Rattle.theory.specs.Graph.{Graph, target}
+use Rattle.cells.specs.Rows.{AreRows, with_entry, with_node}
 use Rattle.reduced_automaton.specs.States.{ArePrefixes, AreStatesTo, EndsAt, Grown, HasEnd, IsLongest}
 use Rattle.reduced_automaton.specs.declared.tries.Prefix.{Prefix}
 use Rattle.reduced_automaton.specs.declared.tries.Trie.{Trie}
@@ -43,22 +45,22 @@ pub record IsProperFront (rules : List (Word × Word)) (u : Word) : Type 0 where
 abbrev pub IsStateWord : List (Word × Word) → Word → Type 0
 IsStateWord rules u = (u ≡ []) ⊎ IsProperFront rules u
 
--- the states are distinct, and there is an entry for each state and letter
+-- the states are distinct, and there is a row for each
 pub record IsTrie (k : ℕ) (rules : List (Word × Word)) (states : List Word)
-    (children lefts : List (Option ℕ)) : Type 0 where
+    (children lefts : Graph) : Type 0 where
   pub prefixes : ArePrefixes states
   pub distinct : (i j : ℕ) → i < length states → j < length states
       → slice_index_or states i [] ≡ slice_index_or states j [] → i ≡ j
   pub only : (n : ℕ) → n < length states → IsStateWord rules (slice_index_or states n [])
-  pub children_count : length children ≡ length states * k
-  pub lefts_count : length lefts ≡ length states * k
+  pub child_rows : AreRows (length states) k children
+  pub left_rows : AreRows (length states) k lefts
   pub child : (n a : ℕ) → n < length states → a < k
-      → IsChild states (longer states n a) (slice_index_or children (n * k + a) None)
+      → IsChild states (longer states n a) (target children n a)
   pub left : (n a : ℕ) → n < length states → a < k
-      → IsLeft rules (longer states n a) (slice_index_or lefts (n * k + a) None)
+      → IsLeft rules (longer states n a) (target lefts n a)
 
 -- the left side of a rule is marked at its last letter
-pub record IsMarked (k : ℕ) (states : List Word) (lefts : List (Option ℕ))
+pub record IsMarked (k : ℕ) (states : List Word) (lefts : Graph)
     (left : Word) : Type 0 where
   pub node : ℕ
   pub letter : ℕ
@@ -66,23 +68,23 @@ pub record IsMarked (k : ℕ) (states : List Word) (lefts : List (Option ℕ))
   pub node_within : node < length states
   pub letter_within : letter < k
   pub is : left ≡ longer states node letter
-  pub marked : slice_index_or lefts (node * k + letter) None ≡ Some number
+  pub marked : target lefts node letter ≡ Some number
 
 -- the left sides of the first rules are marked, so many
-abbrev pub AreMarkedTo : ℕ → List (Word × Word) → ℕ → List Word → List (Option ℕ) → Type 0
+abbrev pub AreMarkedTo : ℕ → List (Word × Word) → ℕ → List Word → Graph → Type 0
 AreMarkedTo k rules number states lefts = (n : ℕ) → n < number → n < length rules
     → IsMarked k states lefts (left_at rules n)
 
 -- the states, children and marks of the first rules, so many
 pub record IsGrown (k : ℕ) (rules : List (Word × Word)) (number : ℕ) (states : List Word)
-    (children lefts : List (Option ℕ)) : Type 0 where
+    (children lefts : Graph) : Type 0 where
   pub trie : IsTrie k rules states children lefts
   pub are : AreStatesTo rules number states
   pub marked : AreMarkedTo k rules number states lefts
 
 -- the tree while a left side is read, up to a node
 pub record IsGrowing (k : ℕ) (rules : List (Word × Word)) (number : ℕ) (old : List Word)
-    (left : Word) (count : ℕ) (states : List Word) (children lefts : List (Option ℕ))
+    (left : Word) (count : ℕ) (states : List Word) (children lefts : Graph)
     (node : ℕ) : Type 0 where
   pub trie : IsTrie k rules states children lefts
   pub marked : AreMarkedTo k rules number states lefts
@@ -91,29 +93,29 @@ pub record IsGrowing (k : ℕ) (rules : List (Word × Word)) (number : ℕ) (old
   pub is : slice_index_or states node [] ≡ take count left
 
 -- the child that is there
-pub record IsThere (place : ℕ) (prefixes new_prefixes : List Prefix)
-    (children lefts new_children new_lefts : List (Option ℕ)) (to : ℕ) : Type 0 where
-  pub found : slice_index_or children place None ≡ Some to
+pub record IsThere (node letter : ℕ) (prefixes new_prefixes : List Prefix)
+    (children lefts new_children new_lefts : Graph) (to : ℕ) : Type 0 where
+  pub found : target children node letter ≡ Some to
   pub same_prefixes : new_prefixes ≡ prefixes
   pub same_children : new_children ≡ children
   pub same_lefts : new_lefts ≡ lefts
 
 -- a new child
-pub record IsNew (k place : ℕ) (prefix : Prefix) (prefixes new_prefixes : List Prefix)
-    (children lefts new_children new_lefts : List (Option ℕ)) (to : ℕ) : Type 0 where
-  pub missing : slice_index_or children place None ≡ None
-  pub number : to ≡ length prefixes
+pub record IsNew (k node letter : ℕ) (prefix : Prefix) (prefixes new_prefixes : List Prefix)
+    (children lefts new_children new_lefts : Graph) (to : ℕ) : Type 0 where
+  pub missing : target children node letter ≡ None
+  pub number : to ≡ length children
   pub more_prefixes : new_prefixes ≡ prefixes ++ prefix ∷ []
-  pub more_children : new_children ≡ slice_set children place (Some to) ++ replicate k None
-  pub more_lefts : new_lefts ≡ lefts ++ replicate k None
+  pub more_children : new_children ≡ with_entry (with_node k children) node letter (Some to)
+  pub more_lefts : new_lefts ≡ with_node k lefts
 
--- the child at the place of the old tree, which the new one has if the old one has none
-abbrev pub FindsChild : ℕ → ℕ → Prefix → Trie → Trie → ℕ → Type 0
-FindsChild k place prefix old new to =
-    IsThere place old.prefixes.items new.prefixes.items
-    old.children.items old.lefts.items new.children.items new.lefts.items to
-    ⊎ IsNew k place prefix old.prefixes.items new.prefixes.items
-    old.children.items old.lefts.items new.children.items new.lefts.items to
+-- the child by the letter in the old tree, which the new one has if the old one has none
+abbrev pub FindsChild : ℕ → ℕ → ℕ → Prefix → Trie → Trie → ℕ → Type 0
+FindsChild k node letter prefix old new to =
+    IsThere node letter old.prefixes.items new.prefixes.items
+    old.children old.lefts new.children new.lefts to
+    ⊎ IsNew k node letter prefix old.prefixes.items new.prefixes.items
+    old.children old.lefts new.children new.lefts to
 
 -- the words of the states of a tree
 abbrev pub states_of : List (Word × Word) → Trie → List Word
@@ -122,15 +124,11 @@ states_of rules trie = words_of rules trie.prefixes.items
 -- the tree of the first rules, so many
 abbrev pub IsTreeTo : ℕ → List (Word × Word) → ℕ → Trie → Type 0
 IsTreeTo k rules number trie =
-    IsGrown k rules number (states_of rules trie) trie.children.items trie.lefts.items
+    IsGrown k rules number (states_of rules trie) trie.children trie.lefts
 
 -- the tree of all rules
 abbrev pub IsTreeOf : ℕ → List (Word × Word) → Trie → Type 0
 IsTreeOf k rules = IsTreeTo k rules (length rules)
-
--- an entry for each state and letter
-abbrev pub HasEntries : ℕ → Trie → List (Option ℕ) → Type 0
-HasEntries k trie entries = length entries ≡ length trie.prefixes.items * k
 
 -- numbers of states, each once or more, the shorter states first
 pub record IsOrder (states : List Word) (order : List ℕ) : Type 0 where
@@ -141,26 +139,25 @@ pub record IsOrder (states : List Word) (order : List ℕ) : Type 0 where
       ≤ length (slice_index_or states (slice_index_or order j 0) [])
 
 -- x is the child of the node by a letter below the bound
-pub record IsChildOf (k : ℕ) (children : List (Option ℕ)) (node bound x : ℕ) : Type 0 where
+pub record IsChildOf (children : Graph) (node bound x : ℕ) : Type 0 where
   pub letter : ℕ
   pub below : letter < bound
-  pub is : slice_index_or children (node * k + letter) None ≡ Some x
+  pub is : target children node letter ≡ Some x
 
 -- the children of the node by letters below the bound have been added
-pub record Gathers (k : ℕ) (children : List (Option ℕ)) (node bound : ℕ)
-    (old new : List ℕ) : Type 0 where
+pub record Gathers (children : Graph) (node bound : ℕ) (old new : List ℕ) : Type 0 where
   pub kept : (x : ℕ) → Contains old x → Contains new x
-  pub from : (x : ℕ) → Contains new x → Contains old x ⊎ IsChildOf k children node bound x
-  pub all : (x : ℕ) → IsChildOf k children node bound x → Contains new x
+  pub from : (x : ℕ) → Contains new x → Contains old x ⊎ IsChildOf children node bound x
+  pub all : (x : ℕ) → IsChildOf children node bound x → Contains new x
 
 -- the children of the first nodes of the list, so many
-pub record AreChildren (k : ℕ) (children : List (Option ℕ)) (level : List ℕ) (count : ℕ)
+pub record AreChildren (k : ℕ) (children : Graph) (level : List ℕ) (count : ℕ)
     (new : List ℕ) : Type 0 where
   pub from : (x : ℕ) → Contains new x
       → (j : ℕ) × (j < count) × (j < length level)
-      × IsChildOf k children (slice_index_or level j 0) k x
+      × IsChildOf children (slice_index_or level j 0) k x
   pub all : (j x : ℕ) → j < count → j < length level
-      → IsChildOf k children (slice_index_or level j 0) k x → Contains new x
+      → IsChildOf children (slice_index_or level j 0) k x → Contains new x
 
 -- the states of at most so many letters, the shorter first, and those of just so many
 pub record IsOrderTo (states : List Word) (most : ℕ) (order level : List ℕ) : Type 0 where
@@ -196,42 +193,41 @@ IsDone order place letter n a =
     ((j : ℕ) × (j < place) × (j < length order) × (slice_index_or order j 0 ≡ n))
     ⊎ ((place < length order) × (slice_index_or order place 0 ≡ n) × (a < letter))
 
--- as many entries as there are states and letters, each the number of a state
-pub record AreTables (k n : ℕ) (targets links : List ℕ) (ends : List (Option ℕ)) : Type 0 where
+-- the state of an entry, and the first where there is none
+abbrev pub state_at : Graph → ℕ → ℕ → ℕ
+state_at targets node letter = unwrap_or (target targets node letter) 0
+
+-- rows of so many states and letters, and numbers of states in them
+pub record AreTables (k n : ℕ) (targets : Graph) (links : List ℕ) (ends : Graph) : Type 0 where
   pub some : 0 < n
-  pub targets_count : length targets ≡ n * k
-  pub ends_count : length ends ≡ n * k
+  pub target_rows : AreRows n k targets
+  pub end_rows : AreRows n k ends
   pub links_count : length links ≡ n
-  pub targets_within : (i : ℕ) → i < n * k → slice_index_or targets i 0 < n
+  pub targets_within : (i a : ℕ) → state_at targets i a < n
   pub links_within : (i : ℕ) → i < n → slice_index_or links i 0 < n
 
 -- the entries before the place and the letter are right
 pub record IsLinkedTo (k : ℕ) (rules : List (Word × Word)) (states : List Word)
-    (children : List (Option ℕ)) (order : List ℕ) (place letter : ℕ) (targets links : List ℕ)
-    (ends : List (Option ℕ)) : Type 0 where
+    (children : Graph) (order : List ℕ) (place letter : ℕ) (targets : Graph) (links : List ℕ)
+    (ends : Graph) : Type 0 where
   pub reads : (n a : ℕ) → n < length states → a < k → IsDone order place letter n a
-      → Reads rules states (longer states n a) (slice_index_or targets (n * k + a) 0)
-      (slice_index_or ends (n * k + a) None)
+      → Reads rules states (longer states n a) (state_at targets n a) (target ends n a)
+  pub there : (n a : ℕ) → n < length states → a < k → IsDone order place letter n a
+      → (to : ℕ) × (target targets n a ≡ Some to)
   -- the link of a state leads to the longest state at its end that is not all of it
   pub link : (n a to : ℕ) → n < length states → a < k → IsDone order place letter n a
-      → slice_index_or children (n * k + a) None ≡ Some to
+      → target children n a ≡ Some to
       → IsLongest states (drop 1 (slice_index_or states to [])) (slice_index_or links to 0)
 
 -- what is read behind the first letter of a state and a letter
-abbrev pub IsBehind : ℕ → ℕ → ℕ → List ℕ → List ℕ → List (Option ℕ) → ℕ × Option ℕ → Type 0
-IsBehind k node letter targets links ends r =
+abbrev pub IsBehind : ℕ → ℕ → Graph → List ℕ → Graph → ℕ × Option ℕ → Type 0
+IsBehind node letter targets links ends r =
     ((node ≡ 0) × (r ≡ (0, None)))
     ⊎ ((node ≢ 0)
     × (r ≡ (
-      slice_index_or targets (slice_index_or links node 0 * k + letter) 0,
-      slice_index_or ends
-          (slice_index_or links node 0 * k + letter) None,
+      state_at targets (slice_index_or links node 0) letter,
+      target ends (slice_index_or links node 0) letter,
     )))
-
--- the first number, if there is one, and else the second
-abbrev pub first_of : Option ℕ → Option ℕ → Option ℕ
-first_of None second = second
-first_of (Some number) second = Some number
 
 -- the links, with that of a child
 abbrev pub linked : Option ℕ → ℕ → List ℕ → List ℕ

@@ -103,7 +103,7 @@ impl Automaton {
             (longer self.now.states state letter) result }
     {
         let read = self.read(state, letter);
-        move_by(read.1, read.0)
+        move_by(read.1, Some(read.0))
     }
 
     /// The rules.

@@ -50,8 +50,8 @@ fn leads_on(graph: &Table, depths: &[Option<usize>], node: usize, count: usize) 
     false
 }
 
-/// So many places without a number. Refused only where memory is wanting.
-pub fn no_numbers(alloc: Global, count: usize) -> Result<Vec<Option<usize>>, NoMemory>
+// So many places without a number. Refused only where memory is wanting.
+fn no_numbers(alloc: Global, count: usize) -> Result<Vec<Option<usize>>, NoMemory>
     ensures { IfOk result (λ v. v.items ≡ replicate count None) }
 {
     Ok(Vec::from_elem(alloc, None, count)?)

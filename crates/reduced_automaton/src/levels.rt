@@ -1,13 +1,14 @@
 // The states level by level: the shorter ones first.
-ghost use Rattle.std.specs.Prelude.{◌≡◌, ℕ, ◌*◌, ◌<◌, ◌≤◌, List, length, slice_index_or, IfOk, OnOk};
+ghost use Rattle.std.specs.Prelude.{◌≡◌, ℕ, ◌<◌, ◌≤◌, List, length, IfOk, OnOk};
 ghost use Rattle.theory.specs.Word.{Word as Letters};
 ghost use Rattle.reduced_automaton.specs.Rules.{AreOver};
-ghost use Rattle.reduced_automaton.specs.Tries.{AreChildren, Gathers, HasEntries, IsOrder, IsTreeOf, left_at, states_of};
+ghost use Rattle.reduced_automaton.specs.Tries.{AreChildren, Gathers, IsOrder, IsTreeOf, left_at, states_of};
 
 use crate::rule_lists::Rules;
-use crate::tries::{Trie, place};
+use crate::tries::Trie;
 use ports::NoMemory;
 use std::alloc::Global;
+use words::Letter;
 
 // The greatest length of a left side.
 fn longest_left(rules: &Rules) -> usize
@@ -27,13 +28,12 @@ fn push_children(
     node: usize,
     level: &mut Vec<usize>,
 ) -> Result<(), NoMemory>
-    requires node { node < length trie.now.prefixes.items }
-    requires count { HasEntries letters trie.now trie.now.children.items }
+    requires { letters ≤ 256 }
     ensures { OnOk result
-        (Gathers letters trie.now.children.items node letters level.old.items level.new.items) }
+        (Gathers trie.now.children node letters level.old.items level.new.items) }
 {
     for letter in 0..letters {
-        if let Some(child) = trie.children[place(trie.prefixes.len(), letters, node, letter)] {
+        if let Some(child) = trie.children.get(node, Letter::new(letter as u8)) {
             level.push(child)?;
         }
     }
@@ -47,11 +47,9 @@ fn next_level(
     letters: usize,
     level: &[usize],
 ) -> Result<Vec<usize>, NoMemory>
-    requires within { (j : ℕ) → j < length level.now
-        → slice_index_or level.now j 0 < length trie.now.prefixes.items }
-    requires count { HasEntries letters trie.now trie.now.children.items }
+    requires { letters ≤ 256 }
     ensures { IfOk result (λ next.
-        AreChildren letters trie.now.children.items level.now (length level.now) next.items) }
+        AreChildren letters trie.now.children level.now (length level.now) next.items) }
 {
     let mut next = Vec::new(alloc);
     for index in 0..level.len() {
@@ -67,6 +65,7 @@ pub fn order_of(
     letters: usize,
     rules: &Rules,
 ) -> Result<Vec<usize>, NoMemory>
+    requires few { letters ≤ 256 }
     requires over { AreOver letters rules.now }
     requires grown { IsTreeOf letters rules.now trie.now }
     ensures { IfOk result (λ order. IsOrder (states_of rules.now trie.now) order.items) }

@@ -1,22 +1,24 @@
 // The tables of the automaton: where each state and letter lead, by the links to shorter states
 // (Aho and Corasick 1975).
-ghost use Rattle.std.specs.Prelude.{◌≡◌, ℕ, ◌+◌, ◌*◌, ◌<◌, ◌≤◌, length, slice_index_or, slice_set, replicate, Option, None, unwrap_or, IfOk};
+ghost use Rattle.std.specs.Prelude.{◌≡◌, ℕ, ◌+◌, ◌<◌, ◌≤◌, length, replicate, Option, IfOk};
+ghost use Rattle.std.specs.Option.{ForSome};
 ghost use Rattle.reduced_automaton.specs.Rules.{AreOver};
-ghost use Rattle.reduced_automaton.specs.Tries.{IsBehind, IsOrder, IsTreeOf, first_of, linked, states_of};
-ghost use Rattle.reduced_automaton.specs.Links.{AreLinkedTo, FitStates, FitTree};
+ghost use Rattle.reduced_automaton.specs.Tries.{IsBehind, IsOrder, IsTreeOf, linked, states_of};
+ghost use Rattle.reduced_automaton.specs.Links.{AreLinkedTo, FitTree};
 
-use crate::depths::no_numbers;
 use crate::rule_lists::Rules;
-use crate::tries::{Trie, place};
+use crate::tries::Trie;
+use cells::{Cells, NUMBERS_AT_MOST};
 use ports::NoMemory;
 use std::alloc::Global;
+use words::Letter;
 
 /// For each state and letter the longest state at their end, and a rule whose left side stands
 /// there; and for each state the longest state at its end that is not all of it.
 #[derive(Drop)]
 pub struct Tables {
-    pub targets: Vec<usize>,
-    pub ends: Vec<Option<usize>>,
+    pub targets: Cells,
+    pub ends: Cells,
     pub links: Vec<usize>,
 }
 
@@ -27,35 +29,20 @@ fn noughts(alloc: Global, count: usize) -> Result<Vec<usize>, NoMemory>
     Ok(Vec::from_elem(alloc, 0, count)?)
 }
 
-// The first number, if there is one, and else the second.
-fn first_of(first: Option<usize>, second: Option<usize>) -> Option<usize>
-    ensures { result ≡ first_of first second }
-{
-    match first {
-        None => second,
-        Some(number) => Some(number),
-    }
-}
-
 // What is read behind the first letter of the state and the letter: where its link leads by the
 // letter.
-fn read_behind(
-    tables: &Tables,
-    letters: usize,
-    node: usize,
-    letter: usize,
-) -> (usize, Option<usize>)
-    requires tables { FitStates letters (length tables.now.links.items) tables.now }
-    requires node { node < length tables.now.links.items }
-    requires letter { letter < letters }
-    ensures { IsBehind letters node letter
-        tables.now.targets.items tables.now.links.items tables.now.ends.items result }
+fn read_behind(tables: &Tables, node: usize, letter: Letter) -> (usize, Option<usize>)
+    requires { node < length tables.now.links.items }
+    ensures behind { IsBehind node letter
+        tables.now.targets tables.now.links.items tables.now.ends result }
+    ensures few { ForSome result.1 (λ n. n < NUMBERS_AT_MOST) }
 {
     if node == 0 {
         return (0, None);
     }
-    let place = place(tables.links.len(), letters, tables.links[node], letter);
-    (tables.targets[place], tables.ends[place])
+    let link = tables.links[node];
+    let target = tables.targets.get(link, letter).unwrap_or(0);
+    (target, tables.ends.get(link, letter))
 }
 
 // The child's link, if there is a child.
@@ -76,7 +63,7 @@ fn link_entry(
     rules: &Rules,
     order: &[usize],
     index: usize,
-    letter: usize,
+    letter: Letter,
 )
     requires over { AreOver letters rules.now }
     requires grown { IsTreeOf letters rules.now trie.now }
@@ -91,11 +78,13 @@ fn link_entry(
 {
     let _items = &rules.items;
     let node = order[index];
-    let behind = read_behind(tables, letters, node, letter);
-    let place = place(tables.links.len(), letters, node, letter);
-    let child = trie.children[place];
-    tables.targets[place] = child.unwrap_or(behind.0);
-    tables.ends[place] = first_of(trie.lefts[place], behind.1);
+    let behind = read_behind(tables, node, letter);
+    let child = trie.children.get(node, letter);
+    let end = trie.lefts.get(node, letter).or(behind.1);
+    tables
+        .targets
+        .put(node, letter, Some(child.unwrap_or(behind.0)));
+    tables.ends.put_number(node, letter, end);
     set_link(&mut tables.links, child, behind.0);
 }
 
@@ -108,6 +97,7 @@ fn link_row(
     order: &[usize],
     index: usize,
 )
+    requires few { letters ≤ 256 }
     requires over { AreOver letters rules.now }
     requires grown { IsTreeOf letters rules.now trie.now }
     requires order { IsOrder (states_of rules.now trie.now) order.now }
@@ -118,6 +108,7 @@ fn link_row(
     ensures linked { AreLinkedTo letters rules.now trie.now order.now (index + 1) 0 tables.new }
 {
     for letter in 0..letters {
+        let letter = Letter::new(letter as u8);
         link_entry(tables, trie, letters, rules, order, index, letter);
     }
 }
@@ -130,6 +121,7 @@ pub fn tables_of(
     rules: &Rules,
     order: &[usize],
 ) -> Result<Tables, NoMemory>
+    requires few { letters ≤ 256 }
     requires over { AreOver letters rules.now }
     requires grown { IsTreeOf letters rules.now trie.now }
     requires order { IsOrder (states_of rules.now trie.now) order.now }
@@ -137,10 +129,11 @@ pub fn tables_of(
     ensures linked { IfOk result
         (AreLinkedTo letters rules.now trie.now order.now (length order.now) 0) }
 {
+    let states = trie.prefixes.len();
     let mut tables = Tables {
-        targets: noughts(alloc, trie.children.len())?,
-        ends: no_numbers(alloc, trie.children.len())?,
-        links: noughts(alloc, trie.prefixes.len())?,
+        targets: Cells::of(alloc, states, letters)?,
+        ends: Cells::of(alloc, states, letters)?,
+        links: noughts(alloc, states)?,
     };
     for index in 0..order.len() {
         link_row(&mut tables, trie, letters, rules, order, index);

@@ -1,6 +1,6 @@
 // The table of the automaton: for each state and letter the state that follows, or the rule whose
 // left side ends.
-ghost use Rattle.std.specs.Prelude.{◌≡◌, ℕ, ◌+◌, ◌*◌, ◌<◌, ◌≤◌, List, length, slice_index_or, take, Option, None, IfOk};
+ghost use Rattle.std.specs.Prelude.{◌≡◌, ℕ, ◌<◌, ◌≤◌, List, length, take, Option, IfOk};
 ghost use Rattle.theory.specs.Word.{Word as Letters};
 ghost use Rattle.theory.specs.Graph.{target as target_of, path as path_of, IsGraph};
 ghost use Rattle.reduced_automaton.specs.Rules.{AreFalling, AreOver};
@@ -10,20 +10,21 @@ ghost use Rattle.reduced_automaton.specs.Tries.{Reads, longer, words_of};
 use crate::levels::order_of;
 use crate::links::tables_of;
 use crate::rule_lists::Rules;
-use crate::tries::{Prefix, place, trie_of};
+use crate::tries::{Prefix, trie_of};
+use cells::Cells;
 use ports::NoMemory;
 use std::alloc::Global;
 use std::marker::Model;
 use words::{Letter, Word};
 
 /// For each state and letter the longest state at their end, and where a left side stands there the
-/// number of its rule: rows of so many letters in one vector.
+/// number of its rule.
 #[derive(Drop)]
 pub struct Table {
     letters: usize,
     prefixes: Vec<Prefix>,
-    targets: Vec<usize>,
-    ends: Vec<Option<usize>>,
+    targets: Cells,
+    ends: Cells,
 }
 
 impl Model for Table {
@@ -34,24 +35,24 @@ impl Model for Table {
     ghost view = { λ t. record {
       letters = t.letters;
       prefixes = t.prefixes.items;
-      targets = t.targets.items;
-      ends = t.ends.items;
+      targets = t.targets;
+      ends = t.ends;
     } };
 
     ghost invariant = { λ t. IsTable (record {
       letters = t.letters;
       prefixes = t.prefixes.items;
-      targets = t.targets.items;
-      ends = t.ends.items;
+      targets = t.targets;
+      ends = t.ends;
     }) };
 }
 
 /// Where an entry leads: nowhere, if a left side ends there.
-pub fn move_by(end: Option<usize>, target: usize) -> Option<usize>
+pub fn move_by(end: Option<usize>, target: Option<usize>) -> Option<usize>
     ensures { result ≡ move_by end target }
 {
     match end {
-        None => Some(target),
+        None => target,
         Some(_) => None,
     }
 }
@@ -93,20 +94,6 @@ impl Table {
         self.prefixes.len()
     }
 
-    /// The longest state at the end of the state and the letter, and the rule whose left side
-    /// stands there.
-    pub fn entry(&self, node: usize, letter: usize) -> (usize, Option<usize>)
-        requires node { node < length self.now.prefixes }
-        requires letter { letter < self.now.letters }
-        ensures target { result.0 ≡ slice_index_or self.now.targets
-            (node * self.now.letters + letter) 0 }
-        ensures end { result.1 ≡ slice_index_or self.now.ends
-            (node * self.now.letters + letter) None }
-    {
-        let place = place(self.prefixes.len(), self.letters, node, letter);
-        (self.targets[place], self.ends[place])
-    }
-
     /// The longest state at the end of the state and the letter, and a rule whose left side stands
     /// there.
     pub fn read(&self, state: usize, letter: Letter) -> (usize, Option<usize>)
@@ -115,10 +102,8 @@ impl Table {
             → IsTableOf k rules self.now → Reads rules (words_of rules self.now.prefixes)
             (longer (words_of rules self.now.prefixes) state letter) result.0 result.1 }
     {
-        if self.letters <= letter.number() {
-            return (0, None);
-        }
-        self.entry(state, letter.number())
+        let target = self.targets.get(state, letter).unwrap_or(0);
+        (target, self.ends.get(state, letter))
     }
 
     /// Where the edge of the letter leads from the node. `None` exactly where there is no such
@@ -126,14 +111,7 @@ impl Table {
     pub fn target(&self, node: usize, letter: Letter) -> Option<usize>
         ensures { result ≡ target_of (edges self.now) node letter }
     {
-        if self.nodes() <= node {
-            return None;
-        }
-        if self.letters() <= letter.number() {
-            return None;
-        }
-        let entry = self.entry(node, letter.number());
-        move_by(entry.1, entry.0)
+        move_by(self.ends.get(node, letter), self.targets.get(node, letter))
     }
 
     /// Where the word leads from the node. `None` exactly where an edge is missing on the way.

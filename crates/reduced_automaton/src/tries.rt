@@ -1,12 +1,15 @@
 // The states as a tree: each is a left side's first letters, and a child is one letter longer (Aho
 // and Corasick 1975).
-ghost use Rattle.std.specs.Prelude.{◌≡◌, ℕ, ◌+◌, ◌*◌, ◌<◌, ◌≤◌, ◌⊎◌, [], ◌∷◌, ◌++◌, length, replicate, slice_set, Option, None, Some, IfOk, OnOk};
+ghost use Rattle.std.specs.Prelude.{◌≡◌, ℕ, ◌+◌, ◌<◌, ◌≤◌, ◌⊎◌, [], ◌∷◌, length, replicate, Option, None, Some, IfOk, OnOk};
+ghost use Rattle.cells.specs.Rows.{AreRows};
 ghost use Rattle.reduced_automaton.specs.Rules.{AreOver};
-ghost use Rattle.reduced_automaton.specs.Tries.{FindsChild, HasEntries, IsTreeOf, IsTreeTo};
+ghost use Rattle.reduced_automaton.specs.Tries.{FindsChild, IsTreeOf, IsTreeTo};
 
 use crate::rule_lists::Rules;
+use cells::{Cells, NUMBERS_AT_MOST};
 use ports::NoMemory;
 use std::alloc::Global;
+use words::Letter;
 
 /// A prefix of the left side of a rule: so many letters of it.
 #[derive(Clone, Copy)]
@@ -20,43 +23,20 @@ pub struct Prefix {
 #[derive(Drop)]
 pub struct Trie {
     pub prefixes: Vec<Prefix>,
-    pub children: Vec<Option<usize>>,
-    pub lefts: Vec<Option<usize>>,
-}
-
-/// Where the entry of the state and letter stands.
-pub fn place(nodes: usize, letters: usize, node: usize, letter: usize) -> usize
-    requires room { nodes * letters ≤ usize.MAX }
-    requires node { node < nodes }
-    requires letter { letter < letters }
-    ensures place { result ≡ node * letters + letter }
-    ensures within { result < nodes * letters }
-{
-    node * letters + letter
-}
-
-// One entry more for each letter, and nothing in it.
-fn push_row(entries: &mut Vec<Option<usize>>, letters: usize) -> Result<(), NoMemory>
-    ensures { OnOk result (entries.new.items ≡ entries.old.items ++ replicate letters None) }
-{
-    for _ in 0..letters {
-        entries.push(None)?;
-    }
-    Ok(())
+    pub children: Cells,
+    pub lefts: Cells,
 }
 
 // The empty word alone.
 fn root_alone(alloc: Global, letters: usize) -> Result<Trie, NoMemory>
     ensures prefixes { IfOk result (λ t. t.prefixes.items ≡ record { rule = 0; count = 0 } ∷ []) }
-    ensures children { IfOk result (λ t. t.children.items ≡ replicate letters None) }
-    ensures lefts { IfOk result (λ t. t.lefts.items ≡ replicate letters None) }
+    ensures children { IfOk result (λ t. t.children ≡ replicate letters None ∷ []) }
+    ensures lefts { IfOk result (λ t. t.lefts ≡ replicate letters None ∷ []) }
 {
     let mut prefixes = Vec::new(alloc);
-    let mut children = Vec::new(alloc);
-    let mut lefts = Vec::new(alloc);
     prefixes.push(Prefix { rule: 0, count: 0 })?;
-    push_row(&mut children, letters)?;
-    push_row(&mut lefts, letters)?;
+    let children = Cells::new(alloc, letters)?;
+    let lefts = Cells::new(alloc, letters)?;
     Ok(Trie {
         prefixes,
         children,
@@ -69,43 +49,29 @@ fn descend(
     trie: &mut Trie,
     letters: usize,
     node: usize,
-    letter: usize,
+    letter: Letter,
     prefix: Prefix,
 ) -> Result<usize, NoMemory>
     requires node { node < length trie.old.prefixes.items }
     requires letter { letter < letters }
-    requires children { HasEntries letters trie.old trie.old.children.items }
-    ensures { IfOk result
-        (FindsChild letters (node * letters + letter) prefix trie.old trie.new) }
+    requires children { AreRows (length trie.old.prefixes.items) letters trie.old.children }
+    requires lefts { AreRows (length trie.old.prefixes.items) letters trie.old.lefts }
+    ensures { IfOk result (FindsChild letters node letter prefix trie.old trie.new) }
 {
-    let place = place(trie.prefixes.len(), letters, node, letter);
-    if let Some(child) = trie.children[place] {
+    if let Some(child) = trie.children.get(node, letter) {
         return Ok(child);
     }
-    let child = trie.prefixes.len();
+    let child = trie.children.nodes();
     trie.prefixes.push(prefix)?;
-    trie.children[place] = Some(child);
-    push_row(&mut trie.children, letters)?;
-    push_row(&mut trie.lefts, letters)?;
+    trie.children.add_row()?;
+    trie.children.put(node, letter, Some(child));
+    trie.lefts.add_row()?;
     Ok(child)
-}
-
-// The left side of the rule ends at the state and letter.
-fn mark(trie: &mut Trie, letters: usize, node: usize, letter: usize, rule: usize)
-    requires node { node < length trie.old.prefixes.items }
-    requires letter { letter < letters }
-    requires lefts { HasEntries letters trie.old trie.old.lefts.items }
-    ensures prefixes { trie.new.prefixes.items ≡ trie.old.prefixes.items }
-    ensures children { trie.new.children.items ≡ trie.old.children.items }
-    ensures lefts { trie.new.lefts.items
-        ≡ slice_set trie.old.lefts.items (node * letters + letter) (Some rule) }
-{
-    let place = place(trie.prefixes.len(), letters, node, letter);
-    trie.lefts[place] = Some(rule);
 }
 
 // The proper prefixes of the left side of a rule become states, and its last letter is marked.
 fn insert(trie: &mut Trie, letters: usize, rules: &Rules, rule: usize) -> Result<(), NoMemory>
+    requires few { rule < NUMBERS_AT_MOST }
     requires over { AreOver letters rules.now }
     requires rule { rule < length rules.now }
     requires grown { IsTreeTo letters rules.now rule trie.old }
@@ -119,18 +85,21 @@ fn insert(trie: &mut Trie, letters: usize, rules: &Rules, rule: usize) -> Result
             rule,
             count: count + 1,
         };
-        node = descend(trie, letters, node, left[count].number(), prefix)?;
+        node = descend(trie, letters, node, left[count], prefix)?;
     }
-    mark(trie, letters, node, left[last].number(), rule);
+    trie.lefts.put_number(node, left[last], Some(rule));
     Ok(())
 }
 
 /// The tree of the empty word and the proper prefixes of the left sides. Refused only where memory
-/// is wanting.
+/// is wanting: more rules or states than entries of four bytes can tell apart do not fit.
 pub fn trie_of(alloc: Global, letters: usize, rules: &Rules) -> Result<Trie, NoMemory>
     requires { AreOver letters rules.now }
     ensures { IfOk result (IsTreeOf letters rules.now) }
 {
+    if NUMBERS_AT_MOST < rules.items.len() {
+        return Err(NoMemory);
+    }
     let mut trie = root_alone(alloc, letters)?;
     for rule in 0..rules.items.len() {
         insert(&mut trie, letters, rules, rule)?;

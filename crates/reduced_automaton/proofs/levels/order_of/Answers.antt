@@ -6,15 +6,15 @@ use Rattle.reduced_automaton.proofs.levels.order_of.Goals as goal
 
 pub loop-init : goal.loop-init
 loop-init c = rw (c.in_ok-push.ensures.items, c.in_ok-push-2.ensures.items, c.new-order.ensures.items, c.new-level.ensures.items)
-    (order_start c.args.letters c.args.rules.now (words_of c.args.rules.now c.args.trie.now.prefixes.items) c.args.trie.now.children.items c.args.trie.now.lefts.items c.requires.grown.trie)
+    (order_start c.args.letters c.args.rules.now (words_of c.args.rules.now c.args.trie.now.prefixes.items) c.args.trie.now.children c.args.trie.now.lefts c.requires.grown.trie)
 
 pub loop-preserved : goal.loop-preserved
 loop-preserved c =
-    let made : AreChildren c.args.letters c.args.trie.now.children.items c.loop.level.items (length c.loop.level.items) c.in_ok-level.level.items =
-    subst (λ (xs : List ℕ). AreChildren c.args.letters c.args.trie.now.children.items xs (length xs) c.in_ok-level.level.items) c.as_slice.ensures.value c.in_ok-level.ensures in
+    let made : AreChildren c.args.letters c.args.trie.now.children c.loop.level.items (length c.loop.level.items) c.in_ok-level.level.items =
+    subst (λ (xs : List ℕ). AreChildren c.args.letters c.args.trie.now.children xs (length xs) c.in_ok-level.level.items) c.as_slice.ensures.value c.in_ok-level.ensures in
     subst (λ (xs : List ℕ). IsOrderTo (words_of c.args.rules.now c.args.trie.now.prefixes.items) (c.loop.counter + 1) xs c.in_ok-level.level.items)
     (sym (c.in_ok-extend_from_slice.ensures.items ∙ ap (λ (xs : List ℕ). c.loop.order.items ++ xs) c.as_slice-in-loop.ensures.value))
-    (order_step c.args.letters c.args.rules.now (words_of c.args.rules.now c.args.trie.now.prefixes.items) c.args.trie.now.children.items c.args.trie.now.lefts.items c.requires.grown.trie
+    (order_step c.args.letters c.args.rules.now (words_of c.args.rules.now c.args.trie.now.prefixes.items) c.args.trie.now.children c.args.trie.now.lefts c.requires.grown.trie
     (state_over c.args.letters c.args.rules.now c.args.trie.now.prefixes.items c.requires.over) c.loop.counter c.loop.order.items c.loop.level.items c.in_ok-level.level.items
     c.loop.invariant made)
 

@@ -2,4 +2,4 @@ use Rattle.reduced_automaton.specs.Tries.{Gathers}
 use Rattle.reduced_automaton.proofs.levels.push_children.Given as goal
 
 abbrev pub invariant-loop-letter : goal.invariant-loop-letter
-invariant-loop-letter l = Gathers l.letters l.trie.children.items l.node l.letter l.initial.level.items l.level.items
+invariant-loop-letter l = Gathers l.trie.children l.node l.letter l.initial.level.items l.level.items

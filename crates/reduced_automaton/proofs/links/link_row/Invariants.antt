@@ -5,6 +5,6 @@ use Rattle.reduced_automaton.proofs.links.link_row.Given as goal
 abbrev pub invariant-loop-letter : goal.invariant-loop-letter
 invariant-loop-letter l =
     record {
-      tables : AreTables l.letters (length (words_of l.rules l.trie.prefixes.items)) l.tables.targets.items l.tables.links.items l.tables.ends.items;
-      linked : IsLinkedTo l.letters l.rules (words_of l.rules l.trie.prefixes.items) l.trie.children.items l.order l.index l.letter l.tables.targets.items l.tables.links.items l.tables.ends.items;
+      tables : AreTables l.letters (length (words_of l.rules l.trie.prefixes.items)) l.tables.targets l.tables.links.items l.tables.ends;
+      linked : IsLinkedTo l.letters l.rules (words_of l.rules l.trie.prefixes.items) l.trie.children l.order l.index l.letter l.tables.targets l.tables.links.items l.tables.ends;
     }

@@ -1,4 +1,4 @@
-use Rattle.std.proofs.Common.{◌≡◌, ◌*◌, ◌∙◌, length, sym, subst, arith}
+use Rattle.std.proofs.Common.{◌≡◌, length, subst, arith}
 use Rattle.reduced_automaton.specs.Tries.{IsLinkedTo, words_of}
 use Rattle.reduced_automaton.proofs.TrieLaws.{words_count}
 use Rattle.reduced_automaton.proofs.LinkLaws.{none_linked, empty_tables}
@@ -7,16 +7,14 @@ use Rattle.reduced_automaton.proofs.links.tables_of.Goals as goal
 pub loop-index-init : goal.loop-index-init
 loop-index-init c =
     let n = length (words_of c.args.rules.now c.args.trie.now.prefixes.items) in
-    let m : c.len.result ≡ n * c.args.letters = omega (arith, c.len.ensures, c.requires.grown.trie.children_count) in
-    let e : c.len-2.result ≡ c.len.result = c.len-2.ensures ∙ sym c.len.ensures in
-    let s : c.len-3.result ≡ n = omega (arith, c.len-3.ensures, words_count c.args.rules.now c.args.trie.now.prefixes.items) in
+    let s : c.len-states.result ≡ n = omega (arith, c.len-states.ensures, words_count c.args.rules.now c.args.trie.now.prefixes.items) in
     record {
-      tables = rw (c.in_ok-noughts.ensures, c.in_ok-noughts-2.ensures, c.in_ok-no_numbers.ensures, e, s) (empty_tables c.args.letters n c.len.result c.requires.grown.trie.prefixes.some m);
-      linked = none_linked c.args.letters c.args.rules.now (words_of c.args.rules.now c.args.trie.now.prefixes.items) c.args.trie.now.children.items c.args.order.now _ _ _;
+      tables = rw (c.in_ok-of.ensures, c.in_ok-of-2.ensures, c.in_ok-noughts.ensures, s) (empty_tables c.args.letters n c.requires.grown.trie.prefixes.some);
+      linked = none_linked c.args.letters c.args.rules.now (words_of c.args.rules.now c.args.trie.now.prefixes.items) c.args.trie.now.children c.args.order.now _ _ _;
     }
 
 pub returns-clause-linked : goal.returns-clause-linked
 returns-clause-linked c =
     let all : c.loop-index.index ≡ length c.args.order.now = omega arith in
-    subst (λ i. IsLinkedTo c.args.letters c.args.rules.now (words_of c.args.rules.now c.args.trie.now.prefixes.items) c.args.trie.now.children.items c.args.order.now i 0
-    c.loop-index.tables.targets.items c.loop-index.tables.links.items c.loop-index.tables.ends.items) all c.loop-index.invariant.linked
+    subst (λ i. IsLinkedTo c.args.letters c.args.rules.now (words_of c.args.rules.now c.args.trie.now.prefixes.items) c.args.trie.now.children c.args.order.now i 0
+    c.loop-index.tables.targets c.loop-index.tables.links.items c.loop-index.tables.ends) all c.loop-index.invariant.linked

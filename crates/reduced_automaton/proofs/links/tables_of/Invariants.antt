@@ -5,6 +5,6 @@ use Rattle.reduced_automaton.proofs.links.tables_of.Given as goal
 abbrev pub invariant-loop-index : goal.invariant-loop-index
 invariant-loop-index l =
     record {
-      tables : AreTables l.letters (length (words_of l.rules l.trie.prefixes.items)) l.tables.targets.items l.tables.links.items l.tables.ends.items;
-      linked : IsLinkedTo l.letters l.rules (words_of l.rules l.trie.prefixes.items) l.trie.children.items l.order l.index 0 l.tables.targets.items l.tables.links.items l.tables.ends.items;
+      tables : AreTables l.letters (length (words_of l.rules l.trie.prefixes.items)) l.tables.targets l.tables.links.items l.tables.ends;
+      linked : IsLinkedTo l.letters l.rules (words_of l.rules l.trie.prefixes.items) l.trie.children l.order l.index 0 l.tables.targets l.tables.links.items l.tables.ends;
     }

@@ -10,4 +10,4 @@ loop-rule-init c = rw (c.in_ok-trie.ensures.prefixes, c.in_ok-trie.ensures.child
 pub returns : goal.returns
 returns c =
     let all : c.loop-rule.rule ≡ length c.args.rules.now = omega (arith, ap (λ (rs : List (Word × Word)). length rs) c.rules.view_is) in
-    subst (λ n. IsGrown c.args.letters c.args.rules.now n (words_of c.args.rules.now c.loop-rule.trie.prefixes.items) c.loop-rule.trie.children.items c.loop-rule.trie.lefts.items) all c.loop-rule.invariant
+    subst (λ n. IsGrown c.args.letters c.args.rules.now n (words_of c.args.rules.now c.loop-rule.trie.prefixes.items) c.loop-rule.trie.children c.loop-rule.trie.lefts) all c.loop-rule.invariant

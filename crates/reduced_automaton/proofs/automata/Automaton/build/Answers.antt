@@ -8,7 +8,7 @@ use Rattle.reduced_automaton.proofs.automata.Automaton.build.Goals as goal
 pub invariant_of-result : goal.invariant_of-result
 invariant_of-result c =
     let falling : AreFalling c.in_ok-rules.rules = subst (λ (rs : List (Word × Word)). AreFalling rs) (sym c.in_ok-rules.ensures) c.len-count.ensures.falling in
-    let reader = table_reads c.args.letters c.in_ok-rules.rules c.in_ok-table.table c.in_ok-table.ensures falling (subst (λ m. IsTable m) c.table.view_is c.table.invariant) in
+    let reader = table_reads c.args.letters c.in_ok-rules.rules c.in_ok-table.table c.in_ok-table.ensures (subst (λ m. IsTable m) c.table.view_is c.table.invariant) falling in
     record {
       table = c.in_ok-table.ensures;
       reader = reader;

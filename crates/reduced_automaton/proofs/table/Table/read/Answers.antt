@@ -1,10 +1,16 @@
-use Rattle.std.proofs.Common.{[], get_or, ap, arith}
-use Rattle.reduced_automaton.specs.Tables.{Moves}
-use Rattle.reduced_automaton.specs.Tries.{words_of}
-use Rattle.reduced_automaton.proofs.TableLaws.{past_reads}
+-- reduced_automaton/proofs/table/Table/read/Answers.antt
+use Rattle.std.proofs.Common.{◌<◌, ◌∙◌, ℕ, List, ap, length, subst, unwrap_or}
+use Rattle.theory.specs.Word.{Word}
+use Rattle.reduced_automaton.specs.Rules.{AreFalling}
+use Rattle.reduced_automaton.specs.Tables.{IsTableOf, Moves}
+use Rattle.reduced_automaton.specs.Tries.{Reads, longer, words_of}
+use Rattle.reduced_automaton.proofs.TableLaws.{read_at}
 use Rattle.reduced_automaton.proofs.table.Table.read.Goals as goal
 
-pub returns-then-self-number : goal.returns-then-self-number
-returns-then-self-number c = λ k rules falling is.
-    past_reads k rules c.args.self.now is falling (get_or (words_of rules c.args.self.now.prefixes) c.args.state []) c.args.letter
-    (omega (arith, c.if-self-number.true, c.number.ensures, is.letters, ap (λ (m : Moves). m.letters) c.self.view_is))
+pub returns : goal.returns
+returns c =
+    let P : Moves → Type 0 = λ m. c.args.state < length m.prefixes → (k : ℕ) (rules : List (Word × Word)) → AreFalling rules → IsTableOf k rules m
+    → Reads rules (words_of rules m.prefixes) (longer (words_of rules m.prefixes) c.args.state c.args.letter) c.unwrap_or-target.result c.get-2.result in
+    let at = c.unwrap_or-target.ensures ∙ ap (λ t. unwrap_or t 0) c.get.ensures.entry in
+    subst P c.self.view_is
+    (λ inside k rules falling is. rw (at, c.get-2.ensures.entry) (read_at k rules _ c.self.invariant falling is c.args.state c.args.letter inside)) c.requires

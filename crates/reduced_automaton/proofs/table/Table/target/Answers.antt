@@ -1,16 +1,11 @@
-use Rattle.std.proofs.Common.{sym, ◌∙◌, ap, ap₂, arith}
-use Rattle.reduced_automaton.specs.Tables.{move_by, move}
-use Rattle.reduced_automaton.proofs.TableLaws.{edge_is, edge_past_states, edge_past_letters}
+-- reduced_automaton/proofs/table/Table/target/Answers.antt
+use Rattle.std.proofs.Common.{◌≡◌, sym, ◌∙◌, ap₂, subst}
+use Rattle.theory.specs.Graph.{target as target_of}
+use Rattle.reduced_automaton.specs.Tables.{Moves, edges, move_by}
+use Rattle.reduced_automaton.proofs.TableLaws.{edge_is}
 use Rattle.reduced_automaton.proofs.table.Table.target.Goals as goal
-
-pub returns-then-nodes-node : goal.returns-then-nodes-node
-returns-then-nodes-node c = sym (edge_past_states c.args.self.now c.args.node c.args.letter (omega (arith, c.nodes.ensures.states)))
-
-pub returns-then-letters-number : goal.returns-then-letters-number
-returns-then-letters-number c = sym (edge_past_letters c.args.self.now c.args.node c.args.letter (omega (arith, c.letters.ensures.letters, c.number.ensures)))
 
 pub returns : goal.returns
 returns c =
-    c.move_by.ensures ∙ ap₂ move_by c.entry-entry.ensures.end c.entry-entry.ensures.target
-    ∙ ap (λ a. move c.args.self.now c.args.node a) c.number-2.ensures
-    ∙ sym (edge_is c.args.self.now c.args.node c.args.letter (omega (arith, c.nodes.ensures.states)) (omega (arith, c.letters.ensures.letters, c.number.ensures)))
+    let P : Moves → Type 0 = λ m. c.move_by.result ≡ target_of (edges m) c.args.node c.args.letter in
+    subst P c.self.view_is (c.move_by.ensures ∙ ap₂ move_by c.get.ensures.entry c.get-2.ensures.entry ∙ sym (edge_is _ c.self.invariant c.args.node c.args.letter))

@@ -1,5 +1,0 @@
-use Rattle.std.proofs.Common.{◌≡◌, ◌++◌, replicate, None}
-use Rattle.reduced_automaton.proofs.tries.push_row.Given as goal
-
-abbrev pub invariant-loop : goal.invariant-loop
-invariant-loop l = l.entries.items ≡ l.initial.entries.items ++ replicate l.counter None
