@@ -17,9 +17,8 @@ use Rattle.word_graph.specs.Edges.{with_edge, with_node}
 use Rattle.word_graph.specs.Standard.{IsStandardGraph}
 use Rattle.word_graph.specs.Walk.{IsBefore}
 use Rattle.word_graph.proofs.EdgeLaws.{graph_edged, target_edged, target_in, target_other}
-use Rattle.coincidence.proofs.FoldLaws.{target_bare}
 use Rattle.coincidence.proofs.TableLaws.{root_graph}
-use Rattle.cells.proofs.EntryLaws.{node_graph, target_node}
+use Rattle.cells.proofs.EntryLaws.{node_graph, target_bare, target_node}
 use Rattle.lattice.specs.Products.{HasNode, IsBegun, IsProduct, IsStep}
 use Rattle.lattice.specs.Tables.{AreTables, IsTableOf}
 

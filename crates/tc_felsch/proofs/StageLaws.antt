@@ -11,7 +11,7 @@ use Rattle.theory.proofs.GraphLaws.{path_append, path_letter}
 use Rattle.theory.proofs.FactsLaws.{follows_between, facts_grow, defines_within}
 use Rattle.word_graph.specs.Edges.{with_edge, with_node}
 use Rattle.coincidence.proofs.DefinedPaths.{edged, kept_path, last_path, new_path, old_path}
-use Rattle.coincidence.proofs.FoldLaws.{target_bare}
+use Rattle.cells.proofs.EntryLaws.{target_bare}
 
 -- what follows from the paths of g are the facts, where the facts have the paths of g and these have what is defined
 pub closed_facts : (c : Congruence) (D : Word → Type 0) (g new : Graph) → ((u v : Word) → SameEnd g u v → Facts c D (λ w. Unit {0}) u v)

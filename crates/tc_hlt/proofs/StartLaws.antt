@@ -19,7 +19,7 @@ use Rattle.coincidence.specs.Marks.{KeepsMarks}
 use Rattle.coincidence.specs.Merged.{WithPair, MergedNodes}
 use Rattle.coincidence.specs.Table.{CosetTable, IsTable, IsLive}
 use Rattle.coincidence.proofs.FollowsLaws.{follows_letters}
-use Rattle.coincidence.proofs.FoldLaws.{target_bare}
+use Rattle.cells.proofs.EntryLaws.{target_bare}
 use Rattle.tc_hlt.specs.Tracing.{IsGrown, IsAlong, IsWithin, NoDrawing}
 use Rattle.tc_hlt.specs.Stage.{IsReady, IsFresh}
 use Rattle.tc_hlt.proofs.GrowLaws.{grown_same, prefix_there}
