@@ -4,9 +4,10 @@ use Rattle.theory.specs.Word.{Word, IsOver}
 use Rattle.theory.specs.ShortLex.{◌≺◌}
 use Rattle.theory.proofs.Words.{order_cases, before_no_longer, before_cons, before_trans}
 use Rattle.theory.proofs.ValueLaws.{value_kept_left}
-use Rattle.froidure_pin.specs.Found.{parent, entry, words_of, factor_at, tail_at}
+use Rattle.froidure_pin.specs.Found.{parent, entry, words_of, factor_at, no_factor, no_tail, tail_at}
 use Rattle.froidure_pin.specs.Growing.{IsAt}
 use Rattle.froidure_pin.specs.Rules.{is_product}
+use Rattle.froidure_pin.proofs.OneShape.{get_any}
 use Rattle.froidure_pin.proofs.Order.{ahead}
 use Rattle.froidure_pin.proofs.Places.{row_below}
 use Rattle.froidure_pin.proofs.Factors.{factor_word, words_length}
@@ -133,3 +134,44 @@ module _ {V : Type 0} {shape : V → ℕ × ℕ} {product : V → V → V} {equa
         let two : R setting unused ((first ∷ parent words f.prefix) ++ f.last ∷ []) (get_or words q [] ++ f.last ∷ []) = r_right setting unused (first ∷ parent words f.prefix) (get_or words q []) f.last left_number.1 last_over in
         let start : R setting unused (parent words (number + 1) ++ a ∷ []) ((first ∷ parent words f.prefix) ++ f.last ∷ []) = subst₂ (λ u v. R setting unused u v) (sym product_word) (ap (λ w. first ∷ w) rest_word) one in
         (next.0, r_trans setting unused (parent words (number + 1) ++ a ∷ []) ((first ∷ parent words f.prefix) ++ f.last ∷ []) (get_or words n []) start (r_trans setting unused ((first ∷ parent words f.prefix) ++ f.last ∷ []) (get_or words q [] ++ f.last ∷ []) (get_or words n []) two last))
+
+  -- the same, as the code reads it one after another
+  module _ (n : ℕ) (letters : length generators ≡ n) (tail : Tail) (tail_read : tail ≡ get_or tails number tail) where
+    tail_is : tail_at tails number ≡ tail
+    tail_is = get_any tails number no_tail tail tail_within ∙ sym tail_read
+
+    pub rest_place_read : tail.suffix * n + a < length right
+    rest_place_read = subst₂ (λ n (t : Tail). t.suffix * n + a < length right) letters tail_is rest_place
+
+    module _ (there : ℕ) (rest_read : there ≡ entry n right tail.suffix a) where
+      rest_is : rest ≡ there
+      rest_is = (λ i. entry (letters i) right (tail_is i).suffix a) ∙ sym rest_read
+
+      pub rest_within_read : there < length factors
+      rest_within_read = subst (λ m. m < length factors) rest_is rest_within
+
+      pub product_read : (b : Bool) → is_product factors there tail.suffix a ≡ b → is_product factors rest suffix a ≡ b
+      product_read b e = (λ i. is_product factors (rest_is i) (tail_is i).suffix a) ∙ e
+
+      module _ (lesser : is_product factors there tail.suffix a ≡ false) (factor : Factor) (factor_read : factor ≡ get_or factors there factor) where
+        less : is_product factors rest suffix a ≡ false
+        less = product_read false lesser
+
+        factor_is : factor_at factors rest ≡ factor
+        factor_is = get_any factors rest no_factor factor rest_within ∙ ap (λ m. get_or factors m factor) rest_is ∙ sym factor_read
+
+        pub prefix_place_read : factor.prefix * n + tail.first < length left
+        prefix_place_read = subst (λ n. factor.prefix * n + tail.first < length left) letters (subst₂ (λ (f : Factor) (t : Tail). f.prefix * length generators + t.first < length left) factor_is tail_is (prefix_place less))
+
+        module _ (before : ℕ) (before_read : before ≡ entry n left factor.prefix tail.first) where
+          before_is : q less ≡ before
+          before_is = (λ i. entry (letters i) left (factor_is i).prefix (tail_is i).first) ∙ sym before_read
+
+          pub before_within_read : before < length factors
+          before_within_read = subst (λ m. m < length factors) before_is (before_within less)
+
+          pub product_place_read : (before + 1) * n + factor.last < length right
+          product_place_read = subst (λ n. (before + 1) * n + factor.last < length right) letters (subst₂ (λ m (f : Factor). (m + 1) * length generators + f.last < length right) before_is factor_is (product_place less))
+
+          pub number_read : (m : ℕ) → m ≡ entry n right (before + 1) factor.last → Number setting unused words m (parent words (number + 1) ++ a ∷ [])
+          number_read m read = subst (λ m. Number setting unused words m (parent words (number + 1) ++ a ∷ [])) ((λ i. entry (letters i) right (before_is i + 1) (factor_is i).last) ∙ sym read) (product_number less)
