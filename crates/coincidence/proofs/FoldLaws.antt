@@ -1,15 +1,16 @@
 -- The loop that folds a graph.
-use Rattle.std.proofs.Common.{◌≡◌, ◌≢◌, ℕ, ◌+◌, ◌<◌, ◌≤◌, List, [], refl, sym, ◌∙◌, ap, arith, ◌⊎◌, inl, inr, Option, Some, None, length, subst, slice_index, replicate, get_or}
-use Rattle.std.proofs.lemmas.Bool.{cases_eq, cases_lt}
+use Rattle.std.proofs.Common.{◌≡◌, ◌≢◌, ℕ, ◌+◌, ◌<◌, ◌≤◌, List, [], refl, sym, ◌∙◌, ap, ap₂, arith, ◌⊎◌, inl, inr, Option, Some, None, length, subst, slice_index, replicate, get_or}
+use Rattle.std.proofs.lemmas.Bool.{cases_lt}
 use Rattle.std.proofs.lemmas.List.{length-replicate, get_or_read}
 use Rattle.std.proofs.lemmas.List.Elements.{All-replicate}
 use Rattle.theory.specs.Graph.{Graph, target, IsGraph}
-use Rattle.cells.proofs.EntryLaws.{target_bare}
+use Rattle.cells.specs.Rows.{IsPut}
+use Rattle.cells.proofs.EntryLaws.{entry_put, put_cases, target_bare}
 use Rattle.word_graph.specs.Edges.{with_edge}
-use Rattle.word_graph.proofs.EdgeLaws.{target_edged, target_other, target_in}
+use Rattle.word_graph.proofs.EdgeLaws.{target_in}
 use Rattle.coincidence.specs.Closing.{IsEdged}
 use Rattle.word_graph.specs.Walk.{IsBefore}
-use Rattle.word_graph.proofs.WalkLaws.{before_next}
+use Rattle.word_graph.proofs.WalkLaws.{before_next, some_same}
 use Rattle.coincidence.specs.Merging.{IsFoldedUpTo, IsFolded, IsClash}
 
 pub bare_upto : (k : ℕ) (old : Graph) (class : List ℕ) → 0 < length old → IsFoldedUpTo k old class (replicate (length old) (replicate k None)) 0 0
@@ -86,27 +87,18 @@ upto_clash k old class new n a m t here there apart f =
 
 -- adding a missing edge
 pub edged_with : (g : Graph) (j a m : ℕ) → j < length g → a < length (get_or g j []) → target g j a ≡ None → IsEdged g (with_edge g j a m) j a m
-edged_with g j a m hj ha none = record { edge = target_edged g j a m hj ha; kept = kept; back = back }
+edged_with g j a m hj ha none = record { edge = put.put; kept = kept; back = back }
   where
+    put : IsPut g (with_edge g j a m) j a (Some m)
+    put = entry_put g j a (Some m) hj ha
+
     kept : (n b t : ℕ) → target g n b ≡ Some t → target (with_edge g j a m) n b ≡ Some t
-    kept n b t e = go (cases_eq n j) (cases_eq b a)
-      where
-        go : (n ≡ j) ⊎ (n ≢ j) → (b ≡ a) ⊎ (b ≢ a) → target (with_edge g j a m) n b ≡ Some t
-        go (inr d) y = target_other g j a m n b hj (inl d) ∙ e
-        go (inl d) (inr q) = target_other g j a m n b hj (inr q) ∙ e
-        go (inl d) (inl q) = absurd (let e' : target g j a ≡ Some t = sym (ap (λ z. target g z a) d) ∙ sym (ap (λ z. target g n z) q) ∙ e in let e'' : None ≡ Some t = sym none ∙ e' in let no : ⊥ = cc in no)
+    kept n b t e =
+        put.other n b (λ both. let e' : None ≡ Some t = sym none ∙ ap₂ (λ (x y : ℕ). target g x y) (sym both.0) (sym both.1) ∙ e in let no : ⊥ = cc in no) ∙ e
 
     back : (n b t : ℕ) → target (with_edge g j a m) n b ≡ Some t → (target g n b ≡ Some t) ⊎ ((n ≡ j) × (b ≡ a) × (t ≡ m))
-    back n b t e = go (cases_eq n j) (cases_eq b a)
-      where
-        go : (n ≡ j) ⊎ (n ≢ j) → (b ≡ a) ⊎ (b ≢ a) → (target g n b ≡ Some t) ⊎ ((n ≡ j) × (b ≡ a) × (t ≡ m))
-        go (inr d) y = inl (sym (target_other g j a m n b hj (inl d)) ∙ e)
-        go (inl d) (inr q) = inl (sym (target_other g j a m n b hj (inr q)) ∙ e)
-        go (inl d) (inl q) =
-            let one : target (with_edge g j a m) n b ≡ Some m = rw (d, q) (target_edged g j a m hj ha) in
-            let s : Some m ≡ Some t = sym one ∙ e in
-            let e' : t ≡ m = cc in
-            inr (d, q, e')
+    back = put_cases (λ n b x. (t : ℕ) → x ≡ Some t → (target g n b ≡ Some t) ⊎ ((n ≡ j) × (b ≡ a) × (t ≡ m))) g _ j a (Some m) put
+        (λ t e. inr (refl, refl, some_same t m (sym e))) (λ n b d t e. inl e)
 
 -- the edge is there
 pub edged_there : (g : Graph) (j a m : ℕ) → target g j a ≡ Some m → IsEdged g g j a m
