@@ -82,9 +82,8 @@ impl Cells {
         Cells::of(alloc, 1, letters)
     }
 
-    /// So many nodes, the root among them, without entries, in a vector that is made at once.
-    /// Refused only where memory is wanting: more nodes than entries of four bytes can tell apart do
-    /// not fit.
+    /// So many nodes, the root among them, without entries, in a vector that is made at once. Only
+    /// want of memory refuses it: more nodes than entries of four bytes can tell apart do not fit.
     pub fn of(alloc: Global, nodes: usize, letters: usize) -> Result<Cells, NoMemory>
         requires { 0 < nodes }
         ensures { IfOk result (λ c. c ≡ replicate nodes (replicate letters None)) }
@@ -134,7 +133,7 @@ impl Cells {
         self.entries[place].value()
     }
 
-    /// Puts an entry in the place of the one that was there: a node or none.
+    /// Puts an entry in the place of the one that was there: the number of a node, or none.
     pub fn put(&mut self, node: usize, letter: Letter, entry: Option<usize>)
         requires node { node < length self.old }
         requires letter { letter < length (slice_index_or self.old node []) }
