@@ -1,34 +1,19 @@
 -- What the reader keeps of a partial script, and how it takes lines by their tokens.
-use Rattle.std.proofs.Common.{◌≡◌, ℕ, suc, ◌==◌, if◌then◌else◌, List, [], ◌∷◌, length, map, Result, Ok, Err, refl}
+use Rattle.std.proofs.Common.{◌≡◌, ℕ, suc, if◌then◌else◌, List, [], ◌∷◌, map, Result, Ok, Err, refl}
 use Rattle.query_lang.specs.declared.cause.Cause.{Cause}
-use Rattle.query_lang.specs.Draft as draft
 use Rattle.query_lang.specs.Script.{ReaderOf}
-use Rattle.query_lang.specs.Script.{Posing, Relating, Pairing, Asking, ProgressOf, Nothing, Versioned, Reading}
+use Rattle.query_lang.specs.Script.{Asking, ProgressOf, Nothing, Versioned, Reading}
 use Rattle.problem.specs.declared.kinds.Problem.{Problem}
-use Rattle.problem.specs.declared.kinds.Problem.TheVariants.{Presented, Transf, PPerm, BMat, MaxPlus}
-use Rattle.problem.specs.Problem.{pairs_of}
 use Rattle.query_lang.specs.declared.script.Query.{Query}
 use Rattle.query_lang.specs.Outcome.{and_then}
 use Rattle.query_lang.specs.Token.{Line, tokens_of}
-use Rattle.query_lang.specs.Script.{take_line, take_tokens, at_line, read_lines}
+use Rattle.query_lang.specs.Script.{unasked, take_line, take_tokens, at_line, read_lines}
 use Rattle.query_lang.specs.Grammar.{Head, Partial, Said, is_empty, Step, script_in}
 use Rattle.query_lang.specs.Grammar as grammar
 
--- what the reader keeps before the first pair
-abbrev pub opened : Head → Problem → ReaderOf
-opened head (Presented o) = Relating o
-opened head (Transf g) = Posing (draft.Transf (record { sizes = head.sizes; posed = g }))
-opened head (PPerm g) = Posing (draft.PPerm (record { sizes = head.sizes; posed = g }))
-opened head (BMat g) = Posing (draft.BMat (record { sizes = head.sizes; posed = g }))
-opened head (MaxPlus g) = Posing (draft.MaxPlus (record { sizes = head.sizes; posed = g }))
-
--- what the reader keeps before the first query
-abbrev pub unasked : Head → Problem → ReaderOf
-unasked head p = if length (pairs_of p) == 0 then opened head p else Pairing p
-
 -- what the reader keeps of a partial script
 abbrev pub reader_of : Partial → ReaderOf
-reader_of p = if is_empty p.queries then unasked p.head p.problem else Asking (script_in p)
+reader_of p = if is_empty p.queries then unasked p.head.sizes p.problem else Asking (script_in p)
 
 abbrev pub partial : Head → Problem → List Query → Partial
 partial head p queries = record { head = head; problem = p; queries = queries }

@@ -4,6 +4,7 @@ pub mod InjectiveLemmas
 pub mod KindLemmas
 pub mod DraftLemmas
 pub mod QueryLemmas
+pub mod AddedLemmas
 pub mod ReadLemmas
 pub mod PairingLemmas
 pub mod FoldLemmas

@@ -1,5 +1,5 @@
 -- Forms by their names, and queries by the table of forms.
-use Rattle.std.proofs.Common.{◌≡◌, ℕ, ◌-◌, ◌≤◌, ◌⊎◌, inl, inr, take, suc, ◌<◌, Bool, true, false, not, ◌&&◌, ◌==◌, if◌then◌else◌, List, [], ◌∷◌, length, map, drop, get_or, drop-cons, Option, Some, None, Result, Ok, Err, Bor, codes, refl, sym, ap, ◌∙◌, subst, arith, true≢false}
+use Rattle.std.proofs.Common.{◌≡◌, ℕ, ◌-◌, ◌≤◌, ◌⊎◌, inl, inr, take, suc, ◌<◌, Bool, true, false, not, ◌&&◌, ◌==◌, if◌then◌else◌, List, [], ◌∷◌, length, drop, get_or, drop-cons, Option, Some, None, Result, Ok, Err, Bor, codes, refl, sym, ap, ◌∙◌, subst, arith, true≢false}
 use Rattle.std.specs.Option.{ok_or}
 use Rattle.std.proofs.lemmas.Bool.{eqb-true}
 use Rattle.std.proofs.lemmas.List.{take_all}
@@ -19,15 +19,14 @@ use Rattle.query_lang.specs.Draft as draft
 use Rattle.query_lang.specs.Draft.{AnyDraft, posed_of}
 use Rattle.query_lang.specs.Faults.{IsLineFault}
 use Rattle.query_lang.specs.Forms.{Place, ACongruenceTable, AllGiven, Way, way, Scripts, AllScripts, OfRelations, OfGenerators, Pairs, AnyPairs, TwoSidedPairs, NoPairs, are_scripts, form_among, has_form, name_of, row_of}
-use Rattle.query_lang.specs.Grammar.{Partial}
-use Rattle.query_lang.specs.LineCauses.{cause_in, first_of, shape_for, token_causes}
+use Rattle.query_lang.specs.LineCauses.{cause_in, first_of, token_causes}
 use Rattle.query_lang.specs.Outcome.{and_then}
 use Rattle.query_lang.specs.Query.{are_none, are_of_generators, are_of_relations, are_two_sided}
 use Rattle.query_lang.specs.Script.{ReaderOf, Posing, Relating, Pairing, Asking, finished, generator_line, is_presentation, named_line, with_line}
 use Rattle.query_lang.specs.Tables.{congruence_table_of, low_table_of, two_tables}
 use Rattle.query_lang.specs.Texts.{texts}
 use Rattle.query_lang.specs.Token.{Token, is_word, number_within}
-use Rattle.query_lang.specs.Values.{Scope, as_many, bars, limits_of, query_in, scope_of, value_of, values_of, way_for}
+use Rattle.query_lang.specs.Values.{Scope, as_many, bars, limits_of, made_in, value_of, values_of, way_for}
 use Rattle.query_lang.proofs.KindLemmas.{handed_on}
 
 -- forms by their names
@@ -77,53 +76,37 @@ first_value (Ok x) (Err c) causes h = h
 first_value (Ok x) (Ok xs) causes h = h
 
 -- the first of the causes of the tokens in their places is the cause of all
-pub values_cause : (p : Partial) (all : List Token) (places : List Place) (tokens : List Token) → as_many places tokens ≡ true
-    → cause_in (values_of (scope_of p.head.version p.problem) all places tokens) ≡ first_of (token_causes p all places tokens)
-values_cause p all [] tokens h = refl
-values_cause p all (place ∷ places) [] h = absurd (true≢false (sym h))
-values_cause p all (place ∷ places) (t ∷ tokens) h =
-    let s : Scope = scope_of p.head.version p.problem in
-    first_value (value_of s all place t) (values_of s all places tokens) _ (values_cause p all places tokens h)
+pub values_cause : (s : Scope) (all : List Token) (places : List Place) (tokens : List Token) → as_many places tokens ≡ true → cause_in (values_of s all places tokens) ≡ first_of (token_causes s all places tokens)
+values_cause s all [] tokens h = refl
+values_cause s all (place ∷ places) [] h = absurd (true≢false (sym h))
+values_cause s all (place ∷ places) (t ∷ tokens) h = first_value (value_of s all place t) (values_of s all places tokens) _ (values_cause s all places tokens h)
 
 -- the way that fits the tokens has as many places as there are tokens
-pub way_fits : (tokens : List Token) (ways : List Way) (w : Way) → way_for tokens ways ≡ Some w → as_many w.places tokens ≡ true
+pub way_fits : {A : Type 0} (tokens : List Token) (ways : List (Way A)) (w : Way A) → way_for tokens ways ≡ Some w → as_many w.places tokens ≡ true
 way_fits tokens [] w h = absurd (cc)
-way_fits tokens (one ∷ ways) w h = by (λ h. way_fits tokens ways w h) (as_many one.places tokens) refl h
+way_fits {A} tokens (one ∷ ways) w h = by (λ h. way_fits tokens ways w h) (as_many one.places tokens) refl h
   where
     by : (way_for tokens ways ≡ Some w → as_many w.places tokens ≡ true) → (b : Bool) → as_many one.places tokens ≡ b → (if b then Some one else way_for tokens ways) ≡ Some w → as_many w.places tokens ≡ true
-    by behind true e h = let same : one ≡ w = cc in ap (λ (w : Way). as_many w.places tokens) (sym same) ∙ e
+    by behind true e h = let same : one ≡ w = cc in ap (λ (w : Way A). as_many w.places tokens) (sym same) ∙ e
     by behind false e h = behind h
-
-abbrev pub places_in : Option Way → Option (List Place)
-places_in None = None
-places_in (Some w) = Some w.places
-
--- its places are the shape that fits them
-pub shape_fits : (tokens : List Token) (ways : List Way) → shape_for tokens (map (λ w. w.places) ways) ≡ places_in (way_for tokens ways)
-shape_fits tokens [] = refl
-shape_fits tokens (one ∷ ways) = by (shape_fits tokens ways) (as_many one.places tokens)
-  where
-    by : shape_for tokens (map (λ w. w.places) ways) ≡ places_in (way_for tokens ways) → (b : Bool) → (if b then Some one.places else shape_for tokens (map (λ w. w.places) ways)) ≡ places_in (if b then Some one else way_for tokens ways)
-    by behind true = refl
-    by behind false = behind
 
 -- two tables
 
-same_fault : {A : Type 0} (a b : Result A Cause) (fault : Option Cause) → a ≡ b → IsLineFault b fault → IsLineFault a fault
+pub same_fault : {A : Type 0} (a b : Result A Cause) (fault : Option Cause) → a ≡ b → IsLineFault b fault → IsLineFault a fault
 same_fault a b fault e h = subst (λ r. IsLineFault r fault) (sym e) h
 
-carried : {A B : Type 0} (f : A → B) (r : Result A Cause) (fault : Option Cause) → IsLineFault r fault → IsLineFault (and_then (λ x. Ok (f x)) r) fault
+pub carried : {A B : Type 0} (f : A → B) (r : Result A Cause) (fault : Option Cause) → IsLineFault r fault → IsLineFault (and_then (λ x. Ok (f x)) r) fault
 carried f r None h = tt
 carried f r (Some c) h = ap (and_then (λ x. Ok (f x))) h
 
-two_in : {A : Type 0} (makes : A × (A × Unit {0}) → Query) (u v : Result A Cause)
+pub two_in : {A B : Type 0} (makes : A × (A × Unit {0}) → B) (u v : Result A Cause)
     → and_then (λ vs. Ok (makes vs)) (and_then (λ x. and_then (λ xs. Ok (x, xs)) (and_then (λ y. Ok (y, tt)) v)) u) ≡ and_then (λ (p : A × A). Ok (makes (p.0, (p.1, tt)))) (and_then (λ x. and_then (λ y. Ok (x, y)) v) u)
 two_in makes (Err c) v = refl
 two_in makes (Ok x) (Err c) = refl
 two_in makes (Ok x) (Ok y) = refl
 
 tables_in : (s : Scope) (makes : AllGiven (ACongruenceTable ∷ ACongruenceTable ∷ []) → Query) (tokens : List Token)
-    → query_in s (way (ACongruenceTable ∷ ACongruenceTable ∷ []) makes ∷ []) tokens ≡ and_then (λ (p : Graph × Graph). Ok (makes (p.0, (p.1, tt)))) (two_tables s.allow_empty (length s.letters) s.relations tokens)
+    → made_in s (way (ACongruenceTable ∷ ACongruenceTable ∷ []) makes ∷ []) tokens ≡ and_then (λ (p : Graph × Graph). Ok (makes (p.0, (p.1, tt)))) (two_tables s.allow_empty (length s.letters) s.relations tokens)
 tables_in s makes [] = refl
 tables_in s makes (t ∷ []) = refl
 tables_in s makes (t ∷ u ∷ []) = two_in makes (congruence_table_of s.allow_empty (length s.letters) s.relations t) (congruence_table_of s.allow_empty (length s.letters) s.relations u)
@@ -131,16 +114,16 @@ tables_in s makes (t ∷ u ∷ v ∷ tokens) = refl
 
 tables_refused : (s : Scope) (makes : AllGiven (ACongruenceTable ∷ ACongruenceTable ∷ []) → Query) (tokens : List Token) (fault : Option Cause)
     → IsLineFault (two_tables s.allow_empty (length s.letters) s.relations tokens) fault
-    → IsLineFault (query_in s (way (ACongruenceTable ∷ ACongruenceTable ∷ []) makes ∷ []) tokens) fault
+    → IsLineFault (made_in s (way (ACongruenceTable ∷ ACongruenceTable ∷ []) makes ∷ []) tokens) fault
 tables_refused s makes tokens fault h = same_fault _ _ fault (tables_in s makes tokens) (carried (λ (p : Graph × Graph). makes (p.0, (p.1, tt))) _ fault h)
 
 -- two tables that are refused
-pub tables_handed : {B : Type 0} (s : Scope) (ways : List Way) (makes : AllGiven (ACongruenceTable ∷ ACongruenceTable ∷ []) → Query) (tokens : List Token) (k : ℕ) (r : Result B (Option Cause)) (fault : Option Cause)
+pub tables_handed : {B : Type 0} (s : Scope) (ways : List (Way Query)) (makes : AllGiven (ACongruenceTable ∷ ACongruenceTable ∷ []) → Query) (tokens : List Token) (k : ℕ) (r : Result B (Option Cause)) (fault : Option Cause)
     → IsErrAnd r (λ e. e ≡ fault) → ways ≡ way (ACongruenceTable ∷ ACongruenceTable ∷ []) makes ∷ [] → k ≡ length s.letters → IsLineFault (two_tables s.allow_empty k s.relations tokens) fault
-    → IfErr r (IsLineFault (query_in s ways tokens))
+    → IfErr r (IsLineFault (made_in s ways tokens))
 tables_handed s ways makes tokens k r fault h w e p =
-    handed_on r fault (query_in s ways tokens) h
-    (subst (λ ways. IsLineFault (query_in s ways tokens) fault) (sym w) (tables_refused s makes tokens fault (subst (λ k. IsLineFault (two_tables s.allow_empty k s.relations tokens) fault) e p)))
+    handed_on r fault (made_in s ways tokens) h
+    (subst (λ ways. IsLineFault (made_in s ways tokens) fault) (sym w) (tables_refused s makes tokens fault (subst (λ k. IsLineFault (two_tables s.allow_empty k s.relations tokens) fault) e p)))
 
 -- the tokens of a page or a search
 
@@ -169,11 +152,11 @@ limits_are (Some a) (Some b) n m h =
     (ap (λ (q : ℕ × ℕ). Some q.0) both, ap (λ (q : ℕ × ℕ). Some q.1) both)
 
 table_causes : (s : Scope) (two_sided : Bool) (classes count after token : Token) (n m : ℕ) (c : Cause) → number_within 1 16 classes ≡ Some n → number_within 0 1000000 count ≡ Some m → is_word (codes "after") after ≡ true
-    → low_table_of s.allow_empty (length s.letters) n token ≡ Err c → query_in s (row_of (asks.LowIndex two_sided)).ways (classes ∷ count ∷ after ∷ token ∷ []) ≡ Err c
+    → low_table_of s.allow_empty (length s.letters) n token ≡ Err c → made_in s (row_of (asks.LowIndex two_sided)).ways (classes ∷ count ∷ after ∷ token ∷ []) ≡ Err c
 table_causes s two_sided classes count after token n m c h k a e = rw (h, k, a, e) refl
 
 table_refused : (s : Scope) (two_sided : Bool) (classes count after token : Token) (n m : ℕ) (fault : Option Cause) → limits_of classes count ≡ Ok (n, m) → is_word (codes "after") after ≡ true
-    → IsLineFault (low_table_of s.allow_empty (length s.letters) n token) fault → IsLineFault (query_in s (row_of (asks.LowIndex two_sided)).ways (classes ∷ count ∷ after ∷ token ∷ [])) fault
+    → IsLineFault (low_table_of s.allow_empty (length s.letters) n token) fault → IsLineFault (made_in s (row_of (asks.LowIndex two_sided)).ways (classes ∷ count ∷ after ∷ token ∷ [])) fault
 table_refused s two_sided classes count after token n m None h a e = tt
 table_refused s two_sided classes count after token n m (Some c) h a e =
     let both = limits_are (number_within 1 16 classes) (number_within 0 1000000 count) n m h in
@@ -182,20 +165,20 @@ table_refused s two_sided classes count after token n m (Some c) h a e =
 -- a search behind a table that is refused
 pub table_handed : {B : Type 0} (s : Scope) (two_sided : Bool) (classes count after token : Token) (n m k : ℕ) (r : Result B (Option Cause)) (fault : Option Cause) → IsErrAnd r (λ e. e ≡ fault) → limits_of classes count ≡ Ok (n, m)
     → is_word (codes "after") after ≡ true → k ≡ length s.letters → IsLineFault (low_table_of s.allow_empty k n token) fault
-    → IfErr r (IsLineFault (query_in s (row_of (asks.LowIndex two_sided)).ways (classes ∷ count ∷ after ∷ token ∷ [])))
+    → IfErr r (IsLineFault (made_in s (row_of (asks.LowIndex two_sided)).ways (classes ∷ count ∷ after ∷ token ∷ [])))
 table_handed s two_sided classes count after token n m k r fault h l a e p =
-    handed_on r fault (query_in s (row_of (asks.LowIndex two_sided)).ways (classes ∷ count ∷ after ∷ token ∷ [])) h
+    handed_on r fault (made_in s (row_of (asks.LowIndex two_sided)).ways (classes ∷ count ∷ after ∷ token ∷ [])) h
     (table_refused s two_sided classes count after token n m fault l a (subst (λ k. IsLineFault (low_table_of s.allow_empty k n token) fault) e p))
 
 limits_faulty : (s : Scope) (two_sided : Bool) (t u : Token) (o p : Option ℕ) (c : Cause) → number_within 1 16 t ≡ o → number_within 0 1000000 u ≡ p
-    → ◌≡◌ {A = Result (ℕ × ℕ) Cause} (and_then (λ n. and_then (λ m. Ok (n, m)) (ok_or p BadNumber)) (ok_or o BadNumber)) (Err c) → query_in s (row_of (asks.LowIndex two_sided)).ways (t ∷ u ∷ []) ≡ Err c
+    → ◌≡◌ {A = Result (ℕ × ℕ) Cause} (and_then (λ n. and_then (λ m. Ok (n, m)) (ok_or p BadNumber)) (ok_or o BadNumber)) (Err c) → made_in s (row_of (asks.LowIndex two_sided)).ways (t ∷ u ∷ []) ≡ Err c
 limits_faulty s two_sided t u None p c h k e = rw h (let same : BadNumber ≡ c = cc in ap (λ c. Err c) same)
 limits_faulty s two_sided t u (Some n) None c h k e = rw (h, k) (let same : BadNumber ≡ c = cc in ap (λ c. Err c) same)
 limits_faulty s two_sided t u (Some n) (Some m) c h k e = absurd (cc)
 
 -- a search whose limits are refused
 pub limits_refused : (s : Scope) (two_sided : Bool) (tokens : List (Bor (List ℕ))) (a b : Bor (List ℕ)) (c : Cause) → length tokens ≡ 2 → limits_of (get_or tokens 0 a).now (get_or tokens 1 b).now ≡ Err c
-    → query_in s (row_of (asks.LowIndex two_sided)).ways (texts tokens) ≡ Err c
+    → made_in s (row_of (asks.LowIndex two_sided)).ways (texts tokens) ≡ Err c
 limits_refused s two_sided (t ∷ u ∷ []) a b c n h = limits_faulty s two_sided t.now u.now (number_within 1 16 t.now) (number_within 0 1000000 u.now) c refl refl h
 limits_refused s two_sided [] a b c n h = absurd (omega arith)
 limits_refused s two_sided (t ∷ []) a b c n h = absurd (omega arith)

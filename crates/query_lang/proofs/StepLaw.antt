@@ -1,8 +1,9 @@
 -- A line is read to one partial script, and only where it has no cause.
-use Rattle.std.proofs.Common.{◌≡◌, ℕ, ◌==◌, Bool, true, false, if◌then◌else◌, List, [], ◌∷◌, length, None, Result, Ok, refl, sym, ap, ap₂, ◌∙◌}
+use Rattle.std.proofs.Common.{◌≡◌, ◌==◌, Bool, true, false, if◌then◌else◌, List, [], ◌∷◌, length, None, Result, Ok, Err, refl, sym, ap, ap₂, ◌∙◌}
 use Rattle.problem.specs.declared.kinds.Problem.{Problem}
 use Rattle.problem.specs.declared.kinds.Problem.TheVariants.{Presented, Transf, PPerm, BMat, MaxPlus}
 use Rattle.query_lang.specs.declared.cause.Cause.{Cause}
+use Rattle.query_lang.specs.declared.cause.Cause.TheVariants.{UnknownHeader}
 use Rattle.query_lang.specs.Draft.{AnyDraft}
 use Rattle.query_lang.specs.Draft as draft
 use Rattle.query_lang.specs.Script.{ReaderOf}
@@ -11,12 +12,14 @@ use Rattle.query_lang.specs.declared.script.Query.{Query}
 use Rattle.query_lang.specs.Token.{Line}
 use Rattle.query_lang.specs.declared.version.Version.{Version}
 use Rattle.query_lang.specs.declared.version.Version.TheVariants.{One}
-use Rattle.query_lang.specs.Grammar.{Head, HeaderReads, LineReads, Partial, Said, Nothing, OfVersion, Begun, Step}
+use Rattle.query_lang.specs.Grammar.{Head, HeaderReads, Partial, Said, Nothing, OfVersion, Begun, Step, begin_with}
 use Rattle.query_lang.specs.Grammar as grammar
+use Rattle.query_lang.specs.Header.{Start, header_named, started}
+use Rattle.query_lang.specs.Versions.{is_wide}
 use Rattle.query_lang.specs.LineCauses.{cause_in, cause_of_line}
 use Rattle.query_lang.proofs.CauseLaw.{causes_agree}
 use Rattle.query_lang.proofs.FoldLemmas.{partial, reader_of}
-use Rattle.query_lang.proofs.SoundLaw.{sound, sound_behind, sound_header}
+use Rattle.query_lang.proofs.SoundLaw.{head_stays, header_said, sound, sound_header}
 
 -- a line that is read has no cause
 pub step_has_no_cause : (s t : Said) (line : Line) → Step s line t → cause_of_line s line ≡ None
@@ -30,12 +33,6 @@ drafted (draft.PPerm d) = PPerm d.posed
 drafted (draft.BMat d) = BMat d.posed
 drafted (draft.MaxPlus d) = MaxPlus d.posed
 
-abbrev sizes_drafted : AnyDraft → ℕ × ℕ
-sizes_drafted (draft.Transf d) = d.sizes
-sizes_drafted (draft.PPerm d) = d.sizes
-sizes_drafted (draft.BMat d) = d.sizes
-sizes_drafted (draft.MaxPlus d) = d.sizes
-
 abbrev problem_kept : ReaderOf → Problem
 problem_kept (Posing d) = drafted d
 problem_kept (Relating o) = Presented o
@@ -47,12 +44,6 @@ queries_kept (Posing d) = []
 queries_kept (Relating o) = []
 queries_kept (Pairing p) = []
 queries_kept (Asking script) = script.queries
-
-abbrev sizes_kept : ReaderOf → ℕ × ℕ
-sizes_kept (Posing d) = sizes_drafted d
-sizes_kept (Relating o) = (0, 0)
-sizes_kept (Pairing p) = (0, 0)
-sizes_kept (Asking script) = (0, 0)
 
 either_problem : (no_pair : Bool) (r : ReaderOf) (p : Problem) → problem_kept r ≡ p → problem_kept (if no_pair then r else Pairing p) ≡ p
 either_problem true r p h = h
@@ -84,23 +75,6 @@ one_partial p q heads same =
     let queries : p.queries ≡ q.queries = sym (queries_are_kept p.head p.problem p.queries) ∙ ap queries_kept same ∙ queries_are_kept q.head q.problem q.queries in
     ap (λ h. partial h p.problem p.queries) heads ∙ ap₂ (λ x xs. partial q.head x xs) problems queries
 
--- the head stays
-head_stays : (p q : Partial) (line : Line) → LineReads p line q → q.head ≡ p.head
-head_stays p q line (grammar.generator is early named new made) = refl
-head_stays p q line (grammar.relation is poses early few h k) = refl
-head_stays p q line (grammar.role two poses early gives few) = refl
-head_stays p q line (grammar.pair kind some sign is early few kinds h k) = refl
-head_stays p q line (grammar.query some sign is) = refl
-
--- a header gives the version, and numbers that the reader keeps
-header_head : (version : Version) (line : Line) (q : Partial) → HeaderReads version line q → record { version = version; sizes = sizes_kept (reader_of q) } ≡ q.head
-header_head version line q (grammar.trans is h) = refl
-header_head version line q (grammar.pperm is h) = refl
-header_head version line q (grammar.bmat is h) = refl
-header_head version line q (grammar.mpt is h k) = refl
-header_head version line q (grammar.monoid is h) = refl
-header_head version line q (grammar.semigroup is h) = refl
-
 same_reader : (v w : Version) (p q : Partial) → ◌≡◌ {A = Result ProgressOf Cause} (Ok (Reading v (reader_of p))) (Ok (Reading w (reader_of q))) → reader_of p ≡ reader_of q
 same_reader v w p q e = cc
 
@@ -111,13 +85,19 @@ never_both : {A : Type 0} (v w : Version) (r : ReaderOf) → ◌≡◌ {A = Resu
 never_both v w r e = absurd (cc)
 
 -- two headers in a script of one version
-one_header : (version : Version) (line : Line) (q r : Partial) → HeaderReads version line q → HeaderReads version line r → reader_of q ≡ reader_of r → q ≡ r
-one_header version line q r x y same =
-    let heads : q.head ≡ r.head =
-    sym (header_head version line q x)
-    ∙ ap (λ (s : ReaderOf). record { version = version; sizes = sizes_kept s }) same
-    ∙ header_head version line r y in
-    one_partial q r heads same
+
+abbrev start_in : Version → Line → Result Start Cause
+start_in version [] = Err UnknownHeader
+start_in version (name ∷ tokens) = started (header_named (is_wide version) name) tokens
+
+same_start : (x y : Start) → ◌≡◌ {A = Result Start Cause} (Ok x) (Ok y) → x ≡ y
+same_start x y e = cc
+
+one_header : (version : Version) (line : Line) (q r : Partial) → HeaderReads version line q → HeaderReads version line r → q ≡ r
+one_header version line q r x y =
+    let same : x.way.makes x.given ≡ y.way.makes y.given =
+    same_start _ _ (sym (header_said version line q x) ∙ ap (start_in version) (sym x.is ∙ y.is) ∙ header_said version line r y) in
+    sym x.made ∙ ap (λ (s : Start). begin_with version s.0 s.1) same ∙ y.made
 
 -- a line is read to one partial script
 pub one_step : (s t u : Said) (line : Line) → Step s line t → Step s line u → t ≡ u
@@ -137,9 +117,9 @@ one_step s t u line (grammar.version {v} k is n h) (grammar.header {q} l x) =
 one_step s t u line (grammar.header {q} l x) (grammar.version {v} k is n h) =
     never_both v One (reader_of q) (sym (sound Nothing (OfVersion v) line (grammar.version k is n h)) ∙ sound_header line q l x)
 one_step s t u line (grammar.header {q} k x) (grammar.header {q = r} l y) =
-    ap (λ p. Begun p) (one_header One line q r x y (same_reader One One q r (sym (sound_header line q k x) ∙ sound_header line r l y)))
+    ap (λ p. Begun p) (one_header One line q r x y)
 one_step s t u line (grammar.header_behind {v} {q} k x) (grammar.header_behind {q = r} l y) =
-    ap (λ p. Begun p) (one_header v line q r x y (same_reader v v q r (sym (sound_behind v line q k x) ∙ sound_behind v line r l y)))
+    ap (λ p. Begun p) (one_header v line q r x y)
 one_step s t u line (grammar.further {p} {q} k x) (grammar.further {q = r} l y) =
     let heads : q.head ≡ r.head = head_stays p q line x ∙ sym (head_stays p r line y) in
     let same : reader_of q ≡ reader_of r =

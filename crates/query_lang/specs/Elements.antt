@@ -1,11 +1,14 @@
 -- The element that the fields of a generator give, or why they give none.
-use Rattle.std.specs.Prelude.{ℕ, ◌+◌, ◌*◌, ◌==◌, List, length, if◌then◌else◌, Option, Result, Ok, Err}
+use Rattle.std.specs.Prelude.{ℕ, ◌+◌, ◌*◌, ◌==◌, List, [], ◌∷◌, ◌++◌, length, if◌then◌else◌, Option, Result, Ok, Err}
 use Rattle.std.specs.Option.{ok_or}
 use Rattle.elements.specs.declared.field.Field.{Field}
 use Rattle.elements.specs.BMat.{BooleanMatrix}
 use Rattle.elements.specs.MaxPlus.{TruncatedMatrix}
+use Rattle.problem.specs.Posed.{PosedOf}
+use Rattle.problem.specs.declared.kinds.Problem.{Problem}
+use Rattle.problem.specs.declared.kinds.Problem.TheVariants.{Presented, Transf, PPerm, BMat, MaxPlus}
 use Rattle.query_lang.specs.declared.cause.Cause.{Cause}
-use Rattle.query_lang.specs.declared.cause.Cause.TheVariants.{WrongNumberOfEntries, BadEntry, NotInjective}
+use Rattle.query_lang.specs.declared.cause.Cause.TheVariants.{UnknownLine, WrongNumberOfEntries, BadEntry, NotInjective}
 use Rattle.query_lang.specs.Entries.{all_of, below, below_or_dash, bit, is_injective}
 use Rattle.query_lang.specs.Outcome.{and_then}
 
@@ -35,3 +38,20 @@ abbrev pub truncated_matrix_of : ℕ × ℕ → List Field → Result TruncatedM
 truncated_matrix_of sizes fields =
     and_then (λ entries. Ok (record { dimension = sizes.0; bound = sizes.1; entries = entries }))
     (entries_of (sizes.0 * sizes.0) (below_or_dash (sizes.1 + 1)) fields)
+
+-- one generator more
+abbrev pub one_more : {V : Type 0} → PosedOf V → ℕ → V → PosedOf V
+one_more p x g = record p
+    { letters = p.letters ++ x ∷ []; generators = p.generators ++ g ∷ [] }
+
+-- the problem with the element that the fields give as one generator more, of the problem's kind
+abbrev pub generator_more : ℕ × ℕ → Problem → ℕ → List Field → Result Problem Cause
+generator_more sizes (Presented p) x fields = Err UnknownLine
+generator_more sizes (Transf p) x fields =
+    and_then (λ g. Ok (Transf (one_more p x g))) (transformation_of sizes fields)
+generator_more sizes (PPerm p) x fields =
+    and_then (λ g. Ok (PPerm (one_more p x g))) (partial_permutation_of sizes fields)
+generator_more sizes (BMat p) x fields =
+    and_then (λ g. Ok (BMat (one_more p x g))) (boolean_matrix_of sizes fields)
+generator_more sizes (MaxPlus p) x fields =
+    and_then (λ g. Ok (MaxPlus (one_more p x g))) (truncated_matrix_of sizes fields)

@@ -1,10 +1,11 @@
 -- The forms of lines behind the header that begin with a name. Each is told once: the grammar, the
 -- causes of refusal and the reader are read from here.
-use Rattle.std.specs.Prelude.{ℕ, Bool, true, false, not, ◌&&◌, List, [], ◌∷◌, map, codes, if◌then◌else◌, Option, Some, None}
+use Rattle.std.specs.Prelude.{ℕ, Bool, true, false, not, ◌&&◌, List, [], ◌∷◌, codes, if◌then◌else◌, Option, Some, None}
 use Rattle.theory.specs.declared.Kind.TheVariants.{TwoSided, Right, Left}
 use Rattle.theory.specs.declared.Relation.{Relation as GreenRelation}
 use Rattle.theory.specs.Graph.{Graph}
 use Rattle.theory.specs.Word.{Word}
+use Rattle.presentation.specs.Added.{identity_relations, zero_relations, inverse_relations}
 use Rattle.query_lang.specs.declared.form.Form.{Form}
 use Rattle.query_lang.specs.declared.form.Form.TheVariants.{Relation, OfRole, Pair, Asks}
 use Rattle.query_lang.specs.declared.form.QueryForm.{QueryForm}
@@ -25,6 +26,7 @@ pub data Place : Type 0 where
   ALowTable : Place
   ACongruenceTable : Place
   ARelation : Place
+  ALetters : (wide : Bool) → Place
 
 -- what a token in this place gives
 abbrev pub Given : Place → Type 0
@@ -35,18 +37,19 @@ Given After = Unit {0}
 Given ALowTable = Graph
 Given ACongruenceTable = Graph
 Given ARelation = GreenRelation
+Given (ALetters wide) = List ℕ
 
 -- what tokens in these places give
 abbrev pub AllGiven : List Place → Type 0
 AllGiven [] = Unit {0}
 AllGiven (place ∷ places) = Given place × AllGiven places
 
--- a way to write a query: what stands behind its name, and the query that it makes
-pub record Way : Type 0 where
+-- a way to write a line: what stands behind its name, and what is made of that
+pub record Way (A : Type 0) : Type 0 where
   pub places : List Place
-  pub makes : AllGiven places → Query
+  pub makes : AllGiven places → A
 
-abbrev pub way : (places : List Place) → (AllGiven places → Query) → Way
+abbrev pub way : {A : Type 0} → (places : List Place) → (AllGiven places → A) → Way A
 way places makes = record { places = places; makes = makes }
 
 -- which scripts have a form of query
@@ -66,9 +69,9 @@ pub record Row : Type 0 where
   pub name : Token
   pub scripts : Scripts
   pub pairs : Pairs
-  pub ways : List Way
+  pub ways : List (Way Query)
 
-abbrev pub row : Token → Scripts → Pairs → List Way → Row
+abbrev pub row : Token → Scripts → Pairs → List (Way Query) → Row
 row name scripts pairs ways =
     record { name = name; scripts = scripts; pairs = pairs; ways = ways }
 
@@ -118,19 +121,28 @@ name_of (Pair Right) = codes "right"
 name_of (Pair Left) = codes "left"
 name_of (Asks query) = (row_of query).name
 
--- the letters of a line of inverses: the third one is the identity of a semigroup
-abbrev pub inverse_shape : (is_monoid : Bool) → List Place
-inverse_shape true = ALetter ∷ ALetter ∷ []
-inverse_shape false = ALetter ∷ ALetter ∷ ALetter ∷ []
+-- what a line of this form adds: relations, a pair, or a query
+abbrev pub Gives : Form → Type 0
+Gives Relation = List (Word × Word)
+Gives (OfRole role) = List (Word × Word)
+Gives (Pair kind) = Word × Word
+Gives (Asks query) = Query
 
--- what stands behind the name, in a monoid or not
-abbrev pub shapes_of : (is_monoid : Bool) → Form → List (List Place)
-shapes_of is_monoid Relation = (AWord ∷ AWord ∷ []) ∷ []
-shapes_of is_monoid (OfRole Identity) = (ALetter ∷ []) ∷ []
-shapes_of is_monoid (OfRole Zero) = (ALetter ∷ []) ∷ []
-shapes_of is_monoid (OfRole Inverse) = inverse_shape is_monoid ∷ []
-shapes_of is_monoid (Pair kind) = (AWord ∷ AWord ∷ []) ∷ []
-shapes_of is_monoid (Asks query) = map (λ w. w.places) (row_of query).ways
+-- letters that are inverse: in a semigroup the third one is the identity by which they are
+abbrev pub inverse_way : (is_monoid : Bool) → Way (List (Word × Word))
+inverse_way true = way (ALetter ∷ ALetter ∷ []) (λ v. inverse_relations v.0 v.1.0 None)
+inverse_way false = way (ALetter ∷ ALetter ∷ ALetter ∷ [])
+    (λ v. inverse_relations v.0 v.1.0 (Some v.1.1.0))
+
+-- the ways to write a line of this form, in a monoid or not, over so many letters
+abbrev pub ways_of : (is_monoid : Bool) → ℕ → (form : Form) → List (Way (Gives form))
+ways_of is_monoid k Relation = way (AWord ∷ AWord ∷ []) (λ v. (v.0, v.1.0) ∷ []) ∷ []
+ways_of is_monoid k (OfRole Identity) =
+    way (ALetter ∷ []) (λ v. identity_relations k v.0) ∷ []
+ways_of is_monoid k (OfRole Zero) = way (ALetter ∷ []) (λ v. zero_relations k v.0) ∷ []
+ways_of is_monoid k (OfRole Inverse) = inverse_way is_monoid ∷ []
+ways_of is_monoid k (Pair kind) = way (AWord ∷ AWord ∷ []) (λ v. (v.0, v.1.0)) ∷ []
+ways_of is_monoid k (Asks query) = (row_of query).ways
 
 -- the section of the form
 abbrev pub section_of : Form → ℕ

@@ -1,43 +1,68 @@
--- The header of a script.
-use Rattle.std.specs.Prelude.{ℕ, Bool, List, [], ◌∷◌, codes, if◌then◌else◌, Result, Ok, Err}
+-- The headers of scripts, each with its name, the places of its tokens, and what it poses.
+use Rattle.std.specs.Prelude.{ℕ, Bool, true, false, not, List, [], ◌∷◌, codes, if◌then◌else◌, Option, Some, None, Result, Ok, Err}
 use Rattle.std.specs.Option.{ok_or}
-use Rattle.presentation.specs.Presented.{Posed}
+use Rattle.theory.specs.declared.Kind.TheVariants.{TwoSided}
+use Rattle.problem.specs.Posed.{PosedOf}
+use Rattle.problem.specs.declared.kinds.Problem.{Problem}
+use Rattle.problem.specs.declared.kinds.Problem.TheVariants.{Presented, Transf, PPerm, BMat, MaxPlus}
 use Rattle.query_lang.specs.declared.cause.Cause.{Cause}
-use Rattle.query_lang.specs.declared.cause.Cause.TheVariants.{UnknownHeader, WrongNumberOfWords, BadNumber}
+use Rattle.query_lang.specs.declared.cause.Cause.TheVariants.{UnknownHeader, WrongNumberOfWords}
+use Rattle.query_lang.specs.declared.version.Version.TheVariants.{One}
+use Rattle.query_lang.specs.Forms.{Place, ALetters, ANumber, AllGiven, Way, way}
 use Rattle.query_lang.specs.Outcome.{and_then}
-use Rattle.query_lang.specs.Token.{Token, Line, is_word, number_within}
-use Rattle.query_lang.specs.Draft.{AnyDraft, Transf, PPerm, BMat, MaxPlus, start_of}
-use Rattle.query_lang.specs.LineWords.{one_token}
-use Rattle.query_lang.specs.Outline.{alphabet_of}
 use Rattle.query_lang.specs.Relations.{free_over}
+use Rattle.query_lang.specs.Token.{Token, is_word}
+use Rattle.query_lang.specs.Values.{Scope, as_many, scope, values_of}
 
--- one number, from 1 to the greatest one
-abbrev pub size_of : ℕ → List Token → Result ℕ Cause
-size_of greatest (size ∷ []) = ok_or (number_within 1 greatest size) BadNumber
-size_of greatest tokens = Err WrongNumberOfWords
+-- no generator yet
+abbrev pub no_generators : {V : Type 0} → PosedOf V
+no_generators = record { letters = []; generators = []; kind = TwoSided; pairs = [] }
 
--- a dimension from 1 to 16, and a bound from 0 to 65535
-abbrev pub sizes_of : List Token → Result (ℕ × ℕ) Cause
-sizes_of (dimension ∷ bound ∷ []) =
-    and_then (λ d. and_then (λ t. Ok (d, t)) (ok_or (number_within 0 65535 bound) BadNumber))
-    (ok_or (number_within 1 16 dimension) BadNumber)
-sizes_of tokens = Err WrongNumberOfWords
+-- the numbers of a header, 0 in the place of one that it has not, and what it poses
+abbrev pub Start : Type 0
+Start = (ℕ × ℕ) × Problem
 
--- the letters of a monoid or a semigroup
-abbrev pub outline_of : (wide is_monoid : Bool) → List Token → Result Posed Cause
-outline_of wide is_monoid tokens = and_then (λ letters. Ok (free_over is_monoid letters))
-    (and_then (alphabet_of wide) (one_token tokens))
+-- one number behind the name
+abbrev pub one_size : (greatest : ℕ) → Problem → Way Start
+one_size greatest problem = way (ANumber 1 greatest ∷ []) (λ v. ((v.0, 0), problem))
 
--- `trans D`, `pperm D`, `bmat D` or `mpt D T`
-abbrev pub header_of : Line → Result AnyDraft Cause
-header_of [] = Err UnknownHeader
-header_of (name ∷ tokens) =
-    if is_word (codes "trans") name then and_then (λ d. Ok (Transf (start_of (d, 0))))
-    (size_of 64 tokens)
-    else if is_word (codes "pperm") name then and_then (λ d. Ok (PPerm (start_of (d, 0))))
-    (size_of 64 tokens)
-    else if is_word (codes "bmat") name then and_then (λ d. Ok (BMat (start_of (d, 0))))
-    (size_of 16 tokens)
-    else if is_word (codes "mpt") name then and_then (λ sizes. Ok (MaxPlus (start_of sizes)))
-    (sizes_of tokens)
-    else Err UnknownHeader
+-- a dimension and a bound behind the name
+abbrev pub two_sizes : Problem → Way Start
+two_sizes problem = way (ANumber 1 16 ∷ ANumber 0 65535 ∷ []) (λ v. ((v.0, v.1.0), problem))
+
+-- letters behind the name, of both cases where they are wide
+abbrev pub free_way : (wide is_monoid : Bool) → Way Start
+free_way wide is_monoid =
+    way (ALetters wide ∷ []) (λ v. ((0, 0), Presented (free_over is_monoid v.0)))
+
+-- the header of generators that has this name
+abbrev pub generators_named : Token → Option (Way Start)
+generators_named t =
+    if is_word (codes "trans") t then Some (one_size 64 (Transf no_generators))
+    else if is_word (codes "pperm") t then Some (one_size 64 (PPerm no_generators))
+    else if is_word (codes "bmat") t then Some (one_size 16 (BMat no_generators))
+    else if is_word (codes "mpt") t then Some (two_sizes (MaxPlus no_generators))
+    else None
+
+-- the header that has this name
+abbrev pub header_named : (wide : Bool) → Token → Option (Way Start)
+header_named wide t =
+    if is_word (codes "monoid") t then Some (free_way wide true)
+    else if is_word (codes "semigroup") t then Some (free_way wide false)
+    else generators_named t
+
+-- what the tokens of a header are read over: there are no letters yet
+abbrev pub no_letters : Scope
+no_letters = scope One [] false []
+
+-- what the tokens give in these places, where there are as many
+abbrev pub given_by : (places : List Place) → List Token → Result (AllGiven places) Cause
+given_by places tokens =
+    if not (as_many places tokens) then Err WrongNumberOfWords
+    else values_of no_letters tokens places tokens
+
+-- what a header says, or why it is refused
+abbrev pub started : Option (Way Start) → List Token → Result Start Cause
+started named tokens = and_then
+    (λ w. and_then (λ vs. Ok (w.makes vs)) (given_by w.places tokens))
+    (ok_or named UnknownHeader)

@@ -1,17 +1,15 @@
--- Relations that lines give, one after another, or why a line is refused.
-use Rattle.std.specs.Prelude.{ℕ, Bool, List, ◌==◌, length, if◌then◌else◌, Option, Some, None, Result, Ok, Err}
+-- The letters of a presentation, and the relations that lines add to it.
+use Rattle.std.specs.Prelude.{ℕ, Bool, List, Option, Some, None, Result, Ok, Err}
 use Rattle.theory.specs.Word.{Word}
 use Rattle.presentation.specs.Presented.{Posed}
 use Rattle.words.specs.Alphabet.{alphabet_fault}
 use Rattle.words.specs.declared.fault.AlphabetFault.{AlphabetFault}
 use Rattle.words.specs.declared.fault.AlphabetFault.TheVariants as fault
-use Rattle.query_lang.specs.declared.version.Version.{Version}
 use Rattle.query_lang.specs.declared.cause.Cause.{Cause}
 use Rattle.query_lang.specs.declared.cause.Cause.TheVariants as cause
 use Rattle.query_lang.specs.Outcome.{and_then}
 use Rattle.query_lang.specs.Token.{Token}
-use Rattle.query_lang.specs.LineWords.{both_elements, two_tokens}
-use Rattle.query_lang.specs.Relations.{add_relation, most_relations}
+use Rattle.query_lang.specs.Relations.{add_relations}
 
 -- why letters are refused; a token is never empty, and `alphabet_fault` never tells want of memory
 abbrev pub cause_of_alphabet : AlphabetFault → Cause
@@ -28,16 +26,6 @@ unless_fault (Some fault) t = Err (cause_of_alphabet fault)
 abbrev pub alphabet_of : (wide : Bool) → Token → Result (List ℕ) Cause
 alphabet_of wide t = unless_fault (alphabet_fault wide t) t
 
--- two elements
-abbrev pub sides_of : Version → Posed → Token → Token → Result (Word × Word) Cause
-sides_of version o = both_elements version o.alphabet o.congruence.presentation.is_monoid
-
--- the relation with these sides, if there may be one more
-abbrev pub related : Version → Posed → Token → Token → Result Posed Cause
-related version o left right =
-    if length o.congruence.presentation.relations == most_relations then Err cause.TooManyRelations
-    else and_then (λ p. Ok (add_relation o p)) (sides_of version o left right)
-
--- `U V` of a relation
-abbrev pub with_relation : Version → Posed → List Token → Result Posed Cause
-with_relation version o tokens = and_then (λ t. related version o t.0 t.1) (two_tokens tokens)
+-- the presentation with the relations of a line
+abbrev pub related : Posed → Result (List (Word × Word)) Cause → Result Posed Cause
+related o relations = and_then (λ rs. Ok (add_relations o rs)) relations

@@ -1,12 +1,12 @@
 -- Scripts: what each line gives after the lines before it, or its cause of refusal.
 pub use Rattle.query_lang.specs.Asked.{ScriptOf}
-use Rattle.std.specs.Prelude.{ℕ, suc, Bool, true, false, not, ◌&&◌, List, [], ◌∷◌, ◌++◌, length, map, codes, if◌then◌else◌, Result, Ok, Err}
+use Rattle.std.specs.Prelude.{ℕ, suc, Bool, true, false, not, ◌&&◌, List, [], ◌∷◌, ◌++◌, ◌==◌, length, map, codes, if◌then◌else◌, Option, Result, Ok, Err}
 use Rattle.std.specs.Option.{ok_or}
-use Rattle.theory.specs.declared.Kind.{Kind}
+use Rattle.theory.specs.Word.{Word}
 use Rattle.presentation.specs.Presented.{Posed}
 use Rattle.problem.specs.declared.kinds.Problem.{Problem}
-use Rattle.problem.specs.declared.kinds.Problem.TheVariants.{Presented}
-use Rattle.problem.specs.Problem.{is_presented}
+use Rattle.problem.specs.declared.kinds.Problem.TheVariants.{Presented, Transf, PPerm, BMat, MaxPlus}
+use Rattle.problem.specs.Problem.{is_presented, pairs_of}
 use Rattle.query_lang.specs.declared.cause.Cause.{Cause}
 use Rattle.query_lang.specs.declared.cause.Cause.TheVariants.{HeaderMissing, UnknownHeader, UnknownLine, LineOutOfOrder}
 use Rattle.query_lang.specs.declared.script.Query.{Query}
@@ -15,19 +15,18 @@ use Rattle.query_lang.specs.declared.version.Version.TheVariants.{One}
 use Rattle.query_lang.specs.Outcome.{and_then}
 use Rattle.query_lang.specs.Token.{Token, Line, tokens_of, is_kept, cut_lines, is_word}
 use Rattle.query_lang.specs.Draft.{AnyDraft}
+use Rattle.query_lang.specs.Draft as draft
 use Rattle.query_lang.specs.Fields.{field_of}
 use Rattle.query_lang.specs.Generators.{draft_with, problem_of}
-use Rattle.query_lang.specs.Header.{header_of, outline_of}
-use Rattle.query_lang.specs.Outline.{with_relation}
-use Rattle.query_lang.specs.declared.role.Role.{Role}
-use Rattle.query_lang.specs.Roles.{with_role}
-use Rattle.query_lang.specs.Pairing.{add_pair}
+use Rattle.query_lang.specs.Header.{Start, header_named, started}
+use Rattle.query_lang.specs.Outline.{related}
+use Rattle.query_lang.specs.Pairing.{paired}
 use Rattle.query_lang.specs.Versions.{is_wide, version_of}
 use Rattle.query_lang.specs.declared.form.Form.{Form}
 use Rattle.query_lang.specs.declared.form.Form.TheVariants.{Relation, OfRole, Pair, Asks}
 use Rattle.query_lang.specs.declared.form.QueryForm.{QueryForm}
-use Rattle.query_lang.specs.Forms.{form_named}
-use Rattle.query_lang.specs.Values.{query_of}
+use Rattle.query_lang.specs.Forms.{Way, form_named}
+use Rattle.query_lang.specs.Values.{added_of}
 
 -- what the lines so far have given: generators or a presentation, from the first pair on a problem,
 -- and from the first query on a script
@@ -44,7 +43,7 @@ with_asked s query = record s { queries = s.queries ++ query ∷ [] }
 -- one query more
 abbrev pub asked : Version → ScriptOf → QueryForm → List Token → Result ScriptOf Cause
 asked version s form tokens =
-    and_then (λ query. Ok (with_asked s query)) (query_of version s.problem form tokens)
+    and_then (λ query. Ok (with_asked s query)) (added_of version s.problem (Asks form) tokens)
 
 -- whether the script is a presentation
 abbrev pub is_presentation : ReaderOf → Bool
@@ -82,16 +81,11 @@ outline_so_far (Relating outline) = Ok outline
 outline_so_far (Pairing problem) = Err LineOutOfOrder
 outline_so_far (Asking script) = Err LineOutOfOrder
 
--- the relation `rel U V`
-abbrev pub relation_line : Version → ReaderOf → List Token → Result ReaderOf Cause
-relation_line version r tokens = and_then
-    (λ outline. and_then (λ o. Ok (Relating o)) (with_relation version outline tokens))
-    (outline_so_far r)
-
--- a line that gives letters this role
-abbrev pub role_line : Version → ReaderOf → Role → List Token → Result ReaderOf Cause
-role_line version r role tokens = and_then
-    (λ outline. and_then (λ o. Ok (Relating o)) (with_role version outline role tokens))
+-- a line that adds these relations to the presentation so far
+abbrev pub relating_line : ReaderOf → (Posed → Result (List (Word × Word)) Cause)
+    → Result ReaderOf Cause
+relating_line r relations = and_then
+    (λ outline. and_then (λ o. Ok (Relating o)) (related outline (relations outline)))
     (outline_so_far r)
 
 -- the problem and its pairs so far, which stand before the queries
@@ -101,23 +95,16 @@ paired_so_far (Relating outline) = Ok (Presented outline)
 paired_so_far (Pairing problem) = Ok problem
 paired_so_far (Asking script) = Err LineOutOfOrder
 
--- the pair `twosided U V`, `right U V` or `left U V`
-abbrev pub pair_line : Version → ReaderOf → Kind → List Token → Result ReaderOf Cause
-pair_line version r kind tokens = and_then
-    (λ problem. and_then (λ p. Ok (Pairing p)) (add_pair version problem kind tokens))
-    (paired_so_far r)
-
--- a query of this form, which may stand after whatever is posed
-abbrev pub query_line : Version → ReaderOf → QueryForm → List Token → Result ReaderOf Cause
-query_line version r form tokens = and_then (λ script.
-    and_then (λ s. Ok (Asking s)) (asked version script form tokens)) (finished r)
-
 -- a line of this form
 abbrev pub form_line : Version → ReaderOf → Form → List Token → Result ReaderOf Cause
-form_line version r Relation tokens = relation_line version r tokens
-form_line version r (OfRole role) tokens = role_line version r role tokens
-form_line version r (Pair kind) tokens = pair_line version r kind tokens
-form_line version r (Asks form) tokens = query_line version r form tokens
+form_line version r Relation tokens =
+    relating_line r (λ o. added_of version (Presented o) Relation tokens)
+form_line version r (OfRole role) tokens =
+    relating_line r (λ o. added_of version (Presented o) (OfRole role) tokens)
+form_line version r (Pair kind) tokens = and_then (λ problem. and_then (λ p. Ok (Pairing p))
+    (paired problem kind (added_of version problem (Pair kind) tokens))) (paired_so_far r)
+form_line version r (Asks form) tokens = and_then (λ script.
+    and_then (λ s. Ok (Asking s)) (asked version script form tokens)) (finished r)
 
 -- a line that begins with a name
 abbrev pub named_line : Version → ReaderOf → Token → List Token → Result ReaderOf Cause
@@ -133,22 +120,25 @@ with_line version r (first ∷ second ∷ tokens) =
     then generator_line version r first tokens
     else named_line version r first (second ∷ tokens)
 
--- the header of a monoid or a semigroup, by the tokens behind its name
-abbrev pub outline_line : Version → Bool → List Token → Result ReaderOf Cause
-outline_line version is_monoid tokens = and_then (λ o. Ok (Relating o))
-    (outline_of (is_wide version) is_monoid tokens)
+-- generators or a presentation before the first pair, with the numbers of the header
+abbrev pub opened : ℕ × ℕ → Problem → ReaderOf
+opened sizes (Presented o) = Relating o
+opened sizes (Transf g) = Posing (draft.Transf (record { sizes = sizes; posed = g }))
+opened sizes (PPerm g) = Posing (draft.PPerm (record { sizes = sizes; posed = g }))
+opened sizes (BMat g) = Posing (draft.BMat (record { sizes = sizes; posed = g }))
+opened sizes (MaxPlus g) = Posing (draft.MaxPlus (record { sizes = sizes; posed = g }))
 
--- the header of generators
-abbrev pub draft_line : Line → Result ReaderOf Cause
-draft_line line = and_then (λ d. Ok (Posing d)) (header_of line)
+-- the same, perhaps with pairs, before the first query
+abbrev pub unasked : ℕ × ℕ → Problem → ReaderOf
+unasked sizes p = if length (pairs_of p) == 0 then opened sizes p else Pairing p
 
--- `monoid LETTERS`, `semigroup LETTERS`, or a header of generators
+-- what a header gives
+abbrev pub header_by : Option (Way Start) → List Token → Result ReaderOf Cause
+header_by named tokens = and_then (λ s. Ok (unasked s.0 s.1)) (started named tokens)
+
 abbrev pub header_line : Version → Line → Result ReaderOf Cause
 header_line version [] = Err UnknownHeader
-header_line version (name ∷ tokens) =
-    if is_word (codes "monoid") name then outline_line version true tokens
-    else if is_word (codes "semigroup") name then outline_line version false tokens
-    else draft_line (name ∷ tokens)
+header_line version (name ∷ tokens) = header_by (header_named (is_wide version) name) tokens
 
 -- what the lines so far have given: nothing, the version alone, or more
 pub data ProgressOf : Type 0 where

@@ -1,19 +1,24 @@
--- What tokens give in their places, and the query that they make; or why they give none.
-use Rattle.std.specs.Prelude.{ℕ, Bool, true, false, not, ◌==◌, List, [], ◌∷◌, length, codes, if◌then◌else◌, is_none, Option, Some, None, Result, Ok, Err}
+-- What tokens give in their places, and what lines make of them; or why they give nothing.
+use Rattle.std.specs.Prelude.{ℕ, ◌+◌, Bool, true, false, not, ◌&&◌, ◌==◌, nat_lt, List, [], ◌∷◌, length, codes, if◌then◌else◌, is_none, Option, Some, None, Result, Ok, Err}
 use Rattle.std.specs.Option.{ok_or, unwrap_or}
 use Rattle.theory.specs.Word.{Word}
 use Rattle.problem.specs.declared.kinds.Problem.{Problem}
-use Rattle.problem.specs.Problem.{allows_rules, has_empty_word, letters_of, pairs_of}
+use Rattle.problem.specs.Problem.{allows_rules, has_empty_word, kind_of, letters_of, pairs_of}
 use Rattle.query_lang.specs.declared.cause.Cause.{Cause}
-use Rattle.query_lang.specs.declared.cause.Cause.TheVariants.{WrongNumberOfWords, BadNumber, AfterExpected, UnknownRelation, QueryNotAllowed}
+use Rattle.query_lang.specs.declared.cause.Cause.TheVariants.{WrongNumberOfWords, BadNumber, AfterExpected, UnknownRelation, TooManyRelations, TooManyPairs, MixedKinds, QueryNotAllowed}
+use Rattle.query_lang.specs.declared.form.Form.{Form}
+use Rattle.query_lang.specs.declared.form.Form.TheVariants.{Relation, OfRole, Pair, Asks}
 use Rattle.query_lang.specs.declared.form.QueryForm.{QueryForm}
-use Rattle.query_lang.specs.declared.script.Query.{Query}
+use Rattle.query_lang.specs.declared.role.Role.{Role}
+use Rattle.query_lang.specs.declared.role.Role.TheVariants as role
 use Rattle.query_lang.specs.declared.version.Version.{Version}
-use Rattle.query_lang.specs.Forms.{Place, AWord, ALetter, ANumber, After, ALowTable, ACongruenceTable, ARelation, Given, AllGiven, Way, Pairs, AnyPairs, TwoSidedPairs, NoPairs, row_of}
+use Rattle.query_lang.specs.Forms.{Place, AWord, ALetter, ANumber, After, ALowTable, ACongruenceTable, ARelation, ALetters, Given, AllGiven, Way, Gives, Pairs, AnyPairs, TwoSidedPairs, NoPairs, row_of, ways_of}
 use Rattle.query_lang.specs.LineWords.{element_of}
 use Rattle.query_lang.specs.Outcome.{and_then}
-use Rattle.query_lang.specs.Relations.{relations_of}
-use Rattle.query_lang.specs.Roles.{letter_in}
+use Rattle.query_lang.specs.Outline.{alphabet_of}
+use Rattle.query_lang.specs.Pairing.{is_same_kind, most_pairs}
+use Rattle.query_lang.specs.Relations.{most_relations, relations_of}
+use Rattle.query_lang.specs.Roles.{count_for, count_for_both, letter_in}
 use Rattle.query_lang.specs.Tables.{congruence_table_of, low_table_of}
 use Rattle.query_lang.specs.Token.{Token, is_word, number_within, relation_of}
 
@@ -51,6 +56,7 @@ value_of s all ALowTable t =
 value_of s all ACongruenceTable t =
     congruence_table_of s.allow_empty (length s.letters) s.relations t
 value_of s all ARelation t = ok_or (relation_of t) UnknownRelation
+value_of s all (ALetters wide) t = alphabet_of wide t
 
 -- what the tokens give in these places, from the left
 abbrev pub values_of : Scope → List Token → (places : List Place) → List Token
@@ -69,19 +75,19 @@ as_many (x ∷ xs) [] = false
 as_many (x ∷ xs) (y ∷ ys) = as_many xs ys
 
 -- the way that has as many places as there are tokens
-abbrev pub way_for : List Token → List Way → Option Way
+abbrev pub way_for : {A : Type 0} → List Token → List (Way A) → Option (Way A)
 way_for tokens [] = None
 way_for tokens (way ∷ ways) =
     if as_many way.places tokens then Some way else way_for tokens ways
 
--- the query that is written this way
-abbrev pub query_by : Scope → List Token → Way → Result Query Cause
-query_by s tokens way =
+-- what is written this way
+abbrev pub made_by : {A : Type 0} → Scope → List Token → Way A → Result A Cause
+made_by s tokens way =
     and_then (λ vs. Ok (way.makes vs)) (values_of s tokens way.places tokens)
 
--- the query that is written in one of these ways
-abbrev pub query_in : Scope → List Way → List Token → Result Query Cause
-query_in s ways tokens = and_then (query_by s tokens)
+-- what is written in one of these ways
+abbrev pub made_in : {A : Type 0} → Scope → List (Way A) → List Token → Result A Cause
+made_in s ways tokens = and_then (made_by s tokens)
     (ok_or (way_for tokens ways) WrongNumberOfWords)
 
 -- how many classes tables may have, and how many tables are asked for
@@ -104,9 +110,52 @@ bars p NoPairs = not (length (pairs_of p) == 0)
 abbrev pub bars_query : Problem → QueryForm → Bool
 bars_query p form = bars p (row_of form).pairs
 
--- the query of this form, by the tokens behind its name
-abbrev pub query_of : Version → Problem → QueryForm → List Token → Result Query Cause
-query_of version p form tokens =
-    if not (takes form tokens) then Err WrongNumberOfWords
-    else if bars_query p form then Err QueryNotAllowed
-    else query_in (scope_of version p) (row_of form).ways tokens
+-- the ways to write a line of this form
+abbrev pub ways_in : Problem → (form : Form) → List (Way (Gives form))
+ways_in p form = ways_of (has_empty_word p) (length (letters_of p)) form
+
+-- whether there are as many tokens as stand behind the name of this form
+abbrev pub fits : Problem → Form → List Token → Bool
+fits p form tokens = not (is_none (way_for tokens (ways_in p form)))
+
+-- how many relations the role gives, by the texts of its letters
+abbrev pub count_by : List ℕ → Role → List Token → ℕ
+count_by letters role.Identity (t ∷ tokens) = count_for letters t
+count_by letters role.Zero (t ∷ tokens) = count_for letters t
+count_by letters role.Inverse (x ∷ y ∷ tokens) = count_for_both x y
+count_by letters role tokens = 0
+
+-- more than 4,096 relations with those of the line
+abbrev pub is_relation_too_many : Problem → Form → List Token → Bool
+is_relation_too_many p Relation tokens = length (relations_of p) == most_relations
+is_relation_too_many p (OfRole role) tokens = nat_lt most_relations
+    (length (relations_of p) + count_by (letters_of p) role tokens)
+is_relation_too_many p form tokens = false
+
+-- a 4,097th pair
+abbrev pub is_pair_too_many : Problem → Form → Bool
+is_pair_too_many p (Pair kind) = length (pairs_of p) == most_pairs
+is_pair_too_many p form = false
+
+-- a pair of another kind than the first pair
+abbrev pub mixes_kinds : Problem → Form → Bool
+mixes_kinds p (Pair kind) = not (length (pairs_of p) == 0)
+    && not (is_same_kind (kind_of p) kind)
+mixes_kinds p form = false
+
+-- the query is not there for these pairs
+abbrev pub is_barred : Problem → Form → Bool
+is_barred p (Asks query) = bars_query p query
+is_barred p form = false
+
+-- what a line of this form adds, by the tokens behind its name; or why it adds nothing, where it
+-- may stand
+abbrev pub added_of : Version → Problem → (form : Form) → List Token
+    → Result (Gives form) Cause
+added_of version p form tokens =
+    if not (fits p form tokens) then Err WrongNumberOfWords
+    else if is_relation_too_many p form tokens then Err TooManyRelations
+    else if is_pair_too_many p form then Err TooManyPairs
+    else if mixes_kinds p form then Err MixedKinds
+    else if is_barred p form then Err QueryNotAllowed
+    else made_in (scope_of version p) (ways_in p form) tokens

@@ -1,14 +1,16 @@
 // The header of a script.
-ghost use Rattle.std.specs.Prelude.{◌≡◌, ◌∷◌, IfOk, IfErr, None, Ok, Contains};
+ghost use Rattle.std.specs.Prelude.{◌≡◌, [], ◌∷◌, IfOk, IfErr, None, Some, Ok, Err, Contains};
 ghost use Rattle.words.specs.Alphabet.{IsAlphabetFault, alphabet_fault, marker};
 ghost use Rattle.query_lang.specs.Faults.{IsLineFault};
-ghost use Rattle.query_lang.specs.Header.{header_of, outline_of, size_of, sizes_of};
+ghost use Rattle.query_lang.specs.Forms.{ANumber};
+ghost use Rattle.query_lang.specs.Header.{free_way, generators_named, given_by};
+ghost use Rattle.query_lang.specs.Script.{header_by};
+ghost use Rattle.query_lang.specs.Script as said;
 ghost use Rattle.query_lang.specs.Texts.{texts};
 
 use crate::cause::Cause;
 use crate::draft::Draft;
 use crate::fault::LineFault;
-use crate::line_words::one_token;
 use crate::outline::Outline;
 use crate::tokens::{is_word, number_within};
 use std::alloc::Global;
@@ -16,7 +18,10 @@ use words::{Alphabet, AlphabetFault};
 
 // The degree or the dimension of a header, by the tokens behind its name.
 fn size_of(greatest: u32, tokens: &[&[u8]]) -> Result<u32, Cause>
-    ensures { result ≡ size_of greatest (texts tokens.now) }
+    ensures ok { IfOk result (λ size. given_by (ANumber 1 greatest ∷ []) (texts tokens.now)
+        ≡ Ok (size, tt)) }
+    ensures err { IfErr result (λ cause. given_by (ANumber 1 greatest ∷ []) (texts tokens.now)
+        ≡ Err cause) }
 {
     match tokens {
         [size] => number_within(1, greatest, size).ok_or(Cause::BadNumber),
@@ -26,7 +31,10 @@ fn size_of(greatest: u32, tokens: &[&[u8]]) -> Result<u32, Cause>
 
 // The dimension and the bound of a header, by the tokens behind its name.
 fn sizes_of(tokens: &[&[u8]]) -> Result<(u32, u32), Cause>
-    ensures { result ≡ sizes_of (texts tokens.now) }
+    ensures ok { IfOk result (λ sizes. given_by (ANumber 1 16 ∷ ANumber 0 65535 ∷ [])
+        (texts tokens.now) ≡ Ok (sizes.0, (sizes.1, tt))) }
+    ensures err { IfErr result (λ cause. given_by (ANumber 1 16 ∷ ANumber 0 65535 ∷ [])
+        (texts tokens.now) ≡ Err cause) }
 {
     match tokens {
         [dimension, bound] => {
@@ -61,18 +69,26 @@ pub fn outline_of(
     monoid: bool,
     tokens: &[&[u8]],
 ) -> Result<Outline, LineFault>
-    ensures ok { IfOk result (λ outline. outline_of wide monoid (texts tokens.now)
-        ≡ Ok outline) }
-    ensures err { IfErr result (IsLineFault (outline_of wide monoid (texts tokens.now))) }
+    ensures ok { IfOk result (λ outline. header_by (Some (free_way wide monoid))
+        (texts tokens.now) ≡ Ok (said.Relating outline)) }
+    ensures err { IfErr result (IsLineFault
+        (header_by (Some (free_way wide monoid)) (texts tokens.now))) }
 {
-    let letters = one_token(tokens)?;
-    let alphabet = alphabet_of(alloc, wide, letters)?;
-    Ok(Outline::new(alloc, alphabet, monoid))
+    match tokens {
+        [letters] => {
+            let alphabet = alphabet_of(alloc, wide, letters)?;
+            Ok(Outline::new(alloc, alphabet, monoid))
+        }
+        _ => Err(LineFault::refused(Cause::WrongNumberOfWords)),
+    }
 }
 
 /// What the header of generators gives, by its name and the tokens behind it: no generator yet.
 pub fn header_of(alloc: Global, name: &[u8], tokens: &[&[u8]]) -> Result<Draft, Cause>
-    ensures { result ≡ header_of (name.now ∷ texts tokens.now) }
+    ensures ok { IfOk result (λ draft. header_by (generators_named name.now) (texts tokens.now)
+        ≡ Ok (said.Posing draft)) }
+    ensures err { IfErr result (λ cause. header_by (generators_named name.now)
+        (texts tokens.now) ≡ Err cause) }
 {
     if is_word(b"trans", name) {
         Ok(Draft::transf(alloc, size_of(64, tokens)?))

@@ -1,20 +1,22 @@
 // Relations that lines give, one after another.
-ghost use Rattle.std.specs.Prelude.{◌≡◌, ◌≢◌, ◌<◌, ◌≤◌, ◌+◌, ℕ, List, IfOk, IfErr, IfSome, OnOk, true, None, Ok, length, Contains};
-ghost use Rattle.std.specs.Option.{option_copied};
+ghost use Rattle.std.specs.Prelude.{◌≡◌, ◌≢◌, ◌<◌, ◌≤◌, ◌+◌, ℕ, [], ◌∷◌, Option, IfOk, IfErr, OnOk, Ok, Err, length, Contains};
 ghost use Rattle.theory.specs.Word.{Word as Letters};
 ghost use Rattle.words.specs.Alphabet.{marker};
 ghost use Rattle.presentation.specs.Added.{identity_relations, zero_relations, inverse_relations, products_with};
 ghost use Rattle.query_lang.specs.Faults.{IsLineFault};
 ghost use Rattle.query_lang.specs.Relations.{IsSide, add_relation, add_relations, free_over, most_relations};
-ghost use Rattle.query_lang.specs.Roles.{AreInverses, is_too_many, letter_if, letter_in, with_inverse, with_one, with_role};
-ghost use Rattle.query_lang.specs.Outline.{sides_of, with_relation};
+ghost use Rattle.query_lang.specs.LineWords.{both_elements};
+ghost use Rattle.query_lang.specs.Roles.{AreInverses, both_letters, is_too_many, letter_in};
+ghost use Rattle.query_lang.specs.Outline.{related};
 ghost use Rattle.query_lang.specs.Pairing.{IsPairable};
 ghost use Rattle.query_lang.specs.Texts.{texts};
+ghost use Rattle.query_lang.specs.Values.{added_of};
 
 use crate::cause::Cause;
 use crate::fault::LineFault;
+use crate::form::Form;
 use crate::line_words::{both_elements, one_token, two_tokens};
-use crate::role::{Role, count_for, count_for_both, inverse_tokens};
+use crate::role::{Role, count_for, count_for_both};
 use crate::tokens::letter_of;
 use crate::version::Version;
 use ports::NoMemory;
@@ -64,11 +66,12 @@ impl Outline {
         left: &[u8],
         right: &[u8],
     ) -> Result<(Word, Word), LineFault>
-        ensures ok { IfOk result (λ sides. sides_of version self.now left.now right.now
-            ≡ Ok sides) }
+        ensures ok { IfOk result (λ sides. both_elements version self.now.alphabet
+            self.now.congruence.presentation.is_monoid left.now right.now ≡ Ok sides) }
         ensures left { IfOk result (λ sides. IsSide self.now sides.0) }
         ensures right { IfOk result (λ sides. IsSide self.now sides.1) }
-        ensures err { IfErr result (IsLineFault (sides_of version self.now left.now right.now)) }
+        ensures err { IfErr result (IsLineFault (both_elements version self.now.alphabet
+            self.now.congruence.presentation.is_monoid left.now right.now)) }
     {
         let alphabet = self.presentation.alphabet();
         let allow_empty = self.presentation.is_monoid();
@@ -97,14 +100,14 @@ impl Outline {
         version: Version,
         tokens: &[&[u8]],
     ) -> Result<(Word, Word), LineFault>
-        ensures ok { IfOk result (λ sides. with_relation version self.now (texts tokens.now)
-            ≡ Ok (add_relation self.now sides)) }
+        ensures ok { IfOk result (λ sides. added_of version (Problem.Presented self.now)
+            Form.Relation (texts tokens.now) ≡ Ok (sides ∷ [])) }
         ensures few { OnOk result
             (length self.now.congruence.presentation.relations ≢ most_relations) }
         ensures left { IfOk result (λ sides. IsSide self.now sides.0) }
         ensures right { IfOk result (λ sides. IsSide self.now sides.1) }
         ensures err { IfErr result (IsLineFault
-            (with_relation version self.now (texts tokens.now))) }
+            (added_of version (Problem.Presented self.now) Form.Relation (texts tokens.now))) }
     {
         let (left, right) = two_tokens(tokens)?;
         if self.presentation.relations().len() == MOST_RELATIONS {
@@ -121,8 +124,10 @@ impl Outline {
         version: Version,
         tokens: &[&[u8]],
     ) -> Result<Outline, LineFault>
-        ensures ok { IfOk result (λ next. with_relation version self (texts tokens.now) ≡ Ok next) }
-        ensures err { IfErr result (IsLineFault (with_relation version self (texts tokens.now))) }
+        ensures ok { IfOk result (λ next. related self (added_of version
+            (Problem.Presented self) Form.Relation (texts tokens.now)) ≡ Ok next) }
+        ensures err { IfErr result (IsLineFault (related self
+            (added_of version (Problem.Presented self) Form.Relation (texts tokens.now)))) }
     {
         let (left, right) = self.relation_of(alloc, version, tokens)?;
         Ok(self.add_relation(left, right)?)
@@ -193,15 +198,20 @@ impl Outline {
 
     // The letter that the tokens name, where its relations in a role are not too many.
     fn letter_for(&self, version: Version, tokens: &[&[u8]]) -> Result<Letter, LineFault>
-        ensures ok { (relations_with : ℕ → ℕ → List (Letters × Letters)) → IfOk result
-            (λ letter. with_one version self.now relations_with (texts tokens.now)
-            ≡ Ok (add_relations self.now (relations_with (length self.now.alphabet) letter))) }
+        ensures identity { IfOk result (λ letter. added_of version (Problem.Presented self.now)
+            (Form.OfRole Role.Identity) (texts tokens.now)
+            ≡ Ok (identity_relations (length self.now.alphabet) letter)) }
+        ensures zero { IfOk result (λ letter. added_of version (Problem.Presented self.now)
+            (Form.OfRole Role.Zero) (texts tokens.now)
+            ≡ Ok (zero_relations (length self.now.alphabet) letter)) }
         ensures within { IfOk result (λ letter. letter < length self.now.alphabet) }
         ensures few { (word : ℕ → Letters) → IfOk result
             (λ letter. length self.now.congruence.presentation.relations
             + length (products_with letter word (length self.now.alphabet)) ≤ most_relations) }
-        ensures err { (relations_with : ℕ → ℕ → List (Letters × Letters)) → IfErr result
-            (IsLineFault (with_one version self.now relations_with (texts tokens.now))) }
+        ensures no_identity { IfErr result (IsLineFault (added_of version
+            (Problem.Presented self.now) (Form.OfRole Role.Identity) (texts tokens.now))) }
+        ensures no_zero { IfErr result (IsLineFault (added_of version
+            (Problem.Presented self.now) (Form.OfRole Role.Zero) (texts tokens.now))) }
     {
         let token = one_token(tokens)?;
         if self.is_too_many(count_for(self.presentation.alphabet(), token)) {
@@ -212,10 +222,10 @@ impl Outline {
 
     // The letter that the tokens name, with the relations of an identity.
     fn with_identity(self, version: Version, tokens: &[&[u8]]) -> Result<Outline, LineFault>
-        ensures ok { IfOk result (λ next. with_one version self identity_relations
-            (texts tokens.now) ≡ Ok next) }
-        ensures err { IfErr result (IsLineFault
-            (with_one version self identity_relations (texts tokens.now))) }
+        ensures ok { IfOk result (λ next. related self (added_of version
+            (Problem.Presented self) (Form.OfRole Role.Identity) (texts tokens.now)) ≡ Ok next) }
+        ensures err { IfErr result (IsLineFault (related self (added_of version
+            (Problem.Presented self) (Form.OfRole Role.Identity) (texts tokens.now)))) }
     {
         let letter = self.letter_for(version, tokens)?;
         Ok(self.add_identity(letter)?)
@@ -223,75 +233,69 @@ impl Outline {
 
     // The letter that the tokens name, with the relations of a zero.
     fn with_zero(self, version: Version, tokens: &[&[u8]]) -> Result<Outline, LineFault>
-        ensures ok { IfOk result (λ next. with_one version self zero_relations
-            (texts tokens.now) ≡ Ok next) }
-        ensures err { IfErr result (IsLineFault
-            (with_one version self zero_relations (texts tokens.now))) }
+        ensures ok { IfOk result (λ next. related self (added_of version
+            (Problem.Presented self) (Form.OfRole Role.Zero) (texts tokens.now)) ≡ Ok next) }
+        ensures err { IfErr result (IsLineFault (related self (added_of version
+            (Problem.Presented self) (Form.OfRole Role.Zero) (texts tokens.now)))) }
     {
         let letter = self.letter_for(version, tokens)?;
         Ok(self.add_zero(letter)?)
     }
 
-    // The letter that the token is, if there is one.
-    fn letter_if(&self, version: Version, token: Option<&[u8]>) -> Result<Option<Letter>, Cause>
-        ensures letter { result ≡ letter_if version self.now.alphabet
-            (option_copied token.entry) }
-        ensures within { IfOk result (λ letter. IfSome letter
-            (λ e. e < length self.now.alphabet)) }
-    {
-        match token {
-            Some(token) => Ok(Some(self.letter(version, token)?)),
-            None => Ok(None),
-        }
-    }
-
-    // The letters that these tokens are, where their relations of inverses are not too many.
-    fn letters_for(
-        &self,
-        version: Version,
-        x: &[u8],
-        y: &[u8],
-        e: Option<&[u8]>,
-    ) -> Result<(Letter, Letter, Option<Letter>), LineFault>
-        requires { e ≡ None → self.now.congruence.presentation.is_monoid ≡ true }
-        ensures ok { IfOk result (λ t.
-            with_inverse version self.now (x.now, y.now, option_copied e.entry)
-            ≡ Ok (add_relations self.now (inverse_relations t.0 t.1 t.2))) }
-        ensures fit { IfOk result (λ t. AreInverses self.now t.0 t.1 t.2) }
-        ensures err { IfErr result (IsLineFault
-            (with_inverse version self.now (x.now, y.now, option_copied e.entry))) }
+    // Two letters, where the relations that make them inverse are not too many.
+    fn both_letters(&self, version: Version, x: &[u8], y: &[u8]) -> Result<(Letter, Letter), Cause>
+        ensures ok { IfOk result (λ both. both_letters version self.now x.now y.now ≡ Ok both) }
+        ensures left { IfOk result (λ both. both.0 < length self.now.alphabet) }
+        ensures right { IfOk result (λ both. both.1 < length self.now.alphabet) }
+        ensures few { (e : Option ℕ) → IfOk result
+            (λ both. length self.now.congruence.presentation.relations
+            + length (inverse_relations both.0 both.1 e) ≤ most_relations) }
+        ensures err { IfErr result (λ cause. both_letters version self.now x.now y.now
+            ≡ Err cause) }
     {
         if self.is_too_many(count_for_both(x, y)) {
-            return Err(LineFault::refused(Cause::TooManyRelations));
+            return Err(Cause::TooManyRelations);
         }
         let x = self.letter(version, x)?;
         let y = self.letter(version, y)?;
-        let e = self.letter_if(version, e)?;
-        Ok((x, y, e))
+        Ok((x, y))
     }
 
-    // The letters that the tokens name, where their relations of inverses are not too many.
+    // The letters that the tokens name, where the relations that make them inverse are not too
+    // many. In a semigroup the third one is the identity by which they are.
     fn inverse_letters(
         &self,
         version: Version,
         tokens: &[&[u8]],
-    ) -> Result<(Letter, Letter, Option<Letter>), LineFault>
-        ensures ok { IfOk result (λ t. with_role version self.now Role.Inverse (texts tokens.now)
-            ≡ Ok (add_relations self.now (inverse_relations t.0 t.1 t.2))) }
+    ) -> Result<(Letter, Letter, Option<Letter>), Cause>
+        ensures ok { IfOk result (λ t. added_of version (Problem.Presented self.now)
+            (Form.OfRole Role.Inverse) (texts tokens.now)
+            ≡ Ok (inverse_relations t.0 t.1 t.2)) }
         ensures fit { IfOk result (λ t. AreInverses self.now t.0 t.1 t.2) }
-        ensures err { IfErr result (IsLineFault
-            (with_role version self.now Role.Inverse (texts tokens.now))) }
+        ensures err { IfErr result (λ cause. added_of version (Problem.Presented self.now)
+            (Form.OfRole Role.Inverse) (texts tokens.now) ≡ Err cause) }
     {
-        let (x, y, e) = inverse_tokens(self.presentation.is_monoid(), tokens)?;
-        self.letters_for(version, x, y, e)
+        if self.presentation.is_monoid() {
+            let (first, second) = two_tokens(tokens)?;
+            let (x, y) = self.both_letters(version, first, second)?;
+            return Ok((x, y, None));
+        }
+        match tokens {
+            [x, y, e] => {
+                let (x, y) = self.both_letters(version, x, y)?;
+                let e = self.letter(version, e)?;
+                Ok((x, y, Some(e)))
+            }
+            _ => Err(Cause::WrongNumberOfWords),
+        }
     }
 
     // The letters that the tokens name, with the relations of inverses.
     fn with_inverse(self, version: Version, tokens: &[&[u8]]) -> Result<Outline, LineFault>
-        ensures ok { IfOk result (λ next. with_role version self Role.Inverse (texts tokens.now)
-            ≡ Ok next) }
-        ensures err { IfErr result (IsLineFault
-            (with_role version self Role.Inverse (texts tokens.now))) }
+        ensures ok { IfOk result (λ next. related self (added_of version
+            (Problem.Presented self) (Form.OfRole Role.Inverse) (texts tokens.now)) ≡ Ok next) }
+        ensures err { IfErr result (IsLineFault (related self (added_of version
+            (Problem.Presented self) (Form.OfRole Role.Inverse) (texts tokens.now)))) }
     {
         let (x, y, e) = self.inverse_letters(version, tokens)?;
         Ok(self.add_inverse(x, y, e)?)
@@ -305,10 +309,10 @@ impl Outline {
         role: Role,
         tokens: &[&[u8]],
     ) -> Result<Outline, LineFault>
-        ensures ok { IfOk result (λ next. with_role version self role (texts tokens.now)
-            ≡ Ok next) }
-        ensures err { IfErr result (IsLineFault
-            (with_role version self role (texts tokens.now))) }
+        ensures ok { IfOk result (λ next. related self (added_of version
+            (Problem.Presented self) (Form.OfRole role) (texts tokens.now)) ≡ Ok next) }
+        ensures err { IfErr result (IsLineFault (related self (added_of version
+            (Problem.Presented self) (Form.OfRole role) (texts tokens.now)))) }
     {
         match role {
             Role::Identity => self.with_identity(version, tokens),

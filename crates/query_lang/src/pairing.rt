@@ -3,11 +3,14 @@ ghost use Rattle.std.specs.Prelude.{◌≡◌, ◌≢◌, IfOk, IfErr, OnOk, Ok,
 ghost use Rattle.theory.specs.Word.{IsElement};
 ghost use Rattle.problem.specs.Problem.{IsPosable, has_empty_word, is_presented, letters_of, pairs_of, with_pair};
 ghost use Rattle.query_lang.specs.Faults.{IsLineFault};
-ghost use Rattle.query_lang.specs.Pairing.{IsPairable, add_pair, is_same_kind, most_pairs, sides_of, takes_kind};
+ghost use Rattle.query_lang.specs.LineWords.{both_elements};
+ghost use Rattle.query_lang.specs.Pairing.{IsPairable, is_same_kind, most_pairs, paired};
 ghost use Rattle.query_lang.specs.Texts.{texts};
+ghost use Rattle.query_lang.specs.Values.{added_of, mixes_kinds};
 
 use crate::cause::Cause;
 use crate::fault::LineFault;
+use crate::form::Form;
 use crate::line_words::{both_elements, two_tokens};
 use crate::version::Version;
 use ports::NoMemory;
@@ -68,24 +71,25 @@ impl Paired {
         left: &[u8],
         right: &[u8],
     ) -> Result<(Word, Word), LineFault>
-        ensures ok { IfOk result (λ sides. sides_of version self.now left.now right.now
-            ≡ Ok sides) }
+        ensures ok { IfOk result (λ sides. both_elements version (letters_of self.now)
+            (has_empty_word self.now) left.now right.now ≡ Ok sides) }
         ensures left { IfOk result (λ sides. IsElement
             (has_empty_word self.now) (length (letters_of self.now)) sides.0) }
         ensures right { IfOk result (λ sides. IsElement
             (has_empty_word self.now) (length (letters_of self.now)) sides.1) }
-        ensures err { IfErr result (IsLineFault (sides_of version self.now left.now right.now)) }
+        ensures err { IfErr result (IsLineFault (both_elements version (letters_of self.now)
+            (has_empty_word self.now) left.now right.now)) }
     {
         let alphabet = self.problem.alphabet();
         let allow_empty = self.problem.has_empty_word();
         both_elements(alloc, version, alphabet, allow_empty, left, right)
     }
 
-    // Whether a pair of this kind may come.
-    fn takes(&self, kind: Kind) -> bool
-        ensures { result ≡ takes_kind self.now kind }
+    // Whether a pair of this kind is of another kind than the first one.
+    fn mixes(&self, kind: Kind) -> bool
+        ensures { result ≡ mixes_kinds self.now (Form.Pair kind) }
     {
-        self.problem.pairs().is_empty() || is_same_kind(self.problem.kind(), kind)
+        !self.problem.pairs().is_empty() && !is_same_kind(self.problem.kind(), kind)
     }
 
     // The pair of these two elements behind the others.
@@ -108,21 +112,21 @@ impl Paired {
         kind: Kind,
         tokens: &[&[u8]],
     ) -> Result<(Word, Word), LineFault>
-        ensures ok { IfOk result (λ pair. add_pair version self.now kind (texts tokens.now)
-            ≡ Ok (with_pair self.now kind pair)) }
+        ensures ok { IfOk result (λ pair. added_of version self.now (Form.Pair kind)
+            (texts tokens.now) ≡ Ok pair) }
         ensures few { OnOk result (length (pairs_of self.now) ≢ most_pairs) }
         ensures left { IfOk result (λ pair. IsElement
             (has_empty_word self.now) (length (letters_of self.now)) pair.0) }
         ensures right { IfOk result (λ pair. IsElement
             (has_empty_word self.now) (length (letters_of self.now)) pair.1) }
         ensures err { IfErr result (IsLineFault
-            (add_pair version self.now kind (texts tokens.now))) }
+            (added_of version self.now (Form.Pair kind) (texts tokens.now))) }
     {
         let (left, right) = two_tokens(tokens)?;
         if self.problem.pairs().len() == MOST_PAIRS {
             return Err(LineFault::refused(Cause::TooManyPairs));
         }
-        if !self.takes(kind) {
+        if self.mixes(kind) {
             return Err(LineFault::refused(Cause::MixedKinds));
         }
         self.sides(alloc, version, left, right)
@@ -137,8 +141,10 @@ impl Paired {
         kind: Kind,
         tokens: &[&[u8]],
     ) -> Result<Paired, LineFault>
-        ensures ok { IfOk result (λ next. add_pair version self kind (texts tokens.now) ≡ Ok next) }
-        ensures err { IfErr result (IsLineFault (add_pair version self kind (texts tokens.now))) }
+        ensures ok { IfOk result (λ next. paired self kind (added_of version self
+            (Form.Pair kind) (texts tokens.now)) ≡ Ok next) }
+        ensures err { IfErr result (IsLineFault (paired self kind
+            (added_of version self (Form.Pair kind) (texts tokens.now)))) }
     {
         match self.pair_of(alloc, version, kind, tokens) {
             Ok((left, right)) => Ok(self.with_sides(kind, left, right)?),

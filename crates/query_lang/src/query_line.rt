@@ -11,7 +11,7 @@ ghost use Rattle.query_lang.specs.LineWords.{one_relation};
 ghost use Rattle.query_lang.specs.Query.{AreLimits, IsQueryOver, form_of};
 ghost use Rattle.query_lang.specs.Texts.{texts};
 ghost use Rattle.query_lang.specs.Token.{number_within};
-ghost use Rattle.query_lang.specs.Values.{bars_query, limits_of, query_in, scope, takes};
+ghost use Rattle.query_lang.specs.Values.{bars_query, limits_of, made_in, scope, takes};
 
 use crate::cause::Cause;
 use crate::fault::LineFault;
@@ -86,13 +86,13 @@ fn page_after(
     token: &[u8],
 ) -> Result<Query, LineFault>
     ensures ok { (relations : List (Letters × Letters)) → IfOk result
-        (λ query. query_in (scope version alphabet.now allow_empty relations)
+        (λ query. made_in (scope version alphabet.now allow_empty relations)
         (row_of asks.Classes).ways (count.now ∷ after.now ∷ token.now ∷ []) ≡ Ok query) }
     ensures over { (relations : List (Letters × Letters)) → IfOk result
         (IsQueryOver allow_empty (length alphabet.now) relations) }
     ensures form { IfOk result (λ query. form_of query ≡ asks.Classes) }
     ensures err { (relations : List (Letters × Letters)) → IfErr result
-        (IsLineFault (query_in (scope version alphabet.now allow_empty relations)
+        (IsLineFault (made_in (scope version alphabet.now allow_empty relations)
         (row_of asks.Classes).ways (count.now ∷ after.now ∷ token.now ∷ []))) }
 {
     let count = count_of(count)?;
@@ -115,13 +115,13 @@ fn page_of(
     tokens: &[&[u8]],
 ) -> Result<Query, LineFault>
     ensures ok { (relations : List (Letters × Letters)) → IfOk result
-        (λ query. query_in (scope version alphabet.now allow_empty relations)
+        (λ query. made_in (scope version alphabet.now allow_empty relations)
         (row_of asks.Classes).ways (texts tokens.now) ≡ Ok query) }
     ensures over { (relations : List (Letters × Letters)) → IfOk result
         (IsQueryOver allow_empty (length alphabet.now) relations) }
     ensures form { IfOk result (λ query. form_of query ≡ asks.Classes) }
     ensures err { (relations : List (Letters × Letters)) → IfErr result
-        (IsLineFault (query_in (scope version alphabet.now allow_empty relations)
+        (IsLineFault (made_in (scope version alphabet.now allow_empty relations)
         (row_of asks.Classes).ways (texts tokens.now))) }
 {
     match tokens {
@@ -158,14 +158,14 @@ fn search_after(
     token: &[u8],
 ) -> Result<Query, LineFault>
     ensures ok { (version : VersionOf) (relations : List (Letters × Letters)) → IfOk result
-        (λ query. query_in (scope version alphabet.now is_monoid relations)
+        (λ query. made_in (scope version alphabet.now is_monoid relations)
         (row_of (asks.LowIndex two_sided)).ways
         (classes.now ∷ count.now ∷ after.now ∷ token.now ∷ []) ≡ Ok query) }
     ensures over { (relations : List (Letters × Letters)) → IfOk result
         (IsQueryOver is_monoid (length alphabet.now) relations) }
     ensures form { IfOk result (λ query. form_of query ≡ asks.LowIndex two_sided) }
     ensures err { (version : VersionOf) (relations : List (Letters × Letters)) → IfErr result
-        (IsLineFault (query_in (scope version alphabet.now is_monoid relations)
+        (IsLineFault (made_in (scope version alphabet.now is_monoid relations)
         (row_of (asks.LowIndex two_sided)).ways
         (classes.now ∷ count.now ∷ after.now ∷ token.now ∷ []))) }
 {
@@ -191,13 +191,13 @@ fn search_of(
     tokens: &[&[u8]],
 ) -> Result<Query, LineFault>
     ensures ok { (version : VersionOf) (relations : List (Letters × Letters)) → IfOk result
-        (λ query. query_in (scope version alphabet.now is_monoid relations)
+        (λ query. made_in (scope version alphabet.now is_monoid relations)
         (row_of (asks.LowIndex two_sided)).ways (texts tokens.now) ≡ Ok query) }
     ensures over { (relations : List (Letters × Letters)) → IfOk result
         (IsQueryOver is_monoid (length alphabet.now) relations) }
     ensures form { IfOk result (λ query. form_of query ≡ asks.LowIndex two_sided) }
     ensures err { (version : VersionOf) (relations : List (Letters × Letters)) → IfErr result
-        (IsLineFault (query_in (scope version alphabet.now is_monoid relations)
+        (IsLineFault (made_in (scope version alphabet.now is_monoid relations)
         (row_of (asks.LowIndex two_sided)).ways (texts tokens.now))) }
 {
     match tokens {
@@ -238,12 +238,12 @@ pub fn query_of(
 ) -> Result<Query, LineFault>
     requires { takes form (texts tokens.now) ≡ true }
     ensures ok { IfOk result (λ query.
-        query_in (scope version alphabet.now allow_empty relations.now) (row_of form).ways
+        made_in (scope version alphabet.now allow_empty relations.now) (row_of form).ways
         (texts tokens.now) ≡ Ok query) }
     ensures over { IfOk result (IsQueryOver allow_empty (length alphabet.now) relations.now) }
     ensures form { IfOk result (λ query. form_of query ≡ form) }
     ensures err { IfErr result (IsLineFault
-        (query_in (scope version alphabet.now allow_empty relations.now) (row_of form).ways
+        (made_in (scope version alphabet.now allow_empty relations.now) (row_of form).ways
         (texts tokens.now))) }
 {
     let letters = alphabet.len();

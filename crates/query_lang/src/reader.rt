@@ -1,12 +1,14 @@
 // What the lines of a script give, one after another.
-ghost use Rattle.std.specs.Prelude.{◌≡◌, [], ◌∷◌, true, not, ◌&&◌, codes, IfOk, IfErr, Ok};
+ghost use Rattle.std.specs.Prelude.{◌≡◌, [], ◌∷◌, true, not, ◌&&◌, codes, IfOk, IfErr, Some, Ok};
 ghost use Rattle.query_lang.specs.Faults.{IsLineFault};
 ghost use Rattle.query_lang.specs.Generators.{problem_of};
 ghost use Rattle.query_lang.specs.Forms.{has_form, has_query};
-ghost use Rattle.query_lang.specs.Script.{draft_line, draft_so_far, finished, first_line, form_line, generator_line, header_line, is_presentation, named_line, outline_line, outline_so_far, pair_line, paired_so_far, query_line, read_line, relation_line, role_line, take_line, take_tokens, whole_of, with_line};
+ghost use Rattle.query_lang.specs.Header.{free_way, generators_named};
+ghost use Rattle.query_lang.specs.Script.{draft_so_far, finished, first_line, form_line, generator_line, header_by, header_line, is_presentation, named_line, outline_so_far, paired_so_far, read_line, take_line, take_tokens, whole_of, with_line};
 ghost use Rattle.query_lang.specs.Script as said;
 ghost use Rattle.query_lang.specs.Texts.{texts};
 ghost use Rattle.query_lang.specs.Token.{is_word};
+ghost use Rattle.query_lang.specs.Versions.{is_wide};
 
 use crate::cause::Cause;
 use crate::draft::Draft;
@@ -210,17 +212,20 @@ impl Reader {
         version: Version,
         tokens: &[&[u8]],
     ) -> Result<Reader, LineFault>
-        ensures ok { IfOk result (λ next. relation_line version self (texts tokens.now) ≡ Ok next) }
-        ensures err { IfErr result (IsLineFault (relation_line version self (texts tokens.now))) }
+        ensures ok { IfOk result (λ next. form_line version self Form.Relation (texts tokens.now)
+            ≡ Ok next) }
+        ensures err { IfErr result (IsLineFault
+            (form_line version self Form.Relation (texts tokens.now))) }
     {
         let outline = self.into_outline()?;
         Ok(relating(outline.with_relation(alloc, version, tokens)?))
     }
 
     fn add_role(self, version: Version, role: Role, tokens: &[&[u8]]) -> Result<Reader, LineFault>
-        ensures ok { IfOk result (λ next. role_line version self role (texts tokens.now)
-            ≡ Ok next) }
-        ensures err { IfErr result (IsLineFault (role_line version self role (texts tokens.now))) }
+        ensures ok { IfOk result (λ next. form_line version self (Form.OfRole role)
+            (texts tokens.now) ≡ Ok next) }
+        ensures err { IfErr result (IsLineFault
+            (form_line version self (Form.OfRole role) (texts tokens.now))) }
     {
         let outline = self.into_outline()?;
         Ok(relating(outline.with_role(version, role, tokens)?))
@@ -249,9 +254,10 @@ impl Reader {
         kind: Kind,
         tokens: &[&[u8]],
     ) -> Result<Reader, LineFault>
-        ensures ok { IfOk result (λ next. pair_line version self kind (texts tokens.now)
-            ≡ Ok next) }
-        ensures err { IfErr result (IsLineFault (pair_line version self kind (texts tokens.now))) }
+        ensures ok { IfOk result (λ next. form_line version self (Form.Pair kind)
+            (texts tokens.now) ≡ Ok next) }
+        ensures err { IfErr result (IsLineFault
+            (form_line version self (Form.Pair kind) (texts tokens.now))) }
     {
         let paired = self.into_paired(alloc)?;
         Ok(pairing(paired.with_pair(alloc, version, kind, tokens)?))
@@ -266,10 +272,10 @@ impl Reader {
         tokens: &[&[u8]],
     ) -> Result<Reader, LineFault>
         requires { has_query (is_presentation self) form ≡ true }
-        ensures ok { IfOk result (λ next. query_line version self form (texts tokens.now)
-            ≡ Ok next) }
+        ensures ok { IfOk result (λ next. form_line version self (Form.Asks form)
+            (texts tokens.now) ≡ Ok next) }
         ensures err { IfErr result (IsLineFault
-            (query_line version self form (texts tokens.now))) }
+            (form_line version self (Form.Asks form) (texts tokens.now))) }
     {
         let script = self.finish(alloc)?;
         Ok(asking(script.with_query(alloc, version, form, tokens)?))
@@ -345,16 +351,20 @@ fn outline_line(
     monoid: bool,
     tokens: &[&[u8]],
 ) -> Result<Reader, LineFault>
-    ensures ok { IfOk result (λ next. outline_line version monoid (texts tokens.now) ≡ Ok next) }
-    ensures err { IfErr result (IsLineFault (outline_line version monoid (texts tokens.now))) }
+    ensures ok { IfOk result (λ next. header_by (Some (free_way (is_wide version) monoid))
+        (texts tokens.now) ≡ Ok next) }
+    ensures err { IfErr result (IsLineFault
+        (header_by (Some (free_way (is_wide version) monoid)) (texts tokens.now))) }
 {
     Ok(relating(outline_of(alloc, version.is_wide(), monoid, tokens)?))
 }
 
 // The header of generators, by its name and the tokens behind it.
 fn draft_line(alloc: Global, name: &[u8], tokens: &[&[u8]]) -> Result<Reader, LineFault>
-    ensures ok { IfOk result (λ next. draft_line (name.now ∷ texts tokens.now) ≡ Ok next) }
-    ensures err { IfErr result (IsLineFault (draft_line (name.now ∷ texts tokens.now))) }
+    ensures ok { IfOk result (λ next. header_by (generators_named name.now)
+        (texts tokens.now) ≡ Ok next) }
+    ensures err { IfErr result (IsLineFault
+        (header_by (generators_named name.now) (texts tokens.now))) }
 {
     Ok(posing(header_of(alloc, name, tokens)?))
 }

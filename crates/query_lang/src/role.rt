@@ -1,10 +1,7 @@
 // Lines that give letters a role.
-ghost use Rattle.std.specs.Prelude.{◌≡◌, ◌≤◌, IfOk, IfErr, true, None, Ok, Err};
-ghost use Rattle.std.specs.Option.{option_copied};
-ghost use Rattle.query_lang.specs.Roles.{count_for, count_for_both, inverse_tokens, place_named};
-ghost use Rattle.query_lang.specs.Texts.{texts};
+ghost use Rattle.std.specs.Prelude.{◌≡◌, ◌≤◌};
+ghost use Rattle.query_lang.specs.Roles.{count_for, count_for_both, place_named};
 
-use crate::cause::Cause;
 use crate::tokens::is_word;
 use words::{Alphabet, Letter};
 
@@ -45,21 +42,4 @@ pub fn count_for_both(x: &[u8], y: &[u8]) -> usize
     ensures few { result ≤ 2 }
 {
     if is_word(x, y) { 1 } else { 2 }
-}
-
-/// The tokens of inverses: in a semigroup the third one is the identity.
-pub fn inverse_tokens<'a>(
-    monoid: bool,
-    tokens: &[&'a [u8]],
-) -> Result<(&'a [u8], &'a [u8], Option<&'a [u8]>), Cause>
-    ensures ok { IfOk result (λ t. inverse_tokens monoid (texts tokens.now)
-        ≡ Ok (t.0.now, t.1.now, option_copied t.2)) }
-    ensures unit { IfOk result (λ t. t.2 ≡ None → monoid ≡ true) }
-    ensures err { IfErr result (λ cause. inverse_tokens monoid (texts tokens.now) ≡ Err cause) }
-{
-    match (monoid, tokens) {
-        (true, [x, y]) => Ok((x, y, None)),
-        (false, [x, y, e]) => Ok((x, y, Some(e))),
-        _ => Err(Cause::WrongNumberOfWords),
-    }
 }

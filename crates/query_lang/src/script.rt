@@ -9,10 +9,11 @@ ghost use Rattle.query_lang.specs.Forms.{has_query};
 ghost use Rattle.query_lang.specs.Relations.{relations_of};
 ghost use Rattle.query_lang.specs.Script.{asked, with_asked};
 ghost use Rattle.query_lang.specs.Texts.{texts};
+ghost use Rattle.query_lang.specs.Values.{added_of};
 
 use crate::cause::Cause;
 use crate::fault::{LineFault, ScriptFault};
-use crate::form::QueryForm;
+use crate::form::{Form, QueryForm};
 use crate::query_line::query_of;
 use crate::reader::Progress;
 use crate::version::Version;
@@ -126,10 +127,11 @@ impl Script {
         tokens: &[&[u8]],
     ) -> Result<Query, LineFault>
         requires { has_query (is_presented self.now.problem) form ≡ true }
-        ensures ok { IfOk result (λ query. asked version self.now form (texts tokens.now)
-            ≡ Ok (with_asked self.now query)) }
+        ensures ok { IfOk result (λ query. added_of version self.now.problem (Form.Asks form)
+            (texts tokens.now) ≡ Ok query) }
         ensures own { IfOk result (IsQueryOf self.now.problem) }
-        ensures err { IfErr result (IsLineFault (asked version self.now form (texts tokens.now))) }
+        ensures err { IfErr result (IsLineFault
+            (added_of version self.now.problem (Form.Asks form) (texts tokens.now))) }
     {
         if !form.takes(tokens) {
             return Err(LineFault::refused(Cause::WrongNumberOfWords));

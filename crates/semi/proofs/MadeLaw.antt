@@ -1,5 +1,5 @@
 -- The made script is a script.
-use Rattle.std.proofs.Common.{◌≡◌, ◌∙◌, ℕ, zero, suc, ◌≤◌, ◌==◌, Bool, true, false, not, cond, List, [], ◌∷◌, ◌++◌, length, replicate, take, map, None, Ok, codes, if◌then◌else◌, refl, sym, ap, subst, arith, append-nil}
+use Rattle.std.proofs.Common.{◌≡◌, ◌∙◌, ℕ, zero, suc, ◌≤◌, ◌==◌, Bool, true, false, not, cond, List, [], ◌∷◌, ◌++◌, length, replicate, take, map, Some, None, Result, Ok, codes, if◌then◌else◌, refl, sym, ap, subst, arith, append-nil, ne_eqb}
 use Rattle.std.specs.Prelude.{filter, slice_index}
 use Rattle.std.specs.List.{onto_first, slice_split}
 use Rattle.std.proofs.lemmas.Bool.Decides.{nat_tests}
@@ -11,17 +11,24 @@ use Rattle.words.proofs.Symbols.{letters_alphabet}
 use Rattle.words.proofs.TextLaws.{prints_back}
 use Rattle.presentation.specs.Presented.{Posed}
 use Rattle.problem.specs.declared.kinds.Problem.TheVariants.{Presented}
+use Rattle.problem.specs.Problem.{is_presented}
+use Rattle.query_lang.specs.declared.cause.Cause.{Cause}
+use Rattle.query_lang.specs.declared.form.Form.TheVariants.{Relation, Asks}
+use Rattle.query_lang.specs.declared.form.QueryForm.{QueryForm}
 use Rattle.query_lang.specs.declared.form.QueryForm.TheVariants as query_form
 use Rattle.query_lang.specs.declared.script.Query.{Query}
 use Rattle.query_lang.specs.declared.script.Query.TheVariants as ask
 use Rattle.query_lang.specs.declared.version.Version.TheVariants.{One}
 use Rattle.query_lang.specs.Asked.{ScriptOf}
-use Rattle.query_lang.specs.Forms.{ANumber, AWord, way}
+use Rattle.query_lang.specs.Forms.{ANumber, AWord, AllGiven, Way, form_named, row_of, way}
 use Rattle.query_lang.specs.Grammar as grammar
-use Rattle.query_lang.specs.Grammar.{Begun, IsQuery, Nothing, Partial, Reads, Step, begin_with, lines_of, script_in}
-use Rattle.query_lang.specs.LineWords.{with_cause}
+use Rattle.query_lang.specs.Grammar.{Begun, HeaderReads, IsOfForm, Nothing, Partial, Reads, Step, begin_with, lines_of, script_in}
+use Rattle.query_lang.specs.Header.{free_way}
+use Rattle.query_lang.specs.LineWords.{element_of, with_cause}
+use Rattle.query_lang.specs.Outcome.{and_then}
 use Rattle.query_lang.specs.Relations.{add_relation, free_over}
-use Rattle.query_lang.specs.Token.{Line, cut_lines, is_blank, tokens_of}
+use Rattle.query_lang.specs.Token.{Line, Token, cut_lines, is_blank, tokens_of}
+use Rattle.query_lang.specs.Values.{is_barred, scope_of, values_of, way_for}
 use Rattle.semi.specs.Limits.{most_bytes}
 use Rattle.semi.specs.Made.{made_script}
 use Rattle.semi.specs.Report.{IsScript}
@@ -92,6 +99,19 @@ word_power (suc k) least most =
 abbrev begun : Partial
 begun = begin_with One (0, 0) (Presented (free_over true (codes "ab")))
 
+header_read : HeaderReads One (codes "monoid" ∷ codes "ab" ∷ []) begun
+header_read = record {
+  name = codes "monoid";
+  tokens = codes "ab" ∷ [];
+  way = free_way false true;
+  given = (codes "ab", tt);
+  is = refl;
+  named = refl;
+  written = refl;
+  read = refl;
+  made = refl;
+}
+
 -- one relation more
 abbrev related : Posed → Word → Posed
 related o u = add_relation o (u, [])
@@ -107,9 +127,26 @@ relation_line : (o : Posed) (U : List ℕ) (u : Word) → o.alphabet ≡ codes "
     → length o.congruence.presentation.relations ≤ 2 → word_of (codes "ab") true U ≡ Ok u
     → Step (Begun (said_of o [])) (codes "rel" ∷ U ∷ codes "1" ∷ []) (Begun (said_of (related o u) []))
 relation_line o U u letters is_monoid no_pairs few reads =
+    let first : element_of One o.alphabet o.congruence.presentation.is_monoid U ≡ Ok u = rw (letters, is_monoid) (ap with_cause reads) in
+    let second : element_of One o.alphabet o.congruence.presentation.is_monoid (codes "1") ≡ Ok [] = rw is_monoid refl in
     grammar.further refl
-    (grammar.relation {U = U} {V = codes "1"} {u = u} {v = []} {o = o} refl refl (reached o.congruence.pairs no_pairs) (λ e. absurd (omega arith))
-    (rw (letters, is_monoid) (ap with_cause reads)) (rw is_monoid refl))
+    (grammar.of_form {form = Relation} {added = (u, []) ∷ []} refl refl (reached o.congruence.pairs no_pairs)
+    (record {
+      name = codes "rel";
+      tokens = U ∷ codes "1" ∷ [];
+      way = way (AWord ∷ AWord ∷ []) (λ v. (v.0, v.1.0) ∷ []);
+      given = (u, ([], tt));
+      is = refl;
+      named = refl;
+      few_relations = ne_eqb (length o.congruence.presentation.relations) 4096 (λ e. absurd (omega arith));
+      few_pairs = refl;
+      one_kind = refl;
+      allowed = refl;
+      written = refl;
+      read = ap (λ (r : Result Word Cause). and_then (λ v. and_then (λ vs. Ok (v, vs)) (and_then (λ v. Ok (v, tt)) (element_of One o.alphabet o.congruence.presentation.is_monoid (codes "1")))) r) first
+          ∙ ap (λ (r : Result Word Cause). and_then (λ vs. Ok (u, vs)) (and_then (λ v. Ok (v, tt)) r)) second;
+      made = refl;
+    }))
   where
     reached : {A : Type 0} (pairs : List A) → pairs ≡ [] → (if length pairs == 0 then 2 else 3) ≤ 2
     reached [] e = omega arith
@@ -118,79 +155,52 @@ relation_line o U u letters is_monoid no_pairs few reads =
 abbrev asked : ℕ → List Query
 asked n = take n (ask.Index ∷ ask.Equal (0 ∷ 1 ∷ []) (1 ∷ 0 ∷ []) ∷ ask.Normal (0 ∷ 1 ∷ 0 ∷ []) ∷ ask.Classes 3 None ∷ [])
 
+-- a query that the tokens give
+asks : (p : Partial) (form : QueryForm) (name : Token) (tokens : List Token) (w : Way Query) (given : AllGiven w.places) → form_named p.head.version (is_presented p.problem) name ≡ Some (Asks form)
+    → is_barred p.problem (Asks form) ≡ false → way_for tokens (row_of form).ways ≡ Some w → values_of (scope_of p.head.version p.problem) tokens w.places tokens ≡ Ok given
+    → IsOfForm p (name ∷ tokens) (Asks form) (w.makes given)
+asks p form name tokens w given named allowed written read = record {
+  name = name;
+  tokens = tokens;
+  way = w;
+  given = given;
+  is = refl;
+  named = named;
+  few_relations = refl;
+  few_pairs = refl;
+  one_kind = refl;
+  allowed = allowed;
+  written = written;
+  read = read;
+  made = refl;
+}
+
 -- the queries
 queries_read : (k : ℕ) → Reads (Begun (said_of (posed k) [])) (map tokens_of (cut_lines (codes "index\nequal ab ba\nnormal aba\nclasses 3\n"))) (Begun (said_of (posed k) (asked 4)))
 queries_read k =
-    grammar.more {t = Begun (said_of (posed k) (asked 1))} (grammar.further refl (grammar.query {q = ask.Index} refl refl index_read))
-    (grammar.more {t = Begun (said_of (posed k) (asked 2))} (grammar.further refl (grammar.query {q = ask.Equal (0 ∷ 1 ∷ []) (1 ∷ 0 ∷ [])} refl refl equal_read))
-    (grammar.more {t = Begun (said_of (posed k) (asked 3))} (grammar.further refl (grammar.query {q = ask.Normal (0 ∷ 1 ∷ 0 ∷ [])} refl refl normal_read))
-    (grammar.more {t = Begun (said_of (posed k) (asked 4))} (grammar.further refl (grammar.query {q = ask.Classes 3 None} refl refl classes_read))
+    grammar.more {t = Begun (said_of (posed k) (asked 1))} (grammar.further refl (grammar.of_form {form = Asks query_form.Index} {added = ask.Index} refl refl (omega arith) index_read))
+    (grammar.more {t = Begun (said_of (posed k) (asked 2))} (grammar.further refl (grammar.of_form {form = Asks query_form.Equal} {added = ask.Equal (0 ∷ 1 ∷ []) (1 ∷ 0 ∷ [])} refl refl (omega arith) equal_read))
+    (grammar.more {t = Begun (said_of (posed k) (asked 3))} (grammar.further refl (grammar.of_form {form = Asks query_form.Normal} {added = ask.Normal (0 ∷ 1 ∷ 0 ∷ [])} refl refl (omega arith) normal_read))
+    (grammar.more {t = Begun (said_of (posed k) (asked 4))} (grammar.further refl (grammar.of_form {form = Asks query_form.Classes} {added = ask.Classes 3 None} refl refl (omega arith) classes_read))
     (grammar.more (grammar.skipped refl) grammar.none))))
   where
-    index_read : IsQuery (said_of (posed k) []) (codes "index" ∷ []) ask.Index
-    index_read = record {
-      form = query_form.Index;
-      name = codes "index";
-      tokens = [];
-      way = way [] (λ v. ask.Index);
-      given = tt;
-      is = refl;
-      named = refl;
-      allowed = refl;
-      written = refl;
-      read = refl;
-      made = refl;
-    }
+    index_read : IsOfForm (said_of (posed k) []) (codes "index" ∷ []) (Asks query_form.Index) ask.Index
+    index_read = asks _ query_form.Index (codes "index") [] (way [] (λ v. ask.Index)) tt refl refl refl refl
 
-    equal_read : IsQuery (said_of (posed k) (asked 1)) (codes "equal" ∷ codes "ab" ∷ codes "ba" ∷ []) (ask.Equal (0 ∷ 1 ∷ []) (1 ∷ 0 ∷ []))
-    equal_read = record {
-      form = query_form.Equal;
-      name = codes "equal";
-      tokens = codes "ab" ∷ codes "ba" ∷ [];
-      way = way (AWord ∷ AWord ∷ []) (λ v. ask.Equal v.0 v.1.0);
-      given = (0 ∷ 1 ∷ [], (1 ∷ 0 ∷ [], tt));
-      is = refl;
-      named = refl;
-      allowed = refl;
-      written = refl;
-      read = refl;
-      made = refl;
-    }
+    equal_read : IsOfForm (said_of (posed k) (asked 1)) (codes "equal" ∷ codes "ab" ∷ codes "ba" ∷ []) (Asks query_form.Equal) (ask.Equal (0 ∷ 1 ∷ []) (1 ∷ 0 ∷ []))
+    equal_read =
+        asks _ query_form.Equal (codes "equal") (codes "ab" ∷ codes "ba" ∷ []) (way (AWord ∷ AWord ∷ []) (λ v. ask.Equal v.0 v.1.0)) (0 ∷ 1 ∷ [], (1 ∷ 0 ∷ [], tt)) refl refl refl refl
 
-    normal_read : IsQuery (said_of (posed k) (asked 2)) (codes "normal" ∷ codes "aba" ∷ []) (ask.Normal (0 ∷ 1 ∷ 0 ∷ []))
-    normal_read = record {
-      form = query_form.Normal;
-      name = codes "normal";
-      tokens = codes "aba" ∷ [];
-      way = way (AWord ∷ []) (λ v. ask.Normal v.0);
-      given = (0 ∷ 1 ∷ 0 ∷ [], tt);
-      is = refl;
-      named = refl;
-      allowed = refl;
-      written = refl;
-      read = refl;
-      made = refl;
-    }
+    normal_read : IsOfForm (said_of (posed k) (asked 2)) (codes "normal" ∷ codes "aba" ∷ []) (Asks query_form.Normal) (ask.Normal (0 ∷ 1 ∷ 0 ∷ []))
+    normal_read = asks _ query_form.Normal (codes "normal") (codes "aba" ∷ []) (way (AWord ∷ []) (λ v. ask.Normal v.0)) (0 ∷ 1 ∷ 0 ∷ [], tt) refl refl refl refl
 
-    classes_read : IsQuery (said_of (posed k) (asked 3)) (codes "classes" ∷ codes "3" ∷ []) (ask.Classes 3 None)
-    classes_read = record {
-      form = query_form.Classes;
-      name = codes "classes";
-      tokens = codes "3" ∷ [];
-      way = way (ANumber 0 1000000 ∷ []) (λ v. ask.Classes v.0 None);
-      given = (3, tt);
-      is = refl;
-      named = refl;
-      allowed = refl;
-      written = refl;
-      read = refl;
-      made = refl;
-    }
+    classes_read : IsOfForm (said_of (posed k) (asked 3)) (codes "classes" ∷ codes "3" ∷ []) (Asks query_form.Classes) (ask.Classes 3 None)
+    classes_read = asks _ query_form.Classes (codes "classes") (codes "3" ∷ []) (way (ANumber 0 1000000 ∷ []) (λ v. ask.Classes v.0 None)) (3, tt) refl refl refl refl
 
 lines_read : (k : ℕ) → 1 ≤ k → k ≤ 200 → Reads Nothing (lines_of (made_script k)) (Begun (said_of (posed k) (asked 4)))
 lines_read k least most =
     subst (λ (lines : List Line). Reads Nothing lines (Begun (said_of (posed k) (asked 4)))) (sym (lines_made k least))
-    (grammar.more (grammar.header refl (grammar.monoid {L = codes "ab"} refl refl))
+    (grammar.more (grammar.header refl header_read)
     (grammar.more (relation_line (free_over true (codes "ab")) (codes "aa") (0 ∷ 0 ∷ []) refl refl refl (omega arith) refl)
     (grammar.more (relation_line (related (free_over true (codes "ab")) (0 ∷ 0 ∷ [])) (replicate k 98) (replicate k 1) refl refl refl (omega arith) (word_power k least most))
     (grammar.more (relation_line (related (related (free_over true (codes "ab")) (0 ∷ 0 ∷ [])) (replicate k 1)) (codes "abab") (0 ∷ 1 ∷ 0 ∷ 1 ∷ []) refl refl refl (omega arith) refl)

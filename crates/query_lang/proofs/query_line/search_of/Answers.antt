@@ -2,7 +2,7 @@ use Rattle.std.proofs.Common.{◌≡◌, IfErr, IfOk, List, ℕ, Ok, arith, subs
 use Rattle.query_lang.specs.declared.form.QueryForm.TheVariants as asks
 use Rattle.query_lang.specs.Faults.{IsLineFault}
 use Rattle.query_lang.specs.Forms.{row_of}
-use Rattle.query_lang.specs.Values.{query_in, scope}
+use Rattle.query_lang.specs.Values.{made_in, scope}
 use Rattle.query_lang.proofs.KindLemmas.{handed_on}
 use Rattle.query_lang.proofs.QueryLemmas.{four_texts, limits_refused}
 use Rattle.query_lang.proofs.query_line.search_of.Goals as goal
@@ -14,10 +14,10 @@ returns-in_err-classes-in-len2-clause-err c version relations =
 
 pub returns-in-len4-clause-ok : goal.returns-in-len4-clause-ok
 returns-in-len4-clause-ok c version relations =
-    subst (λ (tokens : List (List ℕ)). IfOk c.search_after.result (λ query. query_in (scope version c.args.alphabet.now c.args.is_monoid relations) (row_of (asks.LowIndex c.args.two_sided)).ways tokens ≡ Ok query))
+    subst (λ (tokens : List (List ℕ)). IfOk c.search_after.result (λ query. made_in (scope version c.args.alphabet.now c.args.is_monoid relations) (row_of (asks.LowIndex c.args.two_sided)).ways tokens ≡ Ok query))
     (four_texts c.args.tokens.now _ _ _ _ (omega (arith, c.in-len4.len_at_least, c.in-len4.len_below))) (c.search_after.ensures.ok version relations)
 
 pub returns-in-len4-clause-err : goal.returns-in-len4-clause-err
 returns-in-len4-clause-err c version relations =
-    subst (λ (tokens : List (List ℕ)). IfErr c.search_after.result (IsLineFault (query_in (scope version c.args.alphabet.now c.args.is_monoid relations) (row_of (asks.LowIndex c.args.two_sided)).ways tokens)))
+    subst (λ (tokens : List (List ℕ)). IfErr c.search_after.result (IsLineFault (made_in (scope version c.args.alphabet.now c.args.is_monoid relations) (row_of (asks.LowIndex c.args.two_sided)).ways tokens)))
     (four_texts c.args.tokens.now _ _ _ _ (omega (arith, c.in-len4.len_at_least, c.in-len4.len_below))) (c.search_after.ensures.err version relations)
