@@ -1,22 +1,20 @@
 -- The reader reads each line that the grammar reads, and to the same.
-use Rattle.std.proofs.Common.{◌≡◌, ◌≢◌, ℕ, ◌+◌, ◌==◌, ◌≤◌, Bool, true, false, not, ◌&&◌, if◌then◌else◌, List, [], ◌∷◌, ◌++◌, length, map, codes, Option, Some, None, is_none, Result, Ok, Err, refl, sym, ap, ◌∙◌, arith, true≢false}
+use Rattle.std.proofs.Common.{◌≡◌, ◌≢◌, ℕ, ◌==◌, ◌≤◌, Bool, true, false, not, ◌&&◌, if◌then◌else◌, List, [], ◌∷◌, length, map, codes, Option, Some, None, is_none, Result, Ok, Err, refl, sym, ap, ◌∙◌, arith, true≢false}
 use Rattle.std.specs.List.{list_any}
 use Rattle.std.specs.Cmp.Lexicographic.{same_text}
 use Rattle.std.specs.Option.{ok_or}
 use Rattle.elements.specs.declared.field.Field.{Field}
-use Rattle.theory.specs.declared.Kind.{Kind}
 use Rattle.theory.specs.Word.{Word}
-use Rattle.presentation.specs.Presented.{Posed}
 use Rattle.problem.specs.Posed.{PosedOf}
 use Rattle.problem.specs.declared.kinds.Problem.{Problem}
 use Rattle.problem.specs.declared.kinds.Problem.TheVariants.{Presented, Transf, PPerm, BMat, MaxPlus}
-use Rattle.problem.specs.Problem.{is_presented, letters_of, pairs_of, with_pair}
+use Rattle.problem.specs.Problem.{is_presented, letters_of, pairs_of}
 use Rattle.query_lang.specs.declared.cause.Cause.{Cause}
 use Rattle.query_lang.specs.declared.cause.Cause.TheVariants as cause
 use Rattle.query_lang.specs.Draft as draft
 use Rattle.query_lang.specs.Draft.{AnyDraft}
 use Rattle.query_lang.specs.Script.{ReaderOf, take_tokens}
-use Rattle.query_lang.specs.Script.{Posing, Relating, Pairing, Asking, Nothing, Versioned, Reading}
+use Rattle.query_lang.specs.Script.{Posing, Pairing, Nothing, Versioned, Reading}
 use Rattle.query_lang.specs.declared.version.Version.{Version}
 use Rattle.query_lang.specs.declared.version.Version.TheVariants.{One}
 use Rattle.query_lang.specs.Versions.{is_wide, version_numbered, version_of}
@@ -26,22 +24,19 @@ use Rattle.query_lang.specs.Elements.{boolean_matrix_of, generator_more, one_mor
 use Rattle.query_lang.specs.Fields.{field_of}
 use Rattle.query_lang.specs.Header.{Start, given_by, header_named, no_letters, started}
 use Rattle.query_lang.specs.Outcome.{and_then}
-use Rattle.query_lang.specs.Relations.{add_relations}
-use Rattle.query_lang.specs.Outline.{related}
 use Rattle.query_lang.specs.Pairing.{paired}
 use Rattle.query_lang.specs.Values.{Scope, added_of, is_barred, is_pair_too_many, is_relation_too_many, made_by, mixes_kinds, scope_of, values_of}
-use Rattle.query_lang.specs.Script.{opened, unasked, asked, finished, first_line, form_line, generator_line, header_line, is_presentation, named_line, read_line, relating_line, with_asked, with_line}
+use Rattle.query_lang.specs.Script.{opened, unasked, finished, first_line, form_line, generator_line, header_line, is_presentation, named_line, read_line, with_line}
 use Rattle.query_lang.specs.Token.{Token, Line, is_kept, is_word, letter_of, number_of}
 use Rattle.query_lang.specs.declared.form.Form.{Form}
 use Rattle.query_lang.specs.declared.form.Form.TheVariants.{Relation, OfRole, Pair, Asks}
-use Rattle.query_lang.specs.declared.form.QueryForm.{QueryForm}
-use Rattle.query_lang.specs.Forms.{Gives, Way, all_forms, form_named, has_form, section_of}
+use Rattle.query_lang.specs.Forms.{Gives, Way, all_forms, form_named}
 use Rattle.query_lang.specs.Grammar.{Head, HeaderReads, IsOfForm, LineReads, Partial, has_sign, is_generator_line, lacks_generator, script_in, section_reached, with_added}
 use Rattle.query_lang.specs.Grammar as grammar
 use Rattle.query_lang.proofs.FoldLemmas.{Sound, partial, reader_of, readers}
-use Rattle.query_lang.proofs.PairingLemmas.{has_pairs}
+use Rattle.query_lang.proofs.FormLemmas.{form_read}
 use Rattle.query_lang.proofs.QueryLemmas.{form_found}
-use Rattle.query_lang.proofs.ReaderLemmas.{come_of, finished_by, pair_in_order, paired_by, presentation_kept}
+use Rattle.query_lang.proofs.ReaderLemmas.{come_of, finished_by, presentation_kept}
 
 -- what a header says
 pub header_said : (version : Version) (line : Line) (q : Partial) (h : HeaderReads version line q) → started (header_named (is_wide version) h.name) h.tokens ≡ Ok (h.way.makes h.given)
@@ -148,65 +143,10 @@ added_read p line form added is =
     ∙ ap (and_then (λ vs. Ok (is.way.makes vs))) is.read
     ∙ ap (λ x. Ok x) is.made
 
--- relations, and roles of letters
-relating_read : (head : Head) (o : Posed) (queries : List Query) (relations : Posed → Result (List (Word × Word)) Cause) (rs : List (Word × Word)) → section_reached (partial head (Presented o) queries) ≤ 2
-    → relations o ≡ Ok rs → relating_line (reader_of (partial head (Presented o) queries)) relations ≡ Ok (reader_of (partial head (Presented (add_relations o rs)) queries))
-relating_read head o (q ∷ queries) relations rs early h = absurd (omega arith)
-relating_read head o [] relations rs early h =
-    let none : (length o.congruence.pairs == 0) ≡ true = before_pairs (length o.congruence.pairs == 0) early in
-    let next : Posed = add_relations o rs in
-    ap (λ b. relating_line (if b then Relating o else Pairing (Presented o)) relations) none
-    ∙ ap (λ r. and_then (λ o. Ok (Relating o)) (related o r)) h
-    ∙ ap (λ b. Ok (if b then Relating next else Pairing (Presented next))) (sym none)
-
--- pairs
-pair_read : (head : Head) (p : Problem) (queries : List Query) (kind : Kind) (tokens : List Token) (s : Word × Word) → lacks_generator (partial head p queries) ≡ false
-    → section_reached (partial head p queries) ≤ 3 → added_of head.version p (Pair kind) tokens ≡ Ok s
-    → form_line head.version (reader_of (partial head p queries)) (Pair kind) tokens ≡ Ok (reader_of (partial head (with_pair p kind s) queries))
-pair_read head p (q ∷ queries) kind tokens s some early h = absurd (omega arith)
-pair_read head p [] kind tokens s some early h =
-    let next : Problem = with_pair p kind s in
-    ap (and_then (λ problem. and_then (λ p. Ok (Pairing p)) (paired problem kind (added_of head.version problem (Pair kind) tokens))))
-    (paired_by (reader_of (partial head p [])) (partial head p []) (come_of head p []) some (pair_in_order (length (pairs_of p) == 0)))
-    ∙ ap (λ r. and_then (λ p. Ok (Pairing p)) (paired p kind r)) h
-    ∙ ap (λ b. Ok (if b then opened head.sizes next else Pairing next)) (sym (has_pairs p kind s))
-
--- queries
-
 -- what has a generator, or is a presentation, is a script so far
 pub finished_read : (head : Head) (problem : Problem) (queries : List Query) → lacks_generator (partial head problem queries) ≡ false
     → finished (reader_of (partial head problem queries)) ≡ Ok (script_in (partial head problem queries))
 finished_read head problem queries h = finished_by (reader_of (partial head problem queries)) (partial head problem queries) (come_of head problem queries) h
-
-asking_kept : (head : Head) (problem : Problem) (queries : List Query) (q : Query) → Asking (with_asked (script_in (partial head problem queries)) q) ≡ reader_of (partial head problem (queries ++ q ∷ []))
-asking_kept head problem [] q = refl
-asking_kept head problem (r ∷ queries) q = refl
-
-query_read : (head : Head) (problem : Problem) (queries : List Query) (form : QueryForm) (tokens : List Token) (q : Query) → lacks_generator (partial head problem queries) ≡ false
-    → added_of head.version problem (Asks form) tokens ≡ Ok q
-    → form_line head.version (reader_of (partial head problem queries)) (Asks form) tokens ≡ Ok (reader_of (partial head problem (queries ++ q ∷ [])))
-query_read head problem queries form tokens q some h =
-    let p : Partial = partial head problem queries in
-    ap (and_then (λ script. and_then (λ s. Ok (Asking s)) (asked head.version script form tokens))) (finished_read head problem queries some)
-    ∙ ap (λ r. and_then (λ s. Ok (Asking s)) (and_then (λ q. Ok (with_asked (script_in p) q)) r)) h
-    ∙ ap (λ r. Ok r) (asking_kept head problem queries q)
-
--- a line of a form that the script has
-form_read : (head : Head) (problem : Problem) (queries : List Query) (form : Form) (tokens : List Token) (added : Gives form) → lacks_generator (partial head problem queries) ≡ false
-    → section_reached (partial head problem queries) ≤ section_of form → has_form head.version (is_presented problem) form ≡ true → added_of head.version problem form tokens ≡ Ok added
-    → form_line head.version (reader_of (partial head problem queries)) form tokens ≡ Ok (reader_of (with_added (partial head problem queries) form added))
-form_read head (Presented o) queries Relation tokens added some early there h = relating_read head o queries (λ o. added_of head.version (Presented o) Relation tokens) added early h
-form_read head (Presented o) queries (OfRole role) tokens added some early there h = relating_read head o queries (λ o. added_of head.version (Presented o) (OfRole role) tokens) added early h
-form_read head problem queries (Pair kind) tokens added some early there h = pair_read head problem queries kind tokens added some early h
-form_read head problem queries (Asks form) tokens added some early there h = query_read head problem queries form tokens added some h
-form_read head (Transf g) queries Relation tokens added some early there h = absurd (true≢false (sym there))
-form_read head (Transf g) queries (OfRole role) tokens added some early there h = absurd (true≢false (sym there))
-form_read head (PPerm g) queries Relation tokens added some early there h = absurd (true≢false (sym there))
-form_read head (PPerm g) queries (OfRole role) tokens added some early there h = absurd (true≢false (sym there))
-form_read head (BMat g) queries Relation tokens added some early there h = absurd (true≢false (sym there))
-form_read head (BMat g) queries (OfRole role) tokens added some early there h = absurd (true≢false (sym there))
-form_read head (MaxPlus g) queries Relation tokens added some early there h = absurd (true≢false (sym there))
-form_read head (MaxPlus g) queries (OfRole role) tokens added some early there h = absurd (true≢false (sym there))
 
 -- a line behind the header
 line_read : (head : Head) (problem : Problem) (queries : List Query) (line : Line) (q : Partial) → LineReads (partial head problem queries) line q
