@@ -1,7 +1,6 @@
 -- What lines of relations, pairs and inverses add, by the words and letters that are read.
 use Rattle.std.proofs.Common.{◌≡◌, ℕ, ◌==◌, Bool, true, false, if◌then◌else◌, List, [], ◌∷◌, length, Option, Some, None, Result, Ok, Err, IfOk, IfErr, IsErrAnd, refl, sym, ap, ◌∙◌}
 use Rattle.theory.specs.declared.Kind.{Kind}
-use Rattle.theory.specs.Word.{Word}
 use Rattle.presentation.specs.Presented.{Posed}
 use Rattle.presentation.specs.Added.{inverse_relations}
 use Rattle.problem.specs.declared.kinds.Problem.{Problem}

@@ -22,7 +22,7 @@ pub data Come (r : ReaderOf) (p : Partial) : Type 0 where
   lacking : finished r ≡ Err cause.NoGenerator → paired_so_far r ≡ Err cause.NoGenerator → lacks_generator p ≡ true → nat_lt 3 (section_reached p) ≡ false → Come r p
 
 -- a pair is not late before the first query
-pub pair_in_order : (no_pair : Bool) → nat_lt 3 (if no_pair then 2 else 3) ≡ false
+pair_in_order : (no_pair : Bool) → nat_lt 3 (if no_pair then 2 else 3) ≡ false
 pair_in_order true = refl
 pair_in_order false = refl
 
@@ -58,12 +58,6 @@ pub finished_by : (r : ReaderOf) (p : Partial) → Come r p → lacks_generator 
 finished_by r p (asking f e l late) h = f
 finished_by r p (posed f e l early) h = f
 finished_by r p (lacking f e l early) h = absurd (true≢false (sym l ∙ h))
-
--- and it may get pairs before the first query
-pub paired_by : (r : ReaderOf) (p : Partial) → Come r p → lacks_generator p ≡ false → nat_lt 3 (section_reached p) ≡ false → paired_so_far r ≡ Ok p.problem
-paired_by r p (asking f e l late) h k = absurd (true≢false (sym late ∙ k))
-paired_by r p (posed f e l early) h k = e
-paired_by r p (lacking f e l early) h k = absurd (true≢false (sym l ∙ h))
 
 either_kept : (no_pair : Bool) (r : ReaderOf) (p : Problem) → is_presentation r ≡ is_presented p → is_presentation (if no_pair then r else Pairing p) ≡ is_presented p
 either_kept true r p h = h

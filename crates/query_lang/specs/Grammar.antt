@@ -1,6 +1,6 @@
 -- The grammar: what a script may have, line by line, and what each line adds to what the lines
 -- before it say.
-use Rattle.std.specs.Prelude.{◌≡◌, ℕ, ◌+◌, ◌≤◌, Bool, true, false, not, ◌&&◌, ◌==◌, List, [], ◌∷◌, ◌++◌, length, map, codes, if◌then◌else◌, Some, Ok}
+use Rattle.std.specs.Prelude.{◌≡◌, ℕ, ◌≤◌, Bool, true, false, not, ◌&&◌, ◌==◌, List, [], ◌∷◌, ◌++◌, length, map, codes, if◌then◌else◌, Some, Ok}
 use Rattle.std.specs.List.{list_any}
 use Rattle.theory.specs.Word.{Word}
 use Rattle.problem.specs.declared.kinds.Problem.{Problem}

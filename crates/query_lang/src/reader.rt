@@ -3,8 +3,7 @@ ghost use Rattle.std.specs.Prelude.{◌≡◌, [], ◌∷◌, true, not, ◌&&�
 ghost use Rattle.query_lang.specs.Faults.{IsLineFault};
 ghost use Rattle.query_lang.specs.Generators.{problem_of};
 ghost use Rattle.query_lang.specs.Forms.{has_form, has_query};
-ghost use Rattle.query_lang.specs.Header.{free_way, generators_named};
-ghost use Rattle.query_lang.specs.Script.{draft_so_far, finished, first_line, form_line, generator_line, header_by, header_line, is_presentation, named_line, outline_so_far, paired_so_far, read_line, take_line, take_tokens, whole_of, with_line};
+ghost use Rattle.query_lang.specs.Script.{draft_so_far, finished, first_line, form_line, generator_line, header_line, is_presentation, named_line, outline_so_far, paired_so_far, read_line, take_line, take_tokens, whole_of, with_line};
 ghost use Rattle.query_lang.specs.Script as said;
 ghost use Rattle.query_lang.specs.Texts.{texts};
 ghost use Rattle.query_lang.specs.Token.{is_word};
@@ -344,31 +343,6 @@ impl Reader {
     }
 }
 
-// The header of a monoid or a semigroup, by the tokens behind its name.
-fn outline_line(
-    alloc: Global,
-    version: Version,
-    monoid: bool,
-    tokens: &[&[u8]],
-) -> Result<Reader, LineFault>
-    ensures ok { IfOk result (λ next. header_by (Some (free_way (is_wide version) monoid))
-        (texts tokens.now) ≡ Ok next) }
-    ensures err { IfErr result (IsLineFault
-        (header_by (Some (free_way (is_wide version) monoid)) (texts tokens.now))) }
-{
-    Ok(relating(outline_of(alloc, version.is_wide(), monoid, tokens)?))
-}
-
-// The header of generators, by its name and the tokens behind it.
-fn draft_line(alloc: Global, name: &[u8], tokens: &[&[u8]]) -> Result<Reader, LineFault>
-    ensures ok { IfOk result (λ next. header_by (generators_named name.now)
-        (texts tokens.now) ≡ Ok next) }
-    ensures err { IfErr result (IsLineFault
-        (header_by (generators_named name.now) (texts tokens.now))) }
-{
-    Ok(posing(header_of(alloc, name, tokens)?))
-}
-
 // The header, by its name and the tokens behind it.
 fn named_header(
     alloc: Global,
@@ -382,11 +356,11 @@ fn named_header(
         (header_line version (name.now ∷ texts tokens.now))) }
 {
     if is_word(b"monoid", name) {
-        outline_line(alloc, version, true, tokens)
+        Ok(relating(outline_of(alloc, version.is_wide(), true, tokens)?))
     } else if is_word(b"semigroup", name) {
-        outline_line(alloc, version, false, tokens)
+        Ok(relating(outline_of(alloc, version.is_wide(), false, tokens)?))
     } else {
-        draft_line(alloc, name, tokens)
+        Ok(posing(header_of(alloc, name, tokens)?))
     }
 }
 
