@@ -21,7 +21,7 @@ place_of x d [] h = absurd h
 place_of x d (y ∷ xs) (inl e) = (0, omega arith, sym e)
 place_of x d (y ∷ xs) (inr h) = let r = place_of x d xs h in (suc r.0, omega (arith, r.1), r.2)
 
-among_at : {X : Type 0} (xs : List X) (k : ℕ) (d : X) → k < length xs → IsAmong (get_or xs k d) xs
+pub among_at : {X : Type 0} (xs : List X) (k : ℕ) (d : X) → k < length xs → IsAmong (get_or xs k d) xs
 among_at [] k d less = absurd (omega (arith, less))
 among_at (y ∷ xs) zero d less = inl refl
 among_at (y ∷ xs) (suc k) d less = inr (among_at xs k d (omega (arith, less)))

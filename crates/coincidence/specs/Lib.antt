@@ -18,3 +18,4 @@ pub mod Kept
 pub mod Rings
 pub mod Replaced
 pub mod Uses
+pub mod Starts

@@ -20,7 +20,7 @@ use crate::indexed::Indexed;
 use crate::joins::merge;
 use crate::order::Order;
 use crate::pending::{Pending, Worklist};
-use crate::reads::{due_at, due_from, due_through, past_held};
+use crate::reads::{due_at, due_at_start, due_from, due_through, past_held};
 use ports::NoMemory;
 use std::alloc::Global;
 use words::Letter;
@@ -39,7 +39,7 @@ fn due_of(congruence: &Indexed, edges: &Edges, live: &Vec<bool>, entry: Pending)
             if !live[node] {
                 return Due::Nothing;
             }
-            due_at(edges, node, congruence.relations())
+            due_at_start(edges, node, congruence)
         }
         Pending::NewEdge(node, letter) => {
             let Some(_) = edges.target(node, letter) else {

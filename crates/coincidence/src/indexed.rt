@@ -1,8 +1,10 @@
 // Congruences whose relations are found by their letters.
 ghost use Rattle.std.specs.Prelude.{◌≡◌, false, true, length, IfOk};
 ghost use Rattle.presentation.specs.Presented.{IsPosed};
+ghost use Rattle.coincidence.specs.Starts.{AreStarts};
 ghost use Rattle.coincidence.specs.Uses.{AreUses};
 
+use crate::starts::Starts;
 use crate::uses::Uses;
 use ports::NoMemory;
 use presentation::{Congruence, Pairs, Presentation};
@@ -15,11 +17,13 @@ pub struct Indexed {
     congruence: Congruence,
     firsts: Uses,
     seconds: Uses,
+    starts: Starts,
 }
 
 impl Model for Indexed {
     ghost use Rattle.std.specs.Prelude.{true, false};
     ghost use Rattle.presentation.specs.Presented.{Posed};
+    ghost use Rattle.coincidence.specs.Starts.{AreStarts};
     ghost use Rattle.coincidence.specs.Uses.{AreUses};
 
     ghost Value = { Posed };
@@ -29,6 +33,7 @@ impl Model for Indexed {
     ghost invariant = { λ c. record {
       firsts : AreUses false c.congruence.congruence.presentation.relations c.firsts;
       seconds : AreUses true c.congruence.congruence.presentation.relations c.seconds;
+      starts : AreStarts c.congruence.congruence.presentation.relations c.starts;
     } };
 }
 
@@ -40,10 +45,12 @@ impl Indexed {
         let relations = congruence.presentation().relations();
         let firsts = Uses::new(alloc, relations, false)?;
         let seconds = Uses::new(alloc, relations, true)?;
+        let starts = Starts::new(alloc, relations)?;
         Ok(Indexed {
             congruence,
             firsts,
             seconds,
+            starts,
         })
     }
 
@@ -75,5 +82,12 @@ impl Indexed {
         ensures { AreUses second self.now.congruence.presentation.relations result.now }
     {
         if second { &self.seconds } else { &self.firsts }
+    }
+
+    /// The relations by the letters with which their sides begin.
+    pub fn starts(&self) -> &Starts
+        ensures { AreStarts self.now.congruence.presentation.relations result.now }
+    {
+        &self.starts
     }
 }

@@ -20,6 +20,7 @@ mod periods;
 mod reads;
 mod replaced;
 mod rings;
+mod starts;
 mod tables;
 mod uses;
 

@@ -6,12 +6,16 @@ ghost use Rattle.coincidence.specs.DueSpec.{IsDueFrom, IsDueAt};
 ghost use Rattle.coincidence.specs.Holding.{HoldBefore, MeetAt};
 ghost use Rattle.coincidence.specs.Live.{IsLiveGraph, IsOn};
 ghost use Rattle.coincidence.specs.Reading.{IsCut, IsDueBoth, IsDueBehind, IsDueAlong, IsDueThrough};
-ghost use Rattle.coincidence.specs.Uses.{AreUses, ArePlaces, IsDueAtPlaces, IsDueInPowers, IsDueBefore, IsDueBeforeAny, IsDueInSides};
+ghost use Rattle.coincidence.specs.Pending.{IsAmong};
+ghost use Rattle.coincidence.specs.Starts.{AreStarts, IsDueByLetter, IsDueInList};
+ghost use Rattle.coincidence.specs.declared.due.Due.TheVariants.{Nothing};
+ghost use Rattle.coincidence.specs.Uses.{list_at, AreUses, ArePlaces, IsDueAtPlaces, IsDueInPowers, IsDueBefore, IsDueBeforeAny, IsDueInSides};
 
 use crate::due::Due;
 use crate::edges::Edges;
 use crate::indexed::Indexed;
 use crate::rings::comes_round;
+use crate::starts::Starts;
 use crate::uses::{Uses, other_side, side};
 use presentation::Pairs;
 use words::{Letter, Word};
@@ -158,6 +162,61 @@ pub fn due_at(edges: &Edges, node: usize, pairs: &Pairs) -> Due
     ensures { IsDueAt edges.now.graph node pairs.now result }
 {
     due_from(edges, node, pairs, 0)
+}
+
+// What the pairs of a list ask for at the node.
+fn due_in_list(edges: &Edges, node: usize, pairs: &Pairs, list: &[(usize, usize)]) -> Due
+    requires { (i p : ℕ) → IsAmong (i, p) list.now → i < length pairs.now }
+    ensures { IsDueInList edges.now.graph pairs.now node list.now result }
+{
+    for k in 0..list.len() {
+        let pair = pairs.pair(list[k].0);
+        match due_both(edges, node, &pair.0, &pair.1) {
+            Due::Nothing => {}
+            due => return due,
+        }
+    }
+    Due::Nothing
+}
+
+// What pairs with the letter in front ask for at the node, if it leads on.
+fn due_by_letter(edges: &Edges, node: usize, pairs: &Pairs, starts: &Starts, letter: Letter) -> Due
+    requires { AreStarts pairs.now starts.now }
+    ensures { IsDueByLetter edges.now.graph pairs.now node starts.now letter result }
+{
+    match edges.target(node, letter) {
+        None => Due::Nothing,
+        Some(_) => due_in_list(edges, node, pairs, starts.of(letter)),
+    }
+}
+
+// What pairs with some letter in front ask for at the node.
+fn due_by_letters(edges: &Edges, node: usize, pairs: &Pairs, starts: &Starts) -> Due
+    requires short { IsDueInList edges.now.graph pairs.now node (list_at starts.now 0) Nothing }
+    requires starts { AreStarts pairs.now starts.now }
+    ensures { IsDueAt edges.now.graph node pairs.now result }
+{
+    for number in 0..edges.letters() {
+        let letter = Letter::new(number as u8);
+        match due_by_letter(edges, node, pairs, starts, letter) {
+            Due::Nothing => {}
+            due => return due,
+        }
+    }
+    Due::Nothing
+}
+
+/// What the relations ask for at the node. Only those are looked at that begin with a letter that
+/// leads on.
+pub fn due_at_start(edges: &Edges, node: usize, congruence: &Indexed) -> Due
+    ensures { IsDueAt edges.now.graph node congruence.now.congruence.presentation.relations result }
+{
+    let pairs = congruence.relations();
+    let starts = congruence.starts();
+    match due_in_list(edges, node, pairs, starts.short()) {
+        Due::Nothing => due_by_letters(edges, node, pairs, starts),
+        due => due,
+    }
 }
 
 // Where all but the last letter of the side lead, read on from a place of it, from each node from

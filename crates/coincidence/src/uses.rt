@@ -77,8 +77,8 @@ fn put(
     Ok(())
 }
 
-// The entry is in the list of this number. Refused only where memory is wanting.
-fn note(
+/// The entry is in the list of this number. Refused only where memory is wanting.
+pub fn note(
     alloc: Global,
     lists: &mut Vec<Vec<(usize, usize)>>,
     number: usize,

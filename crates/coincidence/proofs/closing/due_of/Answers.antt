@@ -2,7 +2,6 @@ use Rattle.std.proofs.Common.{◌≡◌, ◌<◌, true, false, length, subst, sy
 use Rattle.std.proofs.lemmas.List.{get_or_read}
 use Rattle.coincidence.specs.Live.{IsOn}
 use Rattle.coincidence.specs.Drawing.{IsDueOf}
-use Rattle.coincidence.specs.DueSpec.{IsDueAt}
 use Rattle.coincidence.specs.declared.due.Due.TheVariants.{Nothing}
 use Rattle.coincidence.specs.declared.pending.Pending.{Pending}
 use Rattle.coincidence.proofs.MarkLaws.{on_within}
@@ -25,8 +24,8 @@ pub returns-else-not-index : goal.returns-else-not-index
 returns-else-not-index c =
     let less : c.in-NewNode.node < length c.args.live.now.items = omega (arith, c.if-len-node.false, c.len.ensures) in
     let on : IsOn c.args.live.now.items c.in-NewNode.node = sym (get_or_read c.args.live.now.items c.in-NewNode.node c.index.result.now less c.index.ensures false) ∙ c.if-not-index.false in
-    subst (λ (e : Pending). IsDueOf c.args.congruence.now.congruence.presentation.relations c.args.edges.now.graph c.args.live.now.items e c.due_at.result) (sym c.in-NewNode.is)
-    (due_of_node c.args.congruence.now.congruence.presentation.relations c.args.edges.now.graph c.args.live.now.items c.in-NewNode.node c.due_at.result on (subst (λ z. IsDueAt c.args.edges.now.graph c.in-NewNode.node z c.due_at.result) c.relations.ensures c.due_at.ensures))
+    subst (λ (e : Pending). IsDueOf c.args.congruence.now.congruence.presentation.relations c.args.edges.now.graph c.args.live.now.items e c.due_at_start.result) (sym c.in-NewNode.is)
+    (due_of_node c.args.congruence.now.congruence.presentation.relations c.args.edges.now.graph c.args.live.now.items c.in-NewNode.node c.due_at_start.result on c.due_at_start.ensures)
 
 pub returns-in_default : goal.returns-in_default
 returns-in_default c =

@@ -1,0 +1,46 @@
+-- Pairs by the letters with which their sides begin.
+use Rattle.std.specs.Prelude.{◌≡◌, ℕ, ◌+◌, ◌<◌, ◌⊎◌, List, [], ◌∷◌, length, slice_index_or, Option, Some, None}
+use Rattle.theory.specs.Word.{Word}
+use Rattle.theory.specs.Graph.{Graph, target}
+use Rattle.coincidence.specs.DueSpec.{IsDueAt}
+use Rattle.coincidence.specs.Pending.{IsAmong}
+use Rattle.coincidence.specs.Reading.{IsQuietBoth}
+use Rattle.coincidence.specs.Uses.{Places, list_at}
+use Rattle.coincidence.specs.declared.due.Due.{Due}
+use Rattle.coincidence.specs.declared.due.Due.TheVariants.{Nothing, Edge, Join}
+
+-- the first letter of a side, if it has more
+abbrev pub start_in : Word → Option ℕ
+start_in [] = None
+start_in (x ∷ []) = None
+start_in (x ∷ y ∷ side) = Some x
+
+-- the number of the list of a letter with which one side begins, or else the other
+abbrev pub list_for : Option ℕ → Option ℕ → ℕ
+list_for (Some x) other = x + 1
+list_for None (Some x) = x + 1
+list_for None None = 0
+
+-- the number of the list of a pair
+abbrev pub start_of : Word × Word → ℕ
+start_of pair = list_for (start_in pair.0) (start_in pair.1)
+
+-- the lists are of numbers of pairs, and each pair stands in its own
+pub record AreStarts (pairs : List (Word × Word)) (lists : List Places) : Type 0 where
+  pub within : (a i p : ℕ) → IsAmong (i, p) (list_at lists a) → i < length pairs
+  pub all : (i : ℕ) (d : Word × Word) → i < length pairs
+      → IsAmong (i, 0) (list_at lists (start_of (slice_index_or pairs i d)))
+
+-- what the pairs of a list ask for at the node
+abbrev pub IsDueInList : Graph → List (Word × Word) → ℕ → Places → Due → Type 0
+IsDueInList g pairs node list Nothing = (i p : ℕ) (d : Word × Word) → IsAmong (i, p) list
+    → IsQuietBoth g node (slice_index_or pairs i d).0 (slice_index_or pairs i d).1
+IsDueInList g pairs node list (Edge j a m) = IsDueAt g node pairs (Edge j a m)
+IsDueInList g pairs node list (Join j a t m) = IsDueAt g node pairs (Join j a t m)
+
+-- so for the list of a letter, by which an edge leads from the node or none does
+abbrev pub IsDueByLetter : Graph → List (Word × Word) → ℕ → List Places → ℕ → Due → Type 0
+IsDueByLetter g pairs node lists x Nothing = (target g node x ≡ None)
+    ⊎ IsDueInList g pairs node (list_at lists (x + 1)) Nothing
+IsDueByLetter g pairs node lists x (Edge j a m) = IsDueAt g node pairs (Edge j a m)
+IsDueByLetter g pairs node lists x (Join j a t m) = IsDueAt g node pairs (Join j a t m)
