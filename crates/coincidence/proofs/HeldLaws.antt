@@ -2,144 +2,85 @@
 use Rattle.std.proofs.Common.{◌≡◌, ℕ, zero, suc, ◌+◌, ◌<◌, List, [], ◌∷◌, ◌++◌, refl, sym, ◌∙◌, ap, arith, Option, Some, None, length, subst, Bool, true, false, replicate, set}
 use Rattle.theory.specs.Congruence.{Congruence, IsWellFormed}
 use Rattle.theory.specs.Graph.{Graph, target, IsGraph}
-use Rattle.coincidence.specs.Live.{IsOn, IsLiveGraph}
+use Rattle.coincidence.specs.Live.{IsOn, IsLiveGraph, IsIdentified}
 use Rattle.coincidence.specs.Links.{Links, IsSources}
 use Rattle.coincidence.specs.Pending.{IsClosedBut}
-use Rattle.std.proofs.Common.{inl, inr}
+use Rattle.std.proofs.Common.{inl, inr, length-set, get_or}
 use Rattle.std.proofs.lemmas.Bool.{cases_eq}
-use Rattle.std.proofs.lemmas.List.{get_or-set_same, get_or-set_other}
+use Rattle.std.proofs.lemmas.List.{get_or-set_same, get_or-set_other, length_push}
 use Rattle.theory.specs.Word.{Word}
 use Rattle.theory.specs.Graph.{path, SameEnd}
+use Rattle.theory.proofs.PartLaws.{given}
+use Rattle.word_graph.specs.Edges.{with_edge, with_node}
 use Rattle.word_graph.proofs.EdgeLaws.{graph_edged, target_in}
 use Rattle.word_graph.proofs.WalkLaws.{some_same}
-use Rattle.coincidence.specs.Marks.{KeepsMarks, KeepsNumbers}
+use Rattle.cells.proofs.EntryLaws.{target_node}
+use Rattle.coincidence.specs.Closing.{IsEdged}
+use Rattle.coincidence.specs.Cosets.{IsWhole, IsGathered}
+use Rattle.coincidence.specs.Joining.{IsJoined}
+use Rattle.coincidence.specs.Kept.{IsKept, IsPlaced, step_at}
+use Rattle.coincidence.specs.Marks.{KeepsNumbers}
+use Rattle.coincidence.specs.Table.{CosetTable, IsHeld, shown, bare}
+use Rattle.coincidence.specs.declared.cosets.Cosets.{Cosets}
+use Rattle.coincidence.specs.declared.order.Order.{Order}
+use Rattle.coincidence.specs.declared.pending.Pending.{Pending}
+use Rattle.coincidence.specs.declared.pending.Pending.TheVariants.{NewNode, NewEdge}
+use Rattle.coincidence.proofs.DrawLaws.{IsLeft, defined_closed, joined_left}
+use Rattle.coincidence.proofs.FoldLaws.{edged_with}
 use Rattle.coincidence.proofs.FollowsLaws.{path_more}
 use Rattle.coincidence.proofs.KeptLaws.{kept_lives, kept_more}
-use Rattle.coincidence.proofs.TableLaws.{define_edged, define_graph, on_inside}
-use Rattle.cells.proofs.EntryLaws.{target_node}
-use Rattle.coincidence.specs.Kept.{IsKept, IsPlaced, IsMended, step_at}
-use Rattle.coincidence.specs.declared.order.Order.{Order}
-use Rattle.coincidence.specs.Table.{CosetTable, IsTable, IsHeld, shown, bare}
-use Rattle.coincidence.specs.declared.pending.Pending.{Pending}
-use Rattle.coincidence.proofs.MarkLaws.{no_mark}
-use Rattle.coincidence.specs.declared.pending.Pending.TheVariants.{NewNode, NewEdge}
-use Rattle.coincidence.proofs.LinkLaws.{root_sources}
-use Rattle.coincidence.proofs.MarkLaws.{marks_pushed}
-use Rattle.coincidence.specs.Closing.{IsEdged}
-use Rattle.coincidence.proofs.FoldLaws.{edged_with}
-use Rattle.coincidence.proofs.StepLaws.{edged_live}
+use Rattle.coincidence.proofs.MarkLaws.{marks_pushed, no_mark}
 use Rattle.coincidence.proofs.PendingLaws.{closed_renewed, closed_root, renewed_edged}
-use Rattle.coincidence.proofs.TableLaws.{root_graph, root_live}
-use Rattle.std.proofs.lemmas.List.{length_push}
-use Rattle.std.proofs.Common.{length-set, get_or}
-use Rattle.word_graph.specs.Edges.{with_edge, with_node}
+use Rattle.coincidence.proofs.StepLaws.{edged_live}
+use Rattle.coincidence.proofs.TableLaws.{define_edged, define_graph, define_live, on_inside, root_graph, root_live}
 
--- what the parts are while memory was never wanting
-pub record IsWhole (c : Congruence) (links : Links) (live marked : List Bool) (o : Order) (pending : List Pending) : Type 0 where
-  pub congruence : IsWellFormed c
-  pub graph : IsGraph c.presentation.letters links.graph
-  pub lives : IsLiveGraph links.graph live
-  pub shape : length marked ≡ length links.graph
-  pub marks : (n : ℕ) → IsOn marked n → IsOn live n
-  pub sources : (node letter : ℕ) → (list : List ℕ) × IsSources links node letter list
-  pub closed : IsClosedBut c.presentation.relations links.graph live pending
-  pub order : IsKept c.presentation.letters links.graph marked o
+-- each node has its sources, as edges tell
+abbrev pub HasSources : Links → Type 0
+HasSources links = (node letter : ℕ) → (list : List ℕ) × IsSources links node letter list
 
-module _ (c : Congruence) (links : Links) (live marked : List Bool) (o : Order) (pending : List Pending) where
-  table_whole : IsTable (shown c false links live marked) → IsClosedBut c.presentation.relations links.graph live pending → IsKept c.presentation.letters links.graph marked o → IsWhole c links live marked o pending
-  table_whole t closed order = record {
-    congruence = t.congruence;
-    graph = t.graph;
-    lives = t.live;
-    shape = t.shape;
-    marks = t.marked refl;
-    sources = t.sources refl;
-    closed = closed;
-    order = order;
-  }
-
-  whole_held : IsWhole c links live marked o pending → IsHeld c false links live marked o pending
-  whole_held w = record {
-    table = record {
-      congruence = w.congruence;
-      graph = w.graph;
-      live = w.lives;
-      shape = w.shape;
-      marked = λ _. w.marks;
-      sources = λ _. w.sources;
-    };
-    closed = λ _. w.closed;
-    order = λ _. w.order;
-  }
-
-  pub held_whole : (failed : Bool) → failed ≡ false → IsHeld c failed links live marked o pending → IsWhole c links live marked o pending
-  held_whole false e h = table_whole h.table (h.closed refl) (h.order refl)
-  held_whole true e h = cc
-
-  pub whole : (failed : Bool) → failed ≡ false → IsWhole c links live marked o pending → IsHeld c failed links live marked o pending
-  whole false e w = whole_held w
-  whole true e w = cc
-
-  -- once memory was wanting, the root alone
-  pub failed_held : IsWellFormed c → IsHeld c true links live marked o pending
-  failed_held is = record {
-    table = record {
-      congruence = is;
-      graph = root_graph c.presentation.letters;
-      live = root_live c.presentation.letters;
-      shape = refl;
-      marked = λ e. cc;
-      sources = λ e. cc;
-    };
-    closed = λ e. cc;
-    order = λ e. cc;
-  }
-
--- while it was not, the parts themselves are seen
-pub seen : (c : Congruence) (links : Links) (live marked : List Bool) (failed : Bool) (t : CosetTable) → failed ≡ false → shown c failed links live marked ≡ t → shown c false links live marked ≡ t
-seen c links live marked false t e view = view
-seen c links live marked true t e view = cc
-
--- what holds of the parts before and after holds of what is seen
-pub between : (P : CosetTable → CosetTable → Type 0) (c : Congruence) (failed : Bool) (links : Links) (live marked : List Bool) (links' : Links) (live' marked' : List Bool) (t : CosetTable) → failed ≡ false → shown c failed links live marked ≡ t
-    → P (shown c false links live marked) (shown c false links' live' marked') → P t (shown c failed links' live' marked')
-between P c false links live marked links' live' marked' t e view h = subst (λ z. P z (shown c false links' live' marked')) view h
-between P c true links live marked links' live' marked' t e view h = cc
-
--- a new table
-pub new_whole : (c : Congruence) (o : Order) → IsWellFormed c → IsKept c.presentation.letters (bare c) (false ∷ []) o → IsWhole c (record { graph = bare c; firsts = bare c; nexts = bare c }) (true ∷ []) (false ∷ []) o (NewNode 0 ∷ [])
-new_whole c o is kept = record {
-  congruence = is;
-  graph = root_graph c.presentation.letters;
-  lives = root_live c.presentation.letters;
-  shape = refl;
-  marks = λ n on. absurd (no_mark n on);
-  sources = root_sources c.presentation.letters;
-  closed = closed_root c.presentation.relations (bare c) (true ∷ []) only_root;
-  order = kept;
+pub held : (c : Congruence) (t : Cosets) (failed : Bool) → failed ≡ false → IsWhole c t → HasSources t.edges → IsHeld c failed t
+held c t false e w sources = record {
+  table = record {
+    congruence = w.congruence;
+    graph = w.graph;
+    live = w.lives;
+    shape = w.shape;
+    marked = λ _. w.marks;
+    sources = λ _. sources;
+  };
+  whole = λ _. w;
 }
-  where
-    only_root : (n : ℕ) → IsOn (true ∷ []) n → n ≡ 0
-    only_root zero on = refl
-    only_root (suc n) on = cc
+held c t true e w sources = cc
 
--- a node more, which has no mark
-pub one_more : (c : Congruence) (k : ℕ) (links links' : Links) (live live' marked marked' : List Bool) (o o' : Order) (pending pending' : List Pending) (node letter made : ℕ) → IsWhole c links live marked o pending → k ≡ c.presentation.letters → IsGraph k links'.graph → IsLiveGraph links'.graph live'
-    → links'.graph ≡ with_edge (with_node k links.graph) node letter made → live' ≡ live ++ true ∷ [] → marked' ≡ marked ++ false ∷ [] → ((node letter : ℕ) → (list : List ℕ) × IsSources links' node letter list)
-    → IsClosedBut c.presentation.relations links'.graph live' pending' → IsKept c.presentation.letters links'.graph marked' o' → IsWhole c links' live' marked' o' pending'
-one_more c k links links' live live' marked marked' o o' pending pending' node letter made w letters graph lives graph_is live_is marked_is sources closed kept = record {
-  congruence = w.congruence;
-  graph = subst (λ n. IsGraph n links'.graph) letters graph;
-  lives = lives;
-  shape = ap length marked_is ∙ longer ∙ sym (ap length graph_is);
-  marks = λ n h. subst (λ is. IsOn is n) (sym live_is) (marks_pushed live marked (w.shape ∙ sym w.lives.shape) w.marks n (subst (λ is. IsOn is n) marked_is h));
-  sources = sources;
-  closed = closed;
-  order = kept;
+-- the edges are what they were
+pub still_held : (c : Congruence) (t new : Cosets) (failed : Bool) → failed ≡ false → IsHeld c failed t → IsWhole c new → new.edges ≡ t.edges → IsHeld c failed new
+still_held c t new false e h w same = held c new false refl w (subst HasSources (sym same) (h.table.sources refl))
+still_held c t new true e h w same = cc
+
+-- once memory was wanting, the root alone
+pub failed_held : (c : Congruence) (t : Cosets) → IsWellFormed c → IsHeld c true t
+failed_held c t is = record {
+  table = record {
+    congruence = is;
+    graph = root_graph c.presentation.letters;
+    live = root_live c.presentation.letters;
+    shape = refl;
+    marked = λ e. cc;
+    sources = λ e. cc;
+  };
+  whole = λ e. cc;
 }
-  where
-    longer : length (marked ++ false ∷ []) ≡ length (with_edge (with_node k links.graph) node letter made)
-    longer = omega (arith, length_push {X = Bool} marked false, w.shape, length-set (with_node k links.graph) node (set (get_or (with_node k links.graph) node []) letter (Some made)), length_push {X = List (Option ℕ)} links.graph (replicate k None))
+
+-- while it was not, the cosets themselves are seen
+pub seen : (c : Congruence) (t : Cosets) (failed : Bool) (table : CosetTable) → failed ≡ false → shown c failed t ≡ table → shown c false t ≡ table
+seen c t false table e view = view
+seen c t true table e view = cc
+
+-- what holds of the cosets before and after holds of what is seen
+pub between : (P : CosetTable → CosetTable → Type 0) (c : Congruence) (failed : Bool) (t t' : Cosets) (table : CosetTable) → failed ≡ false → shown c failed t ≡ table
+    → P (shown c false t) (shown c false t') → P table (shown c failed t')
+between P c false t t' table e view h = subst (λ z. P z (shown c false t')) view h
+between P c true t t' table e view h = cc
 
 -- nodes in the order live
 pub kept_live : (k : ℕ) (g : Graph) (live marked : List Bool) (o : Order) → IsLiveGraph g live → IsKept k g marked o → (n : ℕ) → IsPlaced o n → IsOn live n
@@ -161,26 +102,35 @@ module _ (old new : Graph) (live live' : List Bool) (lives : IsLiveGraph new liv
       let same : s.0 ≡ m = some_same s.0 m (sym s.2 ∙ v.2) in
       sym (path_more new 0 j u.0 b u.2) ∙ s.1 ∙ ap (λ z. Some z) same
 
--- a table in which all was closed, or nodes were made one
-pub closed_whole : (c : Congruence) (links links' : Links) (live live' marked marked' : List Bool) (o o' : Order) (pending pending' : List Pending) → IsWhole c links live marked o pending
-    → IsGraph c.presentation.letters links'.graph → IsLiveGraph links'.graph live' → length marked' ≡ length links'.graph → ((n : ℕ) → IsOn marked' n → IsOn live' n)
-    → ((node letter : ℕ) → (list : List ℕ) × IsSources links' node letter list) → IsClosedBut c.presentation.relations links'.graph live' pending' → length links'.graph ≡ length links.graph
-    → KeepsNumbers links.graph links'.graph → KeepsMarks links.graph marked links'.graph marked' → ((u v : Word) → SameEnd links.graph u v → SameEnd links'.graph u v) → IsMended o o' live live'
-    → IsWhole c links' live' marked' o' pending'
-closed_whole c links links' live live' marked marked' o o' pending pending' w graph lives shape marks sources closed nodes numbers keeps persist mended = record {
-  congruence = w.congruence;
-  graph = graph;
-  lives = lives;
-  shape = shape;
-  marks = marks;
-  sources = sources;
-  closed = closed;
-  order = kept_lives c.presentation.letters links.graph marked o'.steps.items o'.places.items o'.row o'.letter o'.done (mended.kept c.presentation.letters links.graph marked w.order) links'.graph live' marked' nodes
-      (λ n b t e. (target_in c.presentation.letters links'.graph graph n b t e).1)
-      (λ n j e. mended.lives (kept_live c.presentation.letters links.graph live marked o w.lives w.order) n (j, e))
-      (edges_stay links.graph links'.graph live live' lives numbers persist)
-      (λ n on was. let v = own links.graph links'.graph live live' lives numbers persist n on in keeps.kept v.0 v.0 n n v.1 was v.2 v.2);
-}
+-- what two nodes that become one leave
+module _ (c : Congruence) (old new : Cosets) (x y : ℕ) (at to : Option ℕ) (w : IsWhole c old) (hx : IsOn old.live.items x) (hy : IsOn old.live.items y) (o : IsJoined old new x y at to) where
+  left : IsLeft old new x y
+  left = joined_left old new x y at to w.lives hx hy w.shape w.marks o
+
+  pub joined_identified : IsIdentified old.edges.graph new.edges.graph old.live.items new.live.items x y
+  joined_identified = left.ok
+
+  pub joined_gathered : IsGathered old new
+  joined_gathered = record { marks = left.marks; numbers = left.numbers; nodes = left.ok.nodes }
+
+  persist : (u v : Word) → SameEnd old.edges.graph u v → SameEnd new.edges.graph u v
+  persist u v h = (left.ok.relates u v).1 (given (inl h))
+
+  pub joined_whole : IsWhole c new
+  joined_whole = record {
+    congruence = w.congruence;
+    graph = left.graph c.presentation.letters w.graph;
+    lives = left.ok.live;
+    shape = left.shape;
+    marks = left.marked_on;
+    closed = left.closed c.presentation.relations w.closed;
+    order = kept_lives c.presentation.letters old.edges.graph old.marked.items new.order.steps.items new.order.places.items new.order.row new.order.letter new.order.done (o.order.kept c.presentation.letters old.edges.graph old.marked.items w.order)
+        new.edges.graph new.live.items new.marked.items left.ok.nodes
+        (λ n b t e. (target_in c.presentation.letters new.edges.graph (left.graph c.presentation.letters w.graph) n b t e).1)
+        (λ n j e. o.order.lives (kept_live c.presentation.letters old.edges.graph old.live.items old.marked.items old.order w.lives w.order) n (j, e))
+        (edges_stay old.edges.graph new.edges.graph old.live.items new.live.items left.ok.live left.numbers persist)
+        (λ n on was. let v = own old.edges.graph new.edges.graph old.live.items new.live.items left.ok.live left.numbers persist n on in left.marks.kept v.0 v.0 n n v.1 was v.2 v.2);
+  }
 
 -- the order of a table with one node more
 pub kept_added : (k : ℕ) (g : Graph) (marked marked' : List Bool) (o o' : Order) (live : List Bool) (node letter : ℕ) → IsGraph k g → IsLiveGraph g live → IsOn live node → letter < k → target g node letter ≡ None
@@ -221,77 +171,123 @@ kept_marked k g marked o node less is = record {
     ]
 
 -- another order of the same nodes
-pub ordered_whole : (c : Congruence) (links : Links) (live marked : List Bool) (o o' : Order) (pending : List Pending) → IsWhole c links live marked o pending → IsKept c.presentation.letters links.graph marked o' → IsWhole c links live marked o' pending
-ordered_whole c links live marked o o' pending w kept = record {
+pub ordered_whole : (c : Congruence) (t new : Cosets) → new ≡ record t { order = new.order } → IsWhole c t → IsKept c.presentation.letters t.edges.graph t.marked.items new.order → IsWhole c new
+ordered_whole c t new is w kept = subst (IsWhole c) (sym is) (record {
   congruence = w.congruence;
   graph = w.graph;
   lives = w.lives;
   shape = w.shape;
   marks = w.marks;
-  sources = w.sources;
   closed = w.closed;
   order = kept;
-}
+})
 
-pub marked_whole : (c : Congruence) (links : Links) (live marked : List Bool) (o : Order) (pending : List Pending) (node : ℕ) → IsWhole c links live marked o pending → IsOn live node → IsWhole c links live (set marked node true) o pending
-marked_whole c links live marked o pending node w on = record {
+-- a mark more
+pub marked_whole : (c : Congruence) (t new : Cosets) (node : ℕ) → new ≡ record t { marked = new.marked } → new.marked.items ≡ set t.marked.items node true → IsOn t.live.items node → IsWhole c t → IsWhole c new
+marked_whole c t new node is marked on w = subst (IsWhole c) (sym is) (record {
   congruence = w.congruence;
   graph = w.graph;
   lives = w.lives;
-  shape = length-set marked node true ∙ w.shape;
+  shape = ap length marked ∙ length-set t.marked.items node true ∙ w.shape;
   marks = λ n h. elim (cases_eq n node) [
-    | inl e ↦ subst (IsOn live) (sym e) on
-    | inr d ↦ w.marks n (sym (get_or-set_other marked node n true false d) ∙ h)
+    | inl e ↦ subst (IsOn t.live.items) (sym e) on
+    | inr d ↦ w.marks n (sym (get_or-set_other t.marked.items node n true false d) ∙ subst (λ m. IsOn m n) marked h)
   ];
-  sources = w.sources;
   closed = w.closed;
-  order = kept_marked c.presentation.letters links.graph marked o node (omega (arith, on_inside links.graph live node w.lives on, w.shape)) w.order;
-}
+  order = subst (λ m. IsKept c.presentation.letters t.edges.graph m t.order) (sym marked)
+      (kept_marked c.presentation.letters t.edges.graph t.marked.items t.order node (omega (arith, on_inside t.edges.graph t.live.items node w.lives on, w.shape)) w.order);
+})
 
 -- other entries, but for which all is closed too
-pub pending_whole : (c : Congruence) (links : Links) (live marked : List Bool) (o : Order) (pending other : List Pending) → IsWhole c links live marked o pending
-    → IsClosedBut c.presentation.relations links.graph live other → IsWhole c links live marked o other
-pending_whole c links live marked o pending other w closed = record {
+pub pending_whole : (c : Congruence) (t new : Cosets) → new ≡ record t { pending = new.pending } → IsClosedBut c.presentation.relations t.edges.graph t.live.items new.pending → IsWhole c t → IsWhole c new
+pending_whole c t new is closed w = subst (IsWhole c) (sym is) (record {
   congruence = w.congruence;
   graph = w.graph;
   lives = w.lives;
   shape = w.shape;
   marks = w.marks;
-  sources = w.sources;
   closed = closed;
   order = w.order;
-}
+})
 
 -- an edge more, which is pending
-module _ (c : Congruence) (links links' : Links) (live marked : List Bool) (o : Order) (pending : List Pending) (node letter to : ℕ) (w : IsWhole c links live marked o pending)
-    (hn : IsOn live node) (ht : IsOn live to) (less : letter < c.presentation.letters) (none : target links.graph node letter ≡ None) where
-  drawn_node : node < length links.graph
-  drawn_node = on_inside links.graph live node w.lives hn
+module _ (c : Congruence) (t new : Cosets) (node letter to : ℕ) (w : IsWhole c t) (hn : IsOn t.live.items node) (ht : IsOn t.live.items to) (less : letter < c.presentation.letters) (none : target t.edges.graph node letter ≡ None)
+    (graph_is : new.edges.graph ≡ with_edge t.edges.graph node letter to) (others : new ≡ record t { edges = new.edges; pending = new.pending }) (pending_is : new.pending ≡ t.pending ++ NewEdge node letter ∷ []) where
+  drawn_node : node < length t.edges.graph
+  drawn_node = on_inside t.edges.graph t.live.items node w.lives hn
 
-  drawn_to : to < length links.graph
-  drawn_to = on_inside links.graph live to w.lives ht
+  drawn_to : to < length t.edges.graph
+  drawn_to = on_inside t.edges.graph t.live.items to w.lives ht
 
-  drawn_edge : IsEdged links.graph (with_edge links.graph node letter to) node letter to
-  drawn_edge = edged_with links.graph node letter to drawn_node (omega (arith, w.graph.width node [] drawn_node, less)) none
+  pub drawn_edge : IsEdged t.edges.graph (with_edge t.edges.graph node letter to) node letter to
+  drawn_edge = edged_with t.edges.graph node letter to drawn_node (omega (arith, w.graph.width node [] drawn_node, less)) none
 
-  pub drawn_whole : links'.graph ≡ with_edge links.graph node letter to → ((node letter : ℕ) → (list : List ℕ) × IsSources links' node letter list) → IsWhole c links' live marked o (pending ++ NewEdge node letter ∷ [])
-  drawn_whole is sources =
-      let same : length (with_edge links.graph node letter to) ≡ length links.graph = length-set links.graph node (set (get_or links.graph node []) letter (Some to)) in
-      let graph : IsGraph c.presentation.letters (with_edge links.graph node letter to) = graph_edged c.presentation.letters links.graph node letter to w.graph drawn_node less drawn_to in
-      let lives : IsLiveGraph (with_edge links.graph node letter to) live = edged_live links.graph (with_edge links.graph node letter to) live node letter to same drawn_edge (w.lives.reached node hn) (w.lives.reached to ht) w.lives in
-      record {
-        congruence = w.congruence;
-        graph = subst (IsGraph c.presentation.letters) (sym is) graph;
-        lives = subst (λ (g : Graph). IsLiveGraph g live) (sym is) lives;
-        shape = w.shape ∙ sym same ∙ ap length (sym is);
-        marks = w.marks;
-        sources = sources;
-        closed = subst (λ (g : Graph). IsClosedBut c.presentation.relations g live (pending ++ NewEdge node letter ∷ [])) (sym is)
-            (closed_renewed c.presentation.relations links.graph (with_edge links.graph node letter to) live live pending (pending ++ NewEdge node letter ∷ []) lives (renewed_edged links.graph (with_edge links.graph node letter to) live pending node letter to drawn_edge) w.closed);
-        order = subst (λ (g : Graph). IsKept c.presentation.letters g marked o) (sym is)
-            (kept_lives c.presentation.letters links.graph marked o.steps.items o.places.items o.row o.letter o.done w.order (with_edge links.graph node letter to) live marked same
-            (λ n b t e. (target_in c.presentation.letters (with_edge links.graph node letter to) graph n b t e).1)
-            (λ n j e. kept_live c.presentation.letters links.graph live marked o w.lives w.order n (j, e))
-            (λ n b t _ _ e. drawn_edge.kept n b t e)
-            (λ n _ on. on));
-      }
+  abbrev drawn : Graph
+  drawn = with_edge t.edges.graph node letter to
+
+  abbrev later : List Pending
+  later = t.pending ++ NewEdge node letter ∷ []
+
+  same : length drawn ≡ length t.edges.graph
+  same = length-set t.edges.graph node (set (get_or t.edges.graph node []) letter (Some to))
+
+  graph : IsGraph c.presentation.letters drawn
+  graph = graph_edged c.presentation.letters t.edges.graph node letter to w.graph drawn_node less drawn_to
+
+  lives : IsLiveGraph drawn t.live.items
+  lives = edged_live t.edges.graph drawn t.live.items node letter to same drawn_edge (w.lives.reached node hn) (w.lives.reached to ht) w.lives
+
+  pub drawn_whole : IsWhole c new
+  drawn_whole = subst (IsWhole c) (sym others) (record {
+    congruence = w.congruence;
+    graph = subst (IsGraph c.presentation.letters) (sym graph_is) graph;
+    lives = subst (λ (g : Graph). IsLiveGraph g t.live.items) (sym graph_is) lives;
+    shape = w.shape ∙ sym same ∙ ap length (sym graph_is);
+    marks = w.marks;
+    closed = rw (graph_is, pending_is)
+        (closed_renewed c.presentation.relations t.edges.graph drawn t.live.items t.live.items t.pending later lives (renewed_edged t.edges.graph drawn t.live.items t.pending node letter to drawn_edge) w.closed);
+    order = subst (λ (g : Graph). IsKept c.presentation.letters g t.marked.items t.order) (sym graph_is)
+        (kept_lives c.presentation.letters t.edges.graph t.marked.items t.order.steps.items t.order.places.items t.order.row t.order.letter t.order.done w.order drawn t.live.items t.marked.items same
+        (λ n b m e. (target_in c.presentation.letters drawn graph n b m e).1)
+        (λ n j e. kept_live c.presentation.letters t.edges.graph t.live.items t.marked.items t.order w.lives w.order n (j, e))
+        (λ n b m _ _ e. drawn_edge.kept n b m e)
+        (λ n _ on. on));
+  })
+
+-- the root alone
+pub root_whole : (c : Congruence) (t : Cosets) → IsWellFormed c → t.edges.graph ≡ bare c → t.live.items ≡ true ∷ [] → t.marked.items ≡ false ∷ [] → t.pending ≡ NewNode 0 ∷ [] → IsKept c.presentation.letters (bare c) (false ∷ []) t.order → IsWhole c t
+root_whole c t is graph live marked pending kept = record {
+  congruence = is;
+  graph = rw graph (root_graph c.presentation.letters);
+  lives = rw (graph, live) (root_live c.presentation.letters);
+  shape = ap length marked ∙ sym (ap length graph);
+  marks = λ n on. absurd (no_mark n (subst (λ m. IsOn m n) marked on));
+  closed = rw (graph, live, pending) (closed_root c.presentation.relations (bare c) (true ∷ []) only_root);
+  order = rw (graph, marked) kept;
+}
+  where
+    only_root : (n : ℕ) → IsOn (true ∷ []) n → n ≡ 0
+    only_root zero on = refl
+    only_root (suc n) on = cc
+
+-- a node more, without mark, and an edge to it
+module _ (c : Congruence) (t new : Cosets) (node letter : ℕ) (w : IsWhole c t) (on : IsOn t.live.items node) (less : letter < c.presentation.letters) (none : target t.edges.graph node letter ≡ None) where
+  abbrev pub defined : Graph
+  defined = with_edge (with_node c.presentation.letters t.edges.graph) node letter (length t.edges.graph)
+
+  longer : length defined ≡ length t.edges.graph + 1
+  longer = length-set (with_node c.presentation.letters t.edges.graph) node (set (get_or (with_node c.presentation.letters t.edges.graph) node []) letter (Some (length t.edges.graph))) ∙ length_push {X = List (Option ℕ)} t.edges.graph (replicate c.presentation.letters None)
+
+  pub defined_whole : new.edges.graph ≡ defined → new.live.items ≡ t.live.items ++ true ∷ [] → new.marked.items ≡ t.marked.items ++ false ∷ []
+      → new.pending ≡ (t.pending ++ NewNode (length t.edges.graph) ∷ []) ++ NewEdge node letter ∷ []
+      → new.order.places.items ≡ t.order.places.items ++ None ∷ [] → new.order.steps.items ≡ t.order.steps.items → new.order.row ≡ t.order.row → new.order.letter ≡ t.order.letter → new.order.done ≡ t.order.done → IsWhole c new
+  defined_whole graph live marked pending places steps row at done = record {
+    congruence = w.congruence;
+    graph = subst (IsGraph c.presentation.letters) (sym graph) (define_graph c.presentation.letters t.edges.graph node letter w.graph (on_inside t.edges.graph t.live.items node w.lives on) less);
+    lives = rw (graph, live) (define_live c.presentation.letters t.edges.graph t.live.items node letter w.graph w.lives on less none);
+    shape = ap length marked ∙ length_push {X = Bool} t.marked.items false ∙ omega (arith, w.shape, longer, ap length graph);
+    marks = λ n h. subst (λ is. IsOn is n) (sym live) (marks_pushed t.live.items t.marked.items (w.shape ∙ sym w.lives.shape) w.marks n (subst (λ is. IsOn is n) marked h));
+    closed = defined_closed c.presentation.letters t.edges.graph new.edges.graph t.live.items new.live.items t.pending new.pending node letter (length t.edges.graph) w.graph w.lives on less none refl graph live pending c.presentation.relations w.closed;
+    order = subst (λ (g : Graph). IsKept c.presentation.letters g new.marked.items new.order) (sym graph)
+        (kept_added c.presentation.letters t.edges.graph t.marked.items new.marked.items t.order new.order t.live.items node letter w.graph w.lives on less none places steps row at done marked w.order);
+  }

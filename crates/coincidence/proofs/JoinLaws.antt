@@ -5,6 +5,7 @@ use Rattle.std.proofs.lemmas.Bool.{cases_eq, cases_lt}
 use Rattle.std.proofs.lemmas.List.{get_or-set_same, get_or-set_other, get_or_past}
 use Rattle.std.proofs.lemmas.List.FromFn.{get_or-range_with_len, length-range_with_len}
 use Rattle.theory.specs.Word.{Word}
+use Rattle.theory.specs.Congruence.{Congruence}
 use Rattle.theory.specs.Graph.{Graph, target, path, IsGraph}
 use Rattle.theory.proofs.PartLaws.{given, symmetric, transitive}
 use Rattle.word_graph.proofs.EdgeLaws.{target_in}
@@ -16,7 +17,9 @@ use Rattle.coincidence.specs.Pending.{IsAmong}
 use Rattle.coincidence.specs.Absorbing.{Extends, IsSameShape, IsMet, IsAbsorbed}
 use Rattle.coincidence.specs.Joining.{AreAllOne, HaveClasses, AreOn, AreOne, AreTaken, IsTaken, IsMarkMoved, IsJoined}
 use Rattle.coincidence.specs.Replaced.{AreReplaced, IsKnown, StaysInClass}
-use Rattle.coincidence.specs.declared.pending.Pending.{Pending}
+use Rattle.coincidence.specs.Cosets.{IsWhole}
+use Rattle.coincidence.specs.Kept.{IsMended}
+use Rattle.coincidence.specs.declared.cosets.Cosets.{Cosets}
 use Rattle.coincidence.specs.declared.pending.Pending.TheVariants.{NewEdge}
 use Rattle.coincidence.proofs.FollowsLaws.{path_more}
 use Rattle.coincidence.proofs.ClassLaws.{relabel_same, relabel_other, relabel_zero, relabel_classing, index_map, apart_classing}
@@ -26,6 +29,7 @@ use Rattle.coincidence.proofs.MarkLaws.{on_within}
 use Rattle.coincidence.proofs.LiveLaws.{count_fewer}
 use Rattle.coincidence.proofs.PendingLaws.{among_push, among_before, among_last}
 use Rattle.coincidence.proofs.AbsorbLaws.{same_shape, shape_trans}
+use Rattle.coincidence.proofs.KeptLaws.{mended_start}
 
 -- pairs that are taken
 pub record IsTaking (was is : List Bool) (class replaced_by : List ℕ) (queue rest : List (ℕ × ℕ)) : Type 0 where
@@ -169,21 +173,22 @@ meeting_means g x y class s t edges rx ry apart c (inr k) =
     }
 
 -- a merging under way: the graph of the classes, but for the pairs of the queue
-pub record IsJoining (old cur : Graph) (was is marked marks : List Bool) (before after : List Pending) (x y : ℕ) (at to : Option ℕ) (replaced_by : List ℕ) (queue : List (ℕ × ℕ)) : Type 0 where
+pub record IsJoining (old now : Cosets) (x y : ℕ) (at to : Option ℕ) (queue : List (ℕ × ℕ)) : Type 0 where
   pub class : List ℕ
-  pub classing : IsClassing old x y class
-  pub alike : IsSameShape old cur
-  pub edge : (n a m : ℕ) → target old n a ≡ Some m → (t : ℕ) × (target cur (slice_index class n) a ≡ Some t) × Joined class queue (slice_index class m) t
-  pub back : (c a t : ℕ) → target cur c a ≡ Some t → (n m : ℕ) × (slice_index class n ≡ c) × (target old n a ≡ Some m) × (slice_index class m ≡ t)
-  pub on : AreOn was queue
-  pub meets : (p q : ℕ) → IsAmong (p, q) queue → IsMeeting old x y class (slice_index class p) (slice_index class q)
+  pub classing : IsClassing old.edges.graph x y class
+  pub alike : IsSameShape old.edges.graph now.edges.graph
+  pub edge : (n a m : ℕ) → target old.edges.graph n a ≡ Some m → (t : ℕ) × (target now.edges.graph (slice_index class n) a ≡ Some t) × Joined class queue (slice_index class m) t
+  pub back : (c a t : ℕ) → target now.edges.graph c a ≡ Some t → (n m : ℕ) × (slice_index class n ≡ c) × (target old.edges.graph n a ≡ Some m) × (slice_index class m ≡ t)
+  pub on : AreOn old.live.items queue
+  pub meets : (p q : ℕ) → IsAmong (p, q) queue → IsMeeting old.edges.graph x y class (slice_index class p) (slice_index class q)
   pub one : Joined class queue (slice_index class x) (slice_index class y)
-  pub replaced : AreReplaced was is class replaced_by
-  pub live : (n : ℕ) → get_or is n false ≡ (get_or was n false && nat_eq (slice_index class n) n)
-  pub carried : AreCarried class marked marks
+  pub replaced : AreReplaced old.live.items now.live.items class now.replaced_by.items
+  pub live : (n : ℕ) → get_or now.live.items n false ≡ (get_or old.live.items n false && nat_eq (slice_index class n) n)
+  pub carried : AreCarried class old.marked.items now.marked.items
   pub gone : to ≡ option_map (slice_index class) at
-  pub fresh : (n a t : ℕ) → target cur n a ≡ Some t → IsAmong (NewEdge n a) after ⊎ (target old n a ≡ Some t)
-  pub pending : Extends before after
+  pub fresh : (n a t : ℕ) → target now.edges.graph n a ≡ Some t → IsAmong (NewEdge n a) now.pending ⊎ (target old.edges.graph n a ≡ Some t)
+  pub pending : Extends old.pending now.pending
+  pub order : IsMended old.order now.order old.live.items now.live.items
 
 eq_refl : (n : ℕ) → nat_eq n n ≡ true
 eq_refl n = grind arith
@@ -203,55 +208,61 @@ pub at_same : (f : ℕ → ℕ) (at : Option ℕ) → ((n : ℕ) → at ≡ Some
 at_same f None h = refl
 at_same f (Some n) h = ap (λ z. Some z) (sym (h n refl))
 
-pub joining_start : (k : ℕ) (g : Graph) (live marked : List Bool) (pending : List Pending) (x y : ℕ) (at : Option ℕ) (replaced_by : List ℕ) → IsGraph k g → IsLiveGraph g live → length marked ≡ length g
-    → IsOn live x → IsOn live y → ((n : ℕ) → at ≡ Some n → IsOn live n) → length live ≤ length replaced_by → IsJoining g g live live marked marked pending pending x y at at replaced_by ((x, y) ∷ [])
-joining_start k g live marked pending x y at replaced_by is lives shape hx hy here room = record {
-  class = class;
-  classing = apart_classing k g x y class is (length-range_with_len 0 (length g)) own;
-  alike = same_shape g;
-  edge = λ n a m e. let b = target_in k g is n a m e in (m, ap (λ z. target g z a) (own n b.0) ∙ e, same (slice_index class m) m (own m b.2));
-  back = λ c a t e. let b = target_in k g is c a t e in (c, t, own c b.0, e, own t b.2);
-  on = λ p q h. elim h [
-    | inl e ↦ (subst (IsOn live) (sym (ap (λ (z : ℕ × ℕ). z.0) e)) hx, subst (IsOn live) (sym (ap (λ (z : ℕ × ℕ). z.1) e)) hy)
-    | inr none ↦ absurd none
-  ];
-  meets = λ p q h. elim h [
-    | inl e ↦ inl (ap (λ (z : ℕ × ℕ). slice_index class z.0) e, ap (λ (z : ℕ × ℕ). slice_index class z.1) e)
-    | inr none ↦ absurd none
-  ];
-  one = pair (slice_index class x) (slice_index class y) x y (inl refl) refl refl;
-  replaced = record { shape = refl; room = room; own = λ n on. own n (inside n on); replaced = λ n on. inl on };
-  live = λ n. elim (cases_lt n (length g)) [
-    | inl h ↦ sym (ap (λ z. get_or live n false && z) (ap (λ z. nat_eq z n) (own n h) ∙ eq_refl n) ∙ and_true (get_or live n false))
-    | inr h ↦ let off : get_or live n false ≡ false = get_or_past live n false (omega (arith, h, lives.shape)) in off ∙ sym (ap (λ z. z && nat_eq (slice_index class n) n) off)
-  ];
-  carried = record {
-    shape = refl;
-    kept = λ n on. subst (IsOn marked) (sym (own n (omega (arith, on_within marked n on, shape)))) on;
-    from = λ m on. (m, on, own m (omega (arith, on_within marked m on, shape)));
-  };
-  gone = at_same (slice_index class) at (λ n e. own n (inside n (here n e)));
-  fresh = λ n a t e. inr e;
-  pending = λ p h. h;
-}
-  where
-    class : List ℕ
-    class = range_with_len 0 (length g)
+-- before the first pair of the queue is taken
+module _ (c : Congruence) (old now : Cosets) (x y : ℕ) (at : Option ℕ) (w : IsWhole c old) (is : now ≡ record old { replaced_by = now.replaced_by }) (hx : IsOn old.live.items x) (hy : IsOn old.live.items y)
+    (here : (n : ℕ) → at ≡ Some n → IsOn old.live.items n) (room : length old.live.items ≤ length now.replaced_by.items) where
+  own_at_first : (n : ℕ) → n < length old.edges.graph → slice_index (range_with_len 0 (length old.edges.graph)) n ≡ n
+  own_at_first n h = get_or-range_with_len 0 (length old.edges.graph) n 0 h ∙ (let e : 0 + n ≡ n = omega arith in e)
 
-    own : (n : ℕ) → n < length g → slice_index class n ≡ n
-    own n h = get_or-range_with_len 0 (length g) n 0 h ∙ (let e : 0 + n ≡ n = omega arith in e)
+  inside : (n : ℕ) → IsOn old.live.items n → n < length old.edges.graph
+  inside n on = omega (arith, on_within old.live.items n on, w.lives.shape)
 
-    inside : (n : ℕ) → IsOn live n → n < length g
-    inside n on = omega (arith, on_within live n on, lives.shape)
+  marked_inside : (n : ℕ) → IsOn old.marked.items n → n < length old.edges.graph
+  marked_inside n on = omega (arith, on_within old.marked.items n on, w.shape)
+
+  pub joining_start : IsJoining old now x y at at ((x, y) ∷ [])
+  joining_start = subst (λ z. IsJoining old z x y at at ((x, y) ∷ [])) (sym is) (record {
+    class = class;
+    classing = apart_classing c.presentation.letters old.edges.graph x y class w.graph (length-range_with_len 0 (length old.edges.graph)) own_at_first;
+    alike = same_shape old.edges.graph;
+    edge = λ n a m e. let b = target_in c.presentation.letters old.edges.graph w.graph n a m e in (m, ap (λ z. target old.edges.graph z a) (own_at_first n b.0) ∙ e, same (slice_index class m) m (own_at_first m b.2));
+    back = λ k a t e. let b = target_in c.presentation.letters old.edges.graph w.graph k a t e in (k, t, own_at_first k b.0, e, own_at_first t b.2);
+    on = λ p q h. elim h [
+      | inl e ↦ (subst (IsOn old.live.items) (sym (ap (λ (z : ℕ × ℕ). z.0) e)) hx, subst (IsOn old.live.items) (sym (ap (λ (z : ℕ × ℕ). z.1) e)) hy)
+      | inr none ↦ absurd none
+    ];
+    meets = λ p q h. elim h [
+      | inl e ↦ inl (ap (λ (z : ℕ × ℕ). slice_index class z.0) e, ap (λ (z : ℕ × ℕ). slice_index class z.1) e)
+      | inr none ↦ absurd none
+    ];
+    one = pair (slice_index class x) (slice_index class y) x y (inl refl) refl refl;
+    replaced = record { shape = refl; room = room; own = λ n on. own_at_first n (inside n on); replaced = λ n on. inl on };
+    live = λ n. elim (cases_lt n (length old.edges.graph)) [
+      | inl h ↦ sym (ap (λ z. get_or old.live.items n false && z) (ap (λ z. nat_eq z n) (own_at_first n h) ∙ eq_refl n) ∙ and_true (get_or old.live.items n false))
+      | inr h ↦ let off : get_or old.live.items n false ≡ false = get_or_past old.live.items n false (omega (arith, h, w.lives.shape)) in off ∙ sym (ap (λ z. z && nat_eq (slice_index class n) n) off)
+    ];
+    carried = record {
+      shape = refl;
+      kept = λ n on. subst (IsOn old.marked.items) (sym (own_at_first n (marked_inside n on))) on;
+      from = λ m on. (m, on, own_at_first m (marked_inside m on));
+    };
+    gone = at_same (slice_index class) at (λ n e. own_at_first n (inside n (here n e)));
+    fresh = λ n a t e. inr e;
+    pending = λ p h. h;
+    order = mended_start old.order old.live.items;
+  })
+    where
+      class : List ℕ
+      class = range_with_len 0 (length old.edges.graph)
 
 pub option_gone : (class class' : List ℕ) (f : ℕ → ℕ) → ((n : ℕ) → slice_index class' n ≡ f (slice_index class n)) → (at to to' : Option ℕ) → to ≡ option_map (slice_index class) at → to' ≡ option_map f to → to' ≡ option_map (slice_index class') at
 option_gone class class' f h None to to' e d = d ∙ ap (option_map f) e
 option_gone class class' f h (Some n) to to' e d = d ∙ ap (option_map f) e ∙ ap (λ z. Some z) (sym (h n))
 
 -- one pair of the queue is drawn
-module _ (old cur new : Graph) (was is marked marks moved : List Bool) (before after later : List Pending) (x y : ℕ) (at to to' : Option ℕ) (replaced_by found : List ℕ) (queue rest queued : List (ℕ × ℕ)) (s t lost kept : ℕ)
-    (lives : IsLiveGraph old was) (rx : IsReached old x) (ry : IsReached old y)
-    (j : IsJoining old cur was is marked marks before after x y at to replaced_by queue) (takes : AreTaken is replaced_by found queue rest s t)
+module _ (old cur new : Cosets) (x y : ℕ) (at to to' : Option ℕ) (found : List ℕ) (queue rest queued : List (ℕ × ℕ)) (s t lost kept : ℕ)
+    (lives : IsLiveGraph old.edges.graph old.live.items) (rx : IsReached old.edges.graph x) (ry : IsReached old.edges.graph y)
+    (j : IsJoining old cur x y at to queue) (takes : AreTaken cur.live.items cur.replaced_by.items found queue rest s t)
     (ends : ((s ≡ lost) × (t ≡ kept)) ⊎ ((s ≡ kept) × (t ≡ lost))) (less : kept < lost) where
   class' : List ℕ
   class' = map (relabel lost kept) j.class
@@ -259,21 +270,21 @@ module _ (old cur new : Graph) (was is marked marks moved : List Bool) (before a
   index : (n : ℕ) → slice_index (map (relabel lost kept) j.class) n ≡ relabel lost kept (slice_index j.class n)
   index n = index_map (relabel lost kept) j.class n (relabel_zero lost kept (omega (arith, less)))
 
-  taken : IsTaken was is j.class found queue rest s t
-  taken = takes was j.class j.replaced j.on
+  taken : IsTaken old.live.items cur.live.items j.class found queue rest s t
+  taken = takes old.live.items j.class j.replaced j.on
 
-  meant : IsMeant old x y j.class s t
+  meant : IsMeant old.edges.graph x y j.class s t
   meant =
       let there = taken.there in
-      meeting_means old x y j.class s t lives.edges rx ry (λ e. absurd (elim ends [ inl d ↦ omega (arith, e, d.0, d.1, less) | inr d ↦ omega (arith, e, d.0, d.1, less) ])) j.classing
-      (subst (λ z. IsMeeting old x y j.class z t) (sym there.3) (subst (λ z. IsMeeting old x y j.class (slice_index j.class there.0) z) (sym there.4) (j.meets there.0 there.1 there.2)))
+      meeting_means old.edges.graph x y j.class s t lives.edges rx ry (λ e. absurd (elim ends [ inl d ↦ omega (arith, e, d.0, d.1, less) | inr d ↦ omega (arith, e, d.0, d.1, less) ])) j.classing
+      (subst (λ z. IsMeeting old.edges.graph x y j.class z t) (sym there.3) (subst (λ z. IsMeeting old.edges.graph x y j.class (slice_index j.class there.0) z) (sym there.4) (j.meets there.0 there.1 there.2)))
 
   record IsEnds : Type 0 where
     lost_own : slice_index j.class lost ≡ lost
     kept_own : slice_index j.class kept ≡ kept
-    lost_reached : IsReached old lost
-    kept_reached : IsReached old kept
-    related : (u v : Word) (n m : ℕ) → path old 0 u ≡ Some n → path old 0 v ≡ Some m → slice_index j.class n ≡ lost → slice_index j.class m ≡ kept → MergedNodes old x y u v
+    lost_reached : IsReached old.edges.graph lost
+    kept_reached : IsReached old.edges.graph kept
+    related : (u v : Word) (n m : ℕ) → path old.edges.graph 0 u ≡ Some n → path old.edges.graph 0 v ≡ Some m → slice_index j.class n ≡ lost → slice_index j.class m ≡ kept → MergedNodes old.edges.graph x y u v
 
   both : IsEnds
   both = go ends
@@ -282,36 +293,36 @@ module _ (old cur new : Graph) (was is marked marks moved : List Bool) (before a
       go (inl e) = record {
         lost_own = subst (λ z. slice_index j.class z ≡ z) e.0 meant.s_own;
         kept_own = subst (λ z. slice_index j.class z ≡ z) e.1 meant.t_own;
-        lost_reached = subst (IsReached old) e.0 meant.s_reached;
-        kept_reached = subst (IsReached old) e.1 meant.t_reached;
+        lost_reached = subst (IsReached old.edges.graph) e.0 meant.s_reached;
+        kept_reached = subst (IsReached old.edges.graph) e.1 meant.t_reached;
         related = λ u v n m hu hv en em. meant.related u v n m hu hv (en ∙ sym e.0) (em ∙ sym e.1);
       }
       go (inr e) = record {
         lost_own = subst (λ z. slice_index j.class z ≡ z) e.1 meant.t_own;
         kept_own = subst (λ z. slice_index j.class z ≡ z) e.0 meant.s_own;
-        lost_reached = subst (IsReached old) e.1 meant.t_reached;
-        kept_reached = subst (IsReached old) e.0 meant.s_reached;
+        lost_reached = subst (IsReached old.edges.graph) e.1 meant.t_reached;
+        kept_reached = subst (IsReached old.edges.graph) e.0 meant.s_reached;
         related = λ u v n m hu hv en em. symmetric (meant.related v u m n hv hu (em ∙ sym e.0) (en ∙ sym e.1));
       }
 
-  pub lost_in : IsReached old lost
+  pub lost_in : IsReached old.edges.graph lost
   lost_in = both.lost_reached
 
-  pub kept_in : IsReached old kept
+  pub kept_in : IsReached old.edges.graph kept
   kept_in = both.kept_reached
 
-  pub lost_on : IsOn is lost
-  lost_on = j.live lost ∙ ap (λ z. get_or was lost false && nat_eq z lost) both.lost_own ∙ ap (λ z. get_or was lost false && z) (eq_refl lost) ∙ and_true (get_or was lost false) ∙ lives.lives lost both.lost_reached
+  pub lost_on : IsOn cur.live.items lost
+  lost_on = j.live lost ∙ ap (λ z. get_or old.live.items lost false && nat_eq z lost) both.lost_own ∙ ap (λ z. get_or old.live.items lost false && z) (eq_refl lost) ∙ and_true (get_or old.live.items lost false) ∙ lives.lives lost both.lost_reached
 
-  pub fewer_live : count_on (set is lost false) < count_on is
-  fewer_live = count_fewer (set is lost false) is lost (length-set is lost false) (λ n on. still n on (cases_eq n lost)) lost_on (λ on. absurd (let off = get_or-set_same is lost false false (on_within is lost lost_on) in let no : false ≡ true = sym off ∙ on in let none : ⊥ = cc in none))
+  pub fewer_live : count_on (set cur.live.items lost false) < count_on cur.live.items
+  fewer_live = count_fewer (set cur.live.items lost false) cur.live.items lost (length-set cur.live.items lost false) (λ n on. still n on (cases_eq n lost)) lost_on (λ on. absurd (let off = get_or-set_same cur.live.items lost false false (on_within cur.live.items lost lost_on) in let no : false ≡ true = sym off ∙ on in let none : ⊥ = cc in none))
     where
-      still : (n : ℕ) → IsOn (set is lost false) n → (n ≡ lost) ⊎ (n ≢ lost) → IsOn is n
-      still n on (inl e) = subst (IsOn is) (sym e) lost_on
-      still n on (inr d) = sym (get_or-set_other is lost n false false d) ∙ on
+      still : (n : ℕ) → IsOn (set cur.live.items lost false) n → (n ≡ lost) ⊎ (n ≢ lost) → IsOn cur.live.items n
+      still n on (inl e) = subst (IsOn cur.live.items) (sym e) lost_on
+      still n on (inr d) = sym (get_or-set_other cur.live.items lost n false false d) ∙ on
 
-  -- classes of pairs of the queue are one, once lost is kept
-  carried_pair : (ab : IsAbsorbed cur new lost kept rest queued after later) → (p q : ℕ) → IsAmong (p, q) queue → Joined (map (relabel lost kept) j.class) queued (relabel lost kept (slice_index j.class p)) (relabel lost kept (slice_index j.class q))
+  -- classes of pairs of the queue are one, once lost cur.live.items kept
+  carried_pair : (ab : IsAbsorbed cur.edges.graph new.edges.graph lost kept rest queued cur.pending new.pending) → (p q : ℕ) → IsAmong (p, q) queue → Joined (map (relabel lost kept) j.class) queued (relabel lost kept (slice_index j.class p)) (relabel lost kept (slice_index j.class q))
   carried_pair ab p q h = elim (taken.other p q h) [
     | inl k ↦ pair (relabel lost kept (slice_index j.class p)) (relabel lost kept (slice_index j.class q)) p q (ab.still (p, q) k) (sym (index p)) (sym (index q))
     | inr k ↦ elim k [
@@ -324,10 +335,10 @@ module _ (old cur new : Graph) (was is marked marks moved : List Bool) (before a
       one (inl e) = relabel_same lost kept s e.0 ∙ sym (relabel_other lost kept t (λ d. absurd (omega (arith, d, e.1, less))) ∙ e.1)
       one (inr e) = relabel_other lost kept s (λ d. absurd (omega (arith, d, e.0, less))) ∙ e.0 ∙ sym (relabel_same lost kept t e.1)
 
-  moves : (p q : ℕ) → (ab : IsAbsorbed cur new lost kept rest queued after later) → Joined j.class queue p q → Joined (map (relabel lost kept) j.class) queued (relabel lost kept p) (relabel lost kept q)
+  moves : (p q : ℕ) → (ab : IsAbsorbed cur.edges.graph new.edges.graph lost kept rest queued cur.pending new.pending) → Joined j.class queue p q → Joined (map (relabel lost kept) j.class) queued (relabel lost kept p) (relabel lost kept q)
   moves p q ab h = joined_map j.class (map (relabel lost kept) j.class) queue queued (relabel lost kept) (carried_pair ab) p q h
 
-  meeting_on : (p q : ℕ) → IsMeeting old x y j.class p q → IsMeeting old x y (map (relabel lost kept) j.class) (relabel lost kept p) (relabel lost kept q)
+  meeting_on : (p q : ℕ) → IsMeeting old.edges.graph x y j.class p q → IsMeeting old.edges.graph x y (map (relabel lost kept) j.class) (relabel lost kept p) (relabel lost kept q)
   meeting_on p q (inl e) = inl (ap (relabel lost kept) e.0 ∙ sym (index x), ap (relabel lost kept) e.1 ∙ sym (index y))
   meeting_on p q (inr k) = inr (record {
     n = k.n;
@@ -342,10 +353,10 @@ module _ (old cur new : Graph) (was is marked marks moved : List Bool) (before a
     t_is = ap (relabel lost kept) k.t_is ∙ sym (index k.m');
   })
 
-  classing' : IsClassing old x y (map (relabel lost kept) j.class)
-  classing' = relabel_classing old x y j.class lost kept (omega (arith, less)) both.kept_own both.kept_reached both.related j.classing
+  classing' : IsClassing old.edges.graph x y (map (relabel lost kept) j.class)
+  classing' = relabel_classing old.edges.graph x y j.class lost kept (omega (arith, less)) both.kept_own both.kept_reached both.related j.classing
 
-  live' : (n : ℕ) → get_or (set is lost false) n false ≡ (get_or was n false && nat_eq (slice_index (map (relabel lost kept) j.class) n) n)
+  live' : (n : ℕ) → get_or (set cur.live.items lost false) n false ≡ (get_or old.live.items n false && nat_eq (slice_index (map (relabel lost kept) j.class) n) n)
   live' n = go (cases_eq n lost)
     where
       own_still : n ≢ lost → (slice_index j.class n ≡ lost) ⊎ (slice_index j.class n ≢ lost) → nat_eq (slice_index (map (relabel lost kept) j.class) n) n ≡ nat_eq (slice_index j.class n) n
@@ -355,13 +366,13 @@ module _ (old cur new : Graph) (was is marked marks moved : List Bool) (before a
           ∙ eq_off kept n (λ f. absurd (omega (arith, sym e ∙ ap (slice_index j.class) (sym f) ∙ both.kept_own, less)))
           ∙ sym (ap (λ z. nat_eq z n) e ∙ eq_off lost n (λ f. d (sym f)))
 
-      go : (n ≡ lost) ⊎ (n ≢ lost) → get_or (set is lost false) n false ≡ (get_or was n false && nat_eq (slice_index (map (relabel lost kept) j.class) n) n)
+      go : (n ≡ lost) ⊎ (n ≢ lost) → get_or (set cur.live.items lost false) n false ≡ (get_or old.live.items n false && nat_eq (slice_index (map (relabel lost kept) j.class) n) n)
       go (inl e) =
-          ap (λ z. get_or (set is lost false) z false) e ∙ get_or-set_same is lost false false (on_within is lost lost_on)
-          ∙ sym (ap (λ z. get_or was n false && z) (ap (λ z. nat_eq z n) (index n ∙ relabel_same lost kept (slice_index j.class n) (ap (slice_index j.class) e ∙ both.lost_own)) ∙ eq_off kept n (λ f. absurd (omega (arith, f, e, less)))) ∙ and_false (get_or was n false))
-      go (inr d) = get_or-set_other is lost n false false d ∙ j.live n ∙ ap (λ z. get_or was n false && z) (sym (own_still d (cases_eq (slice_index j.class n) lost)))
+          ap (λ z. get_or (set cur.live.items lost false) z false) e ∙ get_or-set_same cur.live.items lost false false (on_within cur.live.items lost lost_on)
+          ∙ sym (ap (λ z. get_or old.live.items n false && z) (ap (λ z. nat_eq z n) (index n ∙ relabel_same lost kept (slice_index j.class n) (ap (slice_index j.class) e ∙ both.lost_own)) ∙ eq_off kept n (λ f. absurd (omega (arith, f, e, less)))) ∙ and_false (get_or old.live.items n false))
+      go (inr d) = get_or-set_other cur.live.items lost n false false d ∙ j.live n ∙ ap (λ z. get_or old.live.items n false && z) (sym (own_still d (cases_eq (slice_index j.class n) lost)))
 
-  marks' : IsMarkMoved marks moved lost kept → AreCarried (map (relabel lost kept) j.class) marked moved
+  marks' : IsMarkMoved cur.marked.items new.marked.items lost kept → AreCarried (map (relabel lost kept) j.class) old.marked.items new.marked.items
   marks' mark = record {
     shape = mark.shape ∙ j.carried.shape;
     kept = λ n on. kept_to n (j.carried.kept n on) (cases_eq (slice_index j.class n) lost);
@@ -371,68 +382,68 @@ module _ (old cur new : Graph) (was is marked marks moved : List Bool) (before a
     ];
   }
     where
-      kept_to : (n : ℕ) → IsOn marks (slice_index j.class n) → (slice_index j.class n ≡ lost) ⊎ (slice_index j.class n ≢ lost) → IsOn moved (slice_index (map (relabel lost kept) j.class) n)
-      kept_to n on (inl e) = subst (IsOn moved) (sym (index n ∙ relabel_same lost kept (slice_index j.class n) e)) (mark.moved (subst (IsOn marks) e on))
-      kept_to n on (inr d) = subst (IsOn moved) (sym (index n ∙ relabel_other lost kept (slice_index j.class n) d)) (mark.stays (slice_index j.class n) on d)
+      kept_to : (n : ℕ) → IsOn cur.marked.items (slice_index j.class n) → (slice_index j.class n ≡ lost) ⊎ (slice_index j.class n ≢ lost) → IsOn new.marked.items (slice_index (map (relabel lost kept) j.class) n)
+      kept_to n on (inl e) = subst (IsOn new.marked.items) (sym (index n ∙ relabel_same lost kept (slice_index j.class n) e)) (mark.moved (subst (IsOn cur.marked.items) e on))
+      kept_to n on (inr d) = subst (IsOn new.marked.items) (sym (index n ∙ relabel_other lost kept (slice_index j.class n) d)) (mark.stays (slice_index j.class n) on d)
 
-  -- where an edge leads, once lost is kept, there is a class of a node that is reached
+  -- where an edge leads, once lost cur.live.items kept, there cur.live.items a class of a node that cur.live.items reached
   record IsAtClass (m : ℕ) : Type 0 where
     node : ℕ
-    from : IsReached old node
+    from : IsReached old.edges.graph node
     is_class : m ≡ slice_index (map (relabel lost kept) j.class) node
 
-  at_class : (n a m : ℕ) → target cur n a ≡ Some m → IsAtClass (relabel lost kept m)
+  at_class : (n a m : ℕ) → target cur.edges.graph n a ≡ Some m → IsAtClass (relabel lost kept m)
   at_class n a m e =
       let o = j.back n a m e in
       let w = lives.edges o.0 a o.1 o.3 in
-      record { node = o.1; from = (w.0 ++ a ∷ [], path_more old 0 o.0 w.0 a w.1 ∙ o.3); is_class = ap (relabel lost kept) (sym o.4) ∙ sym (index o.1) }
+      record { node = o.1; from = (w.0 ++ a ∷ [], path_more old.edges.graph 0 o.0 w.0 a w.1 ∙ o.3); is_class = ap (relabel lost kept) (sym o.4) ∙ sym (index o.1) }
 
   own_class : (m : ℕ) → IsAtClass m → slice_index (map (relabel lost kept) j.class) m ≡ m
   own_class m k = ap (slice_index (map (relabel lost kept) j.class)) k.is_class ∙ classing'.idem k.node ∙ sym k.is_class
 
-  on_class : (m : ℕ) → IsAtClass m → IsOn was m
-  on_class m k = subst (IsOn was) (sym k.is_class) (lives.lives (slice_index (map (relabel lost kept) j.class) k.node) (classing'.reach k.node k.from))
+  on_class : (m : ℕ) → IsAtClass m → IsOn old.live.items m
+  on_class m k = subst (IsOn old.live.items) (sym k.is_class) (lives.lives (slice_index (map (relabel lost kept) j.class) k.node) (classing'.reach k.node k.from))
 
   -- lost leads to kept
-  replaced' : AreReplaced was (set is lost false) (map (relabel lost kept) j.class) (set found lost kept)
+  replaced' : AreReplaced old.live.items (set cur.live.items lost false) (map (relabel lost kept) j.class) (set found lost kept)
   replaced' = record {
-    shape = length-set is lost false ∙ j.replaced.shape;
-    room = omega (arith, length-set is lost false, length-set found lost kept, taken.replaced.room);
+    shape = length-set cur.live.items lost false ∙ j.replaced.shape;
+    room = omega (arith, length-set cur.live.items lost false, length-set found lost kept, taken.replaced.room);
     own = λ n on. own n on (cases_eq n lost);
     replaced = λ n h. go n h (cases_eq n lost);
   }
     where
       within : lost < length found
-      within = omega (arith, on_within is lost lost_on, taken.replaced.room)
+      within = omega (arith, on_within cur.live.items lost lost_on, taken.replaced.room)
 
       kept_is : slice_index (map (relabel lost kept) j.class) kept ≡ kept
       kept_is = index kept ∙ ap (relabel lost kept) both.kept_own ∙ relabel_other lost kept kept (λ d. absurd (omega (arith, d, less)))
 
-      own : (n : ℕ) → IsOn (set is lost false) n → (n ≡ lost) ⊎ (n ≢ lost) → slice_index (map (relabel lost kept) j.class) n ≡ n
-      own n on (inl e) = absurd (let off : false ≡ true = sym (get_or-set_same is lost false false (on_within is lost lost_on)) ∙ subst (IsOn (set is lost false)) e on in let none : ⊥ = cc in none)
-      own n on (inr d) = index n ∙ ap (relabel lost kept) (taken.replaced.own n (sym (get_or-set_other is lost n false false d) ∙ on)) ∙ relabel_other lost kept n d
+      own : (n : ℕ) → IsOn (set cur.live.items lost false) n → (n ≡ lost) ⊎ (n ≢ lost) → slice_index (map (relabel lost kept) j.class) n ≡ n
+      own n on (inl e) = absurd (let off : false ≡ true = sym (get_or-set_same cur.live.items lost false false (on_within cur.live.items lost lost_on)) ∙ subst (IsOn (set cur.live.items lost false)) e on in let none : ⊥ = cc in none)
+      own n on (inr d) = index n ∙ ap (relabel lost kept) (taken.replaced.own n (sym (get_or-set_other cur.live.items lost n false false d) ∙ on)) ∙ relabel_other lost kept n d
 
       Goes : ℕ → Type 0
-      Goes n = IsOn (set is lost false) n ⊎ ((slice_index (set found lost kept) n < n) × IsOn was (slice_index (set found lost kept) n) × (slice_index (map (relabel lost kept) j.class) (slice_index (set found lost kept) n) ≡ slice_index (map (relabel lost kept) j.class) n))
+      Goes n = IsOn (set cur.live.items lost false) n ⊎ ((slice_index (set found lost kept) n < n) × IsOn old.live.items (slice_index (set found lost kept) n) × (slice_index (map (relabel lost kept) j.class) (slice_index (set found lost kept) n) ≡ slice_index (map (relabel lost kept) j.class) n))
 
-      go : (n : ℕ) → IsOn was n → (n ≡ lost) ⊎ (n ≢ lost) → Goes n
+      go : (n : ℕ) → IsOn old.live.items n → (n ≡ lost) ⊎ (n ≢ lost) → Goes n
       go n h (inl e) =
           let read : slice_index (set found lost kept) n ≡ kept = ap (slice_index (set found lost kept)) e ∙ get_or-set_same found lost kept 0 within in
           let lost_is : slice_index (map (relabel lost kept) j.class) n ≡ kept = index n ∙ relabel_same lost kept (slice_index j.class n) (ap (slice_index j.class) e ∙ both.lost_own) in
-          inr (omega (arith, read, less, e), subst (IsOn was) (sym read) (lives.lives kept both.kept_reached), ap (slice_index (map (relabel lost kept) j.class)) read ∙ kept_is ∙ sym lost_is)
+          inr (omega (arith, read, less, e), subst (IsOn old.live.items) (sym read) (lives.lives kept both.kept_reached), ap (slice_index (map (relabel lost kept) j.class)) read ∙ kept_is ∙ sym lost_is)
       go n h (inr d) =
           let read : slice_index (set found lost kept) n ≡ slice_index found n = get_or-set_other found lost n kept 0 d in
           elim (taken.replaced.replaced n h) [
-            | inl on ↦ inl (get_or-set_other is lost n false false d ∙ on)
-            | inr k ↦ inr (omega (arith, read, k.0), subst (IsOn was) (sym read) k.1, ap (slice_index (map (relabel lost kept) j.class)) read ∙ index (slice_index found n) ∙ ap (relabel lost kept) k.2 ∙ sym (index n))
+            | inl on ↦ inl (get_or-set_other cur.live.items lost n false false d ∙ on)
+            | inr k ↦ inr (omega (arith, read, k.0), subst (IsOn old.live.items) (sym read) k.1, ap (slice_index (map (relabel lost kept) j.class)) read ∙ index (slice_index found n) ∙ ap (relabel lost kept) k.2 ∙ sym (index n))
           ]
 
-  pub joining_step : IsAbsorbed cur new lost kept rest queued after later → IsMarkMoved marks moved lost kept → to' ≡ option_map (relabel lost kept) to
-      → IsJoining old new was (set is lost false) marked moved before later x y at to' (set found lost kept) queued
-  joining_step ab mark gone = record {
+  pub joining_step : IsAbsorbed cur.edges.graph new.edges.graph lost kept rest queued cur.pending new.pending → IsMarkMoved cur.marked.items new.marked.items lost kept → to' ≡ option_map (relabel lost kept) to
+      → new.live.items ≡ set cur.live.items lost false → new.replaced_by.items ≡ set found lost kept → IsMended old.order new.order old.live.items (set cur.live.items lost false) → IsJoining old new x y at to' queued
+  joining_step ab mark gone live_is found_is mended = record {
     class = map (relabel lost kept) j.class;
     classing = classing';
-    alike = shape_trans old cur new j.alike ab.shape;
+    alike = shape_trans old.edges.graph cur.edges.graph new.edges.graph j.alike ab.shape;
     edge = λ n a m e.
         let o = j.edge n a m e in
         let k = ab.edge (slice_index j.class n) a o.0 o.1 in
@@ -441,7 +452,7 @@ module _ (old cur new : Graph) (was is marked marks moved : List Bool) (before a
           | inl h ↦ same (relabel lost kept o.0) k.0 (sym h)
           | inr h ↦ pair (relabel lost kept o.0) k.0 (relabel lost kept o.0) k.0 h (sym (own_class (relabel lost kept o.0) at)) (sym (own_target ab (relabel lost kept (slice_index j.class n)) a k.0 k.1))
         ] in
-        (k.0, ap (λ z. target new z a) (index n) ∙ k.1, subst (λ z. Joined (map (relabel lost kept) j.class) queued z k.0) (sym (index m)) (chain (relabel lost kept (slice_index j.class m)) (relabel lost kept o.0) k.0 (moves (slice_index j.class m) o.0 ab o.2) near));
+        (k.0, ap (λ z. target new.edges.graph z a) (index n) ∙ k.1, subst (λ z. Joined (map (relabel lost kept) j.class) queued z k.0) (sym (index m)) (chain (relabel lost kept (slice_index j.class m)) (relabel lost kept o.0) k.0 (moves (slice_index j.class m) o.0 ab o.2) near));
     back = λ c a p e.
         let k = ab.back c a p e in
         let o = j.back k.0 a k.1 k.3 in
@@ -449,29 +460,30 @@ module _ (old cur new : Graph) (was is marked marks moved : List Bool) (before a
     on = λ p q h. on p q (ab.meets p q h);
     meets = λ p q h. meets p q (ab.meets p q h);
     one = subst (λ z. Joined (map (relabel lost kept) j.class) queued z (slice_index (map (relabel lost kept) j.class) y)) (sym (index x)) (subst (λ z. Joined (map (relabel lost kept) j.class) queued (relabel lost kept (slice_index j.class x)) z) (sym (index y)) (moves (slice_index j.class x) (slice_index j.class y) ab j.one));
-    replaced = replaced';
-    live = live';
+    replaced = rw (live_is, found_is) replaced';
+    live = λ n. ap (λ z. get_or z n false) live_is ∙ live' n;
     carried = marks' mark;
     gone = option_gone j.class (map (relabel lost kept) j.class) (relabel lost kept) index at to to' j.gone gone;
     fresh = λ n a p e. elim (ab.fresh n a p e) [ inl h ↦ inl h | inr h ↦ elim (j.fresh n a p h) [ inl k ↦ inl (ab.pending (NewEdge n a) k) | inr k ↦ inr k ] ];
     pending = λ p h. ab.pending p (j.pending p h);
+    order = subst (λ z. IsMended old.order new.order old.live.items z) (sym live_is) mended;
   }
     where
-      own_target : (ab : IsAbsorbed cur new lost kept rest queued after later) → (c a p : ℕ) → target new c a ≡ Some p → slice_index (map (relabel lost kept) j.class) p ≡ p
+      own_target : (ab : IsAbsorbed cur.edges.graph new.edges.graph lost kept rest queued cur.pending new.pending) → (c a p : ℕ) → target new.edges.graph c a ≡ Some p → slice_index (map (relabel lost kept) j.class) p ≡ p
       own_target ab c a p e =
           let k = ab.back c a p e in
           subst (λ z. slice_index (map (relabel lost kept) j.class) z ≡ z) k.4 (own_class (relabel lost kept k.1) (at_class k.0 a k.1 k.3))
 
-      on : (p q : ℕ) → IsAmong (p, q) rest ⊎ ((a : ℕ) × IsMet cur lost kept a p q) → IsOn was p × IsOn was q
+      on : (p q : ℕ) → IsAmong (p, q) rest ⊎ ((a : ℕ) × IsMet cur.edges.graph lost kept a p q) → IsOn old.live.items p × IsOn old.live.items q
       on p q (inl h) = j.on p q (taken.left (p, q) h)
       on p q (inr k) = (
-        subst (IsOn was) (sym k.1.s_is) (on_class (relabel lost kept k.1.m) (at_class k.1.n k.0 k.1.m k.1.first)),
-        subst (IsOn was) (sym k.1.t_is) (on_class (relabel lost kept k.1.m') (at_class k.1.n' k.0 k.1.m' k.1.second)),
+        subst (IsOn old.live.items) (sym k.1.s_is) (on_class (relabel lost kept k.1.m) (at_class k.1.n k.0 k.1.m k.1.first)),
+        subst (IsOn old.live.items) (sym k.1.t_is) (on_class (relabel lost kept k.1.m') (at_class k.1.n' k.0 k.1.m' k.1.second)),
       )
 
-      meets : (p q : ℕ) → IsAmong (p, q) rest ⊎ ((a : ℕ) × IsMet cur lost kept a p q) → IsMeeting old x y (map (relabel lost kept) j.class) (slice_index (map (relabel lost kept) j.class) p) (slice_index (map (relabel lost kept) j.class) q)
+      meets : (p q : ℕ) → IsAmong (p, q) rest ⊎ ((a : ℕ) × IsMet cur.edges.graph lost kept a p q) → IsMeeting old.edges.graph x y (map (relabel lost kept) j.class) (slice_index (map (relabel lost kept) j.class) p) (slice_index (map (relabel lost kept) j.class) q)
       meets p q (inl h) =
-          subst (λ z. IsMeeting old x y (map (relabel lost kept) j.class) z (slice_index (map (relabel lost kept) j.class) q)) (sym (index p)) (subst (λ z. IsMeeting old x y (map (relabel lost kept) j.class) (relabel lost kept (slice_index j.class p)) z) (sym (index q))
+          subst (λ z. IsMeeting old.edges.graph x y (map (relabel lost kept) j.class) z (slice_index (map (relabel lost kept) j.class) q)) (sym (index p)) (subst (λ z. IsMeeting old.edges.graph x y (map (relabel lost kept) j.class) (relabel lost kept (slice_index j.class p)) z) (sym (index q))
           (meeting_on (slice_index j.class p) (slice_index j.class q) (j.meets p q (taken.left (p, q) h))))
       meets p q (inr k) =
           let f = j.back k.1.n k.0 k.1.m k.1.first in
@@ -490,19 +502,19 @@ module _ (old cur new : Graph) (was is marked marks moved : List Bool) (before a
           })
 
 -- nothing is left to draw
-pub joining_end : (old cur : Graph) (was is marked marks : List Bool) (before after : List Pending) (x y : ℕ) (at to : Option ℕ) (replaced_by : List ℕ) (queue : List (ℕ × ℕ)) → AreAllOne is replaced_by queue
-    → IsJoining old cur was is marked marks before after x y at to replaced_by queue → IsJoined old cur was is marked marks before after x y at to
-joining_end old cur was is marked marks before after x y at to replaced_by queue all j = record {
+pub joining_end : (old now new : Cosets) (x y : ℕ) (at to : Option ℕ) (queue : List (ℕ × ℕ)) → new ≡ record now { replaced_by = new.replaced_by } → AreAllOne now.live.items now.replaced_by.items queue
+    → IsJoining old now x y at to queue → IsJoined old new x y at to
+joining_end old now new x y at to queue is all j = subst (λ z. IsJoined old z x y at to) (sym is) (record {
   class = j.class;
   merging = record {
     classing = j.classing;
     folded = record {
-      edge = λ n a m e. let o = j.edge n a m e in o.1 ∙ ap (λ z. Some z) (sym (joined_one j.class queue (all was j.class j.replaced j.on) (slice_index j.class m) o.0 o.2));
+      edge = λ n a m e. let o = j.edge n a m e in o.1 ∙ ap (λ z. Some z) (sym (joined_one j.class queue (all old.live.items j.class j.replaced j.on) (slice_index j.class m) o.0 o.2));
       back = λ c a t e. j.back c a t e;
     };
     nodes = j.alike.nodes;
     graph = j.alike.graph;
-    one = joined_one j.class queue (all was j.class j.replaced j.on) (slice_index j.class x) (slice_index j.class y) j.one;
+    one = joined_one j.class queue (all old.live.items j.class j.replaced j.on) (slice_index j.class x) (slice_index j.class y) j.one;
   };
   shape = j.replaced.shape;
   live = j.live;
@@ -510,7 +522,8 @@ joining_end old cur was is marked marks before after x y at to replaced_by queue
   gone = j.gone;
   fresh = j.fresh;
   pending = j.pending;
-}
+  order = j.order;
+})
 
 -- the greater of two nodes is lost, and the lesser kept
 pub ends_of : (s t lost kept : ℕ) → s ≢ t → lost ≡ max s t → kept ≡ min s t → (((s ≡ lost) × (t ≡ kept)) ⊎ ((s ≡ kept) × (t ≡ lost))) × (kept < lost)

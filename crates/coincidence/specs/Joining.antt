@@ -1,13 +1,14 @@
 -- Nodes that become one.
 use Rattle.std.specs.Prelude.{◌≡◌, ◌≢◌, ℕ, ◌&&◌, nat_eq, Bool, false, List, length, slice_index, slice_index_or, option_map, Option, Some, ◌⊎◌}
-use Rattle.theory.specs.Graph.{Graph, target}
+use Rattle.theory.specs.Graph.{target}
 use Rattle.coincidence.specs.Live.{IsOn}
 use Rattle.coincidence.specs.Replaced.{AreReplaced}
 use Rattle.coincidence.specs.Marks.{AreCarried}
 use Rattle.coincidence.specs.Folding.{IsMerging}
 use Rattle.coincidence.specs.Pending.{IsAmong}
 use Rattle.coincidence.specs.Absorbing.{Extends}
-use Rattle.coincidence.specs.declared.pending.Pending.{Pending}
+use Rattle.coincidence.specs.Kept.{IsMended}
+use Rattle.coincidence.specs.declared.cosets.Cosets.{Cosets}
 use Rattle.coincidence.specs.declared.pending.Pending.TheVariants.{NewEdge}
 
 -- each pair is of nodes that were live
@@ -52,17 +53,17 @@ pub record IsMarkMoved (was is : List Bool) (lost kept : ℕ) : Type 0 where
   pub moved : IsOn was lost → IsOn is kept
   pub from : (n : ℕ) → IsOn is n → (n ≢ lost) × (IsOn was n ⊎ ((n ≡ kept) × IsOn was lost))
 
--- x and y are one, with all that follows; marks and the node at go with the classes, and what is
--- new is pending
-pub record IsJoined (old new : Graph) (was is marked marks : List Bool)
-    (before after : List Pending) (x y : ℕ) (at to : Option ℕ) : Type 0 where
+-- x and y are one, with all that follows; marks and the node at go with the classes, what is new
+-- is pending, and the order is cut
+pub record IsJoined (old new : Cosets) (x y : ℕ) (at to : Option ℕ) : Type 0 where
   pub class : List ℕ
-  pub merging : IsMerging old x y new class
-  pub shape : length is ≡ length was
-  pub live : (n : ℕ) → slice_index_or is n false
-      ≡ (slice_index_or was n false && nat_eq (slice_index class n) n)
-  pub carried : AreCarried class marked marks
+  pub merging : IsMerging old.edges.graph x y new.edges.graph class
+  pub shape : length new.live.items ≡ length old.live.items
+  pub live : (n : ℕ) → slice_index_or new.live.items n false
+      ≡ (slice_index_or old.live.items n false && nat_eq (slice_index class n) n)
+  pub carried : AreCarried class old.marked.items new.marked.items
   pub gone : to ≡ option_map (slice_index class) at
-  pub fresh : (n a t : ℕ) → target new n a ≡ Some t
-      → IsAmong (NewEdge n a) after ⊎ (target old n a ≡ Some t)
-  pub pending : Extends before after
+  pub fresh : (n a t : ℕ) → target new.edges.graph n a ≡ Some t
+      → IsAmong (NewEdge n a) new.pending ⊎ (target old.edges.graph n a ≡ Some t)
+  pub pending : Extends old.pending new.pending
+  pub order : IsMended old.order new.order old.live.items new.live.items

@@ -10,6 +10,7 @@ pub mod Holding
 pub mod Pending
 pub mod Links
 pub mod Absorbing
+pub mod Cosets
 pub mod Joining
 pub mod Reading
 pub mod Drawing

@@ -5,10 +5,8 @@ use Rattle.theory.specs.Graph.{Graph, IsGraph}
 use Rattle.word_graph.specs.Edges.{with_edge, with_node}
 use Rattle.coincidence.specs.Links.{Links, IsSources}
 use Rattle.coincidence.specs.Live.{IsOn, IsLiveGraph}
-use Rattle.coincidence.specs.Kept.{IsKept}
-use Rattle.coincidence.specs.Pending.{IsClosedBut}
-use Rattle.coincidence.specs.declared.order.Order.{Order}
-use Rattle.coincidence.specs.declared.pending.Pending.{Pending}
+use Rattle.coincidence.specs.Cosets.{IsWhole}
+use Rattle.coincidence.specs.declared.cosets.Cosets.{Cosets}
 
 -- what it was made for, a row for each node, the lists of sources, which nodes are live and which
 -- marked, and whether memory was wanting
@@ -41,24 +39,21 @@ abbrev pub bare : Congruence → Graph
 bare c = replicate c.presentation.letters None ∷ []
 
 -- what contracts see: once memory was wanting, the root alone
-abbrev pub shown : Congruence → Bool → Links → List Bool → List Bool → CosetTable
-shown c failed links live marked = record {
+abbrev pub shown : Congruence → Bool → Cosets → CosetTable
+shown c failed t = record {
   congruence = c;
-  graph = cond failed (bare c) links.graph;
-  firsts = cond failed (bare c) links.firsts;
-  nexts = cond failed (bare c) links.nexts;
-  live = cond failed (true ∷ []) live;
-  marked = cond failed (false ∷ []) marked;
+  graph = cond failed (bare c) t.edges.graph;
+  firsts = cond failed (bare c) t.edges.firsts;
+  nexts = cond failed (bare c) t.edges.nexts;
+  live = cond failed (true ∷ []) t.live.items;
+  marked = cond failed (false ∷ []) t.marked.items;
   failed = failed;
 }
 
--- the parts of a table show one, and unless memory was wanting, all is closed but for what is
--- pending, and the order is that of the nodes
-pub record IsHeld (c : Congruence) (failed : Bool) (links : Links) (live marked : List Bool)
-    (o : Order) (pending : List Pending) : Type 0 where
-  pub table : IsTable (shown c failed links live marked)
-  pub closed : failed ≡ false → IsClosedBut c.presentation.relations links.graph live pending
-  pub order : failed ≡ false → IsKept c.presentation.letters links.graph marked o
+-- the cosets show a table, and are whole unless memory was wanting
+pub record IsHeld (c : Congruence) (failed : Bool) (t : Cosets) : Type 0 where
+  pub table : IsTable (shown c failed t)
+  pub whole : failed ≡ false → IsWhole c t
 
 abbrev pub IsLive : CosetTable → ℕ → Type 0
 IsLive t n = IsOn t.live n

@@ -1,15 +1,16 @@
 // Nodes that become one.
-ghost use Rattle.std.specs.Prelude.{◌≡◌, ◌≢◌, ℕ, ◌<◌, ◌≤◌, List, length, map, option_map, Option, IfOk, OnOk, IfSome, IfNone};
+ghost use Rattle.std.specs.Prelude.{◌≡◌, ◌≢◌, ◌<◌, length, option_map, IfOk, OnOk, IfSome, IfNone};
 ghost use Rattle.std.specs.Option.{ForSome};
-ghost use Rattle.coincidence.specs.Kept.{IsMended, IsOfGraph};
-ghost use Rattle.coincidence.specs.Live.{IsLiveGraph, IsOn};
-ghost use Rattle.coincidence.specs.Merging.{EdgesReached, IsReached, relabel};
+ghost use Rattle.theory.specs.Congruence.{Congruence};
+ghost use Rattle.theory.specs.Graph.{PathsRelate};
+ghost use Rattle.coincidence.specs.Cosets.{IsGathered, IsWhole};
+ghost use Rattle.coincidence.specs.Live.{IsOn};
+ghost use Rattle.coincidence.specs.Merged.{MergedNodes};
+ghost use Rattle.coincidence.specs.Merging.{relabel};
 ghost use Rattle.coincidence.specs.Joining.{AreAllOne, HaveClasses, AreTaken, IsJoined, IsMarkMoved};
 
 use crate::absorb::absorb;
-use crate::edges::Edges;
-use crate::order::Order;
-use crate::pending::Worklist;
+use crate::cosets::Cosets;
 use crate::replaced::{make_room, representative};
 use ports::NoMemory;
 use std::alloc::Global;
@@ -67,47 +68,53 @@ fn gone(at: Option<usize>, lost: usize, kept: usize) -> Option<usize>
     }
 }
 
-/// The least merging under which two nodes are one. It tells where a node has gone, marks go with
-/// their nodes, and edges that are new are pending. Each node that is lost is replaced by the one
-/// that is kept; how others were replaced before does not matter. Refused only where memory is
-/// wanting.
-pub fn merge(
-    alloc: Global,
-    edges: &mut Edges,
-    live: &mut Vec<bool>,
-    marked: &mut Vec<bool>,
-    order: &mut Order,
-    pending: &mut Worklist,
-    replaced_by: &mut Vec<usize>,
-    x: usize,
-    y: usize,
-    at: Option<usize>,
-) -> Result<Option<usize>, NoMemory>
-    requires live { IsLiveGraph edges.old.graph live.old.items }
-    requires marked { length marked.old.items ≡ length edges.old.graph }
-    requires x { IsOn live.old.items x }
-    requires y { IsOn live.old.items y }
-    requires at { ForSome at (IsOn live.old.items) }
-    requires order { IsOfGraph order.old }
-    ensures order { OnOk result (IsMended order.old order.new live.old.items live.new.items) }
-    ensures joined { IfOk result (λ to. IsJoined edges.old.graph edges.new.graph live.old.items
-        live.new.items marked.old.items marked.new.items pending.old pending.new x y at
-        to) }
-{
-    let _letters = edges.letters();
-    make_room(replaced_by, live.len())?;
-    let mut to = at;
-    let mut queue = Vec::new(alloc);
-    queue.push((x, y))?;
-    while let Some((s, t)) = next_pair(&mut queue, live, replaced_by) {
-        let lost = s.max(t);
-        let kept = s.min(t);
-        absorb(edges, pending, &mut queue, lost, kept)?;
-        live[lost] = false;
-        replaced_by[lost] = kept;
-        order.cut(lost);
-        move_mark(marked, lost, kept);
-        to = gone(to, lost, kept);
+impl Cosets {
+    /// The least merging under which two nodes are one. It tells where a node has gone, marks go
+    /// with their nodes, and edges that are new are pending. Each node that is lost is replaced by
+    /// the one that is kept; how others were replaced before does not matter. Refused only where
+    /// memory is wanting.
+    pub fn merge(
+        &mut self,
+        alloc: Global,
+        x: usize,
+        y: usize,
+        at: Option<usize>,
+    ) -> Result<Option<usize>, NoMemory>
+        requires whole { (c : Congruence) × IsWhole c self.old }
+        requires x { IsOn self.old.live.items x }
+        requires y { IsOn self.old.live.items y }
+        requires at { ForSome at (IsOn self.old.live.items) }
+        ensures { IfOk result (IsJoined self.old self.new x y at) }
+    {
+        make_room(&mut self.replaced_by, self.live.len())?;
+        let mut to = at;
+        let mut queue = Vec::new(alloc);
+        queue.push((x, y))?;
+        while let Some((s, t)) = next_pair(&mut queue, &self.live, &mut self.replaced_by) {
+            let lost = s.max(t);
+            let kept = s.min(t);
+            absorb(&mut self.edges, &mut self.pending, &mut queue, lost, kept)?;
+            self.live[lost] = false;
+            self.replaced_by[lost] = kept;
+            self.order.cut(lost);
+            move_mark(&mut self.marked, lost, kept);
+            to = gone(to, lost, kept);
+        }
+        Ok(to)
     }
-    Ok(to)
+
+    /// Makes two live nodes one, with all that follows by letters. Marks go with their nodes.
+    /// Refused only where memory is wanting.
+    pub fn identify(&mut self, alloc: Global, x: usize, y: usize) -> Result<(), NoMemory>
+        requires whole { (c : Congruence) × IsWhole c self.old }
+        requires x { IsOn self.old.live.items x }
+        requires y { IsOn self.old.live.items y }
+        ensures whole { OnOk result ((c : Congruence) → IsWhole c self.old → IsWhole c self.new) }
+        ensures relates { OnOk result (PathsRelate self.new.edges.graph
+            (MergedNodes self.old.edges.graph x y)) }
+        ensures gathered { OnOk result (IsGathered self.old self.new) }
+    {
+        self.merge(alloc, x, y, None)?;
+        Ok(())
+    }
 }

@@ -9,6 +9,7 @@
 mod absorb;
 mod closing;
 mod copies;
+mod cosets;
 mod due;
 mod edges;
 mod indexed;

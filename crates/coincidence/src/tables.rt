@@ -14,12 +14,10 @@ ghost use Rattle.coincidence.specs.Marks.{AllMarked, IsFirstUnmarked, KeepsMarks
 ghost use Rattle.coincidence.specs.Merged.{MergedNodes};
 ghost use Rattle.coincidence.specs.Table.{CosetTable, IsTable, IsLive, IsDefined, IsDrawn, links_of};
 
-use crate::closing::{close_in, define_in, identify_in};
 use crate::copies::word_graph;
-use crate::edges::Edges;
+use crate::cosets::Cosets;
 use crate::indexed::Indexed;
-use crate::order::Order;
-use crate::pending::{Pending, Worklist};
+use crate::pending::Pending;
 use ports::NoMemory;
 use presentation::Congruence;
 use std::alloc::Global;
@@ -39,12 +37,7 @@ use words::Letter;
 pub struct Table {
     alloc: Global,
     congruence: Indexed,
-    edges: Edges,
-    live: Vec<bool>,
-    marked: Vec<bool>,
-    order: Order,
-    pending: Worklist,
-    replaced_by: Vec<usize>,
+    cosets: Cosets,
     failed: bool,
 }
 
@@ -53,11 +46,9 @@ impl Model for Table {
 
     ghost Value = { CosetTable };
 
-    ghost view = { λ t. shown t.congruence.congruence t.failed t.edges t.live.items
-        t.marked.items };
+    ghost view = { λ t. shown t.congruence.congruence t.failed t.cosets };
 
-    ghost invariant = { λ t. IsHeld t.congruence.congruence t.failed t.edges t.live.items
-        t.marked.items t.order t.pending };
+    ghost invariant = { λ t. IsHeld t.congruence.congruence t.failed t.cosets };
 }
 
 // Memory was wanting: the table answers so from now on.
@@ -82,23 +73,12 @@ impl Table {
         ensures ok { IfOk result (λ t. t.failed ≡ false) }
     {
         let congruence = Indexed::new(alloc, congruence.copy(alloc)?)?;
-        let edges = Edges::new(alloc, congruence.presentation().letters())?;
-        let mut live = Vec::new(alloc);
-        live.push(true)?;
-        let mut marked = Vec::new(alloc);
-        marked.push(false)?;
-        let order = Order::new(alloc)?;
-        let mut pending = Worklist::new(alloc);
-        pending.push(Pending::NewNode(0))?;
+        let cosets = Cosets::new(alloc, congruence.presentation().letters())?;
+        let _letters = cosets.edges.letters();
         Ok(Table {
             alloc,
             congruence,
-            edges,
-            live,
-            marked,
-            order,
-            pending,
-            replaced_by: Vec::new(alloc),
+            cosets,
             failed: false,
         })
     }
@@ -109,7 +89,7 @@ impl Table {
         requires { self.now.failed ≡ false }
         ensures { result ≡ target_of self.now.graph node letter }
     {
-        self.edges.target(node, letter)
+        self.cosets.edges.target(node, letter)
     }
 
     /// The first in the list of the nodes whose edge of the letter leads to the node. `None`
@@ -119,8 +99,8 @@ impl Table {
         ensures first { result ≡ target_of self.now.firsts node letter }
         ensures list { (list : List ℕ) × IsSources (links_of self.now) node letter list }
     {
-        let _letters = self.edges.letters();
-        self.edges.first_source(node, letter)
+        let _letters = self.cosets.edges.letters();
+        self.cosets.edges.first_source(node, letter)
     }
 
     /// The node after this one in the list of the nodes whose edge of the letter leads where its
@@ -133,8 +113,8 @@ impl Table {
         ensures list { (to : ℕ) → target_of self.now.graph node letter ≡ Some to
             → (list : List ℕ) × IsSources (links_of self.now) to letter list }
     {
-        let _letters = self.edges.letters();
-        self.edges.next_source(node, letter)
+        let _letters = self.cosets.edges.letters();
+        self.cosets.edges.next_source(node, letter)
     }
 
     /// Makes an edge of the letter from the live node to a new node, which is live and not marked,
@@ -152,23 +132,9 @@ impl Table {
         if self.failed {
             return Err(NoMemory);
         }
-        let Ok(()) = self.marked.push(false) else {
-            return Err(fail(&mut self.failed));
-        };
-        let Ok(()) = self.order.add_node() else {
-            return Err(fail(&mut self.failed));
-        };
-        let letters = self.congruence.presentation().letters();
-        match define_in(
-            &mut self.edges,
-            &mut self.live,
-            &mut self.pending,
-            letters,
-            node,
-            letter,
-        ) {
+        match self.cosets.define(node, letter) {
             Ok(fresh) => {
-                let _letters = self.edges.letters();
+                let _letters = self.cosets.edges.letters();
                 Ok(fresh)
             }
             Err(NoMemory) => Err(fail(&mut self.failed)),
@@ -190,11 +156,11 @@ impl Table {
         if self.failed {
             return Err(NoMemory);
         }
-        let Ok(()) = self.pending.push(Pending::NewEdge(node, letter)) else {
+        let Ok(()) = self.cosets.pending.push(Pending::NewEdge(node, letter)) else {
             return Err(fail(&mut self.failed));
         };
-        self.edges.set_edge(node, letter, to);
-        let _letters = self.edges.letters();
+        self.cosets.edges.set_edge(node, letter, to);
+        let _letters = self.cosets.edges.letters();
         Ok(())
     }
 
@@ -221,19 +187,9 @@ impl Table {
         if self.failed {
             return Err(NoMemory);
         }
-        match identify_in(
-            self.alloc,
-            &mut self.edges,
-            &mut self.live,
-            &mut self.marked,
-            &mut self.order,
-            &mut self.pending,
-            &mut self.replaced_by,
-            x,
-            y,
-        ) {
+        match self.cosets.identify(self.alloc, x, y) {
             Ok(()) => {
-                let _letters = self.edges.letters();
+                let _letters = self.cosets.edges.letters();
                 Ok(())
             }
             Err(NoMemory) => Err(fail(&mut self.failed)),
@@ -259,19 +215,9 @@ impl Table {
         if self.failed {
             return Err(NoMemory);
         }
-        match close_in(
-            self.alloc,
-            &self.congruence,
-            &mut self.edges,
-            &mut self.live,
-            &mut self.marked,
-            &mut self.order,
-            &mut self.pending,
-            &mut self.replaced_by,
-            at,
-        ) {
+        match self.cosets.close(self.alloc, &self.congruence, at) {
             Ok(()) => {
-                let _letters = self.edges.letters();
+                let _letters = self.cosets.edges.letters();
                 Ok(())
             }
             Err(NoMemory) => Err(fail(&mut self.failed)),
@@ -311,7 +257,7 @@ impl Table {
         if self.failed {
             return Err(NoMemory);
         }
-        match self.pending.gather(self.live.len()) {
+        match self.cosets.pending.gather(self.cosets.live.len()) {
             Ok(()) => Ok(()),
             Err(NoMemory) => Err(fail(&mut self.failed)),
         }
@@ -349,7 +295,11 @@ impl Table {
         if self.failed {
             return Err(NoMemory);
         }
-        match self.pending.gather_unmarked(&self.live, &self.marked) {
+        match self
+            .cosets
+            .pending
+            .gather_unmarked(&self.cosets.live, &self.cosets.marked)
+        {
             Ok(()) => Ok(()),
             Err(NoMemory) => Err(fail(&mut self.failed)),
         }
@@ -388,7 +338,7 @@ impl Table {
         if self.failed {
             return Err(NoMemory);
         }
-        self.marked[node] = true;
+        self.cosets.marked[node] = true;
         Ok(())
     }
 
@@ -408,10 +358,12 @@ impl Table {
             return Err(NoMemory);
         }
         let letters = self.congruence.presentation().letters();
-        match self
-            .order
-            .first_unmarked(self.alloc, &self.edges, letters, &self.marked)
-        {
+        match self.cosets.order.first_unmarked(
+            self.alloc,
+            &self.cosets.edges,
+            letters,
+            &self.cosets.marked,
+        ) {
             Ok(found) => Ok(found),
             Err(NoMemory) => Err(fail(&mut self.failed)),
         }
@@ -433,7 +385,7 @@ impl Table {
             return Err(NoMemory);
         }
         let letters = self.congruence.presentation().letters();
-        match self.order.first_missing(&self.edges, letters) {
+        match self.cosets.order.first_missing(&self.cosets.edges, letters) {
             Ok(found) => Ok(found),
             Err(NoMemory) => Err(fail(&mut self.failed)),
         }
@@ -474,7 +426,7 @@ impl Table {
         if self.failed {
             return Err(NoMemory);
         }
-        let graph = word_graph(&self.edges, self.alloc)?;
+        let graph = word_graph(&self.cosets.edges, self.alloc)?;
         let standard = graph.standardise(self.alloc)?;
         Ok(standard)
     }

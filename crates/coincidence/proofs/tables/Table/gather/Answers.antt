@@ -1,15 +1,16 @@
-use Rattle.std.proofs.Common.{arith}
-use Rattle.coincidence.proofs.HeldLaws.{failed_held, held_whole, pending_whole, whole}
+use Rattle.std.proofs.Common.{refl, arith}
+use Rattle.coincidence.specs.declared.cosets.Cosets.{Cosets}
+use Rattle.coincidence.proofs.HeldLaws.{failed_held, pending_whole, still_held}
 use Rattle.coincidence.proofs.tables.Table.gather.Goals as goal
 
 pub invariant_of-self : goal.invariant_of-self
 invariant_of-self c =
-    let was = held_whole c.self.inside.congruence.congruence c.self.inside.edges c.self.inside.live.items c.self.inside.marked.items c.self.inside.order c.self.inside.pending c.self.inside.failed c.if-self.false c.self.invariant in
-    whole _ _ _ _ _ _ c.self.inside.failed c.if-self.false (pending_whole c.self.inside.congruence.congruence c.self.inside.edges c.self.inside.live.items c.self.inside.marked.items c.self.inside.order c.self.inside.pending c.gather.new.self was
-    (c.in-Ok.ensures c.self.inside.congruence.congruence.presentation.relations c.self.inside.edges.graph c.self.inside.live.items (omega (arith, c.len.ensures, c.self.inside.live.ok)) was.closed))
+    let was = c.self.invariant.whole c.if-self.false in
+    let new : Cosets = record c.self.inside.cosets { pending = c.gather.new.self } in
+    still_held c.self.inside.congruence.congruence c.self.inside.cosets new c.self.inside.failed c.if-self.false c.self.invariant (pending_whole c.self.inside.congruence.congruence c.self.inside.cosets new refl (c.in-Ok.ensures c.self.inside.congruence.congruence.presentation.relations c.self.inside.cosets.edges.graph c.self.inside.cosets.live.items (omega (arith, c.len.ensures, c.self.inside.cosets.live.ok)) was.closed) was) refl
 
 pub invariant_of-self-in-Err : goal.invariant_of-self-in-Err
-invariant_of-self-in-Err c = rw (c.fail.ensures) (failed_held _ _ _ _ _ _ c.self.invariant.table.congruence)
+invariant_of-self-in-Err c = rw (c.fail.ensures) (failed_held _ _ c.self.invariant.table.congruence)
 
 pub returns-in-Err-clause-table : goal.returns-in-Err-clause-table
-returns-in-Err-clause-table c = rw (c.fail.ensures) ((failed_held c.self.inside.congruence.congruence c.self.inside.edges c.self.inside.live.items c.self.inside.marked.items c.self.inside.order c.self.inside.pending c.self.invariant.table.congruence).table)
+returns-in-Err-clause-table c = rw (c.fail.ensures) ((failed_held c.self.inside.congruence.congruence c.self.inside.cosets c.self.invariant.table.congruence).table)

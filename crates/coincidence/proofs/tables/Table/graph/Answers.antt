@@ -2,7 +2,7 @@ use Rattle.coincidence.proofs.HeldLaws.{failed_held}
 use Rattle.coincidence.proofs.tables.Table.graph.Goals as goal
 
 pub invariant_of-self : goal.invariant_of-self
-invariant_of-self c = rw (c.fail.ensures) (failed_held _ _ _ _ _ _ c.self.invariant.table.congruence)
+invariant_of-self c = rw (c.fail.ensures) (failed_held _ _ c.self.invariant.table.congruence)
 
 pub returns-in-Err-clause-table : goal.returns-in-Err-clause-table
-returns-in-Err-clause-table c = rw (c.fail.ensures) ((failed_held c.self.inside.congruence.congruence c.self.inside.edges c.self.inside.live.items c.self.inside.marked.items c.self.inside.order c.self.inside.pending c.self.invariant.table.congruence).table)
+returns-in-Err-clause-table c = rw (c.fail.ensures) ((failed_held c.self.inside.congruence.congruence c.self.inside.cosets c.self.invariant.table.congruence).table)

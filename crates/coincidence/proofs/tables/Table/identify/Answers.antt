@@ -1,37 +1,25 @@
-use Rattle.coincidence.specs.Table.{CosetTable}
-use Rattle.std.proofs.Common.{inl}
-use Rattle.theory.proofs.PartLaws.{given}
 use Rattle.theory.specs.Graph.{PathsRelate}
 use Rattle.coincidence.specs.Merged.{MergedNodes}
-use Rattle.coincidence.proofs.HeldLaws.{between, closed_whole, failed_held, held_whole, whole}
+use Rattle.coincidence.specs.Table.{CosetTable}
+use Rattle.coincidence.proofs.HeldLaws.{between, failed_held, held}
 use Rattle.coincidence.proofs.tables.Table.identify.Goals as goal
 
-pub identify_in-requires-clause-order : goal.identify_in-requires-clause-order
-identify_in-requires-clause-order c =
-    let was = held_whole c.self.inside.congruence.congruence c.self.inside.edges c.self.inside.live.items c.self.inside.marked.items c.self.inside.order c.self.inside.pending c.self.inside.failed c.if-self.false c.self.invariant in
-    (c.self.inside.congruence.congruence.presentation.letters, c.self.inside.edges.graph, c.self.inside.marked.items, was.order)
+pub identify-requires-clause-whole : goal.identify-requires-clause-whole
+identify-requires-clause-whole c = (c.self.inside.congruence.congruence, c.self.invariant.whole c.if-self.false)
 
 pub invariant_of-self-in-Err : goal.invariant_of-self-in-Err
-invariant_of-self-in-Err c = rw (c.fail.ensures) (failed_held _ _ _ _ _ _ c.self.invariant.table.congruence)
+invariant_of-self-in-Err c = rw (c.fail.ensures) (failed_held _ _ c.self.invariant.table.congruence)
 
 pub returns-in-Err-clause-table : goal.returns-in-Err-clause-table
-returns-in-Err-clause-table c = rw (c.fail.ensures) ((failed_held c.self.inside.congruence.congruence c.self.inside.edges c.self.inside.live.items c.self.inside.marked.items c.self.inside.order c.self.inside.pending c.self.invariant.table.congruence).table)
+returns-in-Err-clause-table c = rw (c.fail.ensures) ((failed_held c.self.inside.congruence.congruence c.self.inside.cosets c.self.invariant.table.congruence).table)
+
+pub invariant_of-self : goal.invariant_of-self
+invariant_of-self c = held c.self.inside.congruence.congruence c.identify.new.self c.self.inside.failed c.if-self.false (c.in-Ok.ensures.whole c.self.inside.congruence.congruence (c.self.invariant.whole c.if-self.false)) c.letters-letters.ensures.lists
+
+pub returns-in-Ok-clause-table : goal.returns-in-Ok-clause-table
+returns-in-Ok-clause-table c = (held c.self.inside.congruence.congruence c.identify.new.self c.self.inside.failed c.if-self.false (c.in-Ok.ensures.whole c.self.inside.congruence.congruence (c.self.invariant.whole c.if-self.false)) c.letters-letters.ensures.lists).table
 
 pub returns-in-Ok-clause-relates : goal.returns-in-Ok-clause-relates
 returns-in-Ok-clause-relates c =
     between (λ (old new : CosetTable). PathsRelate new.graph (MergedNodes old.graph c.args.x c.args.y))
-    c.self.inside.congruence.congruence c.self.inside.failed c.self.inside.edges c.self.inside.live.items c.self.inside.marked.items c.identify_in.new.edges c.identify_in.new.live.items c.identify_in.new.marked.items c.args.self.now c.if-self.false c.self.view_is c.in-Ok.ensures.identified.relates
-
-pub invariant_of-self : goal.invariant_of-self
-invariant_of-self c =
-    let was = held_whole c.self.inside.congruence.congruence c.self.inside.edges c.self.inside.live.items c.self.inside.marked.items c.self.inside.order c.self.inside.pending c.self.inside.failed c.if-self.false c.self.invariant in
-    let now = closed_whole c.self.inside.congruence.congruence c.self.inside.edges c.identify_in.new.edges c.self.inside.live.items c.identify_in.new.live.items c.self.inside.marked.items c.identify_in.new.marked.items c.self.inside.order c.identify_in.new.order c.self.inside.pending c.identify_in.new.pending
-    was (c.in-Ok.ensures.graph c.self.inside.congruence.congruence.presentation.letters was.graph) c.in-Ok.ensures.identified.live c.in-Ok.ensures.shape c.in-Ok.ensures.marked c.letters-letters.ensures.lists (c.in-Ok.ensures.closed c.self.inside.congruence.congruence.presentation.relations was.closed) c.in-Ok.ensures.identified.nodes c.in-Ok.ensures.numbers c.in-Ok.ensures.marks (λ u v h. (c.in-Ok.ensures.identified.relates u v).1 (given (inl h))) c.in-Ok.ensures.order in
-    (whole c.self.inside.congruence.congruence c.identify_in.new.edges c.identify_in.new.live.items c.identify_in.new.marked.items c.identify_in.new.order c.identify_in.new.pending c.self.inside.failed c.if-self.false now)
-
-pub returns-in-Ok-clause-table : goal.returns-in-Ok-clause-table
-returns-in-Ok-clause-table c =
-    let was = held_whole c.self.inside.congruence.congruence c.self.inside.edges c.self.inside.live.items c.self.inside.marked.items c.self.inside.order c.self.inside.pending c.self.inside.failed c.if-self.false c.self.invariant in
-    let now = closed_whole c.self.inside.congruence.congruence c.self.inside.edges c.identify_in.new.edges c.self.inside.live.items c.identify_in.new.live.items c.self.inside.marked.items c.identify_in.new.marked.items c.self.inside.order c.identify_in.new.order c.self.inside.pending c.identify_in.new.pending
-    was (c.in-Ok.ensures.graph c.self.inside.congruence.congruence.presentation.letters was.graph) c.in-Ok.ensures.identified.live c.in-Ok.ensures.shape c.in-Ok.ensures.marked c.letters-letters.ensures.lists (c.in-Ok.ensures.closed c.self.inside.congruence.congruence.presentation.relations was.closed) c.in-Ok.ensures.identified.nodes c.in-Ok.ensures.numbers c.in-Ok.ensures.marks (λ u v h. (c.in-Ok.ensures.identified.relates u v).1 (given (inl h))) c.in-Ok.ensures.order in
-    (whole c.self.inside.congruence.congruence c.identify_in.new.edges c.identify_in.new.live.items c.identify_in.new.marked.items c.identify_in.new.order c.identify_in.new.pending c.self.inside.failed c.if-self.false now).table
+    c.self.inside.congruence.congruence c.self.inside.failed c.self.inside.cosets c.identify.new.self c.args.self.now c.if-self.false c.self.view_is c.in-Ok.ensures.relates

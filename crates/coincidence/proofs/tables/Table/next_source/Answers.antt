@@ -7,5 +7,5 @@ use Rattle.coincidence.proofs.tables.Table.next_source.Goals as goal
 pub returns-clause-list : goal.returns-clause-list
 returns-clause-list c =
     let while : c.self.inside.failed ≡ false = ap (λ (t : CosetTable). t.failed) c.self.view_is ∙ c.requires.failed in
-    let view = seen c.self.inside.congruence.congruence c.self.inside.edges c.self.inside.live.items c.self.inside.marked.items c.self.inside.failed c.args.self.now while c.self.view_is in
+    let view = seen c.self.inside.congruence.congruence c.self.inside.cosets c.self.inside.failed c.args.self.now while c.self.view_is in
     λ to _. subst (λ (t : CosetTable). (list : List ℕ) × IsSources (links_of t) to c.args.letter list) view (c.letters-letters.ensures.lists to c.args.letter)

@@ -1,0 +1,18 @@
+use Rattle.std.proofs.Common.{[], ◌∷◌, ◌++◌, true, false, replicate, None, sym, ◌∙◌, ap}
+use Rattle.coincidence.specs.declared.cosets.Cosets.{Cosets}
+use Rattle.coincidence.specs.declared.pending.Pending.TheVariants.{NewNode}
+use Rattle.coincidence.proofs.HeldLaws.{root_whole}
+use Rattle.coincidence.proofs.cosets.Cosets.new.Goals as goal
+
+pub returns-clause-whole : goal.returns-clause-whole
+returns-clause-whole c = λ k is letters.
+    let made : Cosets = record {
+      edges = c.in_ok-edges.edges;
+      live = c.push.new.self;
+      marked = c.push-2.new.self;
+      order = c.in_ok-order.order;
+      pending = c.push-3.new.self;
+      replaced_by = c.new-3.result;
+    } in
+    root_whole k made is (ap (λ z. z.graph) c.in_ok-edges.ensures ∙ ap (λ n. replicate n None ∷ []) (sym letters)) (c.in_ok-push.ensures.items ∙ ap (λ z. z ++ true ∷ []) c.new-live.ensures.items)
+    (c.in_ok-push-2.ensures.items ∙ ap (λ z. z ++ false ∷ []) c.new-marked.ensures.items) (c.in_ok-push-3.ensures.items ∙ ap (λ z. z ++ NewNode 0 ∷ []) c.new-pending.ensures) (c.in_ok-order.ensures k.presentation.letters)

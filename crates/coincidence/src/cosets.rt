@@ -1,0 +1,88 @@
+// Cosets: the nodes of a table, while memory was never wanting.
+ghost use Rattle.std.specs.Prelude.{◌≡◌, ℕ, ◌<◌, ◌≤◌, List, [], ◌∷◌, ◌++◌, true, false, length, replicate, None, IfOk, OnOk};
+ghost use Rattle.theory.specs.Congruence.{Congruence, IsWellFormed};
+ghost use Rattle.theory.specs.Graph.{target as target_of};
+ghost use Rattle.word_graph.specs.Edges.{with_edge, with_node};
+ghost use Rattle.coincidence.specs.Cosets.{IsWhole};
+ghost use Rattle.coincidence.specs.Live.{IsOn};
+
+use crate::edges::Edges;
+use crate::order::Order;
+use crate::pending::{Pending, Worklist};
+use ports::NoMemory;
+use std::alloc::Global;
+use words::Letter;
+
+/// The nodes of a coset table: their edges, which of them are live and which marked, their order as
+/// far as it is known, what is new and not read yet, and by which nodes lost ones were replaced.
+#[derive(Drop)]
+pub struct Cosets {
+    pub edges: Edges,
+    pub live: Vec<bool>,
+    pub marked: Vec<bool>,
+    pub order: Order,
+    pub pending: Worklist,
+    pub replaced_by: Vec<usize>,
+}
+
+impl Cosets {
+    /// The root alone, live, without mark and edges. Refused only where memory is wanting.
+    pub fn new(alloc: Global, letters: usize) -> Result<Cosets, NoMemory>
+        requires { letters ≤ 256 }
+        ensures whole { IfOk result (λ t. (c : Congruence) → IsWellFormed c
+            → c.presentation.letters ≡ letters → IsWhole c t) }
+        ensures edges { IfOk result (λ t. t.edges ≡ record {
+          graph = replicate letters None ∷ [];
+          firsts = replicate letters None
+              ∷ [];
+          nexts = replicate letters None ∷ [];
+        }) }
+        ensures live { IfOk result (λ t. t.live.items ≡ true ∷ []) }
+        ensures marked { IfOk result (λ t. t.marked.items ≡ false ∷ []) }
+    {
+        let edges = Edges::new(alloc, letters)?;
+        let mut live = Vec::new(alloc);
+        live.push(true)?;
+        let mut marked = Vec::new(alloc);
+        marked.push(false)?;
+        let order = Order::new(alloc)?;
+        let mut pending = Worklist::new(alloc);
+        pending.push(Pending::NewNode(0))?;
+        Ok(Cosets {
+            edges,
+            live,
+            marked,
+            order,
+            pending,
+            replaced_by: Vec::new(alloc),
+        })
+    }
+
+    /// Makes an edge of the letter from a live node to a new one, whose number it gives; both are
+    /// pending. Refused only where memory is wanting.
+    pub fn define(&mut self, node: usize, letter: Letter) -> Result<usize, NoMemory>
+        requires whole { (c : Congruence) × IsWhole c self.old
+            × (letter < c.presentation.letters) }
+        requires node { IsOn self.old.live.items node }
+        requires missing { target_of self.old.edges.graph node letter ≡ None }
+        ensures whole { OnOk result ((c : Congruence) → IsWhole c self.old → IsWhole c self.new) }
+        ensures fresh { IfOk result (λ n. n ≡ length self.old.edges.graph) }
+        ensures graph { IfOk result (λ n. (c : Congruence) → IsWhole c self.old
+            → self.new.edges.graph
+            ≡ with_edge (with_node c.presentation.letters self.old.edges.graph) node letter n) }
+        ensures live { OnOk result (self.new.live.items ≡ self.old.live.items ++ true ∷ []) }
+        ensures marked { OnOk result
+            (self.new.marked.items ≡ self.old.marked.items ++ false ∷ []) }
+    {
+        let _letters = self.edges.letters();
+        let fresh = self.edges.nodes();
+        self.live.push(true)?;
+        self.marked.push(false)?;
+        self.order.add_node()?;
+        self.pending.push(Pending::NewNode(fresh))?;
+        self.pending.push(Pending::NewEdge(node, letter))?;
+        self.edges.add_node()?;
+        self.edges.set_edge(node, letter, fresh);
+        Ok(fresh)
+    }
+}
