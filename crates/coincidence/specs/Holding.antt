@@ -1,9 +1,12 @@
 -- Relations that hold where nodes are marked.
-use Rattle.std.specs.Prelude.{◌≡◌, ℕ, ◌<◌, List, Some, slice_index_or}
+use Rattle.std.specs.Prelude.{◌≡◌, ℕ, ◌<◌, ◌⊎◌, List, Some, slice_index_or}
 use Rattle.theory.specs.Word.{Word}
 use Rattle.theory.specs.Congruence.{EitherWay}
 use Rattle.theory.specs.Graph.{Graph, path}
+use Rattle.coincidence.specs.Reading.{IsAsked}
 use Rattle.coincidence.specs.Table.{CosetTable, IsMarked}
+use Rattle.coincidence.specs.declared.due.Due.{Due}
+use Rattle.coincidence.specs.declared.due.Due.TheVariants.{Nothing, Edge, Join}
 
 -- both sides of the pair lead from the node, to one node
 abbrev pub MeetAt : Graph → ℕ → Word × Word → Type 0
@@ -13,6 +16,19 @@ MeetAt g node pair = (m : ℕ) × (path g node pair.0 ≡ Some m) × (path g nod
 abbrev pub HoldBefore : List (Word × Word) → Graph → ℕ → ℕ → Type 0
 HoldBefore pairs g node place = (k : ℕ) (p : Word × Word) → k < place
     → MeetAt g node (slice_index_or pairs k p)
+
+-- the pair does so, or asks for this
+abbrev pub MeetOrAsk : Graph → ℕ → Word × Word → Due → Type 0
+MeetOrAsk g node pair Nothing = MeetAt g node pair
+MeetOrAsk g node pair (Edge j a m) = MeetAt g node pair
+    ⊎ IsAsked g node pair.0 pair.1 (Edge j a m)
+MeetOrAsk g node pair (Join j a t m) = MeetAt g node pair
+    ⊎ IsAsked g node pair.0 pair.1 (Join j a t m)
+
+-- the pairs before the place do so, once what they ask for is drawn
+abbrev pub HoldOnceDrawn : List (Word × Word) → Graph → ℕ → Due → ℕ → Type 0
+HoldOnceDrawn pairs g node due place = (k : ℕ) (p : Word × Word) → k < place
+    → MeetOrAsk g node (slice_index_or pairs k p) due
 
 -- both sides of each pair lead from the node, to one node
 abbrev pub HoldAt : List (Word × Word) → Graph → ℕ → Type 0

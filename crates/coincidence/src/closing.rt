@@ -4,7 +4,7 @@ ghost use Rattle.std.specs.Option.{ForSome};
 ghost use Rattle.theory.specs.Graph.{PathsRelate};
 ghost use Rattle.coincidence.specs.Closing.{ClosedThere};
 ghost use Rattle.coincidence.specs.DueSpec.{IsDueIn};
-ghost use Rattle.coincidence.specs.Holding.{HoldBefore};
+ghost use Rattle.coincidence.specs.Holding.{HoldBefore, HoldOnceDrawn};
 ghost use Rattle.coincidence.specs.Cosets.{IsGathered, IsWhole};
 ghost use Rattle.coincidence.specs.Live.{IsLiveGraph, IsOn};
 ghost use Rattle.coincidence.specs.Pending.{IsClosedBut};
@@ -15,7 +15,7 @@ use crate::due::Due;
 use crate::edges::Edges;
 use crate::indexed::Indexed;
 use crate::pending::{Pending, Worklist};
-use crate::reads::{due_at, due_at_start, due_from, due_through, past_held};
+use crate::reads::{due_at, due_at_start, due_from, due_or_held, due_through};
 use ports::NoMemory;
 use std::alloc::Global;
 
@@ -66,7 +66,7 @@ fn due_next(congruence: &Indexed, edges: &Edges, live: &Vec<bool>, pending: &mut
 }
 
 // What relations ask for at one node, or the pairs at the root. The relations before a place are
-// known to hold at the node, and the place goes on.
+// known to hold at the node; the place goes past those that do once what is asked for is drawn.
 fn due_there(
     congruence: &Indexed,
     edges: &Edges,
@@ -80,16 +80,18 @@ fn due_there(
         node held.old }
     ensures due { IsDueIn congruence.now.congruence edges.now.graph live.now.items (Some node)
         result }
-    ensures held { HoldBefore congruence.now.congruence.presentation.relations edges.now.graph
-        node held.new }
+    ensures held { HoldOnceDrawn congruence.now.congruence.presentation.relations edges.now.graph
+        node result held.new }
 {
     match due_at(edges, 0, congruence.pairs()) {
         Due::Nothing => {}
         due => return due,
     }
     let relations = congruence.relations();
-    *held = past_held(edges, node, relations, *held);
-    due_from(edges, node, relations, *held)
+    match due_or_held(edges, node, relations, held) {
+        Due::Nothing => due_from(edges, node, relations, *held),
+        due => due,
+    }
 }
 
 // What is asked for next: anywhere, or at one node.
@@ -107,8 +109,8 @@ fn due_in(
         congruence.now.congruence.presentation.relations edges.now.graph node held.old) }
     requires closed { IsClosedBut congruence.now.congruence.presentation.relations edges.now.graph
         live.now.items pending.old }
-    ensures held { ForSome at (λ node. HoldBefore
-        congruence.now.congruence.presentation.relations edges.now.graph node held.new) }
+    ensures held { ForSome at (λ node. HoldOnceDrawn
+        congruence.now.congruence.presentation.relations edges.now.graph node result held.new) }
     ensures due { IsDueIn congruence.now.congruence edges.now.graph live.now.items at result }
     ensures closed { IsClosedBut congruence.now.congruence.presentation.relations edges.now.graph
         live.now.items pending.new }

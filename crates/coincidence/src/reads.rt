@@ -1,9 +1,9 @@
 // What relations and pairs ask for, read along edges and back along lists of sources.
-ghost use Rattle.std.specs.Prelude.{◌≡◌, ℕ, ◌-◌, ◌<◌, ◌≤◌, false, true, List, None, Some, length, slice_get, take};
+ghost use Rattle.std.specs.Prelude.{◌≡◌, ◌≢◌, ℕ, ◌-◌, ◌<◌, ◌≤◌, false, true, List, None, Some, length, slice_get, take, MatchOption};
 ghost use Rattle.theory.specs.Word.{Word as Letters};
 ghost use Rattle.theory.specs.Graph.{path as path_of, target as target_of};
 ghost use Rattle.coincidence.specs.DueSpec.{IsDueFrom, IsDueAt};
-ghost use Rattle.coincidence.specs.Holding.{HoldBefore, MeetAt};
+ghost use Rattle.coincidence.specs.Holding.{HoldBefore, HoldOnceDrawn, MeetAt};
 ghost use Rattle.coincidence.specs.Live.{IsLiveGraph, IsOn};
 ghost use Rattle.coincidence.specs.Reading.{IsCut, IsDueBoth, IsDueBehind, IsDueAlong, IsDueThrough};
 ghost use Rattle.coincidence.specs.Pending.{IsAmong};
@@ -91,55 +91,80 @@ fn meet(first: Option<usize>, second: Option<usize>) -> bool
     }
 }
 
-// What a pair asks for at the node, read both ways. The first side is read but for its last letter.
-fn due_beside(edges: &Edges, node: usize, first: &Word, one: usize, second: &Word) -> Due
+// What a pair asks for at the node, read both ways, or `None` where it holds there. The first side
+// is read but for its last letter.
+fn asked_beside(edges: &Edges, node: usize, first: &Word, one: usize, second: &Word) -> Option<Due>
     requires { path_of edges.now.graph node (take (length first.now - 1) first.now) ≡ Some one }
-    ensures { IsDueBoth edges.now.graph node first.now second.now result }
+    ensures { MatchOption result (MeetAt edges.now.graph node (first.now, second.now))
+        (IsDueBoth edges.now.graph node first.now second.now) }
 {
     let Some(two) = front_end(edges, node, second) else {
-        return Due::Nothing;
+        return Some(Due::Nothing);
     };
     let first_end = side_end(edges, one, first);
     let second_end = side_end(edges, two, second);
     if meet(first_end, second_end) {
-        return Due::Nothing;
+        return None;
     }
     match due_to(edges, first_end, two, second) {
-        Due::Nothing => due_to(edges, second_end, one, first),
-        due => due,
+        Due::Nothing => Some(due_to(edges, second_end, one, first)),
+        due => Some(due),
     }
 }
 
-// What a pair asks for at the node, read both ways.
-fn due_both(edges: &Edges, node: usize, first: &Word, second: &Word) -> Due
+// As `asked_beside`; a pair that holds asks for nothing.
+fn due_beside(edges: &Edges, node: usize, first: &Word, one: usize, second: &Word) -> Due
+    requires { path_of edges.now.graph node (take (length first.now - 1) first.now) ≡ Some one }
     ensures { IsDueBoth edges.now.graph node first.now second.now result }
 {
-    let Some(one) = front_end(edges, node, first) else {
-        return Due::Nothing;
-    };
-    due_beside(edges, node, first, one, second)
+    match asked_beside(edges, node, first, one, second) {
+        None => Due::Nothing,
+        Some(due) => due,
+    }
 }
 
-// Whether both sides of the pair lead from the node, to one node.
-fn holds(edges: &Edges, node: usize, pair: &(Word, Word)) -> bool
-    ensures { result ≡ true → MeetAt edges.now.graph node pair.now }
+// What a pair asks for at the node, read both ways, or `None` where it holds there.
+fn asked(edges: &Edges, node: usize, pair: &(Word, Word)) -> Option<Due>
+    ensures { MatchOption result (MeetAt edges.now.graph node pair.now)
+        (IsDueBoth edges.now.graph node pair.now.0 pair.now.1) }
 {
-    let first = prefix_path(edges, node, &pair.0, pair.0.len());
-    let second = prefix_path(edges, node, &pair.1, pair.1.len());
-    meet(first, second)
+    match front_end(edges, node, &pair.0) {
+        None => Some(Due::Nothing),
+        Some(one) => asked_beside(edges, node, &pair.0, one, &pair.1),
+    }
 }
 
-/// Goes from a place past the pairs that hold at the node. Those before the place hold there.
-pub fn past_held(edges: &Edges, node: usize, pairs: &Pairs, place: usize) -> usize
-    requires { HoldBefore pairs.now edges.now.graph node place }
-    ensures { HoldBefore pairs.now edges.now.graph node result }
+// As `asked`; a pair that holds asks for nothing.
+fn due_both(edges: &Edges, node: usize, pair: &(Word, Word)) -> Due
+    ensures { IsDueBoth edges.now.graph node pair.now.0 pair.now.1 result }
 {
-    for i in place..pairs.len() {
-        if !holds(edges, node, pairs.pair(i)) {
-            return i;
+    match asked(edges, node, pair) {
+        None => Due::Nothing,
+        Some(due) => due,
+    }
+}
+
+/// What the pairs from a place on ask for at the node, up to the first that neither holds nor asks.
+/// Those before the place hold there; it goes past those that do, and past one that asks, which
+/// holds once what it asks for is drawn.
+pub fn due_or_held(edges: &Edges, node: usize, pairs: &Pairs, held: &mut usize) -> Due
+    requires { HoldBefore pairs.now edges.now.graph node held.old }
+    ensures held { HoldOnceDrawn pairs.now edges.now.graph node result held.new }
+    ensures due { result ≢ Nothing → IsDueAt edges.now.graph node pairs.now result }
+{
+    while *held < pairs.len() {
+        match asked(edges, node, pairs.pair(*held)) {
+            None => *held += 1,
+            Some(due) => match due {
+                Due::Nothing => return due,
+                due => {
+                    *held += 1;
+                    return due;
+                }
+            },
         }
     }
-    pairs.len()
+    Due::Nothing
 }
 
 /// What the pairs from a place on ask for at the node. Those before it hold there.
@@ -149,7 +174,7 @@ pub fn due_from(edges: &Edges, node: usize, pairs: &Pairs, place: usize) -> Due
 {
     for i in place..pairs.len() {
         let pair = pairs.pair(i);
-        match due_both(edges, node, &pair.0, &pair.1) {
+        match due_both(edges, node, pair) {
             Due::Nothing => {}
             due => return due,
         }
@@ -171,7 +196,7 @@ fn due_in_list(edges: &Edges, node: usize, pairs: &Pairs, list: &[(usize, usize)
 {
     for k in 0..list.len() {
         let pair = pairs.pair(list[k].0);
-        match due_both(edges, node, &pair.0, &pair.1) {
+        match due_both(edges, node, pair) {
             Due::Nothing => {}
             due => return due,
         }

@@ -63,7 +63,7 @@ loop-node-preserved-in-Edge c =
       drawing = drawing_edge c.args.congruence.now.congruence c.args.self.now now c.args.at c.loop-node.place c.requires.whole c.requires.at drawing new c.in-Edge.node c.in-Edge.letter c.in-Edge.to c.in-Edge.ensures.due.0 c.in-Edge.ensures.due.1 c.set_edge.ensures refl c.in_ok-push-in-Edge.ensures.items;
       held = rw (c.set_edge.ensures)
           (place_held_edged c.args.congruence.now.congruence.presentation.relations c.loop-node.self.edges.graph (with_edge c.loop-node.self.edges.graph c.in-Edge.node c.in-Edge.letter c.in-Edge.to) c.in-Edge.node c.in-Edge.letter c.in-Edge.to c.due_in.new.held c.loop-node.place
-          (edged_with c.loop-node.self.edges.graph c.in-Edge.node c.in-Edge.letter c.in-Edge.to in_here.0 in_here.1 c.in-Edge.ensures.due.1) c.due_in.ensures.held);
+          (edged_with c.loop-node.self.edges.graph c.in-Edge.node c.in-Edge.letter c.in-Edge.to in_here.0 in_here.1 c.in-Edge.ensures.due.1) c.in-Edge.ensures.held);
     }
 
 pub merge-requires-clause-whole : goal.merge-requires-clause-whole
@@ -96,5 +96,5 @@ loop-node-preserved c =
     let on = join_live c.args.congruence.now.congruence c.loop-node.self.edges.graph c.loop-node.place c.loop-node.self.live.items c.in-Join.field-0 c.in-Join.field-1 c.in-Join.y c.in-Join.x c.loop-node.invariant.drawing.whole.lives c.in-Join.ensures.due.0 c.in-Join.ensures.due.1 in
     record {
       drawing = drawing_join c.args.congruence.now.congruence c.args.self.now now c.args.at c.loop-node.place c.requires.whole c.requires.at drawing c.merge.new.self c.in-Join.field-0 c.in-Join.field-1 c.in-Join.y c.in-Join.ensures.due.0 c.in-Join.x c.in_ok-place-in-Join.place c.in-Join.ensures.due.1 on.0 on.1 c.in_ok-place-in-Join.ensures;
-      held = place_held_folded c.args.congruence.now.congruence.presentation.relations c.loop-node.self.edges.graph c.in_ok-place-in-Join.ensures.class c.merge.new.self.edges.graph c.due_in.new.held c.loop-node.place c.in_ok-place-in-Join.place c.in_ok-place-in-Join.ensures.merging.folded c.in_ok-place-in-Join.ensures.gone c.due_in.ensures.held;
+      held = place_held_folded c.args.congruence.now.congruence.presentation.relations c.loop-node.self.edges.graph c.in_ok-place-in-Join.ensures.class c.merge.new.self.edges.graph c.in-Join.field-0 c.in-Join.field-1 c.in-Join.y c.in-Join.x c.due_in.new.held c.loop-node.place c.in_ok-place-in-Join.place c.in_ok-place-in-Join.ensures.merging.folded c.in_ok-place-in-Join.ensures.merging.one c.in_ok-place-in-Join.ensures.gone c.in-Join.ensures.held;
     }
