@@ -6,15 +6,14 @@ use Rattle.problem.specs.declared.kinds.Problem.{Problem}
 use Rattle.problem.specs.declared.kinds.Problem.TheVariants.{Presented, Transf, PPerm, BMat, MaxPlus}
 use Rattle.problem.specs.Problem.{IsWellPosed}
 use Rattle.word_graph.specs.Standard.{IsStandardGraph}
-use Rattle.tc_felsch.specs.Stage.{FelschTask}
+use Rattle.coset_enumeration.specs.Enumeration.{EnumerationTask}
 use Rattle.tc_felsch.specs.Stage as felsch
-use Rattle.tc_hlt.specs.Stage.{HltTask}
 use Rattle.tc_hlt.specs.Stage as hlt
 use Rattle.congruence.specs.Engines.{Definitions, Rows, IsTaskFor}
 use Rattle.congruence.specs.Solution.{IsStandardGraphFor}
 use Rattle.congruence.proofs.GraphLaws.{by_definitions, by_rows}
 
-pub definitions_graph : (p : Problem) (t : FelschTask) (made : ℕ) (g h : Graph) → IsWellPosed p → IsTaskFor p (Definitions t)
+pub definitions_graph : (p : Problem) (t : EnumerationTask) (made : ℕ) (g h : Graph) → IsWellPosed p → IsTaskFor p (Definitions t)
     → IsStandardGraph t.congruence.presentation.letters g → Shows g (SameEnd h) → IsGraph t.congruence.presentation.letters g
     → felsch.IsAtStage t.congruence made g → AllDefined t.congruence.presentation.letters (SameEnd g) → IsStandardGraphFor p g
 definitions_graph (Presented p) t made g h posed task standard shows graph at all = by_definitions p t.congruence posed.well_formed task made g h standard shows graph at all
@@ -23,7 +22,7 @@ definitions_graph (PPerm p) t made g h posed task standard shows graph at all = 
 definitions_graph (BMat p) t made g h posed task standard shows graph at all = absurd task
 definitions_graph (MaxPlus p) t made g h posed task standard shows graph at all = absurd task
 
-pub rows_graph : (p : Problem) (t : HltTask) (made : ℕ) (g h : Graph) → IsWellPosed p → IsTaskFor p (Rows t)
+pub rows_graph : (p : Problem) (t : EnumerationTask) (made : ℕ) (g h : Graph) → IsWellPosed p → IsTaskFor p (Rows t)
     → IsStandardGraph t.congruence.presentation.letters g → Shows g (SameEnd h) → IsGraph t.congruence.presentation.letters g
     → hlt.IsAtEnd t.congruence made g → IsStandardGraphFor p g
 rows_graph (Presented p) t made g h posed task standard shows graph at = by_rows p t.congruence posed.well_formed task made g h standard shows graph at

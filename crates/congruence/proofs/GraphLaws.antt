@@ -129,5 +129,5 @@ module _ (p : Posed) (k : Congruence) (well : IsWellFormed p.congruence) (task :
 
   pub by_rows : hlt.IsAtEnd k made g → IsStandardGraphFor (Presented p) g
   by_rows at = by_right_graph (λ u v over.
-      let facts = hlt_related k at.words is_well_formed is_right_sided at.ended u v over in
+      let facts = hlt_related k at.words is_well_formed is_right_sided at.stage.1 u v over in
       (λ r. (at.shows u v).1 (facts.1 r), λ e. facts.0 ((at.shows u v).0 e)))

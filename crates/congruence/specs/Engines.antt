@@ -20,9 +20,8 @@ use Rattle.race.specs.declared.playing.Outcome.{Outcome}
 use Rattle.race.specs.Machine.{IsEnd, IsSound, outcome_of, state_at, tasks}
 use Rattle.cayley.specs.Run.{PairsTask, HasFew, HasMore}
 use Rattle.cayley.specs.Run as pairs
-use Rattle.tc_felsch.specs.Stage.{FelschTask}
+use Rattle.coset_enumeration.specs.Enumeration.{EnumerationTask}
 use Rattle.tc_felsch.specs.Stage as felsch
-use Rattle.tc_hlt.specs.Stage.{HltTask}
 use Rattle.tc_hlt.specs.Stage as hlt
 use Rattle.knuth_bendix.specs.Runs.{CompletionRun, CompletionTask}
 use Rattle.congruence.specs.declared.engine.Engine.{Engine}
@@ -46,8 +45,8 @@ OfElements holds (TruncatedMatrices t) = holds TruncatedMatrix truncated_matrice
 -- whether a strategy ends for a right congruence within a budget, or completion of a presentation
 -- within a length, or generators of a kind have so many values
 pub data EngineTask : Type 0 where
-  Definitions : FelschTask → EngineTask
-  Rows : HltTask → EngineTask
+  Definitions : EnumerationTask → EngineTask
+  Rows : EnumerationTask → EngineTask
   Rewriting : CompletionTask → EngineTask
   Search : ElementTask → EngineTask
 

@@ -1,17 +1,16 @@
 -- One definition with all that follows leads from one stage to the next.
-use Rattle.std.proofs.Common.{◌≡◌, ℕ, zero, suc, ◌+◌, ◌<◌, ◌≤◌, List, [], ◌∷◌, ◌++◌, refl, sym, ◌∙◌, arith, ◌⊎◌, inl, inr, Option, Some, None, length, subst, replicate, Contains, option_and_then}
-use Rattle.std.proofs.lemmas.Bool.{cases_lt}
+use Rattle.std.proofs.Common.{◌≡◌, ℕ, zero, suc, ◌<◌, List, [], ◌∷◌, ◌++◌, refl, sym, ◌∙◌, ap, arith, inl, inr, Some, None, length, subst, replicate, Contains}
 use Rattle.theory.specs.Word.{Word}
 use Rattle.theory.specs.Congruence.{Congruence}
 use Rattle.theory.specs.Graph.{Graph, target, path, SameEnd, IsGraph, PathsRelate}
 use Rattle.theory.specs.Facts.{Facts, Defines, ClosedAll}
-use Rattle.theory.proofs.PartLaws.{given, symmetric, transitive, extended}
+use Rattle.theory.proofs.PartLaws.{given}
 use Rattle.theory.specs.Felsch.{FelschFacts}
-use Rattle.theory.proofs.GraphLaws.{path_append, path_letter}
 use Rattle.theory.proofs.FactsLaws.{follows_between, facts_grow, defines_within}
 use Rattle.word_graph.specs.Edges.{with_edge, with_node}
-use Rattle.coincidence.proofs.DefinedPaths.{edged, kept_path, last_path, new_path, old_path}
-use Rattle.cells.proofs.EntryLaws.{target_bare}
+use Rattle.coincidence.proofs.DefinedPaths.{kept_path}
+use Rattle.coset_enumeration.proofs.DefinedLaws.{new_there, new_within}
+use Rattle.coset_enumeration.proofs.RootLaws.{root_end}
 
 -- what follows from the paths of g are the facts, where the facts have the paths of g and these have what is defined
 pub closed_facts : (c : Congruence) (D : Word → Type 0) (g new : Graph) → ((u v : Word) → SameEnd g u v → Facts c D (λ w. Unit {0}) u v)
@@ -19,15 +18,6 @@ pub closed_facts : (c : Congruence) (D : Word → Type 0) (g new : Graph) → ((
 closed_facts c D g new within given_there root f = λ u v.
     let same = follows_between c.presentation.relations c.pairs (Defines D) (SameEnd g) (λ w. Unit {0}) (defines_within D (SameEnd g) root given_there) within u v in
     (λ h. same.0 ((f u v).0 h), λ h. (f u v).1 (same.1 h))
-
--- in a graph of the root alone no other word has a path
-root_end : (k n : ℕ) (u : Word) → path (replicate k None ∷ []) 0 u ≡ Some n → u ≡ []
-root_end k n [] e = refl
-root_end k n (a ∷ u) e = go (target (replicate k None ∷ []) 0 a) (target_bare 1 k 0 a) e
-  where
-    go : (t : Option ℕ) → t ≡ None → option_and_then (λ next. path (replicate k None ∷ []) next u) t ≡ Some n → a ∷ u ≡ []
-    go None h e = absurd (let bad : ⊥ = cc in bad)
-    go (Some m) h e = absurd (let bad : ⊥ = cc in bad)
 
 -- at the start the facts without a definition are shown
 pub start_facts : (c : Congruence) (k : ℕ) (new : Graph) → PathsRelate new (ClosedAll c (SameEnd (replicate k None ∷ []))) → PathsRelate new (FelschFacts c [])
@@ -43,32 +33,16 @@ module _ (c : Congruence) (k : ℕ) (g : Graph) (n a : ℕ) (is : IsGraph k g) (
   next_facts D w new after e hw f r =
       closed_facts c (Contains (new ∷ D)) (with_edge (with_node k g) n a (length g)) after within given_there (0, refl, refl) r
     where
-      there : path (with_edge (with_node k g) n a (length g)) 0 (w ++ a ∷ []) ≡ Some (length g)
-      there = path_append (with_edge (with_node k g) n a (length g)) 0 n w (a ∷ []) (kept_path k g n a is hn ha none 0 n w hw) ∙ path_letter (with_edge (with_node k g) n a (length g)) n a ∙ (edged k g n a is hn ha none).edge
-
-      more : (u v : Word) → FelschFacts c D u v → FelschFacts c (new ∷ D) u v
-      more = facts_grow c (Contains D) (λ w. Unit {0}) (Contains (new ∷ D)) (λ w. Unit {0}) (λ x d. (suc d.0, omega (arith, d.1), d.2)) (λ w h. tt)
+      there : path (with_edge (with_node k g) n a (length g)) 0 new ≡ Some (length g)
+      there = ap (λ z. path (with_edge (with_node k g) n a (length g)) 0 z) e ∙ new_there k g n a is hn ha none w hw
 
       self : FelschFacts c (new ∷ D) (w ++ a ∷ []) (w ++ a ∷ [])
       self = subst (λ z. FelschFacts c (new ∷ D) z z) e (given (refl, inr (0, omega arith, refl)))
 
-      -- whatever leads to the new node is related to the new word
-      fresh : (u : Word) → path (with_edge (with_node k g) n a (length g)) 0 u ≡ Some (length g) → FelschFacts c (new ∷ D) (w ++ a ∷ []) u
-      fresh u h =
-          let s = new_path k g n a is hn ha none u h in
-          let one : FelschFacts c (new ∷ D) w s.0 = more w s.0 ((f w s.0).0 (n, hw, s.2)) in
-          subst (λ z. FelschFacts c (new ∷ D) (w ++ a ∷ []) z) (sym s.1) (extended w s.0 a one self)
-
       within : (u v : Word) → SameEnd (with_edge (with_node k g) n a (length g)) u v → FelschFacts c (new ∷ D) u v
-      within u v h = go (cases_lt h.0 (length g))
-        where
-          go : (h.0 < length g) ⊎ (length g ≤ h.0) → FelschFacts c (new ∷ D) u v
-          go (inl l) = more u v ((f u v).0 (h.0, old_path k g n a is hn ha none 0 h.0 u is.rooted l h.1, old_path k g n a is hn ha none 0 h.0 v is.rooted l h.2))
-          go (inr l) =
-              let left = last_path k g n a is hn ha none h.0 u l h.1 in
-              let right = last_path k g n a is hn ha none h.0 v l h.2 in
-              transitive (symmetric (fresh u left)) (fresh v right)
+      within = new_within k g n a is hn ha none c.presentation.relations c.pairs (Defines (Contains (new ∷ D))) (λ w. Unit {0}) w hw self
+          (λ u v h. facts_grow c (Contains D) (λ w. Unit {0}) (Contains (new ∷ D)) (λ w. Unit {0}) (λ x d. (suc d.0, omega (arith, d.1), d.2)) (λ w h. tt) u v ((f u v).0 h))
 
       given_there : (x : Word) → Contains (new ∷ D) x → SameEnd (with_edge (with_node k g) n a (length g)) x x
-      given_there x (zero, h, d) = (length g, subst (λ z. path (with_edge (with_node k g) n a (length g)) 0 z ≡ Some (length g)) (sym e ∙ d) there, subst (λ z. path (with_edge (with_node k g) n a (length g)) 0 z ≡ Some (length g)) (sym e ∙ d) there)
+      given_there x (zero, h, d) = (length g, subst (λ z. path (with_edge (with_node k g) n a (length g)) 0 z ≡ Some (length g)) d there, subst (λ z. path (with_edge (with_node k g) n a (length g)) 0 z ≡ Some (length g)) d there)
       given_there x (suc i, h, d) = let o = (f x x).1 (given (refl, inr (i, omega (arith, h), d))) in (o.0, kept_path k g n a is hn ha none 0 o.0 x o.1, kept_path k g n a is hn ha none 0 o.0 x o.2)

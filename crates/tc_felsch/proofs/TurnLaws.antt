@@ -1,9 +1,9 @@
 -- What a turn leaves.
-use Rattle.std.proofs.Common.{◌≡◌, ◌≢◌, ℕ, suc, ◌+◌, ◌<◌, ◌≤◌, [], ◌∷◌, ◌++◌, refl, sym, ◌∙◌, ap, arith, inl, inr, Option, Some, None, length, subst, replicate, Bool, true, false, cond, nat_lt}
+use Rattle.std.proofs.Common.{◌≡◌, ◌≢◌, ℕ, suc, ◌+◌, ◌<◌, ◌≤◌, [], ◌∷◌, ◌++◌, refl, sym, ◌∙◌, ap, arith, inl, inr, Option, Some, None, length, subst, replicate, Bool, true, false, cond}
 use Rattle.std.specs.Option.{is_some, IsSome, MatchOption}
-use Rattle.std.proofs.lemmas.Bool.{cases_lt, cases_Bool}
+use Rattle.std.proofs.lemmas.Bool.{cases_Bool}
 use Rattle.race.specs.declared.engines.Progress.{Progress}
-use Rattle.race.specs.declared.engines.Progress.TheVariants.{More, Decided, Spent, NoMemory}
+use Rattle.race.specs.declared.engines.Progress.TheVariants.{More, NoMemory}
 use Rattle.theory.specs.Congruence.{Congruence}
 use Rattle.theory.specs.Facts.{AllDefined, ClosedAll}
 use Rattle.theory.specs.Graph.{Graph, target, path, SameEnd, PathsRelate}
@@ -15,7 +15,9 @@ use Rattle.word_graph.specs.Edges.{with_edge, with_node}
 use Rattle.word_graph.specs.Walk.{IsFirstMissing}
 use Rattle.coincidence.specs.Table.{CosetTable, IsTable, IsDefined}
 use Rattle.coincidence.proofs.TableLaws.{on_inside}
-use Rattle.tc_felsch.specs.Stage.{IsAtStage, IsRun, answer_of}
+use Rattle.coset_enumeration.specs.Enumeration.{IsFresh, IsTold, answer_of}
+use Rattle.coset_enumeration.proofs.TurnLaws.{told_done, told_more}
+use Rattle.tc_felsch.specs.Stage.{IsAtStage, IsDue, Stands, IsRun}
 use Rattle.tc_felsch.proofs.StageLaws.{start_facts, next_facts}
 
 -- the edge that is missing first has a letter of the alphabet, and is missing
@@ -72,22 +74,9 @@ fails_at c budget made node letter g at e first ends =
     define at.stage (least_undefined_same c.presentation.letters g (FelschFacts c at.words) at.shows (first.word ++ letter ∷ []) first.least) in
     felsch_stage_past c budget (subst (λ n. FelschStage c (suc n) ((first.word ++ letter ∷ []) ∷ at.words)) e next) ends
 
--- a graph with the same equal paths is at the same stage, and has a path for the same words
-pub same_stage : (c : Congruence) (i : ℕ) (g h : Graph) → PathsRelate h (SameEnd g) → IsAtStage c i g → IsAtStage c i h
-same_stage c i g h same at = record {
-  words = at.words;
-  stage = at.stage;
-  shows = λ u v. (λ e. (at.shows u v).0 ((same u v).0 e), λ f. (same u v).1 ((at.shows u v).1 f));
-}
-
+-- a graph with the same equal paths has a path for the same words
 pub same_defined : (k : ℕ) (g h : Graph) → PathsRelate h (SameEnd g) → AllDefined k (SameEnd g) → AllDefined k (SameEnd h)
 same_defined k g h same all w over = (same w w).1 (all w over)
-
-lt_true : (m n : ℕ) → m < n → nat_lt m n ≡ true
-lt_true m n h = grind (arith, h)
-
-lt_false : (m n : ℕ) → n ≤ m → nat_lt m n ≡ false
-lt_false m n h = grind (arith, h)
 
 -- a turn of an enumeration that goes on
 module _ (old new : CosetTable) (budget made made' : ℕ) (begun : Bool) (next next' : Option (ℕ × ℕ)) (run : IsRun old budget made begun next More)
@@ -95,107 +84,54 @@ module _ (old new : CosetTable) (budget made made' : ℕ) (begun : Bool) (next n
     (stage_is : IsSome next → (i : ℕ) → IsAtStage old.congruence i old.graph → IsAtStage new.congruence (suc i) new.graph)
     (nodes : length new.graph ≡ length old.graph + cond (is_some next) 1 0)
     (table : IsTable new) (count : made' ≡ made + cond begun 1 0) where
+  due : begun ≡ true → IsDue old budget made next
+  due b = subst (λ z. Stands old budget made next z) b (run.told.due refl)
+
+  fresh : begun ≡ false → IsFresh old × (made ≡ 0) × (next ≡ None)
+  fresh b = subst (λ z. Stands old budget made next z) b (run.told.due refl)
+
   more_not_none : More ≢ NoMemory
   more_not_none e = let bad : ⊥ = cc in bad
 
   stage_after : IsAtStage new.congruence made' new.graph
   stage_after = elim (cases_Bool begun) [
     | inl b ↦
-        let due = run.due refl b in
-        let there : IsSome next = ap is_some due.is in
+        let there : IsSome next = ap is_some (due b).is in
         let e : made' ≡ suc made = count ∙ ap (λ z. made + cond z 1 0) b ∙ omega arith in
-        subst (λ n. IsAtStage new.congruence n new.graph) (sym e) (stage_is there made (run.stage more_not_none b))
+        subst (λ n. IsAtStage new.congruence n new.graph) (sym e) (stage_is there made (run.told.stage more_not_none b))
     | inr b ↦
-        let fresh = run.fresh b in
-        let e : made' ≡ 0 = count ∙ ap (λ z. made + cond z 1 0) b ∙ omega (arith, fresh.none_made) in
-        subst (λ n. IsAtStage new.congruence n new.graph) (sym e) (start_is fresh.none_due fresh.graph)
+        let e : made' ≡ 0 = count ∙ ap (λ z. made + cond z 1 0) b ∙ omega (arith, (fresh b).1) in
+        subst (λ n. IsAtStage new.congruence n new.graph) (sym e) (start_is (fresh b).2 (fresh b).0.graph)
   ]
 
   nodes_after : length new.graph ≤ suc made'
   nodes_after = elim (cases_Bool begun) [
     | inl b ↦
-        let due = run.due refl b in
-        let one : length new.graph ≡ length old.graph + 1 = nodes ∙ ap (λ z. length old.graph + cond (is_some z) 1 0) due.is in
+        let one : length new.graph ≡ length old.graph + 1 = nodes ∙ ap (λ z. length old.graph + cond (is_some z) 1 0) (due b).is in
         let e : made' ≡ made + 1 = count ∙ ap (λ z. made + cond z 1 0) b in
         omega (arith, one, e, run.nodes more_not_none)
     | inr b ↦
-        let fresh = run.fresh b in
-        let none : length new.graph ≡ length old.graph + 0 = nodes ∙ ap (λ z. length old.graph + cond (is_some z) 1 0) fresh.none_due in
-        let root : length old.graph ≡ 1 = ap (λ (g : Graph). length g) fresh.graph in
+        let none : length new.graph ≡ length old.graph + 0 = nodes ∙ ap (λ z. length old.graph + cond (is_some z) 1 0) (fresh b).2 in
+        let root : length old.graph ≡ 1 = ap (λ (g : Graph). length g) (fresh b).0.graph in
         omega (arith, none, root)
   ]
 
   within_after : made' ≤ budget
   within_after = elim (cases_Bool begun) [
-    | inl b ↦
-        let due = run.due refl b in
-        let e : made' ≡ made + 1 = count ∙ ap (λ z. made + cond z 1 0) b in
-        omega (arith, e, due.within)
-    | inr b ↦
-        let fresh = run.fresh b in
-        let e : made' ≡ made + 0 = count ∙ ap (λ z. made + cond z 1 0) b in
-        omega (arith, e, fresh.none_made)
+    | inl b ↦ let e : made' ≡ made + 1 = count ∙ ap (λ z. made + cond z 1 0) b in omega (arith, e, (due b).within)
+    | inr b ↦ let e : made' ≡ made + 0 = count ∙ ap (λ z. made + cond z 1 0) b in omega (arith, e, (fresh b).1)
   ]
-
-  run_decided : AllDefined new.congruence.presentation.letters (SameEnd new.graph) → IsRun new budget made' true None Decided
-  run_decided all =
-      record {
-        table = table;
-        decided = λ e. ends_at new.congruence budget made' new.graph stage_after within_after all;
-        complete = λ e. all;
-        spent = λ e. absurd (let bad : ⊥ = cc in bad);
-        stage = λ n b. stage_after;
-        nodes = λ n. nodes_after;
-        within = λ n. within_after;
-        due = λ e b. absurd (let bad : ⊥ = cc in bad);
-        fresh = λ e. absurd (let bad : ⊥ = cc in bad);
-        ended = λ e. refl;
-      }
-
-  run_more : (p : ℕ × ℕ) → IsFirstMissing new.congruence.presentation.letters new.graph p.0 p.1 → made' < budget → IsRun new budget made' true (Some p) More
-  run_more p first less =
-      record {
-        table = table;
-        decided = λ e. absurd (let bad : ⊥ = cc in bad);
-        complete = λ e. absurd (let bad : ⊥ = cc in bad);
-        spent = λ e. absurd (let bad : ⊥ = cc in bad);
-        stage = λ n b. stage_after;
-        nodes = λ n. nodes_after;
-        within = λ n. within_after;
-        due = λ e b. record { within = less; node = p.0; letter = p.1; is = refl; first = first };
-        fresh = λ e. absurd (let bad : ⊥ = cc in bad);
-        ended = λ e. refl;
-      }
-
-  run_spent : (p : ℕ × ℕ) → IsFirstMissing new.congruence.presentation.letters new.graph p.0 p.1 → made' ≡ budget → IsRun new budget made' true (Some p) Spent
-  run_spent p first e =
-      record {
-        table = table;
-        decided = λ e. absurd (let bad : ⊥ = cc in bad);
-        complete = λ e. absurd (let bad : ⊥ = cc in bad);
-        spent = λ _. fails_at new.congruence budget made' p.0 p.1 new.graph stage_after e first;
-        stage = λ n b. stage_after;
-        nodes = λ n. nodes_after;
-        within = λ n. within_after;
-        due = λ e b. absurd (let bad : ⊥ = cc in bad);
-        fresh = λ e. absurd (let bad : ⊥ = cc in bad);
-        ended = λ e. refl;
-      }
 
   pub run_after : (said : Progress)
       → MatchOption next' (AllDefined new.congruence.presentation.letters (SameEnd new.graph)) (λ p. IsFirstMissing new.congruence.presentation.letters new.graph p.0 p.1)
       → said ≡ answer_of (is_some next') made' budget → IsRun new budget made' true next' said
-  run_after said found e = go next' found e
+  run_after said found e = record { table = table; nodes = λ n. nodes_after; told = told next' found e }
     where
-      go : (next' : Option (ℕ × ℕ))
+      told : (next' : Option (ℕ × ℕ))
           → MatchOption next' (AllDefined new.congruence.presentation.letters (SameEnd new.graph)) (λ p. IsFirstMissing new.congruence.presentation.letters new.graph p.0 p.1)
-          → said ≡ answer_of (is_some next') made' budget → IsRun new budget made' true next' said
-      go None all e = subst (λ s. IsRun new budget made' true None s) (sym e) (run_decided all)
-      go (Some p) first e = elim (cases_lt made' budget) [
-        | inl less ↦
-            let is : said ≡ More = e ∙ ap (λ b. cond b More Spent) (lt_true made' budget less) in
-            subst (λ s. IsRun new budget made' true (Some p) s) (sym is) (run_more p first less)
-        | inr past ↦
-            let is : said ≡ Spent = e ∙ ap (λ b. cond b More Spent) (lt_false made' budget past) in
-            subst (λ s. IsRun new budget made' true (Some p) s) (sym is) (run_spent p first (omega (arith, within_after, past)))
-      ]
+          → said ≡ answer_of (is_some next') made' budget
+          → IsTold (FelschEnds new.congruence budget) (AllDefined new.congruence.presentation.letters (SameEnd new.graph)) (IsAtStage new.congruence made' new.graph) (Stands new budget made' next' true) budget made' true said
+      told None all e = told_done budget made' said stage_after within_after e (ends_at new.congruence budget made' new.graph stage_after within_after all) all
+      told (Some p) first e = told_more budget made' said stage_after within_after e
+          (λ less. record { within = less; node = p.0; letter = p.1; is = refl; first = first })
+          (λ same. fails_at new.congruence budget made' p.0 p.1 new.graph stage_after same first)

@@ -6,9 +6,10 @@ ghost use Rattle.theory.specs.Graph.{SameEnd, Shows, IsGraph};
 ghost use Rattle.word_graph.specs.Walk.{IsFirstMissing};
 ghost use Rattle.word_graph.specs.Standard.{IsStandardGraph};
 ghost use Rattle.coincidence.specs.Table.{CosetTable, IsTable, IsDefined};
-ghost use Rattle.tc_felsch.specs.Stage.{FelschRun, IsAtStage, answer_of};
+ghost use Rattle.tc_felsch.specs.Stage.{IsAtStage};
 
 use coincidence::Table;
+use coset_enumeration::answer;
 use ports::NoMemory;
 use presentation::Congruence;
 use race::{Progress, Racer};
@@ -30,9 +31,10 @@ pub struct Felsch {
 }
 
 impl Model for Felsch {
-    ghost use Rattle.tc_felsch.specs.Stage.{FelschRun, IsRun};
+    ghost use Rattle.coset_enumeration.specs.Enumeration.{EnumerationRun};
+    ghost use Rattle.tc_felsch.specs.Stage.{IsRun};
 
-    ghost Value = { FelschRun };
+    ghost Value = { EnumerationRun };
 
     ghost view = { λ f. record {
       congruence = f.table.congruence;
@@ -93,19 +95,6 @@ fn go_on(
     table.first_missing()
 }
 
-// What the turn gives: whether a word is undefined, the definitions made and the budget tell.
-fn answer(undefined: bool, made: usize, budget: usize) -> Progress
-    ensures { result ≡ answer_of undefined made budget }
-{
-    if !undefined {
-        Progress::Decided
-    } else if made < budget {
-        Progress::More
-    } else {
-        Progress::Spent
-    }
-}
-
 // The definitions made after a turn: one more, unless it was the first turn.
 fn count(made: usize, begun: bool) -> usize
     requires { begun ≡ true → made < usize.MAX }
@@ -118,9 +107,10 @@ impl Racer for Felsch {
     ghost use Rattle.std.specs.Prelude.{◌≡◌, ◌≢◌, ℕ, ◌<◌, ◌+◌, cond};
     ghost use Rattle.race.specs.declared.engines.Progress.{Progress as Answer};
     ghost use Rattle.theory.specs.Felsch.{FelschEnds};
-    ghost use Rattle.tc_felsch.specs.Stage.{left_of, IsAtStage, FelschTask};
+    ghost use Rattle.coset_enumeration.specs.Enumeration.{EnumerationTask};
+    ghost use Rattle.tc_felsch.specs.Stage.{left_of, IsAtStage};
 
-    ghost Task = { FelschTask };
+    ghost Task = { EnumerationTask };
 
     ghost task = { λ f. record { congruence = f.congruence; budget = f.budget } };
 

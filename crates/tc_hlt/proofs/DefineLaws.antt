@@ -1,18 +1,18 @@
 -- A definition makes one word more.
-use Rattle.std.proofs.Common.{◌≡◌, ◌↔◌, ℕ, ◌<◌, ◌≤◌, List, [], ◌∷◌, ◌++◌, refl, sym, ◌∙◌, ap, arith, ◌⊎◌, inl, inr, Some, None, length, subst, get_or, Bool, true, false}
+use Rattle.std.proofs.Common.{◌≡◌, ◌↔◌, ℕ, ◌<◌, ◌≤◌, List, [], ◌∷◌, ◌++◌, refl, sym, ◌∙◌, ap, arith, ◌⊎◌, inl, inr, Some, None, length, subst, get_or, Contains, Bool, true, false}
 use Rattle.std.proofs.lemmas.Bool.{cases_eq, cases_lt}
 use Rattle.std.proofs.lemmas.List.{get_or_append_left, get_or_push, get_or_past, length_push}
 use Rattle.theory.specs.Word.{Word}
-use Rattle.theory.specs.Congruence.{Congruence}
-use Rattle.theory.specs.Graph.{Graph, target, path, IsGraph}
-use Rattle.theory.proofs.PartLaws.{symmetric, transitive, extended}
+use Rattle.theory.specs.Facts.{Defines}
+use Rattle.theory.specs.Graph.{Graph, target, path}
+use Rattle.theory.specs.Hlt.{HltDefines, Drawn}
 use Rattle.word_graph.specs.Edges.{with_edge, with_node}
 use Rattle.coincidence.specs.Live.{IsOn}
 use Rattle.coincidence.specs.Table.{CosetTable, IsTable, IsLive, IsDefined}
-use Rattle.coincidence.proofs.DefinedPaths.{edged, kept_path, last_path, new_path, old_path}
-use Rattle.coincidence.proofs.FollowsLaws.{path_more}
+use Rattle.coincidence.proofs.DefinedPaths.{edged, kept_path}
 use Rattle.coincidence.proofs.TableLaws.{on_inside}
-use Rattle.tc_hlt.specs.Tracing.{IsGrown, IsNext, IsWithin, FactsAfter, NoDrawing}
+use Rattle.coset_enumeration.proofs.DefinedLaws.{new_there, new_within}
+use Rattle.tc_hlt.specs.Tracing.{IsGrown, IsNext, IsWithin, NoDrawing}
 
 -- one more node without a mark
 mark_more : (marked : List Bool) (n : ℕ) → IsOn (marked ++ false ∷ []) n ↔ IsOn marked n
@@ -30,28 +30,6 @@ mark_more marked n = go (cases_lt n (length marked))
     go : (n < length marked) ⊎ (length marked ≤ n) → IsOn (marked ++ false ∷ []) n ↔ IsOn marked n
     go (inl less) = let e : get_or (marked ++ false ∷ []) n false ≡ get_or marked n false = get_or_append_left marked (false ∷ []) false n less in (λ on. sym e ∙ on, λ on. e ∙ on)
     go (inr more) = (λ on. absurd (off more on), λ on. absurd (was_off more on))
-
-module _ (k : ℕ) (g : Graph) (n a : ℕ) (is : IsGraph k g) (hn : n < length g) (ha : a < k) (none : target g n a ≡ None) where
-  -- the new word has a path
-  new_there : (x : Word) → path g 0 x ≡ Some n → path (with_edge (with_node k g) n a (length g)) 0 (x ++ a ∷ []) ≡ Some (length g)
-  new_there x e = path_more (with_edge (with_node k g) n a (length g)) 0 n x a (kept_path k g n a is hn ha none 0 n x e) ∙ (edged k g n a is hn ha none).edge
-
-  -- nothing is related but facts, where the new word is defined
-  new_within : (c : Congruence) (L U : List Word) (x : Word) → path g 0 x ≡ Some n → FactsAfter c L U (x ++ a ∷ []) (x ++ a ∷ []) → IsWithin c L U g → IsWithin c L U (with_edge (with_node k g) n a (length g))
-  new_within c L U x hx self within u v h = go (cases_lt h.0 (length g))
-    where
-      -- whatever leads to the new node is related to the new word
-      fresh : (u : Word) → path (with_edge (with_node k g) n a (length g)) 0 u ≡ Some (length g) → FactsAfter c L U (x ++ a ∷ []) u
-      fresh u e =
-          let s = new_path k g n a is hn ha none u e in
-          subst (λ z. FactsAfter c L U (x ++ a ∷ []) z) (sym s.1) (extended x s.0 a (within x s.0 (n, hx, s.2)) self)
-
-      go : (h.0 < length g) ⊎ (length g ≤ h.0) → FactsAfter c L U u v
-      go (inl l) = within u v (h.0, old_path k g n a is hn ha none 0 h.0 u is.rooted l h.1, old_path k g n a is hn ha none 0 h.0 v is.rooted l h.2)
-      go (inr l) =
-          let left = last_path k g n a is hn ha none h.0 u l h.1 in
-          let right = last_path k g n a is hn ha none h.0 v l h.2 in
-          transitive (symmetric (fresh u left)) (fresh v right)
 
 -- what the graph of a table with a definition has
 module _ (old new : CosetTable) (node a made : ℕ) (is : IsTable old) (d : IsDefined old new node a made) (live : IsLive old node) (ha : a < old.congruence.presentation.letters) (none : target old.graph node a ≡ None) where
@@ -81,5 +59,5 @@ module _ (old new : CosetTable) (node a made : ℕ) (is : IsTable old) (d : IsDe
         (length old.graph, here, here);
     within = λ L U x hx facts drawn within.
         subst (λ (h : Graph). IsWithin old.congruence L U h) (sym graph_is)
-        (new_within old.congruence.presentation.letters old.graph node a is.graph inside ha none old.congruence L U x hx (facts (x ++ a ∷ []) refl) within);
+        (new_within old.congruence.presentation.letters old.graph node a is.graph inside ha none old.congruence.presentation.relations old.congruence.pairs (λ u v. Defines (HltDefines old.congruence U) u v ⊎ Drawn old.congruence L u v) (Contains U) x hx (facts (x ++ a ∷ []) refl) within);
   }

@@ -13,15 +13,16 @@ use Rattle.theory.proofs.HltLaws.{lookahead_some, hlt_first_rows}
 use Rattle.theory.proofs.Words.{before_no_longer, before_irrefl}
 use Rattle.theory.proofs.Related.{none_contained}
 use Rattle.theory.proofs.FactsLaws.{facts_least, defines_within, last_letter}
-use Rattle.theory.proofs.GraphLaws.{path_front, path_letter, same_end_symm, same_end_trans, same_end_extended}
+use Rattle.theory.proofs.GraphLaws.{same_end_symm, same_end_trans, same_end_extended}
 use Rattle.coincidence.specs.Live.{IsOn}
 use Rattle.coincidence.specs.Marks.{KeepsMarks}
 use Rattle.coincidence.specs.Merged.{WithPair, MergedNodes}
 use Rattle.coincidence.specs.Table.{CosetTable, IsTable, IsLive}
 use Rattle.coincidence.proofs.FollowsLaws.{follows_letters}
-use Rattle.cells.proofs.EntryLaws.{target_bare}
+use Rattle.coset_enumeration.specs.Enumeration.{IsFresh}
+use Rattle.coset_enumeration.proofs.RootLaws.{root_end}
 use Rattle.tc_hlt.specs.Tracing.{IsGrown, IsAlong, IsWithin, NoDrawing}
-use Rattle.tc_hlt.specs.Stage.{IsReady, IsFresh}
+use Rattle.tc_hlt.specs.Stage.{IsReady}
 use Rattle.tc_hlt.proofs.GrowLaws.{grown_same, prefix_there}
 
 -- the sides of a pair are defined all the way
@@ -57,17 +58,6 @@ pub record IsStartedTo (t : CosetTable) (c : Congruence) (i : ℕ) : Type 0 wher
   pub within : IsWithin c [] [] t.graph
   pub pairs : (k : ℕ) (p : Word × Word) → k < i → get_or c.pairs k p ≡ p → SameEnd t.graph p.0 p.1
   pub none : (n : ℕ) → IsOn t.marked n → ⊥
-
--- in a graph of the root alone no other word has a path
-root_end : (k n : ℕ) (u : Word) → path (replicate k None ∷ []) 0 u ≡ Some n → u ≡ []
-root_end k n u e = go (last_letter u)
-  where
-    go : (u ≡ []) ⊎ ((v : Word) × (a : ℕ) × (u ≡ v ++ a ∷ [])) → u ≡ []
-    go (inl h) = h
-    go (inr h) =
-        let p = path_front (replicate k None ∷ []) 0 n h.0 (h.1 ∷ []) (sym (ap (λ z. path (replicate k None ∷ []) 0 z) h.2) ∙ e) in
-        let none : None ≡ Some n = sym (target_bare 1 k p.0 h.1) ∙ sym (path_letter (replicate k None ∷ []) p.0 h.1) ∙ p.2 in
-        absurd (let bad : ⊥ = cc in bad)
 
 pub started_none : (t : CosetTable) (c : Congruence) → IsTable t → t.congruence ≡ c → IsFresh t → IsStartedTo t c 0
 started_none t c is same fresh = record {

@@ -4,7 +4,7 @@ use Rattle.std.specs.Result.{IfOk, OnOk}
 use Rattle.std.specs.Option.{is_some, unwrap_or, MatchOption}
 use Rattle.std.proofs.lemmas.Bool.{cases_lt}
 use Rattle.race.specs.declared.engines.Progress.{Progress}
-use Rattle.race.specs.declared.engines.Progress.TheVariants.{More, Decided, Spent}
+use Rattle.race.specs.declared.engines.Progress.TheVariants.{More}
 use Rattle.theory.specs.Congruence.{Congruence}
 use Rattle.theory.specs.Facts.{AllDefined}
 use Rattle.theory.specs.Graph.{Graph, SameEnd, PathsRelate}
@@ -12,7 +12,9 @@ use Rattle.theory.specs.Hlt.{HltFacts, HltEnds, AllMet, HasEnded, has_lookahead}
 use Rattle.theory.proofs.HltLaws.{hlt_ended_defined, hlt_stage_length}
 use Rattle.coincidence.specs.Marks.{AllMarked, IsFirstUnmarked}
 use Rattle.coincidence.specs.Table.{CosetTable, IsTable}
-use Rattle.tc_hlt.specs.Stage.{IsAtStage, IsAtEnd, HasRows, IsReady, IsWhole, IsTurn, TellsNext, IsRun, answer_of}
+use Rattle.coset_enumeration.specs.Enumeration.{IsTold, answer_of}
+use Rattle.coset_enumeration.proofs.TurnLaws.{lt_true, lt_false, told_done, told_more}
+use Rattle.tc_hlt.specs.Stage.{IsAtStage, IsAtEnd, HasRows, IsReady, IsWhole, Stands, IsTurn, TellsNext, IsRun}
 use Rattle.tc_hlt.proofs.RowLaws.{met_same, ready_ends}
 
 pub at_stage : (t : CosetTable) (made : ℕ) → HasRows t made → IsAtStage t.congruence made t.graph
@@ -38,30 +40,15 @@ pub ends_at : (t : CosetTable) (budget made : ℕ) → HasRows t made → made �
 ends_at t budget made rows within last = record { count = made; within = within; words = rows.words; stage = rows.stage; ended = has_ended t made rows last }
 
 pub at_end : (t : CosetTable) (made : ℕ) → HasRows t made → AllMarked t.graph t.marked ⊎ IsWhole t made → IsAtEnd t.congruence made t.graph
-at_end t made rows last = record { words = rows.words; stage = rows.stage; shows = rows.shows; ended = has_ended t made rows last }
+at_end t made rows last = record { words = rows.words; stage = (rows.stage, has_ended t made rows last); shows = rows.shows }
 
 -- where there is a next row and the budget is used up, the strategy does not end
 pub fails_at : (t : CosetTable) (budget made node : ℕ) → IsReady t made node → made ≡ budget → HltEnds t.congruence budget → ⊥
 fails_at t budget made node ready e ends = ready_ends t made node ready (subst (λ m. HltEnds t.congruence m) (sym e) ends)
 
--- a graph with the same equal paths is at the same end
-pub same_end : (c : Congruence) (i : ℕ) (g h : Graph) → PathsRelate h (SameEnd g) → IsAtEnd c i g → IsAtEnd c i h
-same_end c i g h same at = record {
-  words = at.words;
-  stage = at.stage;
-  shows = λ u v. (λ e. (at.shows u v).0 ((same u v).0 e), λ f. (same u v).1 ((at.shows u v).1 f));
-  ended = at.ended;
-}
-
--- at which all words have a path
+-- where the strategy has ended all words have a path
 pub end_defines : (c : Congruence) (i : ℕ) (g : Graph) → IsAtEnd c i g → AllDefined c.presentation.letters (SameEnd g)
-end_defines c i g at w over = (at.shows w w).1 (hlt_ended_defined c at.words at.ended w over)
-
-lt_true : (m n : ℕ) → m < n → nat_lt m n ≡ true
-lt_true m n h = grind (arith, h)
-
-lt_false : (m n : ℕ) → n ≤ m → nat_lt m n ≡ false
-lt_false m n h = grind (arith, h)
+end_defines c i g at w over = (at.shows w w).1 (hlt_ended_defined c at.words at.stage.1 w over)
 
 -- the rows made after a turn
 pub rows_counted : (made budget made' : ℕ) → made ≤ budget → made' ≡ min (made + 1) budget → made + cond (nat_lt made budget) 1 0 ≡ made'
@@ -72,59 +59,16 @@ rows_counted made budget made' within count = elim (cases_lt made budget) [
 
 -- a turn of an enumeration that goes on
 module _ (new : CosetTable) (c : Congruence) (budget made : ℕ) (table : IsTable new) (same : c ≡ new.congruence) (rows : HasRows new made) (within : made ≤ budget) where
-  run_decided : (node : ℕ) → AllMarked new.graph new.marked ⊎ IsWhole new made → IsRun new c budget made true node Decided
-  run_decided node last =
-      record {
-        table = table;
-        congruence = same;
-        decided = λ e. ends_at new budget made rows within last;
-        finished = λ e. at_end new made rows last;
-        spent = λ e. absurd (let bad : ⊥ = cc in bad);
-        stage = λ n b. at_stage new made rows;
-        within = λ n. within;
-        stands = λ e. absurd (let bad : ⊥ = cc in bad);
-        ended = λ e. refl;
-      }
-
-  run_more : (node : ℕ) → IsFirstUnmarked new.graph new.marked node → (IsWhole new made → ⊥) → made < budget → IsRun new c budget made true node More
-  run_more node first unended less =
-      record {
-        table = table;
-        congruence = same;
-        decided = λ e. absurd (let bad : ⊥ = cc in bad);
-        finished = λ e. absurd (let bad : ⊥ = cc in bad);
-        spent = λ e. absurd (let bad : ⊥ = cc in bad);
-        stage = λ n b. at_stage new made rows;
-        within = λ n. within;
-        stands = λ e. record { rows = rows; first = first; unended = unended };
-        ended = λ e. refl;
-      }
-
-  run_spent : (node : ℕ) → IsFirstUnmarked new.graph new.marked node → (IsWhole new made → ⊥) → made ≡ budget → IsRun new c budget made true node Spent
-  run_spent node first unended e =
-      record {
-        table = table;
-        congruence = same;
-        decided = λ e. absurd (let bad : ⊥ = cc in bad);
-        finished = λ e. absurd (let bad : ⊥ = cc in bad);
-        spent = λ _. fails_at new budget made node (record { rows = rows; first = first; unended = unended }) e;
-        stage = λ n b. at_stage new made rows;
-        within = λ n. within;
-        stands = λ e. absurd (let bad : ⊥ = cc in bad);
-        ended = λ e. refl;
-      }
-
   pub run_after : (next : Option ℕ) (said : Progress)
       → TellsNext new made next → said ≡ answer_of (is_some next) made budget → IsRun new c budget made true (unwrap_or next 0) said
-  run_after None said last e = subst (λ s. IsRun new c budget made true 0 s) (sym e) (run_decided 0 last)
-  run_after (Some node) said first e = elim (cases_lt made budget) [
-    | inl less ↦
-        let is : said ≡ More = e ∙ ap (λ b. cond b More Spent) (lt_true made budget less) in
-        subst (λ s. IsRun new c budget made true node s) (sym is) (run_more node first.0 first.1 less)
-    | inr past ↦
-        let is : said ≡ Spent = e ∙ ap (λ b. cond b More Spent) (lt_false made budget past) in
-        subst (λ s. IsRun new c budget made true node s) (sym is) (run_spent node first.0 first.1 (omega (arith, within, past)))
-  ]
+  run_after next said found e = record { table = table; congruence = same; told = told next found e }
+    where
+      told : (next : Option ℕ) → TellsNext new made next → said ≡ answer_of (is_some next) made budget
+          → IsTold (HltEnds new.congruence budget) (IsAtEnd new.congruence made new.graph) (IsAtStage new.congruence made new.graph) (Stands new true made (unwrap_or next 0)) budget made true said
+      told None last e = told_done budget made said (at_stage new made rows) within e (ends_at new budget made rows within last) (at_end new made rows last)
+      told (Some node) first e =
+          let ready : IsReady new made node = record { rows = rows; first = first.0; unended = first.1 } in
+          told_more budget made said (at_stage new made rows) within e (λ less. ready) (λ all. fails_at new budget made node ready all)
 
 -- what is told of a table that stays as it was, and has not ended by a lookahead
 pub next_same : {X : Type 0} (r : Result (Option ℕ) X) (old new : CosetTable) (made : ℕ) (whole : Bool) → whole ≡ false
@@ -141,8 +85,8 @@ pub turn_of : (old : CosetTable) (c : Congruence) (budget made made' : ℕ) (beg
     → made' ≡ min (made + 1) budget → IsTurn old begun node (nat_lt made budget) made'
 turn_of old c budget made made' begun node run count = record {
   before = made;
-  stands = run.stands refl;
-  count = sym (rows_counted made budget made' (run.within (λ d. let bad : ⊥ = cc in bad)) count);
+  stands = run.told.due refl;
+  count = sym (rows_counted made budget made' (run.told.within (λ d. let bad : ⊥ = cc in bad)) count);
 }
 
 -- a turn of an enumeration that goes on leaves what it says

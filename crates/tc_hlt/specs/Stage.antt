@@ -1,5 +1,5 @@
 -- Where the strategy of rows stands.
-use Rattle.std.specs.Prelude.{◌≡◌, ◌≢◌, ◌↔◌, ◌⊎◌, ℕ, ◌+◌, ◌-◌, ◌<◌, ◌≤◌, nat_lt, Bool, true, false, IsTrue, List, [], ◌∷◌, cond, replicate, Option, None, Some, MatchOption}
+use Rattle.std.specs.Prelude.{◌≡◌, ◌↔◌, ◌⊎◌, ℕ, ◌+◌, ◌-◌, ◌<◌, Bool, true, false, IsTrue, List, ◌∷◌, cond, Option, Some, MatchOption}
 use Rattle.theory.specs.Word.{Word}
 use Rattle.theory.specs.Congruence.{Congruence}
 use Rattle.theory.specs.Graph.{Graph, path, SameEnd, PathsRelate}
@@ -9,43 +9,19 @@ use Rattle.coincidence.specs.Live.{IsOn}
 use Rattle.coincidence.specs.Marks.{AllMarked, IsFirstUnmarked}
 use Rattle.coincidence.specs.Table.{CosetTable, IsTable}
 use Rattle.race.specs.declared.engines.Progress.{Progress}
-use Rattle.race.specs.declared.engines.Progress.TheVariants.{More, Decided, Spent, NoMemory}
-
--- whether the strategy ends for a congruence within a budget of rows
-pub record HltTask : Type 0 where
-  pub congruence : Congruence
-  pub budget : ℕ
-
--- an enumeration: what it was made for, its budget, the rows made, whether a turn was made, its
--- graph, and what the last turn gave
-pub record HltRun : Type 0 where
-  pub congruence : Congruence
-  pub budget : ℕ
-  pub made : ℕ
-  pub begun : Bool
-  pub graph : Graph
-  pub said : Progress
+use Rattle.coset_enumeration.specs.Enumeration.{EnumerationRun, IsAt, IsFresh, IsTold}
 
 -- the graph shows the facts after so many rows
-pub record IsAtStage (c : Congruence) (made : ℕ) (g : Graph) : Type 0 where
-  pub words : List Word
-  pub stage : HltStage c made words
-  pub shows : PathsRelate g (HltFacts c words)
+abbrev pub IsAtStage : Congruence → ℕ → Graph → Type 0
+IsAtStage c made = IsAt (HltStage c made) (HltFacts c)
 
 -- the graph shows the facts of the last stage, at which the strategy has ended
-pub record IsAtEnd (c : Congruence) (made : ℕ) (g : Graph) : Type 0 where
-  pub words : List Word
-  pub stage : HltStage c made words
-  pub shows : PathsRelate g (HltFacts c words)
-  pub ended : HasEnded c words
+abbrev pub IsAtEnd : Congruence → ℕ → Graph → Type 0
+IsAtEnd c made = IsAt (λ words. HltStage c made words × HasEnded c words) (HltFacts c)
 
 -- rows left
-abbrev pub left_of : HltRun → ℕ
+abbrev pub left_of : EnumerationRun → ℕ
 left_of h = h.budget - h.made
-
--- what a turn gives, by whether there is a next row, the rows made and the budget
-abbrev pub answer_of : Bool → ℕ → ℕ → Progress
-answer_of next made budget = cond next (cond (nat_lt made budget) More Spent) Decided
 
 -- a word's node is marked exactly where the word is related to one of the list
 abbrev pub MarksMet : CosetTable → List Word → Type 0
@@ -89,12 +65,6 @@ abbrev pub TellsNext : CosetTable → ℕ → Option ℕ → Type 0
 TellsNext t made next = MatchOption next (AllMarked t.graph t.marked ⊎ IsWhole t made)
     (λ node. IsFirstUnmarked t.graph t.marked node × (IsWhole t made → ⊥))
 
--- the table was made, and nothing else
-pub record IsFresh (t : CosetTable) : Type 0 where
-  pub graph : t.graph ≡ replicate t.congruence.presentation.letters None ∷ []
-  pub marked : t.marked ≡ false ∷ []
-  pub failed : t.failed ≡ false
-
 -- what an enumeration goes on from
 abbrev pub Stands : CosetTable → Bool → ℕ → ℕ → Type 0
 Stands t false made node = IsFresh t × (made ≡ 0) × (node ≡ 0)
@@ -111,10 +81,5 @@ pub record IsRun (t : CosetTable) (c : Congruence) (budget made : ℕ) (begun : 
     (said : Progress) : Type 0 where
   pub table : IsTable t
   pub congruence : c ≡ t.congruence
-  pub decided : said ≡ Decided → HltEnds t.congruence budget
-  pub finished : said ≡ Decided → IsAtEnd t.congruence made t.graph
-  pub spent : said ≡ Spent → HltEnds t.congruence budget → ⊥
-  pub stage : said ≢ NoMemory → begun ≡ true → IsAtStage t.congruence made t.graph
-  pub within : said ≢ NoMemory → made ≤ budget
-  pub stands : said ≡ More → Stands t begun made next
-  pub ended : said ≢ More → begun ≡ true
+  pub told : IsTold (HltEnds t.congruence budget) (IsAtEnd t.congruence made t.graph)
+      (IsAtStage t.congruence made t.graph) (Stands t begun made next) budget made begun said

@@ -8,10 +8,12 @@ ghost use Rattle.coincidence.specs.Holding.{HoldWhereMarked};
 ghost use Rattle.coincidence.specs.Marks.{KeepsMarks};
 ghost use Rattle.coincidence.specs.Table.{IsTable};
 ghost use Rattle.theory.specs.Hlt.{has_lookahead};
-ghost use Rattle.tc_hlt.specs.Stage.{IsAtEnd, IsAtStage, HasRows, HasLastRow, IsWhole, IsReady, IsFresh, Stands, IsTurn, TellsNext, answer_of};
+ghost use Rattle.coset_enumeration.specs.Enumeration.{IsFresh};
+ghost use Rattle.tc_hlt.specs.Stage.{IsAtEnd, IsAtStage, HasRows, HasLastRow, IsWhole, IsReady, Stands, IsTurn, TellsNext};
 
 use crate::rows::{make_row, trace};
 use coincidence::Table;
+use coset_enumeration::answer;
 use ports::NoMemory;
 use presentation::Congruence;
 use race::{Progress, Racer};
@@ -37,9 +39,10 @@ pub struct Hlt {
 }
 
 impl Model for Hlt {
-    ghost use Rattle.tc_hlt.specs.Stage.{HltRun, IsRun};
+    ghost use Rattle.coset_enumeration.specs.Enumeration.{EnumerationRun};
+    ghost use Rattle.tc_hlt.specs.Stage.{IsRun};
 
-    ghost Value = { HltRun };
+    ghost Value = { EnumerationRun };
 
     ghost view = { λ h. record {
       congruence = h.table.congruence;
@@ -181,19 +184,6 @@ fn go_on(
     table.first_unprocessed()
 }
 
-// What the turn gives: whether there is a next row, the rows made and the budget tell.
-fn answer(goes_on: bool, made: usize, budget: usize) -> Progress
-    ensures { result ≡ answer_of goes_on made budget }
-{
-    if !goes_on {
-        Progress::Decided
-    } else if made < budget {
-        Progress::More
-    } else {
-        Progress::Spent
-    }
-}
-
 // The rows made after a turn: one more, within the budget.
 fn count(made: usize, budget: usize) -> usize
     requires { made ≤ budget }
@@ -206,9 +196,10 @@ impl Racer for Hlt {
     ghost use Rattle.std.specs.Prelude.{◌≡◌, ◌≢◌, ℕ, ◌<◌, ◌≤◌, ◌+◌, min, true};
     ghost use Rattle.race.specs.declared.engines.Progress.{Progress as Answer};
     ghost use Rattle.theory.specs.Hlt.{HltEnds};
-    ghost use Rattle.tc_hlt.specs.Stage.{left_of, IsAtStage, HltTask};
+    ghost use Rattle.coset_enumeration.specs.Enumeration.{EnumerationTask};
+    ghost use Rattle.tc_hlt.specs.Stage.{left_of, IsAtStage};
 
-    ghost Task = { HltTask };
+    ghost Task = { EnumerationTask };
 
     ghost task = { λ h. record { congruence = h.congruence; budget = h.budget } };
 

@@ -1,5 +1,6 @@
 use Rattle.std.proofs.Common.{◌∙◌, sym, ap, subst, Bool}
-use Rattle.tc_hlt.specs.Stage.{IsRun, answer_of}
+use Rattle.coset_enumeration.specs.Enumeration.{answer_of}
+use Rattle.tc_hlt.specs.Stage.{IsRun}
 use Rattle.tc_hlt.proofs.TurnLaws.{turn_of, turn_after}
 use Rattle.tc_hlt.proofs.enumeration.HltRacer.advance.Goals as goal
 
@@ -17,7 +18,7 @@ invariant_of-self-2 c =
     (c.answer-self-inside.ensures ∙ ap (λ (b : Bool). answer_of b c.count-made.result c.self.inside.budget) c.is_some.ensures))
 
 pub returns-clause-decided : goal.returns-clause-decided
-returns-clause-decided c = (invariant_of-self-2 c).decided
+returns-clause-decided c = (invariant_of-self-2 c).told.decided
 
 pub returns-clause-spent : goal.returns-clause-spent
-returns-clause-spent c = (invariant_of-self-2 c).spent
+returns-clause-spent c = (invariant_of-self-2 c).told.spent
