@@ -123,23 +123,26 @@ fn due_in(
 
 impl Cosets {
     /// Draws what the relations ask for everywhere, or at one node and where it goes, and the pairs
-    /// at the root, until nothing is left. Marks go with their nodes. Refused only where memory is
-    /// wanting.
+    /// at the root, until nothing is left. At the one node so many relations, the first ones, hold.
+    /// Marks go with their nodes. Refused only where memory is wanting.
     pub fn close(
         &mut self,
         alloc: Global,
         congruence: &Indexed,
         at: Option<usize>,
+        held: usize,
     ) -> Result<(), NoMemory>
         requires whole { IsWhole congruence.now.congruence self.old }
         requires at { ForSome at (IsOn self.old.live.items) }
+        requires held { ForSome at (λ node. HoldBefore
+            congruence.now.congruence.presentation.relations self.old.edges.graph node held) }
         ensures whole { OnOk result (IsWhole congruence.now.congruence self.new) }
         ensures relates { OnOk result (PathsRelate self.new.edges.graph
             (ClosedThere congruence.now.congruence self.old.edges.graph at)) }
         ensures gathered { OnOk result (IsGathered self.old self.new) }
     {
         let mut place = at;
-        let mut held = 0;
+        let mut held = held;
         loop {
             match due_in(
                 congruence,

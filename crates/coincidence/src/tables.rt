@@ -8,7 +8,7 @@ ghost use Rattle.theory.specs.Graph.{target as target_of, path, SameEnd, PathsRe
 ghost use Rattle.word_graph.specs.Standard.{IsStandardGraph};
 ghost use Rattle.word_graph.specs.Walk.{IsFirstMissing};
 ghost use Rattle.coincidence.specs.Closing.{ClosedThere};
-ghost use Rattle.coincidence.specs.Holding.{HoldWhereMarked};
+ghost use Rattle.coincidence.specs.Holding.{HoldBefore, HoldWhereMarked};
 ghost use Rattle.coincidence.specs.Links.{IsSources};
 ghost use Rattle.coincidence.specs.Marks.{AllMarked, IsFirstUnmarked, KeepsMarks, KeepsNumbers};
 ghost use Rattle.coincidence.specs.Merged.{MergedNodes};
@@ -197,9 +197,11 @@ impl Table {
     }
 
     // Draws what follows from the relations, read at every node or at one alone, and from the
-    // pairs.
-    fn close(&mut self, at: Option<usize>) -> Result<(), NoMemory>
+    // pairs. At the one node so many relations, the first ones, hold.
+    fn close(&mut self, at: Option<usize>, held: usize) -> Result<(), NoMemory>
         requires at { ForSome at (IsLive self.old) }
+        requires held { ForSome at (λ node. HoldBefore
+            self.old.congruence.presentation.relations self.old.graph node held) }
         ensures relates { OnOk result (PathsRelate self.new.graph
             (ClosedThere self.old.congruence self.old.graph at)) }
         ensures marks { OnOk result (KeepsMarks self.old.graph self.old.marked self.new.graph
@@ -215,7 +217,7 @@ impl Table {
         if self.failed {
             return Err(NoMemory);
         }
-        match self.cosets.close(self.alloc, &self.congruence, at) {
+        match self.cosets.close(self.alloc, &self.congruence, at, held) {
             Ok(()) => {
                 let _letters = self.cosets.edges.letters();
                 Ok(())
@@ -227,9 +229,12 @@ impl Table {
     /// Draws all that follows from the relations, read at the words that lead to the live node, and
     /// from the pairs, read at the empty word, until nothing new follows: the paths then relate
     /// what they related before, and what follows from it (the row of a word: Sims 1994, 5.2).
-    /// Marks go with their words, as at `identify`.
-    pub fn close_at(&mut self, node: usize) -> Result<(), NoMemory>
-        requires { IsLive self.old node }
+    /// So many relations, the first ones, hold at the node already, and are not read there; 0 is
+    /// always right. Marks go with their words, as at `identify`.
+    pub fn close_at(&mut self, node: usize, held: usize) -> Result<(), NoMemory>
+        requires node { IsLive self.old node }
+        requires held { HoldBefore self.old.congruence.presentation.relations self.old.graph node
+            held }
         ensures relates { OnOk result ((w : Letters) → path self.old.graph 0 w ≡ Some node
             → PathsRelate self.new.graph
             (ClosedAt self.old.congruence (SameEnd self.old.graph) w)) }
@@ -243,7 +248,7 @@ impl Table {
         ensures congruence { self.new.congruence ≡ self.old.congruence }
         ensures table { IsTable self.new }
     {
-        self.close(Some(node))
+        self.close(Some(node), held)
     }
 
     // All nodes are pending, where much is.
@@ -280,7 +285,7 @@ impl Table {
         ensures table { IsTable self.new }
     {
         self.gather()?;
-        self.close(None)
+        self.close(None, 0)
     }
 
     // All live nodes without a mark are pending, where more is.
@@ -322,7 +327,7 @@ impl Table {
         ensures table { IsTable self.new }
     {
         self.gather_unmarked()?;
-        self.close(None)
+        self.close(None, 0)
     }
 
     /// Marks the live node, and changes nothing else.

@@ -2,7 +2,6 @@
 use Rattle.std.proofs.Common.{◌≡◌, ◌↔◌, ℕ, ◌<◌, ◌≤◌, List, [], ◌∷◌, ◌++◌, refl, sym, ◌∙◌, ap, arith, ◌⊎◌, inl, inr, Some, None, length, subst, get_or, Contains, Bool, true, false}
 use Rattle.std.proofs.lemmas.Bool.{cases_eq, cases_lt}
 use Rattle.std.proofs.lemmas.List.{get_or_append_left, get_or_push, get_or_past, length_push}
-use Rattle.theory.specs.Word.{Word}
 use Rattle.theory.specs.Facts.{Defines}
 use Rattle.theory.specs.Graph.{Graph, target, path}
 use Rattle.theory.specs.Hlt.{HltDefines, Drawn}

@@ -7,6 +7,7 @@ use Rattle.theory.proofs.PartLaws.{symmetric, transitive, extended}
 use Rattle.theory.proofs.GraphLaws.{path_append}
 use Rattle.theory.proofs.FactsLaws.{prefix_last}
 use Rattle.coincidence.specs.Closing.{IsEdged}
+use Rattle.coincidence.specs.Holding.{MeetAt}
 use Rattle.coincidence.specs.Live.{IsOn}
 use Rattle.coincidence.specs.Table.{CosetTable, IsTable, IsLive, IsDrawn}
 use Rattle.coincidence.proofs.CloseLaws.{edged_path}
@@ -52,6 +53,18 @@ module _ (c : Congruence) (L U : List Word) (g new : Graph) (at a to : ℕ) (edg
       let two = ends v [] [] 0 h.0 refl empty h.2 in
       transitive (symmetric one.2) (transitive (within one.0 two.0 (h.0, one.1, two.1)) two.2)
 
+drawn_edge : (old new : CosetTable) (at a to : ℕ) → IsTable old → IsDrawn old new at a to → IsLive old at → a < old.congruence.presentation.letters → target old.graph at a ≡ None → IsEdged old.graph new.graph at a to
+drawn_edge old new at a to is d live less none =
+    let inside = on_inside old.graph old.live at is.live live in
+    subst (λ (g : Graph). IsEdged old.graph g at a to) (sym d.graph) (edged_with old.graph at a to inside (omega (arith, is.graph.width at [] inside, less)) none)
+
+-- the two sides lead to one node then
+pub drawn_meets : (old new : CosetTable) (node at a to : ℕ) (front other : Word) → IsTable old → IsDrawn old new at a to → IsLive old at → a < old.congruence.presentation.letters → target old.graph at a ≡ None
+    → path old.graph node front ≡ Some at → path old.graph node other ≡ Some to → MeetAt new.graph node (other, front ++ a ∷ [])
+drawn_meets old new node at a to front other is d live less none hf ho =
+    let edge = drawn_edge old new at a to is d live less none in
+    (to, edged_path old.graph new.graph at a to edge node to other ho, path_more new.graph node at front a (edged_path old.graph new.graph at a to edge node at front hf) ∙ edge.edge)
+
 -- what the table has then
 pub drawn_grown : (old new : CosetTable) (node at a to : ℕ) (front other : Word) → IsTable old → IsDrawn old new at a to → IsLive old at → a < old.congruence.presentation.letters → target old.graph at a ≡ None
     → path old.graph node front ≡ Some at → path old.graph node other ≡ Some to → IsGrown (IsAlong (front ++ a ∷ [])) (AreSides other (front ++ a ∷ [])) old new node
@@ -70,9 +83,7 @@ drawn_grown old new node at a to front other is d live less none hf ho = record 
 }
   where
     edge : IsEdged old.graph new.graph at a to
-    edge =
-        let inside = on_inside old.graph old.live at is.live live in
-        subst (λ (g : Graph). IsEdged old.graph g at a to) (sym d.graph) (edged_with old.graph at a to inside (omega (arith, is.graph.width at [] inside, less)) none)
+    edge = drawn_edge old new at a to is d live less none
 
     kept : (n m : ℕ) (u : Word) → path old.graph n u ≡ Some m → path new.graph n u ≡ Some m
     kept n m u e = edged_path old.graph new.graph at a to edge n m u e

@@ -5,3 +5,4 @@ pub mod LookLaws
 pub mod RowLaws
 pub mod StartLaws
 pub mod TurnLaws
+pub mod RelationLaws

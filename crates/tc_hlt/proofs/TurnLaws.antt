@@ -1,5 +1,5 @@
 -- What a turn leaves.
-use Rattle.std.proofs.Common.{◌≡◌, ◌↔◌, ◌⊎◌, IsTrue, length, ℕ, ◌+◌, ◌<◌, ◌≤◌, refl, sym, ◌∙◌, ap, arith, inl, inr, Option, Some, None, subst, Bool, true, false, cond, nat_lt, min, Result, Ok, Err}
+use Rattle.std.proofs.Common.{◌≡◌, ◌↔◌, ◌⊎◌, IsTrue, length, ℕ, ◌+◌, ◌≤◌, refl, sym, ◌∙◌, ap, arith, inl, inr, Option, Some, None, subst, Bool, true, false, cond, nat_lt, min, Result, Ok, Err}
 use Rattle.std.specs.Result.{IfOk, OnOk}
 use Rattle.std.specs.Option.{is_some, unwrap_or, MatchOption}
 use Rattle.std.proofs.lemmas.Bool.{cases_lt}
@@ -7,7 +7,7 @@ use Rattle.race.specs.declared.engines.Progress.{Progress}
 use Rattle.race.specs.declared.engines.Progress.TheVariants.{More}
 use Rattle.theory.specs.Congruence.{Congruence}
 use Rattle.theory.specs.Facts.{AllDefined}
-use Rattle.theory.specs.Graph.{Graph, SameEnd, PathsRelate}
+use Rattle.theory.specs.Graph.{Graph, SameEnd}
 use Rattle.theory.specs.Hlt.{HltFacts, HltEnds, AllMet, HasEnded, has_lookahead}
 use Rattle.theory.proofs.HltLaws.{hlt_ended_defined, hlt_stage_length}
 use Rattle.coincidence.specs.Marks.{AllMarked, IsFirstUnmarked}

@@ -1,8 +1,9 @@
 // Tracing words in a table, and the row of a node.
-ghost use Rattle.std.specs.Prelude.{◌≡◌, ℕ, suc, ◌-◌, ◌<◌, ◌≤◌, length, take, false, Some, IfOk, OnOk};
+ghost use Rattle.std.specs.Prelude.{◌≡◌, ◌⊎◌, ℕ, suc, ◌+◌, ◌-◌, ◌<◌, ◌≤◌, length, take, true, false, Some, IfOk, OnOk};
 ghost use Rattle.theory.specs.Word.{Word as Letters, IsOver};
 ghost use Rattle.theory.specs.Graph.{target as target_of, path as path_of};
 ghost use Rattle.theory.specs.Hlt.{IsSide, IsTraced, IsExtension, IsInRow};
+ghost use Rattle.coincidence.specs.Holding.{HoldBefore, MeetAt};
 ghost use Rattle.coincidence.specs.Table.{IsTable, IsLive};
 ghost use Rattle.tc_hlt.specs.Tracing.{AreSides, AreSidesAny, IsGrown, IsNext, IsAlong, IsAlongBoth, NoDrawing};
 ghost use Rattle.tc_hlt.specs.Stage.{IsReady, HasLastRow};
@@ -111,13 +112,17 @@ fn finish(table: &mut Table, at: usize, side: &Word) -> Result<usize, NoMemory>
 }
 
 // Draws the last edge of a side, if it is missing, from the node to which all its other letters
-// lead to the end of the other side.
-fn meet(table: &mut Table, at: usize, side: &Word, end: usize) -> Result<(), NoMemory>
+// lead to the end of the other side. Tells whether both sides lead to one node then.
+fn meet(table: &mut Table, at: usize, side: &Word, end: usize) -> Result<bool, NoMemory>
     requires table { IsTable table.old }
     requires failed { table.old.failed ≡ false }
     requires at { IsLive table.old at }
     requires end { IsLive table.old end }
     requires over { IsOver table.old.congruence.presentation.letters side.now }
+    ensures met { IfOk result (λ met. (node : ℕ) (other : Letters) → met ≡ true
+        → path_of table.old.graph node (take (length side.now - 1) side.now) ≡ Some at
+        → path_of table.old.graph node other ≡ Some end
+        → MeetAt table.new.graph node (other, side.now)) }
     ensures grown { OnOk result ((node : ℕ) (other : Letters)
         → path_of table.old.graph node (take (length side.now - 1) side.now) ≡ Some at
         → path_of table.old.graph node other ≡ Some end
@@ -126,23 +131,28 @@ fn meet(table: &mut Table, at: usize, side: &Word, end: usize) -> Result<(), NoM
     ensures table { IsTable table.new }
 {
     if side.len() == 0 {
-        return Ok(());
+        return Ok(at == end);
     }
     let last = side.letter(before_last(side));
     match table.target(at, last) {
-        Some(_) => Ok(()),
-        None => table.draw(at, last, end),
+        Some(to) => Ok(to == end),
+        None => {
+            table.draw(at, last, end)?;
+            Ok(true)
+        }
     }
 }
 
 // Traces both sides of a relation from the node. Where one of them is there but for its last edge,
-// this edge is drawn to the end of the other.
-fn trace_both(table: &mut Table, node: usize, first: &Word, second: &Word) -> Result<(), NoMemory>
+// this edge is drawn to the end of the other. Tells whether the relation holds there then.
+fn trace_both(table: &mut Table, node: usize, first: &Word, second: &Word) -> Result<bool, NoMemory>
     requires table { IsTable table.old }
     requires failed { table.old.failed ≡ false }
     requires node { IsLive table.old node }
     requires first { IsOver table.old.congruence.presentation.letters first.now }
     requires second { IsOver table.old.congruence.presentation.letters second.now }
+    ensures met { IfOk result (λ met. met ≡ true
+        → MeetAt table.new.graph node (first.now, second.now)) }
     ensures grown { OnOk result (IsGrown (IsAlongBoth first.now second.now)
         (AreSides first.now second.now) table.old table.new node) }
     ensures congruence { table.new.congruence ≡ table.old.congruence }
@@ -151,31 +161,53 @@ fn trace_both(table: &mut Table, node: usize, first: &Word, second: &Word) -> Re
     let at = trace_front(table, node, first, before_last(first))?;
     let other = trace_front(table, node, second, before_last(second))?;
     match end_of(table, other, second) {
-        Some(end) => meet(table, at, first, end),
+        Some(end) => {
+            let met = meet(table, at, first, end)?;
+            Ok(met)
+        }
         None => {
             let end = finish(table, at, first)?;
-            meet(table, other, second, end)
+            let met = meet(table, other, second, end)?;
+            Ok(met)
         }
     }
 }
 
-// Traces both sides of each relation from the node.
-fn trace_sides(table: &mut Table, node: usize, pairs: &Pairs) -> Result<(), NoMemory>
+// How many of so many relations, the first ones, are known to hold, if that of the number does.
+fn held_with(held: usize, number: usize, count: usize, holds: bool) -> usize
+    requires held { held ≤ number }
+    requires number { number < count }
+    ensures within { result ≤ number + 1 }
+    ensures more { (result ≡ held)
+        ⊎ ((result ≡ number + 1) × (held ≡ number) × (holds ≡ true)) }
+{
+    if holds && held == number {
+        return number + 1;
+    }
+    held
+}
+
+// Traces both sides of each relation from the node. Tells of how many, the first ones, it is known
+// that they hold there then.
+fn trace_sides(table: &mut Table, node: usize, pairs: &Pairs) -> Result<usize, NoMemory>
     requires table { IsTable table.old }
     requires failed { table.old.failed ≡ false }
     requires node { IsLive table.old node }
     requires over { (side : Letters) → IsSide pairs.now side
         → IsOver table.old.congruence.presentation.letters side }
+    ensures held { IfOk result (HoldBefore pairs.now table.new.graph node) }
     ensures grown { OnOk result (IsGrown (IsTraced pairs.now) (AreSidesAny pairs.now) table.old
         table.new node) }
     ensures congruence { table.new.congruence ≡ table.old.congruence }
     ensures table { IsTable table.new }
 {
+    let mut held = 0;
     for i in 0..pairs.len() {
         let pair = pairs.pair(i);
-        trace_both(table, node, &pair.0, &pair.1)?;
+        let met = trace_both(table, node, &pair.0, &pair.1)?;
+        held = held_with(held, i, pairs.len(), met);
     }
-    Ok(())
+    Ok(held)
 }
 
 // Makes each edge of the node that is missing.
@@ -195,20 +227,24 @@ fn define_letters(table: &mut Table, node: usize, letters: usize) -> Result<(), 
     Ok(())
 }
 
-// Defines what the row of the node does.
-fn trace_row(table: &mut Table, congruence: &Congruence, node: usize) -> Result<(), NoMemory>
+// Defines what the row of the node does. Tells of how many relations, the first ones, it is known
+// that they hold there then.
+fn trace_row(table: &mut Table, congruence: &Congruence, node: usize) -> Result<usize, NoMemory>
     requires table { IsTable table.old }
     requires failed { table.old.failed ≡ false }
     requires node { IsLive table.old node }
     requires congruence { congruence.now.congruence ≡ table.old.congruence }
+    ensures held { IfOk result (HoldBefore table.old.congruence.presentation.relations
+        table.new.graph node) }
     ensures grown { OnOk result (IsGrown (IsInRow table.old.congruence)
         (AreSidesAny table.old.congruence.presentation.relations) table.old table.new node) }
     ensures congruence { table.new.congruence ≡ table.old.congruence }
     ensures table { IsTable table.new }
 {
     let presentation = congruence.presentation();
-    trace_sides(table, node, presentation.relations())?;
-    define_letters(table, node, presentation.letters())
+    let held = trace_sides(table, node, presentation.relations())?;
+    define_letters(table, node, presentation.letters())?;
+    Ok(held)
 }
 
 /// Makes the row of the node, and draws what follows when relations are read there. Only want of
@@ -223,7 +259,7 @@ pub fn make_row(table: &mut Table, congruence: &Congruence, node: usize) -> Resu
     ensures congruence { table.new.congruence ≡ table.old.congruence }
     ensures table { IsTable table.new }
 {
-    trace_row(table, congruence, node)?;
+    let held = trace_row(table, congruence, node)?;
     table.mark(node)?;
-    table.close_at(node)
+    table.close_at(node, held)
 }

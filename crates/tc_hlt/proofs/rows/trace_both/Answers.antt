@@ -1,9 +1,7 @@
-use Rattle.std.proofs.Common.{◌≡◌, ℕ, ◌-◌, ◌⊎◌, length, take, Some, sym, ◌∙◌, subst}
-use Rattle.std.proofs.lemmas.Result.{IfOk-weaker}
-use Rattle.theory.specs.Word.{Word}
+use Rattle.std.proofs.Common.{◌≡◌, ◌-◌, ◌⊎◌, length, take, Some, sym, ◌∙◌, subst}
 use Rattle.theory.specs.Graph.{path}
 use Rattle.coincidence.specs.Table.{IsLive}
-use Rattle.tc_hlt.specs.Tracing.{AreSides, IsAlong, IsAlongBoth, IsGrown, NoDrawing}
+use Rattle.tc_hlt.specs.Tracing.{AreSides, IsAlong, NoDrawing}
 use Rattle.tc_hlt.proofs.GrowLaws.{both_grown, both_made, both_there, grown_live, leads_live, sides_kept, sides_turned}
 use Rattle.tc_hlt.proofs.rows.trace_both.Goals as goal
 
@@ -60,25 +58,20 @@ meet-requires-in-None-clause-end c =
     leads_live c.finish.new.table c.args.node c.in_ok-end-in-None.end c.args.first.now c.finish.ensures.table
     (grown_live (IsAlong c.args.first.now) NoDrawing c.trace_front-2.new.table c.finish.new.table c.args.node c.args.node c.trace_front-2.ensures.table c.finish.ensures.table made live) end
 
-pub returns-in-Some-clause-grown : goal.returns-in-Some-clause-grown
-returns-in-Some-clause-grown c =
+pub returns-in_ok-met-in-Some-clause-grown : goal.returns-in_ok-met-in-Some-clause-grown
+returns-in_ok-met-in-Some-clause-grown c =
     let here : path c.trace_front.new.table.graph c.args.node (take (length c.args.first.now - 1) c.args.first.now) ≡ Some c.in_ok-at.at = subst (λ n. path c.trace_front.new.table.graph c.args.node (take n c.args.first.now) ≡ Some c.in_ok-at.at) c.before_last.ensures c.in_ok-at.ensures.end in
     let there : path c.trace_front-2.new.table.graph c.args.node (take (length c.args.second.now - 1) c.args.second.now) ≡ Some c.in_ok-other.other = subst (λ n. path c.trace_front-2.new.table.graph c.args.node (take n c.args.second.now) ≡ Some c.in_ok-other.other) c.before_last-2.ensures c.in_ok-other.ensures.end in
     let at : path c.trace_front-2.new.table.graph c.args.node (take (length c.args.first.now - 1) c.args.first.now) ≡ Some c.in_ok-at.at = c.in_ok-other.ensures.grown.paths c.args.node c.in_ok-at.at (take (length c.args.first.now - 1) c.args.first.now) here in
     let live : IsLive c.trace_front-2.new.table c.args.node = grown_live (IsAlong (take c.before_last-2.result c.args.second.now)) NoDrawing c.trace_front.new.table c.trace_front-2.new.table c.args.node c.args.node c.trace_front.ensures.table c.trace_front-2.ensures.table c.in_ok-other.ensures.grown
     (grown_live (IsAlong (take c.before_last.result c.args.first.now)) NoDrawing c.args.table.now c.trace_front.new.table c.args.node c.args.node c.requires.table c.trace_front.ensures.table c.in_ok-at.ensures.grown c.requires.node) in
     let end : path c.trace_front-2.new.table.graph c.args.node c.args.second.now ≡ Some c.in-Some.end = sym (c.end_of.ensures c.args.node there) ∙ c.in-Some.is in
-    IfOk-weaker c.meet.result
-    (λ _. (node : ℕ) (other : Word) → path c.trace_front-2.new.table.graph node (take (length c.args.first.now - 1) c.args.first.now) ≡ Some c.in_ok-at.at → path c.trace_front-2.new.table.graph node other ≡ Some c.in-Some.end
-    → IsGrown (IsAlong c.args.first.now) (AreSides other c.args.first.now) c.trace_front-2.new.table c.meet.new.table node)
-    (λ _. IsGrown (IsAlongBoth c.args.first.now c.args.second.now) (AreSides c.args.first.now c.args.second.now) c.args.table.now c.meet.new.table c.args.node)
-    (λ _ met. both_grown c.before_last.result c.before_last-2.result c.args.first.now c.args.second.now (λ x u v. ⊥ ⊎ AreSides c.args.second.now c.args.first.now x u v) c.args.table.now c.trace_front.new.table c.trace_front-2.new.table c.meet.new.table c.args.node (sides_turned c.args.first.now c.args.second.now)
+    both_grown c.before_last.result c.before_last-2.result c.args.first.now c.args.second.now (λ x u v. ⊥ ⊎ AreSides c.args.second.now c.args.first.now x u v) c.args.table.now c.trace_front.new.table c.trace_front-2.new.table c.meet.new.table c.args.node (sides_turned c.args.first.now c.args.second.now)
     c.in_ok-at.ensures.grown c.in_ok-other.ensures.grown
-    (both_there c.args.first.now c.args.second.now c.trace_front-2.new.table c.meet.new.table c.args.node c.in-Some.end c.in_ok-other.ensures.grown.failed end (met c.args.node c.args.second.now at end)))
-    c.meet.ensures.grown
+    (both_there c.args.first.now c.args.second.now c.trace_front-2.new.table c.meet.new.table c.args.node c.in-Some.end c.in_ok-other.ensures.grown.failed end (c.in_ok-met-in-Some.ensures.grown c.args.node c.args.second.now at end))
 
-pub returns-in_ok-end-in-None-clause-grown : goal.returns-in_ok-end-in-None-clause-grown
-returns-in_ok-end-in-None-clause-grown c =
+pub returns-in_ok-met-in-None-clause-grown : goal.returns-in_ok-met-in-None-clause-grown
+returns-in_ok-met-in-None-clause-grown c =
     let here : path c.trace_front.new.table.graph c.args.node (take (length c.args.first.now - 1) c.args.first.now) ≡ Some c.in_ok-at.at = subst (λ n. path c.trace_front.new.table.graph c.args.node (take n c.args.first.now) ≡ Some c.in_ok-at.at) c.before_last.ensures c.in_ok-at.ensures.end in
     let there : path c.trace_front-2.new.table.graph c.args.node (take (length c.args.second.now - 1) c.args.second.now) ≡ Some c.in_ok-other.other = subst (λ n. path c.trace_front-2.new.table.graph c.args.node (take n c.args.second.now) ≡ Some c.in_ok-other.other) c.before_last-2.ensures c.in_ok-other.ensures.end in
     let at : path c.trace_front-2.new.table.graph c.args.node (take (length c.args.first.now - 1) c.args.first.now) ≡ Some c.in_ok-at.at = c.in_ok-other.ensures.grown.paths c.args.node c.in_ok-at.at (take (length c.args.first.now - 1) c.args.first.now) here in
@@ -86,12 +79,7 @@ returns-in_ok-end-in-None-clause-grown c =
     (grown_live (IsAlong (take c.before_last.result c.args.first.now)) NoDrawing c.args.table.now c.trace_front.new.table c.args.node c.args.node c.requires.table c.trace_front.ensures.table c.in_ok-at.ensures.grown c.requires.node) in
     let made = c.in_ok-end-in-None.ensures.grown c.args.node at in
     let end : path c.finish.new.table.graph c.args.node c.args.first.now ≡ Some c.in_ok-end-in-None.end = c.in_ok-end-in-None.ensures.end c.args.node at in
-    IfOk-weaker c.meet-in-None.result
-    (λ _. (node : ℕ) (other : Word) → path c.finish.new.table.graph node (take (length c.args.second.now - 1) c.args.second.now) ≡ Some c.in_ok-other.other → path c.finish.new.table.graph node other ≡ Some c.in_ok-end-in-None.end
-    → IsGrown (IsAlong c.args.second.now) (AreSides other c.args.second.now) c.finish.new.table c.meet-in-None.new.table node)
-    (λ _. IsGrown (IsAlongBoth c.args.first.now c.args.second.now) (AreSides c.args.first.now c.args.second.now) c.args.table.now c.meet-in-None.new.table c.args.node)
-    (λ _ met. both_grown c.before_last.result c.before_last-2.result c.args.first.now c.args.second.now (λ x u v. ⊥ ⊎ AreSides c.args.first.now c.args.second.now x u v) c.args.table.now c.trace_front.new.table c.trace_front-2.new.table c.meet-in-None.new.table c.args.node (sides_kept c.args.first.now c.args.second.now)
+    both_grown c.before_last.result c.before_last-2.result c.args.first.now c.args.second.now (λ x u v. ⊥ ⊎ AreSides c.args.first.now c.args.second.now x u v) c.args.table.now c.trace_front.new.table c.trace_front-2.new.table c.meet-in-None.new.table c.args.node (sides_kept c.args.first.now c.args.second.now)
     c.in_ok-at.ensures.grown c.in_ok-other.ensures.grown
     (both_made c.args.first.now c.args.second.now c.trace_front-2.new.table c.finish.new.table c.meet-in-None.new.table c.args.node made
-    (met c.args.node c.args.first.now (made.paths c.args.node c.in_ok-other.other (take (length c.args.second.now - 1) c.args.second.now) there) end)))
-    c.meet-in-None.ensures.grown
+    (c.in_ok-met-in-None.ensures.grown c.args.node c.args.first.now (made.paths c.args.node c.in_ok-other.other (take (length c.args.second.now - 1) c.args.second.now) there) end))

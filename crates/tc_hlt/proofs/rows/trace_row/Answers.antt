@@ -1,10 +1,11 @@
 use Rattle.std.proofs.Common.{◌≡◌, ◌∙◌, ap, subst, ℕ, List}
-use Rattle.std.proofs.lemmas.Result.{IfOk-weaker}
 use Rattle.theory.specs.Word.{Word}
 use Rattle.theory.specs.Congruence.{Congruence, Presentation}
-use Rattle.theory.specs.Hlt.{IsInRow, IsTraced, IsExtension, IsSide}
+use Rattle.theory.specs.Hlt.{IsTraced, IsExtension, IsSide}
+use Rattle.coincidence.specs.Holding.{HoldBefore}
 use Rattle.tc_hlt.specs.Tracing.{AreSidesAny, IsGrown, NoDrawing}
 use Rattle.tc_hlt.proofs.GrowLaws.{row_grown, sides_over}
+use Rattle.tc_hlt.proofs.RelationLaws.{held_kept}
 use Rattle.tc_hlt.proofs.rows.trace_row.Goals as goal
 
 pub trace_sides-requires-clause-over : goal.trace_sides-requires-clause-over
@@ -21,11 +22,13 @@ returns-clause-grown c =
     let letters : c.letters.result ≡ c.args.table.now.congruence.presentation.letters = c.letters.ensures.letters ∙ ap (λ (p : Presentation). p.letters) presented in
     let relations : c.relations.result.now ≡ c.args.table.now.congruence.presentation.relations =
     c.relations.ensures.relations ∙ ap (λ (p : Presentation). p.relations) presented in
-    let rs : List (Word × Word) = c.args.table.now.congruence.presentation.relations in
-    IfOk-weaker c.define_letters.result (λ _. IsGrown (IsExtension c.letters.result) NoDrawing c.trace_sides.new.table c.define_letters.new.table c.args.node)
-    (λ _. IsGrown (IsInRow c.args.table.now.congruence) (AreSidesAny c.args.table.now.congruence.presentation.relations) c.args.table.now c.define_letters.new.table c.args.node)
-    (λ _ grown.
     row_grown c.args.table.now.congruence c.args.table.now c.trace_sides.new.table c.define_letters.new.table c.args.node
-    (subst (λ (rs : List (Word × Word)). IsGrown (IsTraced rs) (AreSidesAny rs) c.args.table.now c.trace_sides.new.table c.args.node) relations c.in_ok-trace_sides.ensures.grown)
-    (subst (λ (k : ℕ). IsGrown (IsExtension k) NoDrawing c.trace_sides.new.table c.define_letters.new.table c.args.node) letters grown))
-    c.define_letters.ensures.grown
+    (subst (λ (rs : List (Word × Word)). IsGrown (IsTraced rs) (AreSidesAny rs) c.args.table.now c.trace_sides.new.table c.args.node) relations c.in_ok-held.ensures.grown)
+    (subst (λ (k : ℕ). IsGrown (IsExtension k) NoDrawing c.trace_sides.new.table c.define_letters.new.table c.args.node) letters c.in_ok-define_letters.ensures.grown)
+
+pub returns-clause-held : goal.returns-clause-held
+returns-clause-held c =
+    let relations : c.relations.result.now ≡ c.args.table.now.congruence.presentation.relations =
+    c.relations.ensures.relations ∙ ap (λ (p : Presentation). p.relations) (c.presentation-presentation.ensures.presentation ∙ ap (λ (k : Congruence). k.presentation) c.requires.congruence) in
+    held_kept (IsExtension c.letters.result) NoDrawing c.trace_sides.new.table c.define_letters.new.table c.args.node c.args.node c.in_ok-define_letters.ensures.grown c.args.table.now.congruence.presentation.relations c.in_ok-held.held
+    (subst (λ (rs : List (Word × Word)). HoldBefore rs c.trace_sides.new.table.graph c.args.node c.in_ok-held.held) relations c.in_ok-held.ensures.held)

@@ -1,7 +1,9 @@
 use Rattle.std.proofs.Common.{◌≡◌, ◌<◌, length, arith, subst, sym}
 use Rattle.theory.specs.Word.{IsOver}
 use Rattle.theory.specs.Congruence.{Congruence}
+use Rattle.tc_hlt.specs.Tracing.{AreSides, IsAlongBoth}
 use Rattle.tc_hlt.proofs.GrowLaws.{sides_of, first_more, first_all}
+use Rattle.tc_hlt.proofs.RelationLaws.{held_next}
 use Rattle.tc_hlt.proofs.rows.trace_sides.Goals as goal
 
 pub trace_both-requires-clause-first : goal.trace_both-requires-clause-first
@@ -21,9 +23,12 @@ loop-i-preserved c =
     let less : c.loop-i.i < length c.args.pairs.now = omega arith in
     record {
       table = c.trace_both.ensures.table;
+      within = c.held_with-held.ensures.within;
+      held = held_next (IsAlongBoth c.pair-pair.result.now.0 c.pair-pair.result.now.1) (AreSides c.pair-pair.result.now.0 c.pair-pair.result.now.1) c.loop-i.table c.trace_both.new.table c.args.node c.args.node c.in_ok-met.ensures.grown
+          c.args.pairs.now c.loop-i.i c.loop-i.held c.held_with-held.result c.pair-pair.result.now c.in_ok-met.met less c.pair-pair.ensures c.in_ok-met.ensures.met c.held_with-held.ensures.more c.loop-i.invariant.held;
       grown =
           first_more c.args.pairs.now c.loop-i.i c.pair-pair.result.now c.args.table.now c.loop-i.table c.trace_both.new.table c.args.node
-          less c.pair-pair.ensures c.loop-i.invariant.grown c.in_ok-trace_both.ensures.grown;
+          less c.pair-pair.ensures c.loop-i.invariant.grown c.in_ok-met.ensures.grown;
     }
 
 pub returns-clause-grown : goal.returns-clause-grown

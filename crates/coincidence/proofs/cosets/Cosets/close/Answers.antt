@@ -13,7 +13,7 @@ use Rattle.coincidence.proofs.cosets.Cosets.close.Goals as goal
 pub loop-node-init : goal.loop-node-init
 loop-node-init c = record {
   drawing = drawing_start c.args.congruence.now.congruence c.args.self.now c.args.at c.requires.whole c.requires.at;
-  held = λ n is k d h. absurd (omega (arith, h));
+  held = c.requires.held;
 }
 
 pub due_in-requires-clause-at : goal.due_in-requires-clause-at

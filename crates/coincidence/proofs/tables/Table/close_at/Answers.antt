@@ -1,4 +1,6 @@
-use Rattle.std.proofs.Common.{OnOk, Result, Ok, Err}
+use Rattle.std.proofs.Common.{OnOk, Result, Ok, Err, subst}
+use Rattle.word_graph.proofs.WalkLaws.{some_same}
+use Rattle.coincidence.specs.Holding.{HoldBefore}
 use Rattle.coincidence.proofs.CloseLaws.{closed_at_word}
 use Rattle.coincidence.proofs.tables.Table.close_at.Goals as goal
 
@@ -10,3 +12,6 @@ pub returns-clause-relates : goal.returns-clause-relates
 returns-clause-relates c =
     on_ok c.close.result (λ relates w at. closed_at_word c.args.self.now.congruence c.args.self.now.graph c.close.new.self.graph c.args.node w at relates)
     c.close.ensures.relates
+
+pub close-requires-clause-held : goal.close-requires-clause-held
+close-requires-clause-held c = λ n is. subst (λ z. HoldBefore c.args.self.now.congruence.presentation.relations c.args.self.now.graph z c.args.held) (some_same c.args.node n is) c.requires.held
