@@ -64,6 +64,16 @@ fn verdict_at(
     }
 }
 
+// How many workers a race needs: where one engine alone has a budget, the others end with their
+// first turn.
+fn workers_needed(budgets: &Budgets, workers: usize) -> usize
+    requires { 0 < workers }
+    ensures { 0 < result }
+{
+    let engines = (budgets.defs > 0) as u8 + (budgets.rows > 0) as u8 + (budgets.length > 0) as u8;
+    if engines < 2 { 1 } else { workers }
+}
+
 /// Decides the problem by engines that race. For a congruence on a presentation these are coset
 /// enumeration by Felsch's strategy with the budget `defs` of definitions, and by that of
 /// Haselgrove, Leech and Trotter with the budget `rows` of rows, and completion with words of at
@@ -73,7 +83,8 @@ fn verdict_at(
 /// presentation with the marker that stands for the congruence. For generators there is one engine,
 /// which lists at most `elements` elements and then finds their classes (Froidure and Pin 1997).
 /// The engines race over as many threads as there are workers, each turn behind the gate; with one
-/// worker they take turns on this one, without the gate. The number of workers changes no answer.
+/// worker, and where fewer than two of these three budgets are above 0, they take turns on this
+/// thread, without the gate. The number of workers changes no answer.
 /// `Undecided` exactly where no budget suffices; the lanes are kept as the race left them. Refused
 /// only where memory is wanting.
 pub fn solve<R: Threads + Sync, G: Gate + Sync>(
@@ -89,6 +100,12 @@ pub fn solve<R: Threads + Sync, G: Gate + Sync>(
     ensures { IfOk result (IsVerdictOf problem.now budgets.now) }
 {
     let mut lanes = lanes_for(alloc, problem, budgets)?;
-    let outcome = race(rt, alloc, &mut lanes, workers, gate)?;
+    let outcome = race(
+        rt,
+        alloc,
+        &mut lanes,
+        workers_needed(budgets, workers),
+        gate,
+    )?;
     verdict_at(alloc, problem, lanes, outcome)
 }
