@@ -1,7 +1,7 @@
 -- Overlaps of left sides, by the letters that they share and by the parts of their words.
 use Rattle.std.proofs.Common.{◌≡◌, ◌≢◌, ℕ, ◌+◌, ◌-◌, ◌<◌, ◌≤◌, List, [], ◌∷◌, ◌++◌, length, take, drop, refl, sym, ◌∙◌, ap, ap₂, subst, subst₂, arith, ◌⊎◌, inl, inr, append_assoc, append-nil, length-append, length-take, take-append-drop}
 use Rattle.std.proofs.lemmas.Bool.{cases_lt}
-use Rattle.std.proofs.lemmas.List.{take_at, drop_at, drop_all, nil_from_length}
+use Rattle.std.proofs.lemmas.List.{take_at, drop_at, nil_from_length}
 use Rattle.std.proofs.lemmas.List.Elements.{Contains-get_or}
 use Rattle.theory.specs.Word.{Word}
 use Rattle.theory.specs.ShortLex.{◌≺◌}
@@ -47,16 +47,11 @@ parts_from_overlap lengths p q shared h = record {
   full = λ e. omega (arith, h.some, h.second, ap length e, length-take shared q.0);
   first = sym (take-append-drop (length p.0 - shared) p.0) ∙ ap (λ w. take (length p.0 - shared) p.0 ++ w) h.overlaps;
   second = sym (take-append-drop shared q.0);
-  left = ap (λ n. p.1 ++ drop n q.0) before;
-  right =
-      ap (λ w. take (length p.0 - shared) p.0 ++ w)
-      (ap (λ w. q.1 ++ w) (drop_all (length p.0 - shared + shared) p.0 (omega (arith, h.first))) ∙ append-nil q.1);
+  left = refl;
+  right = refl;
   within = subst (λ n. HasLength lengths n) (sym long) h.within;
 }
   where
-    before : 0 + shared ≡ shared
-    before = omega arith
-
     long : length (take (length p.0 - shared) p.0 ++ (take shared q.0 ++ drop shared q.0)) ≡ length p.0 + (length q.0 - shared)
     long =
         omega (arith, h.first, h.second, length-append (take (length p.0 - shared) p.0) (take shared q.0 ++ drop shared q.0), ap length (take-append-drop shared q.0), length-take (length p.0 - shared) p.0)
@@ -80,16 +75,10 @@ overlap_from_parts lengths a b c v w full before behind within = record {
     long = omega (arith, length-append a (b ++ c), length-append a b, length-append b c)
 
 pub left_from_parts : (a b c v w : Word) → (critical_pair (a ++ b, v) (b ++ c, w) (length b)).0 ≡ v ++ c
-left_from_parts a b c v w = ap (λ x. v ++ x) (drop_at b c (0 + length b) (omega arith))
+left_from_parts a b c v w = ap (λ x. v ++ x) (drop_at b c (length b) refl)
 
 pub right_from_parts : (a b c v w : Word) → (critical_pair (a ++ b, v) (b ++ c, w) (length b)).1 ≡ a ++ w
-right_from_parts a b c v w =
-    ap₂ (λ (x y : Word). x ++ (w ++ y)) (take_at a b (length (a ++ b) - length b) start)
-    (drop_all (length (a ++ b) - length b + length b) (a ++ b) (omega (arith, start)))
-    ∙ ap (λ x. a ++ x) (append-nil w)
-  where
-    start : length a ≡ length (a ++ b) - length b
-    start = omega (arith, length-append a b)
+right_from_parts a b c v w = ap (λ x. x ++ w) (take_at a b (length (a ++ b) - length b) (omega (arith, length-append a b)))
 
 -- rules that are joined are so at each word that has parts
 pub joined_parts : (lengths : Lengths) (rules equations : List (Word × Word)) (p q : Word × Word) → AreJoined lengths rules equations p q

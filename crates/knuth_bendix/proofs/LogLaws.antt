@@ -2,7 +2,7 @@
 use Rattle.std.proofs.Common.{◌≡◌, ℕ, zero, suc, min, ◌+◌, ◌-◌, ◌<◌, ◌≤◌, Bool, true, false, List, [], ◌∷◌, ◌++◌, map, reverse, take, drop, length, get_or, set, refl, sym, ◌∙◌, ap, subst, subst₂, arith, append_assoc, Equal, Option, None, Some, option_map, slice_get, is_some, IsTrue, MatchOption, length-take, take-append-drop}
 use Rattle.std.specs.List.{Contains}
 use Rattle.std.specs.List.Sorted.{IsPermutation}
-use Rattle.std.proofs.lemmas.List.{nil_from_length, append-nil, get_or_default, map-append}
+use Rattle.std.proofs.lemmas.List.{append-nil, get_or_default, map-append}
 use Rattle.std.proofs.lemmas.List.Elements.{All-head, All-nil, All-set, All-tail, All-weaker, Contains-append_left, Contains-append_right, Contains-get_or, Contains-push}
 use Rattle.std.proofs.lemmas.List.Sorted.{All-permutation}
 use Rattle.std.proofs.lemmas.Option.{get_or_from_slice_get, slice_get_within}
@@ -97,7 +97,7 @@ overlap_leads P first second shared m n one two overlaps is_first is_second =
       before = [];
       after = drop shared second.0;
       placed = refl;
-      source = ap (λ k. first.1 ++ drop k second.0) (let none : 0 + shared ≡ shared = omega arith in none);
+      source = refl;
       target = refl;
     } in
     let cut : first.0 ≡ take start first.0 ++ take shared second.0 =
@@ -111,15 +111,9 @@ overlap_leads P first second shared m n one two overlaps is_first is_second =
       source =
           ap (λ w. w ++ drop shared second.0) cut ∙ append_assoc (take start first.0) (take shared second.0) (drop shared second.0)
           ∙ ap (λ w. take start first.0 ++ w) (take-append-drop shared second.0 ∙ sym (append-nil second.0));
-      target =
-          ap (λ w. take start first.0 ++ (second.1 ++ w)) (past (start + shared) first.0 (omega (arith, one)));
+      target = ap (λ w. take start first.0 ++ w) (sym (append-nil second.1));
     } in
     (middle ∷ pair.1 ∷ [], (there, (on, tt)), refl)
-  where
-    past : (k : ℕ) (w : Word) → length w ≤ k → drop k w ≡ []
-    past zero w long = nil_from_length w (omega arith)
-    past (suc k) [] long = refl
-    past (suc k) (a ∷ w) long = past k w (omega arith)
 
 -- where something is logged
 pub log_is : (log : Option Derived) (held : Option Facts) (facts : Facts) → option_map (λ (f : Facts). f.derivations) held ≡ log → held ≡ Some facts

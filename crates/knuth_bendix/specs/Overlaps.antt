@@ -1,9 +1,8 @@
 -- Overlaps of left sides, and the pairs of words to which they lead (Knuth and Bendix 1970; Sims
 -- 1994, 2.5).
-use Rattle.std.specs.Prelude.{◌≡◌, ◌≢◌, ℕ, ◌+◌, ◌-◌, ◌<◌, ◌≤◌, ◌⊎◌, List, [], length, take, drop, slice_index_or, All}
+use Rattle.std.specs.Prelude.{◌≡◌, ◌≢◌, ℕ, ◌+◌, ◌-◌, ◌<◌, ◌≤◌, ◌⊎◌, List, [], ◌++◌, length, take, drop, slice_index_or, All}
 use Rattle.theory.specs.Word.{Word}
 use Rattle.theory.specs.Completion.{IsReduced, Listed, Reduces}
-use Rattle.reduced_automaton.specs.Rules.{replaced}
 use Rattle.knuth_bendix.specs.declared.lengths.Lengths.{Lengths}
 use Rattle.knuth_bendix.specs.declared.lengths.Lengths.TheVariants.{UpTo, Beyond}
 
@@ -21,11 +20,7 @@ overlaps_by f g shared = drop (length f - shared) f ≡ take shared g
 
 -- the words to which two rules lead from the word in which their left sides share so many letters
 abbrev pub critical_pair : Word × Word → Word × Word → ℕ → Word × Word
-critical_pair p q shared = (
-  replaced q.0 0 shared p.1,
-  replaced p.0
-      (length p.0 - shared) shared q.1,
-)
+critical_pair p q shared = (p.1 ++ drop shared q.0, take (length p.0 - shared) p.0 ++ q.1)
 
 -- a word of n letters is one of these
 abbrev pub HasLength : Lengths → ℕ → Type 0

@@ -9,9 +9,9 @@ use crate::lengths::Lengths;
 use crate::logs::Log;
 use chains::ChainStep;
 use ports::NoMemory;
-use reduced_automaton::{KeptRules, replaced};
+use reduced_automaton::KeptRules;
 use std::alloc::Global;
-use words::Word;
+use words::{Letter, Word};
 
 // Whether the last letters of the first word, so many, are the first letters of the second.
 fn overlap(first: &Word, second: &Word, shared: usize) -> bool
@@ -49,6 +49,16 @@ fn shared_by(lengths: Lengths, first: usize, second: usize) -> (usize, usize)
     }
 }
 
+// The word of some letters and then others.
+fn joined(alloc: Global, front: &[Letter], back: &[Letter]) -> Result<Word, NoMemory>
+    ensures { IfOk result (λ w. w ≡ front.now ++ back.now) }
+{
+    let mut word = Word::with_capacity(alloc, front.len().saturating_add(back.len()))?;
+    word.append(front)?;
+    word.append(back)?;
+    Ok(word)
+}
+
 // The words to which two rules lead from the word in which their left sides share so many letters.
 fn critical_pair(
     alloc: Global,
@@ -61,8 +71,8 @@ fn critical_pair(
     ensures { IfOk result (λ pair. pair ≡ critical_pair first.now second.now shared) }
 {
     let start = first.0.len() - shared;
-    let left = replaced(alloc, second.0.letters(), 0, shared, first.1.letters())?;
-    let right = replaced(alloc, first.0.letters(), start, shared, second.1.letters())?;
+    let left = joined(alloc, first.1.letters(), &second.0.letters()[shared..])?;
+    let right = joined(alloc, &first.0.letters()[..start], second.1.letters())?;
     Ok((left, right))
 }
 

@@ -1,41 +1,25 @@
 -- Where words stand in words.
-use Rattle.std.proofs.Common.{◌≡◌, ℕ, ◌+◌, ◌-◌, ◌<◌, ◌≤◌, ◌||◌, Bool, true, false, not, List, [], ◌∷◌, ◌++◌, length, take, drop, get_or, refl, sym, ◌∙◌, ap, ap₂, subst, arith, inl, inr, eqb, Contains, length-append, length-take, take-append-drop, Option, Some, None, IsTrue, ◌↔◌, MatchOption}
-use Rattle.std.specs.Option.{is_some}
+use Rattle.std.proofs.Common.{◌≡◌, ℕ, ◌-◌, ◌<◌, ◌≤◌, Bool, true, false, List, [], ◌∷◌, ◌++◌, length, take, drop, get_or, refl, sym, ◌∙◌, ap, ap₂, subst, arith, inl, inr, eqb, Contains, length-append, IsTrue, ◌↔◌}
 use Rattle.std.specs.Cmp.Lexicographic.{pointwise}
 use Rattle.std.specs.List.{starts_with}
-use Rattle.std.proofs.lemmas.Bool.{cases_Bool, cases_lt, or_cases, or_left, or_right}
+use Rattle.std.proofs.lemmas.Bool.{cases_Bool, or_cases, or_left, or_right}
 use Rattle.std.proofs.lemmas.Bool.Decides.{Decides-eqb}
-use Rattle.std.proofs.lemmas.List.{append_assoc, append_cancel_left, take_at, drop_at, get_or_default, drop-drop, take_rest}
+use Rattle.std.proofs.lemmas.List.{append_assoc, get_or_default, take_rest}
 use Rattle.std.proofs.lemmas.Slice.Eq.{starts_is}
-use Rattle.theory.specs.Word.{Word, IsFactor, IsOver}
+use Rattle.theory.specs.Word.{Word, IsFactor}
 use Rattle.theory.specs.ShortLex.{◌≺◌}
-use Rattle.theory.specs.Chain.{Step}
-use Rattle.theory.specs.Completion.{IsReduced, Listed}
-use Rattle.theory.specs.declared.Kind.TheVariants.{TwoSided}
+use Rattle.theory.specs.Completion.{Listed}
 use Rattle.theory.proofs.Words.{before_no_longer, before_irrefl}
-use Rattle.reduced_automaton.specs.Rules.{AreFalling, AreOver, StandsAt, stands_in}
+use Rattle.reduced_automaton.specs.Rules.{AreFalling, stands_in}
 
-pub stands_from : (f u : Word) (place : ℕ) (y : Word) → drop place u ≡ f ++ y → StandsAt f u place
-stands_from f u place y e = record { after = y; is = sym (take-append-drop place u) ∙ ap (λ w. take place u ++ w) e }
-
-pub stands_to : (f u : Word) (place : ℕ) → StandsAt f u place → (y : Word) × (drop place u ≡ f ++ y)
-stands_to f u place h = (h.after, append_cancel_left (take place u) (drop place u) (f ++ h.after) (take-append-drop place u ∙ h.is))
-
--- a test of the letters from a place on
-pub stands_tested : (f u : Word) (place : ℕ) (r : Bool) → r ≡ pointwise eqb f (take (length f) (drop place u))
-    → (r ≡ true → StandsAt f u place) × (r ≡ false → StandsAt f u place → ⊥)
-stands_tested f u place r e = (
-  λ t. stands_from f u place (drop (length f) (drop place u)) ((starts_is Decides-eqb (drop place u) f r e).0 t),
-  λ t h. let at = stands_to f u place h in let bad : r ≡ true = (starts_is Decides-eqb (drop place u) f r e).1 at.0 at.1 in let b : ⊥ = cc in b,
-)
-
--- the same as the code makes it
-pub tested_at : (f u f' u' : Word) (place : ℕ) (r : Bool) → f' ≡ f → u' ≡ u
+-- a test of the letters from a place on, as the code makes it
+pub starts_tested : (f u f' u' : Word) (place : ℕ) (r : Bool) → f' ≡ f → u' ≡ u
     → r ≡ pointwise eqb f' (take (length f') (take (length u' - place) (drop place u')))
-    → (r ≡ true → StandsAt f u place) × (r ≡ false → StandsAt f u place → ⊥)
-tested_at f u f' u' place r ef eu e =
-    stands_tested f u place r
-    (e ∙ ap (λ w. pointwise eqb f' (take (length f') w)) (take_rest u' place) ∙ ap₂ (λ (f u : Word). pointwise eqb f (take (length f) (drop place u))) ef eu)
+    → (r ≡ true → drop place u ≡ f ++ drop (length f) (drop place u)) × (r ≡ false → (y : Word) → drop place u ≡ f ++ y → ⊥)
+starts_tested f u f' u' place r ef eu e =
+    let tested = starts_is Decides-eqb (drop place u) f r
+    (e ∙ ap (λ w. pointwise eqb f' (take (length f') w)) (take_rest u' place) ∙ ap₂ (λ (f u : Word). pointwise eqb f (take (length f) (drop place u))) ef eu) in
+    (tested.0, λ t y h. let bad : r ≡ true = tested.1 y h in let b : ⊥ = cc in b)
 
 -- the rule at a number, as the code reads it
 pub rule_read : (rules items : List (Word × Word)) (number : ℕ) (rule : Word × Word) → items ≡ rules → number < length items
@@ -43,25 +27,9 @@ pub rule_read : (rules items : List (Word × Word)) (number : ℕ) (rule : Word 
 rule_read rules items number rule same within read =
     read ∙ get_or_default items number rule ([], []) within ∙ ap (λ (rs : List (Word × Word)). get_or rs number ([], [])) same
 
--- behind the letters before it
-pub stands_behind : (f u x y : Word) → u ≡ x ++ (f ++ y) → StandsAt f u (length x)
-stands_behind f u x y e = record {
-  after = y;
-  is = e ∙ ap (λ w. w ++ (f ++ y)) (sym (ap (take (length x)) e ∙ take_at x (f ++ y) (length x) refl));
-}
-
-pub factor_from : (f u : Word) (place : ℕ) → StandsAt f u place → IsFactor f u
-factor_from f u place h = record { before = take place u; after = h.after; is = h.is }
-
 -- a factor is no longer than the word
 pub factor_short : (f u : Word) → IsFactor f u → length f ≤ length u
 factor_short f u h = omega (arith, ap length h.is, length-append h.before (f ++ h.after), length-append f h.after)
-
--- what stands at no place with room for it is no factor
-pub no_factor : (f u : Word) (places : ℕ) → length u < places + length f → ((k : ℕ) → k < places → StandsAt f u k → ⊥) → IsFactor f u → ⊥
-no_factor f u places room none h =
-    none (length h.before) (omega (arith, room, ap length h.is, length-append h.before (f ++ h.after), length-append f h.after))
-    (stands_behind f u h.before h.after h.is)
 
 -- where the test is true the word stands there
 pub stands_at : (f u : Word) → stands_in f u ≡ true → (x : Word) × (y : Word) × (u ≡ x ++ (f ++ y))

@@ -1,5 +1,5 @@
 -- Lists of rewriting rules (Knuth and Bendix 1970; Sims 1994, ch. 2).
-use Rattle.std.specs.Prelude.{◌≡◌, ℕ, ◌+◌, ◌<◌, Bool, ◌||◌, eqb, List, [], ◌∷◌, ◌++◌, length, take, drop, slice_index_or, All}
+use Rattle.std.specs.Prelude.{ℕ, Bool, ◌||◌, eqb, List, [], ◌∷◌, All}
 use Rattle.std.specs.List.{starts_with}
 use Rattle.theory.specs.Word.{Word, IsOver}
 use Rattle.theory.specs.ShortLex.{◌≺◌}
@@ -12,16 +12,7 @@ AreFalling = All (λ r. r.1 ≺ r.0)
 abbrev pub AreOver : ℕ → List (Word × Word) → Type 0
 AreOver k = All (λ r. IsOver k r.0 × IsOver k r.1)
 
--- f stands in u, from the place on
-pub record StandsAt (f u : Word) (place : ℕ) : Type 0 where
-  pub after : Word
-  pub is : u ≡ take place u ++ (f ++ after)
-
 -- f stands somewhere in u
 abbrev pub stands_in : Word → Word → Bool
 stands_in f [] = starts_with eqb [] f
 stands_in f (a ∷ u) = starts_with eqb (a ∷ u) f || stands_in f u
-
--- u with so many letters from the place on replaced by v
-abbrev pub replaced : Word → ℕ → ℕ → Word → Word
-replaced u place count v = take place u ++ (v ++ drop (place + count) u)

@@ -32,6 +32,6 @@ mod tries;
 pub use automata::Automaton;
 pub use frames::{Frame, Framed};
 pub use kept_rules::KeptRules;
-pub use rewriting::{has_factor, replaced};
+pub use rewriting::has_factor;
 pub use rule_lists::Rules;
 pub use traces::Applied;
