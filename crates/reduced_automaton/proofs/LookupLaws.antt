@@ -1,22 +1,23 @@
 -- What the table and a scan of the newer rules tell of a word and a letter.
-use Rattle.std.proofs.Common.{◌≡◌, ℕ, zero, suc, ◌+◌, ◌-◌, ◌<◌, ◌≤◌, Bool, true, false, IsTrue, ◌↔◌, List, [], ◌∷◌, ◌++◌, length, take, drop, reverse, set, get_or, eqb, refl, sym, ◌∙◌, ap, subst, subst₂, arith, inl, inr, Option, Some, None, Contains, length-append}
+use Rattle.std.proofs.Common.{◌≡◌, ℕ, zero, suc, ◌+◌, ◌-◌, ◌<◌, ◌≤◌, Bool, true, false, IsTrue, ◌↔◌, List, [], ◌∷◌, ◌++◌, length, take, drop, reverse, set, get_or, eqb, refl, sym, ◌∙◌, ap, subst, arith, inl, inr, Option, Some, None, Contains, length-append}
 use Rattle.std.specs.Cmp.Lexicographic.{pointwise}
 use Rattle.std.proofs.lemmas.Bool.{cases_Bool, cases_eq, cases_lt}
 use Rattle.std.proofs.lemmas.Bool.Decides.{Decides-eqb}
 use Rattle.std.proofs.lemmas.Slice.Eq.{ends_is}
-use Rattle.std.proofs.lemmas.List.{append_assoc, append-nil, get_or_append_left, get_or_default, get_or_push, get_or_read, get_or-set_same, get_or-set_other, length-set, same_from_push, take_all}
+use Rattle.std.proofs.lemmas.List.{append_assoc, append-nil, get_or_append_left, get_or_default, get_or_push, get_or_read, get_or-set_same, get_or-set_other, length-set, same_from_push}
 use Rattle.theory.specs.Word.{Word, IsFactor}
 use Rattle.theory.specs.Completion.{IsReduced, Listed}
 use Rattle.theory.proofs.FactsLaws.{last_letter}
 use Rattle.reduced_automaton.specs.Rules.{AreFalling}
-use Rattle.reduced_automaton.specs.States.{EndsAt, HasEnd, IsLongest}
+use Rattle.reduced_automaton.specs.States.{EndsAt, HasEnd, IsLongest, IsStep}
 use Rattle.reduced_automaton.specs.Tables.{IsTableOf}
 use Rattle.reduced_automaton.specs.Tries.{left_at, longer, Reads}
-use Rattle.reduced_automaton.specs.Reductions.{weight}
-use Rattle.reduced_automaton.specs.Lookups.{AreLasts, IsAtLetter, IsLookup, IsNext, IsPlaced, IsReducingBy, StandsLast, moves_of, no_moves, reads_to, states_by}
+use Rattle.reduced_automaton.specs.Reductions.{IsAtStep}
+use Rattle.reduced_automaton.specs.declared.reductions.Reduction.{Reduction}
+use Rattle.reduced_automaton.specs.Lookups.{AreLasts, IsAtLetter, IsLookup, IsPlaced, IsReducingBy, IsRewritingAt, StandsLast, moves_of, no_moves, reads_to, states_by}
 use Rattle.reduced_automaton.specs.declared.lookups.Lookup.{Lookup}
 use Rattle.reduced_automaton.proofs.Standing.{listed_at, rule_read}
-use Rattle.reduced_automaton.proofs.ReductionLaws.{back_to, left_some, left_within, push_by, reducing_start}
+use Rattle.reduced_automaton.proofs.ReductionLaws.{last_read, reducing_start}
 use Rattle.reduced_automaton.proofs.Searches.{end_found}
 use Rattle.reduced_automaton.proofs.StateLaws.{empty_longest, end_kept, end_reduces, longest_more, reduced_front}
 
@@ -49,7 +50,7 @@ module _ (rules : List (Word × Word)) (lookup : Lookup) (is : IsLookup rules lo
 
   -- the rule of the table whose left side ends here stands among the rules, and ends here
   ends_placed : (n : ℕ) (p : Option ℕ) → EndsAt is.tabled (done ++ a ∷ []) n → IsPlaced rules lookup.first (left_at is.tabled n) p
-      → (states : List Word) (t : ℕ) → IsNext rules states (done ++ a ∷ []) t p
+      → (states : List Word) (t : ℕ) → IsStep rules states (done ++ a ∷ []) t p
   ends_placed n (Some place) ends by states t = record { within = by.0; before = ends.before; is = ends.is ∙ ap (λ w. ends.before ++ w) (sym by.1) }
   ends_placed n None ends by states t = absurd (no_factor by.0 by.1 by.2 ends.before (left_at is.tabled n) ends.is by.3)
 
@@ -86,12 +87,12 @@ module _ (rules : List (Word × Word)) (lookup : Lookup) (done : Word) (state a 
   number_within n some = let w = (table_end n some).within in omega (arith, w, at.is.count)
 
   module _ (scanned : (place : ℕ) → lookup.first ≤ place → EndsAt rules (done ++ a ∷ []) place → ⊥) where
-    pub next_placed : (n : ℕ) → end ≡ Some n → IsNext rules (reads_to at) (done ++ a ∷ []) t (get_or lookup.places.items n None)
+    pub next_placed : (n : ℕ) → end ≡ Some n → IsStep rules (reads_to at) (done ++ a ∷ []) t (get_or lookup.places.items n None)
     next_placed n some =
         let ends = table_end n some in
         ends_placed rules lookup at.is done a at.reduced scanned n (get_or lookup.places.items n None) ends (at.is.placed n ends.within) (reads_to at) t
 
-    pub next_none : end ≡ None → IsNext rules (reads_to at) (done ++ a ∷ []) t None
+    pub next_none : end ≡ None → IsStep rules (reads_to at) (done ++ a ∷ []) t None
     next_none none = (
       none_ends rules lookup at.is done a at.reduced scanned (λ h. go end none reads (end_kept at.is.tabled at.is.falling (reads_to at) at.is.table.states.are done state a at.longest h)),
       longest_more at.is.tabled at.is.falling (reads_to at) at.is.table.states.are done state t a at.longest reads.longest,
@@ -281,46 +282,22 @@ last_differs u a word last b size at differ h =
     differ (sym (same_from_push u (h.before ++ take last word) a b (h.is ∙ ap (λ w. h.before ++ w) whole ∙ sym (append_assoc h.before (take last word) (b ∷ [])))).1)
 
 -- the next letter of a reduction
-module _ (rules : List (Word × Word)) (lookup : Lookup) (word done rest : Word) (path : List ℕ) (a : ℕ)
-    (by : IsReducingBy rules lookup word done (rest ++ a ∷ []) path) (read : Word) (size state : ℕ) (read_is : read ≡ done) (size_is : size ≡ length done)
-    (state_is : state ≡ get_or path size state) where
+module _ (rules : List (Word × Word)) (lookup : Lookup) (word : Word) (r : Reduction) (a : ℕ) (by : IsRewritingAt rules lookup word a r) (read : Word) (size state : ℕ)
+    (read_is : read ≡ r.done.items) (size_is : size ≡ length r.done.items) (state_is : state ≡ get_or r.states.items size state) where
   abbrev pub letter_at : IsAtLetter rules lookup read state
   letter_at = record {
     is = by.is;
     reduced = subst (λ u. IsReduced (Listed rules) u) (sym read_is) by.reducing.reduced;
-    longest =
-        subst₂ (λ (u : Word) (n : ℕ). IsLongest (states_by by.is) u n) (take_all (length done) done (omega arith) ∙ sym read_is)
-        (sym (get_or_read path size state (omega (arith, by.reducing.count, size_is)) state_is 0 ∙ ap (λ i. get_or path i 0) size_is))
-        (by.reducing.longest (length done) (omega arith));
+    longest = subst (λ u. IsLongest (states_by by.is) u state) (sym read_is)
+        (last_read rules (states_by by.is) word r.done.items (r.rest.items ++ a ∷ []) r.states.items size state by.reducing size_is state_is);
   }
 
-  module _ (t : ℕ) (end : Option ℕ) (next : (at : IsAtLetter rules lookup read state) → IsNext rules (reads_to at) (read ++ a ∷ []) t end) where
-    next_is : IsNext rules (states_by by.is) (done ++ a ∷ []) t end
-    next_is = subst (λ u. IsNext rules (states_by by.is) (u ++ a ∷ []) t end) read_is (next letter_at)
-
-    pub letter_ends : (place : ℕ) → end ≡ Some place → EndsAt rules (done ++ a ∷ []) place
-    letter_ends place some = subst (λ e. IsNext rules (states_by by.is) (done ++ a ∷ []) t e) some next_is
-
-    pub letter_pushed : AreFalling rules → end ≡ None → IsReducingBy rules lookup word (done ++ a ∷ []) rest (path ++ t ∷ [])
-    letter_pushed falling none =
-        let n : IsNext rules (states_by by.is) (done ++ a ∷ []) t None = subst (λ e. IsNext rules (states_by by.is) (done ++ a ∷ []) t e) none next_is in
-        record { is = by.is; reducing = push_by rules falling (states_by by.is) word done rest path a t by.reducing n.0 n.1 }
-
-    -- a left side ends at the letter
-    pub letter_back : AreFalling rules → (place : ℕ) (rule : Word × Word) → end ≡ Some place → rule ≡ get_or rules place rule
-        → (0 < length rule.0) × (length rule.0 ≤ length done + 1)
-        × ((new_done new_rest : Word) (new_path : List ℕ) → new_done ≡ take (length done - (length rule.0 - 1)) done → new_rest ≡ rest ++ reverse rule.1
-        → new_path ≡ take (length done - (length rule.0 - 1) + 1) path
-        → IsReducingBy rules lookup word new_done new_rest new_path × (weight rules word new_done new_rest < weight rules word done (rest ++ a ∷ [])))
-    letter_back falling place rule some read_rule =
-        let ends = letter_ends place some in
-        let same : left_at rules place ≡ rule.0 = sym (ap (λ (p : Word × Word). p.0) (rule_read rules rules place rule refl ends.within read_rule)) in (
-          subst (λ w. 0 < length w) same (left_some rules falling (states_by by.is) word done rest path a t by.reducing place ends),
-          subst (λ w. length w ≤ length done + 1) same (left_within rules falling (states_by by.is) word done rest path a t by.reducing place ends),
-          λ new_done new_rest new_path d r p.
-              let back = back_to rules falling (states_by by.is) word done rest path a t by.reducing place ends rule new_done new_rest new_path read_rule d r p in
-              (record { is = by.is; reducing = back.0 }, back.1),
-        )
+  pub letter_steps : (t : ℕ) (end : Option ℕ) → ((at : IsAtLetter rules lookup read state) → IsStep rules (reads_to at) (read ++ a ∷ []) t end)
+      → IsAtStep rules (states_by by.is) word r a t end
+  letter_steps t end step = record {
+    reducing = by.reducing;
+    step = subst (λ u. IsStep rules (states_by by.is) (u ++ a ∷ []) t end) read_is (step letter_at);
+  }
 
 -- where reading begins
 pub reducing_by_start : (rules : List (Word × Word)) → AreFalling rules → (lookup : Lookup) → IsLookup rules lookup → (word done rest : Word) (path : List ℕ)

@@ -1,5 +1,5 @@
 -- Reduction of a word, a letter after another.
-use Rattle.std.proofs.Common.{◌≡◌, ℕ, suc, ◌+◌, ◌-◌, ◌*◌, ◌<◌, ◌≤◌, List, [], ◌∷◌, ◌++◌, length, take, drop, reverse, get_or, sym, ◌∙◌, ap, ap₂, subst, subst₂, arith, inl, inr, Option, Some, None, length-append, take-append-drop}
+use Rattle.std.proofs.Common.{◌≡◌, ℕ, suc, ◌+◌, ◌-◌, ◌*◌, ◌<◌, ◌≤◌, List, [], ◌∷◌, ◌++◌, length, take, drop, reverse, get_or, refl, sym, ◌∙◌, ap, ap₂, subst, subst₂, arith, inl, inr, Option, Some, None, length-append, take-append-drop}
 use Rattle.std.proofs.Math.Nat.{suc-mul, mul-le-mul_right}
 use Rattle.std.proofs.lemmas.Bool.{cases_eq}
 use Rattle.std.proofs.lemmas.List.{append_assoc, append-nil, reverse-append, reverse-reverse, take-append-le, take_all, take_at, take-take, get_or_append_left, get_or_push, get_or-take, get_or_default, length-reverse, length-take-le, get_or_read}
@@ -11,12 +11,13 @@ use Rattle.theory.proofs.Words.{over_append, over_left, over_right, before_no_lo
 use Rattle.theory.proofs.Chains.{joined_refl, joined_trans, joined_one}
 use Rattle.theory.proofs.Completeness.{step_falls}
 use Rattle.reduced_automaton.specs.Rules.{AreFalling}
-use Rattle.reduced_automaton.specs.States.{AreStates, EndsAt, HasEnd, IsLongest}
+use Rattle.reduced_automaton.specs.States.{AreStates, EndsAt, HasEnd, IsLongest, IsStep}
 use Rattle.reduced_automaton.specs.Tries.{left_at, longer, Reads}
-use Rattle.reduced_automaton.specs.Reductions.{rank, letters_for, IsReducing, weight}
+use Rattle.reduced_automaton.specs.Reductions.{rank, letters_for, kept, IsAtStep, IsReducing, weight, weight_at}
+use Rattle.reduced_automaton.specs.declared.reductions.Reduction.{Reduction}
 use Rattle.reduced_automaton.proofs.Ranks.{rank_below}
 use Rattle.reduced_automaton.proofs.LetterLaws.{over_for, over_itself}
-use Rattle.reduced_automaton.proofs.Standing.{filled, listed_falls}
+use Rattle.reduced_automaton.proofs.Standing.{filled, listed_falls, rule_read}
 use Rattle.reduced_automaton.proofs.StateLaws.{end_kept, longest_more, empty_reduced, reduced_front, reduced_more}
 
 -- a lesser place, and few letters left
@@ -191,38 +192,73 @@ pub reducing_end : (rules : List (Word × Word)) (states : List Word) (word done
     → Reduces (Listed rules) word done
 reducing_end rules states word done rest path is e = subst (λ u. Reduces (Listed rules) word u) (ap (λ v. done ++ reverse v) e ∙ append-nil done) is.reaches
 
-module _ (rules : List (Word × Word)) (falling : AreFalling rules) (states : List Word) (are : AreStates rules states) (word done rest : Word) (path : List ℕ) where
-  module _ (a t : ℕ) (end : Option ℕ) (is : IsReducing rules states word done (rest ++ a ∷ []) path) (reads : Reads rules states (longer states (get_or path (length done) 0) a) t end) where
-    last : IsLongest states done (get_or path (length done) 0)
-    last = here rules falling states word done rest path a t is
+-- what a table tells of a state and a letter, of a word at whose end the state is the longest one
+pub step_read : (rules : List (Word × Word)) → AreFalling rules → (states : List Word) → AreStates rules states → (done : Word) (state a t : ℕ) (end : Option ℕ) → IsLongest states done state
+    → Reads rules states (longer states state a) t end → IsStep rules states (done ++ a ∷ []) t end
+step_read rules falling states are done state a t None last reads = (
+  λ ends. reads.ends (end_kept rules falling states are done state a last ends),
+  longest_more rules falling states are done state t a last reads.longest,
+)
+step_read rules falling states are done state a t (Some number) last reads = record {
+  within = reads.ends.within;
+  before = last.before ++ reads.ends.before;
+  is = ap (λ x. x ++ a ∷ []) last.is ∙ append_assoc last.before (get_or states state []) (a ∷ []) ∙ ap (λ x. last.before ++ x) reads.ends.is
+      ∙ sym (append_assoc last.before reads.ends.before (left_at rules number));
+}
 
-    pub push_step : end ≡ None → IsReducing rules states word (done ++ a ∷ []) rest (path ++ t ∷ [])
-    push_step none =
-        push_by rules falling states word done rest path a t is (λ ends. ends_none end none reads (end_kept rules falling states are done (get_or path (length done) 0) a last ends))
-        (longest_more rules falling states are done (get_or path (length done) 0) t a last reads.longest)
-      where
-        ends_none : (e : Option ℕ) → e ≡ None → Reads rules states (longer states (get_or path (length done) 0) a) t e → HasEnd rules (longer states (get_or path (length done) 0) a) → ⊥
-        ends_none None n r = r.ends
-        ends_none (Some number) n r = let bad : ⊥ = cc in absurd bad
+-- a step of a reduction, by what stands at the end
+module _ (rules : List (Word × Word)) (falling : AreFalling rules) (states : List Word) (word : Word) (r : Reduction) (a t : ℕ) (end : Option ℕ)
+    (at : IsAtStep rules states word r a t end) where
+  abbrev Follows : Word → Word → List ℕ → Type 0
+  Follows d q p = IsReducing rules states word d q p × (weight rules word d q < weight_at rules word a r)
 
-    pub ends_there : (number : ℕ) → end ≡ Some number → EndsAt rules (done ++ a ∷ []) number
-    ends_there number some = ends_some end some reads
-      where
-        ends_some : (e : Option ℕ) → e ≡ Some number → Reads rules states (longer states (get_or path (length done) 0) a) t e → EndsAt rules (done ++ a ∷ []) number
-        ends_some None n r = let bad : ⊥ = cc in absurd bad
-        ends_some (Some m) n r =
-            let same : m ≡ number = cc in
-            subst (λ z. EndsAt rules (done ++ a ∷ []) z) same (record {
-              within = r.ends.within;
-              before = last.before ++ r.ends.before;
-              is = ap (λ x. x ++ a ∷ []) last.is ∙ append_assoc last.before (get_or states (get_or path (length done) 0) []) (a ∷ []) ∙ ap (λ x. last.before ++ x) r.ends.is
-                  ∙ sym (append_assoc last.before r.ends.before (left_at rules m));
-            })
+  -- a letter is read
+  pub letter_follows : (done rest : Word) (path : List ℕ) → end ≡ None → done ≡ r.done.items ++ a ∷ [] → path ≡ r.states.items ++ t ∷ [] → rest ≡ r.rest.items
+      → IsReducing rules states word done rest path × (weight rules word done rest < weight_at rules word a r)
+  letter_follows done rest path none d p q =
+      let n : IsStep rules states (r.done.items ++ a ∷ []) t None = subst (λ e. IsStep rules states (r.done.items ++ a ∷ []) t e) none at.step in
+      subst (λ (u : Word). Follows u rest path) (sym d)
+      (subst₂ (λ (v : Word) (s : List ℕ). Follows (r.done.items ++ a ∷ []) v s) (sym q) (sym p) (
+        push_by rules falling states word r.done.items r.rest.items r.states.items a t at.reducing n.0 n.1,
+        push_less rules falling states word r.done.items r.rest.items r.states.items a t at.reducing,
+      ))
 
--- the entry of the last state, as the code reads it
-pub reads_at : (rules : List (Word × Word)) (states : List Word) (done : Word) (path : List ℕ) (letter len state t : ℕ) (end : Option ℕ)
-    → length path ≡ length done + 1 → len ≡ length done → state ≡ get_or path len state → Reads rules states (longer states state letter) t end
-    → Reads rules states (longer states (get_or path (length done) 0) letter) t end
-reads_at rules states done path letter len state t end count size at reads =
-    subst (λ i. Reads rules states (longer states i letter) t end)
-    (get_or_read path len state (omega (arith, count, size)) at 0 ∙ ap (λ i. get_or path i 0) size) reads
+  -- a rule is applied
+  module _ (number : ℕ) (some : end ≡ Some number) where
+    pub rule_ends : EndsAt rules (r.done.items ++ a ∷ []) number
+    rule_ends = subst (λ e. IsStep rules states (r.done.items ++ a ∷ []) t e) some at.step
+
+    module _ (rule : Word × Word) (read : rule ≡ get_or rules number rule) where
+      left_is : left_at rules number ≡ rule.0
+      left_is = sym (ap (λ (p : Word × Word). p.0) (rule_read rules rules number rule refl rule_ends.within read))
+
+      pub rule_some : 0 < length rule.0
+      rule_some =
+          subst (λ w. 0 < length w) left_is (left_some rules falling states word r.done.items r.rest.items r.states.items a t at.reducing number rule_ends)
+
+      pub rule_within : length rule.0 ≤ length r.done.items + 1
+      rule_within =
+          subst (λ w. length w ≤ length r.done.items + 1) left_is (left_within rules falling states word r.done.items r.rest.items r.states.items a t at.reducing number rule_ends)
+
+      pub rule_follows : (done rest : Word) (path : List ℕ) → done ≡ take (kept r rule.0) r.done.items → path ≡ take (kept r rule.0 + 1) r.states.items
+          → rest ≡ r.rest.items ++ reverse rule.1 → IsReducing rules states word done rest path × (weight rules word done rest < weight_at rules word a r)
+      rule_follows done rest path d p q =
+          back_to rules falling states word r.done.items r.rest.items r.states.items a t at.reducing number rule_ends rule done rest path read d q p
+
+-- the last state, as the code reads it
+pub last_read : (rules : List (Word × Word)) (states : List Word) (word done rest : Word) (path : List ℕ) (size state : ℕ) → IsReducing rules states word done rest path
+    → size ≡ length done → state ≡ get_or path size state → IsLongest states done state
+last_read rules states word done rest path size state is size_is state_is =
+    subst₂ (λ (u : Word) (n : ℕ). IsLongest states u n) (take_all (length done) done (omega arith))
+    (sym (get_or_read path size state (omega (arith, is.count, size_is)) state_is 0 ∙ ap (λ i. get_or path i 0) size_is))
+    (is.longest (length done) (omega arith))
+
+-- the step that a table tells
+pub read_steps : (rules : List (Word × Word)) → AreFalling rules → (states : List Word) → AreStates rules states → (word : Word) (r : Reduction) (a size state t : ℕ) (end : Option ℕ)
+    → IsReducing rules states word r.done.items (r.rest.items ++ a ∷ []) r.states.items → size ≡ length r.done.items → state ≡ get_or r.states.items size state
+    → Reads rules states (longer states state a) t end → IsAtStep rules states word r a t end
+read_steps rules falling states are word r a size state t end is size_is state_is reads = record {
+  reducing = is;
+  step = step_read rules falling states are r.done.items state a t end
+      (last_read rules states word r.done.items (r.rest.items ++ a ∷ []) r.states.items size state is size_is state_is) reads;
+}

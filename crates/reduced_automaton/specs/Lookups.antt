@@ -4,7 +4,7 @@ use Rattle.std.specs.Prelude.{◌≡◌, ℕ, ◌+◌, ◌<◌, ◌≤◌, List,
 use Rattle.theory.specs.Word.{Word, IsFactor}
 use Rattle.theory.specs.Completion.{IsReduced, Listed}
 use Rattle.reduced_automaton.specs.Rules.{AreFalling}
-use Rattle.reduced_automaton.specs.States.{EndsAt, HasEnd, IsLongest}
+use Rattle.reduced_automaton.specs.States.{IsLongest}
 use Rattle.reduced_automaton.specs.Tables.{Moves, IsTableOf}
 use Rattle.reduced_automaton.specs.Tries.{left_at, words_of}
 use Rattle.reduced_automaton.specs.Reductions.{IsReducing}
@@ -79,12 +79,6 @@ pub record IsAtLetter (rules : List (Word × Word)) (lookup : Lookup) (done : Wo
 abbrev pub reads_to : {rules : List (Word × Word)} {lookup : Lookup} {done : Word} {state : ℕ}
     → IsAtLetter rules lookup done state → List Word
 reads_to at = states_by at.is
-
--- what a letter behind a reduced word leads to: a rule whose left side ends there, or else the
--- longest state there
-abbrev pub IsNext : List (Word × Word) → List Word → Word → ℕ → Option ℕ → Type 0
-IsNext rules states u next (Some place) = EndsAt rules u place
-IsNext rules states u next None = (HasEnd rules u → ⊥) × IsLongest states u next
 
 -- a reduction by the rules, with the stack of the states of the table
 pub record IsReducingBy (rules : List (Word × Word)) (lookup : Lookup) (word done rest : Word)

@@ -1,9 +1,9 @@
 -- Reduction of a word with a stack of states.
-use Rattle.std.specs.Prelude.{◌≡◌, ℕ, suc, ◌+◌, ◌-◌, ◌*◌, ◌≤◌, max, List, [], ◌∷◌, ◌++◌, length, take, reverse, slice_index_or}
+use Rattle.std.specs.Prelude.{◌≡◌, ℕ, suc, ◌+◌, ◌-◌, ◌*◌, ◌≤◌, max, List, [], ◌∷◌, ◌++◌, length, take, reverse, slice_index_or, Option}
 use Rattle.theory.specs.Word.{Word, IsOver}
 use Rattle.theory.specs.Completion.{IsReduced, Listed, Reduces}
 use Rattle.reduced_automaton.specs.Automaton.{Reading}
-use Rattle.reduced_automaton.specs.States.{IsLongest}
+use Rattle.reduced_automaton.specs.States.{IsLongest, IsStep}
 use Rattle.reduced_automaton.specs.declared.reductions.Reduction.{Reduction}
 
 -- the number that the letters after a number make, the first letter most significant
@@ -45,9 +45,22 @@ abbrev pub weight : List (Word × Word) → Word → Word → Word → ℕ
 weight rules word done rest = rank (letters_for rules word) (done ++ reverse rest) * suc
     (length word) + length rest
 
+-- a reduction of the word with the stack of these states
+abbrev pub IsReductionBy : List (Word × Word) → List Word → Word → Reduction → Type 0
+IsReductionBy rules states word r =
+    IsReducing rules states word r.done.items r.rest.items r.states.items
+
+-- a reduction of the word, but that the letter is read next, and that a rule's left side ends there,
+-- or else a state
+pub record IsAtStep (rules : List (Word × Word)) (states : List Word) (word : Word) (r : Reduction)
+    (letter next : ℕ) (end : Option ℕ) : Type 0 where
+  pub reducing : IsReducing rules states word r.done.items (r.rest.items ++ letter ∷ [])
+      r.states.items
+  pub step : IsStep rules states (r.done.items ++ letter ∷ []) next end
+
 -- a reduction of the word by an automaton
 abbrev pub IsReductionOf : Reading → Word → Reduction → Type 0
-IsReductionOf a word r = IsReducing a.rules a.states word r.done.items r.rest.items r.states.items
+IsReductionOf a = IsReductionBy a.rules a.states
 
 -- a reduction of the word, but that the letter is read next
 abbrev pub IsReductionAt : Reading → Word → ℕ → Reduction → Type 0

@@ -31,6 +31,11 @@ abbrev pub Leads : List (Word × Word) → List Word → Word → Option ℕ →
 Leads rules states u None = HasEnd rules u
 Leads rules states u (Some place) = (HasEnd rules u → ⊥) × IsLongest states u place
 
+-- what stands at the end of u: the left side of a rule, or else the longest state
+abbrev pub IsStep : List (Word × Word) → List Word → Word → ℕ → Option ℕ → Type 0
+IsStep rules states u next (Some number) = EndsAt rules u number
+IsStep rules states u next None = (HasEnd rules u → ⊥) × IsLongest states u next
+
 -- the empty word first, and with each word that without its last letter
 pub record ArePrefixes (states : List Word) : Type 0 where
   pub some : 0 < length states

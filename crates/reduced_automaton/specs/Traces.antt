@@ -1,5 +1,6 @@
 -- Where rules are applied while a word is reduced.
-use Rattle.std.specs.Prelude.{true, List, ◌∷◌, [], ◌++◌, map, reverse, ℕ}
+use Rattle.std.specs.Prelude.{true, List, ◌∷◌, [], ◌++◌, map, reverse, ℕ, Option}
+use Rattle.std.specs.Option.{option_to_list}
 use Rattle.theory.specs.Word.{Word}
 use Rattle.theory.specs.Congruence.{Presentation}
 use Rattle.theory.specs.PlacedStep.{PlacedStep, LeadTo}
@@ -25,3 +26,10 @@ word_so_far r = r.done.items ++ reverse r.rest.items
 -- the same, with the letter that is read next
 abbrev pub word_at : ℕ → Reduction → Word
 word_at letter r = r.done.items ++ reverse (r.rest.items ++ letter ∷ [])
+
+-- rules that lead to the word before the letter is read lead, with the one that is applied there, if
+-- one is, to the word behind it
+abbrev pub LeadsOn : List (Word × Word) → ℕ → Reduction → Option Applied → Reduction → Type 0
+LeadsOn rules letter old applied new = (u : Word) (trace : List Applied)
+    → LeadBy rules u trace (word_at letter old)
+    → LeadBy rules u (trace ++ option_to_list applied) (word_so_far new)

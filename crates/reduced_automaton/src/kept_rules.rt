@@ -12,7 +12,7 @@ use crate::reductions::unread;
 use crate::rewriting::word_of;
 use crate::rule_lists::Rules;
 use crate::table::Table;
-use crate::traces::Applied;
+use crate::traces::{Applied, note};
 use ports::NoMemory;
 use std::alloc::Global;
 use std::marker::Model;
@@ -172,9 +172,10 @@ impl KeptRules {
         let _count = self.rules.len();
         let alloc = self.rules.alloc;
         let mut reduction = unread(alloc, word)?;
-        let mut more = true;
-        while more {
-            more = self.lookup.read_next(&self.rules, word, &mut reduction)?;
+        while let Some(letter) = reduction.rest.pop() {
+            let _applied = self
+                .lookup
+                .read_letter(&self.rules, word, &mut reduction, letter)?;
         }
         word_of(alloc, reduction.done.as_slice())
     }
@@ -190,11 +191,11 @@ impl KeptRules {
         let alloc = self.rules.alloc;
         let mut trace = Vec::new(alloc);
         let mut reduction = unread(alloc, word)?;
-        let mut more = true;
-        while more {
-            more = self
+        while let Some(letter) = reduction.rest.pop() {
+            let applied = self
                 .lookup
-                .trace_next(&self.rules, word, &mut reduction, &mut trace)?;
+                .read_letter(&self.rules, word, &mut reduction, letter)?;
+            note(&mut trace, applied)?;
         }
         let reduced = word_of(alloc, reduction.done.as_slice())?;
         Ok((reduced, trace))

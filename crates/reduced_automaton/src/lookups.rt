@@ -3,15 +3,17 @@
 ghost use Rattle.std.specs.Prelude.{◌≡◌, ℕ, ◌+◌, ◌<◌, ◌≤◌, [], ◌∷◌, ◌++◌, List, length, true, false, IfOk, OnOk, IsTrue, ◌↔◌, MatchOption};
 ghost use Rattle.theory.specs.Word.{Word as Letters};
 ghost use Rattle.reduced_automaton.specs.Rules.{AreFalling};
-ghost use Rattle.reduced_automaton.specs.States.{EndsAt};
+ghost use Rattle.reduced_automaton.specs.States.{EndsAt, IsStep};
 ghost use Rattle.reduced_automaton.specs.Tables.{IsTableOf};
 ghost use Rattle.reduced_automaton.specs.Tries.{longer, words_of, Reads};
 ghost use Rattle.reduced_automaton.specs.Reductions.{weight_at, weight_of};
-ghost use Rattle.reduced_automaton.specs.Lookups.{AreLasts, IsAtLetter, IsLookup, IsNext, IsRewriting, IsRewritingAt, StandsLast, moves_of, reads_to};
+ghost use Rattle.reduced_automaton.specs.Traces.{LeadsOn};
+ghost use Rattle.reduced_automaton.specs.Lookups.{AreLasts, IsAtLetter, IsLookup, IsRewriting, IsRewritingAt, StandsLast, moves_of, reads_to};
 
-use crate::reductions::{Reduction, go_back, push};
+use crate::reductions::Reduction;
 use crate::rule_lists::Rules;
 use crate::table::Table;
+use crate::traces::{Applied, follow};
 use ports::NoMemory;
 use std::alloc::Global;
 use words::{Letter, Word};
@@ -129,7 +131,7 @@ impl Lookup {
     ) -> (usize, Option<usize>)
         requires { IsAtLetter rules.now self.now done.now state }
         ensures { (at : IsAtLetter rules.now self.now done.now state)
-            → IsNext rules.now (reads_to at) (done.now ++ letter ∷ []) result.0 result.1 }
+            → IsStep rules.now (reads_to at) (done.now ++ letter ∷ []) result.0 result.1 }
     {
         if let Some(place) = self.newer_end(rules, done, letter) {
             return (0, Some(place));
@@ -141,52 +143,24 @@ impl Lookup {
         }
     }
 
-    // Reads one letter.
-    fn read_letter(
+    /// Reads one letter, and tells the rule that is applied there, if one is. Refused only where
+    /// memory is wanting.
+    pub fn read_letter(
         &self,
         rules: &Rules,
         word: &Word,
         reduction: &mut Reduction,
         letter: Letter,
-    ) -> Result<(), NoMemory>
+    ) -> Result<Option<Applied>, NoMemory>
         requires { IsRewritingAt rules.now self.now word.now letter reduction.old }
         ensures rewriting { OnOk result (IsRewriting rules.now self.now word.now reduction.new) }
         ensures less { OnOk result (weight_of rules.now word.now reduction.new
             < weight_at rules.now word.now letter reduction.old) }
+        ensures traced { IfOk result (λ applied. LeadsOn rules.now letter reduction.old applied
+            reduction.new) }
     {
-        let _count = rules.len();
         let state = reduction.states[reduction.done.len()];
-        let (next, end) = self.step(rules, reduction.done.as_slice(), state, letter);
-        if let Some(place) = end {
-            go_back(reduction, rules.rule(place))?;
-            return Ok(());
-        }
-        push(reduction, letter, next)?;
-        Ok(())
-    }
-
-    /// Reads the next letter, if there is one. Refused only where memory is wanting.
-    pub fn read_next(
-        &self,
-        rules: &Rules,
-        word: &Word,
-        reduction: &mut Reduction,
-    ) -> Result<bool, NoMemory>
-        requires { IsRewriting rules.now self.now word.now reduction.old }
-        ensures rewriting { OnOk result (IsRewriting rules.now self.now word.now reduction.new) }
-        ensures more { IfOk result (λ more. more ≡ true
-            → weight_of rules.now word.now reduction.new
-            < weight_of rules.now word.now reduction.old) }
-        ensures end { IfOk result (λ more. more ≡ false → (reduction.new.rest.items ≡ [])
-            × (weight_of rules.now word.now reduction.new
-            ≤ weight_of rules.now word.now reduction.old)) }
-    {
-        match reduction.rest.pop() {
-            None => Ok(false),
-            Some(letter) => {
-                self.read_letter(rules, word, reduction, letter)?;
-                Ok(true)
-            }
-        }
+        let step = self.step(rules, reduction.done.as_slice(), state, letter);
+        follow(reduction, rules, letter, step)
     }
 }

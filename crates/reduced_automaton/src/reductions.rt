@@ -1,10 +1,11 @@
 // Reduction of a word, which is read once with a stack of states.
-ghost use Rattle.std.specs.Prelude.{◌≡◌, ℕ, ◌+◌, ◌-◌, ◌<◌, ◌≤◌, [], ◌∷◌, ◌++◌, length, take, reverse, true, false, IfOk, OnOk};
+ghost use Rattle.std.specs.Prelude.{◌≡◌, ℕ, ◌+◌, ◌-◌, ◌<◌, ◌≤◌, [], ◌∷◌, ◌++◌, length, take, reverse, IfOk, OnOk};
 ghost use Rattle.theory.specs.Completion.{IsReduced, Listed, Reduces};
 ghost use Rattle.reduced_automaton.specs.Reductions.{IsReductionAt, IsReductionOf, kept, weight_at, weight_of};
 
 use crate::automata::Automaton;
 use crate::rewriting::word_of;
+use crate::traces::follow;
 use ports::NoMemory;
 use std::alloc::Global;
 use words::{Letter, Word};
@@ -93,33 +94,9 @@ impl Automaton {
         let _states = self.states();
         let _count = self.rules().len();
         let state = reduction.states[reduction.done.len()];
-        let read = self.read(state, letter);
-        if let Some(number) = read.1 {
-            go_back(reduction, self.rules().rule(number))?;
-            return Ok(());
-        }
-        push(reduction, letter, read.0)?;
+        let step = self.read(state, letter);
+        let _applied = follow(reduction, self.rules(), letter, step)?;
         Ok(())
-    }
-
-    // Reads the next letter, if there is one.
-    fn read_next(&self, word: &Word, reduction: &mut Reduction) -> Result<bool, NoMemory>
-        requires { IsReductionOf self.now word.now reduction.old }
-        ensures reducing { OnOk result (IsReductionOf self.now word.now reduction.new) }
-        ensures more { IfOk result (λ more. more ≡ true
-            → weight_of self.now.rules word.now reduction.new
-            < weight_of self.now.rules word.now reduction.old) }
-        ensures end { IfOk result (λ more. more ≡ false → (reduction.new.rest.items ≡ [])
-            × (weight_of self.now.rules word.now reduction.new
-            ≤ weight_of self.now.rules word.now reduction.old)) }
-    {
-        match reduction.rest.pop() {
-            None => Ok(false),
-            Some(letter) => {
-                self.read_letter(word, reduction, letter)?;
-                Ok(true)
-            }
-        }
     }
 
     /// A word to which the rules lead from the word, and to which none applies. The word is read
@@ -132,9 +109,8 @@ impl Automaton {
         let _states = self.states();
         let _count = self.rules().len();
         let mut reduction = unread(self.alloc, word)?;
-        let mut more = true;
-        while more {
-            more = self.read_next(word, &mut reduction)?;
+        while let Some(letter) = reduction.rest.pop() {
+            self.read_letter(word, &mut reduction, letter)?;
         }
         word_of(self.alloc, reduction.done.as_slice())
     }

@@ -1,15 +1,14 @@
-// Reduction of a word, with where rules are applied.
-ghost use Rattle.std.specs.Prelude.{◌≡◌, ◌<◌, ◌≤◌, [], true, false, IfOk, OnOk};
+// Reduction of a word, a letter after another, with where rules are applied.
+ghost use Rattle.std.specs.Prelude.{◌≡◌, ◌<◌, ◌++◌, List, IfOk, OnOk};
+ghost use Rattle.std.specs.Option.{option_to_list};
 ghost use Rattle.theory.specs.Word.{Word as Letters};
-ghost use Rattle.reduced_automaton.specs.Lookups.{IsRewriting, IsRewritingAt};
-ghost use Rattle.reduced_automaton.specs.Reductions.{weight_at, weight_of};
-ghost use Rattle.reduced_automaton.specs.Traces.{LeadBy, word_at, word_so_far};
+ghost use Rattle.reduced_automaton.specs.Reductions.{IsAtStep, IsReductionBy, weight_at, weight_of};
+ghost use Rattle.reduced_automaton.specs.Traces.{LeadsOn};
 
-use crate::lookups::Lookup;
 use crate::reductions::{Reduction, go_back, push};
 use crate::rule_lists::Rules;
 use ports::NoMemory;
-use words::{Letter, Word};
+use words::Letter;
 
 /// A rule that is applied: its left side stands in a word, and the right side takes its place.
 #[derive(Clone, Copy, Debug, PartialEq, Eq)]
@@ -20,66 +19,44 @@ pub struct Applied {
     pub rule: usize,
 }
 
-impl Lookup {
-    // Reads one letter.
-    fn trace_letter(
-        &self,
-        rules: &Rules,
-        word: &Word,
-        reduction: &mut Reduction,
-        letter: Letter,
-        trace: &mut Vec<Applied>,
-    ) -> Result<(), NoMemory>
-        requires { IsRewritingAt rules.now self.now word.now letter reduction.old }
-        ensures rewriting { OnOk result (IsRewriting rules.now self.now word.now reduction.new) }
-        ensures less { OnOk result (weight_of rules.now word.now reduction.new
-            < weight_at rules.now word.now letter reduction.old) }
-        ensures traced { OnOk result ((u : Letters)
-            → LeadBy rules.now u trace.old.items (word_at letter reduction.old)
-            → LeadBy rules.now u trace.new.items (word_so_far reduction.new)) }
-    {
-        let _count = rules.len();
-        let state = reduction.states[reduction.done.len()];
-        let (next, end) = self.step(rules, reduction.done.as_slice(), state, letter);
-        if let Some(place) = end {
-            go_back(reduction, rules.rule(place))?;
-            trace.push(Applied {
-                place: reduction.done.len(),
-                rule: place,
-            })?;
-            return Ok(());
-        }
-        push(reduction, letter, next)?;
-        Ok(())
+/// Puts the rule that was applied, if one was, at the end. Refused only where memory is wanting.
+pub fn note(trace: &mut Vec<Applied>, applied: Option<Applied>) -> Result<(), NoMemory>
+    ensures { OnOk result (trace.new.items ≡ trace.old.items ++ option_to_list applied) }
+{
+    if let Some(applied) = applied {
+        trace.push(applied)?;
     }
+    Ok(())
+}
 
-    /// Reads the next letter, if there is one, and notes the rule that is applied there. Refused
-    /// only where memory is wanting.
-    pub fn trace_next(
-        &self,
-        rules: &Rules,
-        word: &Word,
-        reduction: &mut Reduction,
-        trace: &mut Vec<Applied>,
-    ) -> Result<bool, NoMemory>
-        requires { IsRewriting rules.now self.now word.now reduction.old }
-        ensures rewriting { OnOk result (IsRewriting rules.now self.now word.now reduction.new) }
-        ensures more { IfOk result (λ more. more ≡ true
-            → weight_of rules.now word.now reduction.new
-            < weight_of rules.now word.now reduction.old) }
-        ensures end { IfOk result (λ more. more ≡ false → (reduction.new.rest.items ≡ [])
-            × (weight_of rules.now word.now reduction.new
-            ≤ weight_of rules.now word.now reduction.old)) }
-        ensures traced { OnOk result ((u : Letters)
-            → LeadBy rules.now u trace.old.items (word_so_far reduction.old)
-            → LeadBy rules.now u trace.new.items (word_so_far reduction.new)) }
-    {
-        match reduction.rest.pop() {
-            None => Ok(false),
-            Some(letter) => {
-                self.trace_letter(rules, word, reduction, letter, trace)?;
-                Ok(true)
-            }
+/// The letter is read, to the state that follows; or the rule is applied whose left side ends
+/// there. Refused only where memory is wanting.
+pub fn follow(
+    reduction: &mut Reduction,
+    rules: &Rules,
+    letter: Letter,
+    step: (usize, Option<usize>),
+) -> Result<Option<Applied>, NoMemory>
+    requires { (states : List Letters) × (word : Letters)
+        × IsAtStep rules.now states word reduction.old letter step.0 step.1 }
+    ensures reducing { OnOk result ((states : List Letters) (word : Letters)
+        → IsAtStep rules.now states word reduction.old letter step.0 step.1
+        → IsReductionBy rules.now states word reduction.new
+        × (weight_of rules.now word reduction.new
+        < weight_at rules.now word letter reduction.old)) }
+    ensures traced { IfOk result (λ applied. LeadsOn rules.now letter reduction.old applied
+        reduction.new) }
+{
+    let _count = rules.len();
+    match step.1 {
+        None => {
+            push(reduction, letter, step.0)?;
+            Ok(None)
+        }
+        Some(rule) => {
+            go_back(reduction, rules.rule(rule))?;
+            let place = reduction.done.len();
+            Ok(Some(Applied { place, rule }))
         }
     }
 }

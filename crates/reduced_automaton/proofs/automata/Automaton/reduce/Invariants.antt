@@ -1,13 +1,8 @@
-use Rattle.std.proofs.Common.{◌≡◌, ◌+◌, [], false, if◌then◌else◌}
-use Rattle.reduced_automaton.specs.Reductions.{IsReducing, weight}
+use Rattle.reduced_automaton.specs.Reductions.{IsReductionOf, weight_of}
 use Rattle.reduced_automaton.proofs.automata.Automaton.reduce.Given as goal
 
-abbrev pub invariant-loop-more : goal.invariant-loop-more
-invariant-loop-more l =
-    record {
-      reducing : IsReducing l.self.rules l.self.states l.word l.reduction.done.items l.reduction.rest.items l.reduction.states.items;
-      end : l.more ≡ false → l.reduction.rest.items ≡ [];
-    }
+abbrev pub invariant-loop-letter : goal.invariant-loop-letter
+invariant-loop-letter l = IsReductionOf l.self l.word l.reduction
 
-abbrev pub decreases-loop-more : goal.decreases-loop-more
-decreases-loop-more l = weight l.self.rules l.word l.reduction.done.items l.reduction.rest.items + (if l.more then 1 else 0)
+abbrev pub decreases-loop-letter : goal.decreases-loop-letter
+decreases-loop-letter l = weight_of l.self.rules l.word l.reduction

@@ -1,51 +1,36 @@
-use Rattle.std.proofs.Common.{◌∷◌, ◌++◌, [], sym, subst, subst₂, arith, List, ℕ}
-use Rattle.theory.specs.Word.{Word}
-use Rattle.reduced_automaton.specs.Lookups.{IsReducingBy}
-use Rattle.reduced_automaton.proofs.LookupLaws.{letter_at, letter_back, letter_ends, letter_pushed}
+use Rattle.std.proofs.Common.{arith}
+use Rattle.std.proofs.lemmas.Result.{on_ok_weaker}
+use Rattle.reduced_automaton.specs.Lookups.{states_by}
+use Rattle.reduced_automaton.specs.Reductions.{IsAtStep}
+use Rattle.reduced_automaton.proofs.LookupLaws.{letter_at, letter_steps}
 use Rattle.reduced_automaton.proofs.lookups.Lookup.read_letter.Goals as goal
+use Rattle.reduced_automaton.proofs.lookups.Lookup.read_letter.Goals.{After-follow}
 
-pub step-next-requires : goal.step-next-requires
-step-next-requires c =
-    letter_at c.args.rules.now c.args.self.now c.args.word.now c.args.reduction.now.done.items c.args.reduction.now.rest.items c.args.reduction.now.states.items c.args.letter c.requires
+pub step-step-requires : goal.step-step-requires
+step-step-requires c =
+    letter_at c.args.rules.now c.args.self.now c.args.word.now c.args.reduction.now c.args.letter c.requires
     c.as_slice.result.now c.len.result c.index-state.result.now c.as_slice.ensures.value (omega (arith, c.len.ensures)) c.index-state.ensures
 
-pub rule-requires : goal.rule-requires
-rule-requires c =
-    (letter_ends c.args.rules.now c.args.self.now c.args.word.now c.args.reduction.now.done.items c.args.reduction.now.rest.items c.args.reduction.now.states.items c.args.letter c.requires
-    c.as_slice.result.now c.len.result c.index-state.result.now c.as_slice.ensures.value (omega (arith, c.len.ensures)) c.index-state.ensures
-    c.step-next.result.0 c.step-next.result.1 c.step-next.ensures c.in-Some.place c.in-Some.is).within
+pub follow-requires : goal.follow-requires
+follow-requires c = (
+  states_by c.requires.is,
+  c.args.word.now,
+  letter_steps c.args.rules.now c.args.self.now c.args.word.now c.args.reduction.now c.args.letter c.requires
+      c.as_slice.result.now c.len.result c.index-state.result.now c.as_slice.ensures.value (omega (arith, c.len.ensures)) c.index-state.ensures
+      c.step-step.result.0 c.step-step.result.1 c.step-step.ensures,
+)
 
-pub go_back-requires-clause-some : goal.go_back-requires-clause-some
-go_back-requires-clause-some c =
-    (letter_back c.args.rules.now c.args.self.now c.args.word.now c.args.reduction.now.done.items c.args.reduction.now.rest.items c.args.reduction.now.states.items c.args.letter c.requires
+-- what the step does
+steps : (c : After-follow) → IsAtStep c.args.rules.now (states_by c.requires.is) c.args.word.now c.args.reduction.now c.args.letter c.step-step.result.0 c.step-step.result.1
+steps c =
+    letter_steps c.args.rules.now c.args.self.now c.args.word.now c.args.reduction.now c.args.letter c.requires
     c.as_slice.result.now c.len.result c.index-state.result.now c.as_slice.ensures.value (omega (arith, c.len.ensures)) c.index-state.ensures
-    c.step-next.result.0 c.step-next.result.1 c.step-next.ensures c.len-count.ensures.falling c.in-Some.place c.rule.result.now c.in-Some.is c.rule.ensures.rule).0
-
-pub go_back-requires-clause-within : goal.go_back-requires-clause-within
-go_back-requires-clause-within c =
-    (letter_back c.args.rules.now c.args.self.now c.args.word.now c.args.reduction.now.done.items c.args.reduction.now.rest.items c.args.reduction.now.states.items c.args.letter c.requires
-    c.as_slice.result.now c.len.result c.index-state.result.now c.as_slice.ensures.value (omega (arith, c.len.ensures)) c.index-state.ensures
-    c.step-next.result.0 c.step-next.result.1 c.step-next.ensures c.len-count.ensures.falling c.in-Some.place c.rule.result.now c.in-Some.is c.rule.ensures.rule).1
-
-pub returns-in-Some-clause-rewriting : goal.returns-in-Some-clause-rewriting
-returns-in-Some-clause-rewriting c =
-    ((letter_back c.args.rules.now c.args.self.now c.args.word.now c.args.reduction.now.done.items c.args.reduction.now.rest.items c.args.reduction.now.states.items c.args.letter c.requires
-    c.as_slice.result.now c.len.result c.index-state.result.now c.as_slice.ensures.value (omega (arith, c.len.ensures)) c.index-state.ensures
-    c.step-next.result.0 c.step-next.result.1 c.step-next.ensures c.len-count.ensures.falling c.in-Some.place c.rule.result.now c.in-Some.is c.rule.ensures.rule).2 c.go_back.new.reduction.done.items c.go_back.new.reduction.rest.items c.go_back.new.reduction.states.items
-    c.in_ok-go_back.ensures.done c.in_ok-go_back.ensures.rest c.in_ok-go_back.ensures.states).0
-
-pub returns-in-Some-clause-less : goal.returns-in-Some-clause-less
-returns-in-Some-clause-less c =
-    ((letter_back c.args.rules.now c.args.self.now c.args.word.now c.args.reduction.now.done.items c.args.reduction.now.rest.items c.args.reduction.now.states.items c.args.letter c.requires
-    c.as_slice.result.now c.len.result c.index-state.result.now c.as_slice.ensures.value (omega (arith, c.len.ensures)) c.index-state.ensures
-    c.step-next.result.0 c.step-next.result.1 c.step-next.ensures c.len-count.ensures.falling c.in-Some.place c.rule.result.now c.in-Some.is c.rule.ensures.rule).2 c.go_back.new.reduction.done.items c.go_back.new.reduction.rest.items c.go_back.new.reduction.states.items
-    c.in_ok-go_back.ensures.done c.in_ok-go_back.ensures.rest c.in_ok-go_back.ensures.states).1
+    c.step-step.result.0 c.step-step.result.1 c.step-step.ensures
 
 pub returns-clause-rewriting : goal.returns-clause-rewriting
 returns-clause-rewriting c =
-    let By : Word → Word → List ℕ → Type 0 = λ d r p. IsReducingBy c.args.rules.now c.args.self.now c.args.word.now d r p in
-    subst (λ (d : Word). By d c.push.new.reduction.rest.items c.push.new.reduction.states.items) (sym c.in_ok-push.ensures.done)
-    (subst₂ (λ (r : Word) (p : List ℕ). By (c.args.reduction.now.done.items ++ c.args.letter ∷ []) r p) (sym c.in_ok-push.ensures.rest) (sym c.in_ok-push.ensures.states)
-    (letter_pushed c.args.rules.now c.args.self.now c.args.word.now c.args.reduction.now.done.items c.args.reduction.now.rest.items c.args.reduction.now.states.items c.args.letter c.requires
-    c.as_slice.result.now c.len.result c.index-state.result.now c.as_slice.ensures.value (omega (arith, c.len.ensures)) c.index-state.ensures
-    c.step-next.result.0 c.step-next.result.1 c.step-next.ensures c.len-count.ensures.falling c.in_default.is))
+    on_ok_weaker c.follow.result
+    (λ follows. record { is = c.requires.is; reducing = (follows (states_by c.requires.is) c.args.word.now (steps c)).0 }) c.follow.ensures.reducing
+
+pub returns-clause-less : goal.returns-clause-less
+returns-clause-less c = on_ok_weaker c.follow.result (λ follows. (follows (states_by c.requires.is) c.args.word.now (steps c)).1) c.follow.ensures.reducing
