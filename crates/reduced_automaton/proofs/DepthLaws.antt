@@ -1,6 +1,6 @@
 -- How far words lead from the nodes of a graph.
-use Rattle.std.proofs.Common.{◌≡◌, ℕ, zero, suc, ◌+◌, ◌<◌, ◌≤◌, List, [], ◌∷◌, ◌++◌, length, take, drop, get_or, set, Bool, true, false, refl, sym, ◌∙◌, ap, subst, arith, ◌⊎◌, inl, inr, Option, Some, None, option_and_then, length-set, replicate}
-use Rattle.std.specs.Option.{MatchOption, is_some}
+use Rattle.std.proofs.Common.{◌≡◌, ℕ, zero, suc, ◌+◌, ◌<◌, ◌≤◌, List, [], ◌∷◌, ◌++◌, length, take, drop, get_or, set, Bool, true, false, refl, sym, ◌∙◌, ap, subst, arith, ◌⊎◌, inl, inr, Option, Some, None, length-set, replicate}
+use Rattle.std.specs.Option.{is_some}
 use Rattle.std.proofs.lemmas.Bool.{cases_lt, cases_eq}
 use Rattle.std.proofs.lemmas.List.{take-append-drop, length-take-le, get_or-set_same, get_or-set_other, get_or-replicate, length-replicate}
 use Rattle.theory.specs.Word.{Word, IsOver}
@@ -8,8 +8,7 @@ use Rattle.theory.specs.Graph.{Graph, target, path, IsGraph}
 use Rattle.theory.proofs.Words.{over_left}
 use Rattle.theory.proofs.GraphLaws.{path_front}
 use Rattle.word_graph.specs.Gaps.{count_none}
-use Rattle.word_graph.proofs.EdgeLaws.{target_in}
-use Rattle.reduced_automaton.specs.Paths.{GoesOn, HasPath, all_paths}
+use Rattle.reduced_automaton.specs.Paths.{GoesOn, all_paths}
 use Rattle.reduced_automaton.specs.Automaton.{Allows, AreDepths, AreSettled, AreSettledTo, IsChange, IsSettled, LeadsOn}
 use Rattle.reduced_automaton.proofs.PathLaws.{goes_as, goes_behind, goes_first}
 

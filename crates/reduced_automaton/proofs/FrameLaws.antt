@@ -1,5 +1,5 @@
 -- The words of a frame as paths, and the next of them.
-use Rattle.std.proofs.Common.{◌≡◌, ◌↔◌, ℕ, zero, suc, ◌+◌, ◌-◌, ◌<◌, ◌≤◌, List, [], ◌∷◌, ◌++◌, length, map, get_or, refl, sym, ◌∙◌, ap, subst, arith, ◌⊎◌, inl, inr, Bool, true, false, not, Option, Some, None, Vec, Global, option_and_then}
+use Rattle.std.proofs.Common.{◌≡◌, ◌↔◌, ℕ, zero, suc, ◌+◌, ◌-◌, ◌<◌, ◌≤◌, List, [], ◌∷◌, ◌++◌, length, map, get_or, refl, sym, ◌∙◌, ap, subst, arith, inl, inr, Bool, true, false, not, Option, Some, None, Vec, Global, option_and_then}
 use Rattle.std.specs.Option.{MatchOption, is_some}
 use Rattle.std.proofs.lemmas.Bool.{cases_lt}
 use Rattle.std.proofs.lemmas.List.{get_or_append_left, get_or_push, length-map, length_push, map_push}
@@ -7,17 +7,17 @@ use Rattle.std.proofs.lemmas.Option.{same_Some}
 use Rattle.theory.specs.Word.{Word, IsOver}
 use Rattle.theory.specs.ShortLex.{◌≺◌}
 use Rattle.theory.specs.Graph.{Graph, target, path, IsGraph}
-use Rattle.theory.specs.Listing.{IsAfter, IsLast, IsNext, AreFinite, AreInfinite, GoesOnOrEnds}
+use Rattle.theory.specs.Listing.{IsLast, IsNext, AreFinite, AreInfinite, GoesOnOrEnds}
 use Rattle.theory.proofs.GraphLaws.{path_append, path_front}
 use Rattle.theory.proofs.LatticeLaws.{path_inside, path_over}
-use Rattle.reduced_automaton.specs.Paths.{AreIn, GoesFar, GoesOn, HasPath, IsLastOfLength, IsLeastPath, IsNextOfLength, Paths, all_paths, narrowed}
-use Rattle.reduced_automaton.specs.Automaton.{IsReader, IsReducedWord, Reading}
+use Rattle.reduced_automaton.specs.Paths.{AreIn, GoesFar, GoesOn, HasPath, IsLastOfLength, Paths, narrowed}
+use Rattle.reduced_automaton.specs.Automaton.{IsReader, Reading}
 use Rattle.reduced_automaton.specs.Frames.{IsFramed}
-use Rattle.reduced_automaton.specs.Framings.{AreLayers, AreMarks, IsFraming, IsLeastFrom, IsLimit, IsNextLength, IsPathIn, IsSpread, IsUnder, LeadsTo, frame_paths}
+use Rattle.reduced_automaton.specs.Framings.{AreLayers, AreMarks, IsFraming, IsLeastFrom, IsLimit, IsPathIn, IsSpread, IsUnder, LeadsTo, frame_paths}
 use Rattle.reduced_automaton.specs.declared.frames.Frame.{Frame}
 use Rattle.reduced_automaton.specs.declared.framings.Framing.{Framing}
 use Rattle.reduced_automaton.proofs.PathLaws.{far_first, goes_as, goes_behind, goes_path}
-use Rattle.reduced_automaton.proofs.NextPaths.{IsPassed, next_as_long, passed_last, passed_next, passed_start, passed_word}
+use Rattle.reduced_automaton.proofs.NextPaths.{IsPassed, passed_last, passed_next}
 use Rattle.reduced_automaton.proofs.ReadingLaws.{answer_same, endless_infinite, ended_finite, last_same, list_of_all, next_or_last, next_same}
 use Rattle.reduced_automaton.proofs.Decisions.{far_decided}
 use Rattle.reduced_automaton.proofs.MarkLaws.{ends_in, layer_in, layer_item, layer_more, marks_same, narrowed_count, narrowed_graph, narrowed_in}

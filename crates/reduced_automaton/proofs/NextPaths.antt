@@ -6,7 +6,7 @@ use Rattle.std.proofs.lemmas.List.{take-append-drop, length-drop, drop_more, dro
 use Rattle.std.proofs.lemmas.Option.{same_Some, get_or_from_slice_get, slice_get_within}
 use Rattle.theory.specs.Word.{Word}
 use Rattle.theory.specs.ShortLex.{◌≺◌}
-use Rattle.theory.specs.Graph.{Graph, target, path, IsGraph}
+use Rattle.theory.specs.Graph.{Graph, target, path}
 use Rattle.theory.specs.Listing.{IsAfter, IsLast, IsNext}
 use Rattle.theory.proofs.Words.{before_cases, before_cons, before_irrefl, before_no_longer, letters_first, nat_Less, nat_from_Less, nat_from_Equal, shorter_first, then_Less}
 use Rattle.theory.proofs.GraphLaws.{path_front, path_letter}

@@ -6,7 +6,7 @@ use Rattle.std.proofs.lemmas.List.{length-replicate}
 use Rattle.std.proofs.lemmas.Option.{same_Some}
 use Rattle.theory.specs.Word.{Word, IsOver}
 use Rattle.theory.specs.ShortLex.{◌≺◌}
-use Rattle.theory.specs.Graph.{Graph, target, path, IsGraph}
+use Rattle.theory.specs.Graph.{Graph, target, path}
 use Rattle.theory.specs.Completion.{IsReduced, Listed}
 use Rattle.theory.specs.Listing.{IsLast, IsListOf, IsNext, IsStartOf, AreFinite, AreInfinite, GoesOnOrEnds}
 use Rattle.theory.proofs.Words.{shorter_first}

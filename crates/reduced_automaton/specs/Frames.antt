@@ -1,5 +1,5 @@
 -- The words that are reduced between a prefix and a suffix.
-use Rattle.std.specs.Prelude.{ℕ, ◌++◌}
+use Rattle.std.specs.Prelude.{◌++◌}
 use Rattle.theory.specs.Word.{Word, IsOver}
 use Rattle.reduced_automaton.specs.Automaton.{IsReducedWord, Reading}
 use Rattle.reduced_automaton.specs.declared.frames.Frame.{Frame}

@@ -1,4 +1,4 @@
-use Rattle.std.proofs.Common.{◌≡◌, ◌↔◌, Bool, List, length, true, sym, ◌∙◌, ap, subst, arith}
+use Rattle.std.proofs.Common.{Bool, List, length, sym, ◌∙◌, ap, subst, arith}
 use Rattle.std.specs.Option.{is_some}
 use Rattle.reduced_automaton.specs.Tables.{edges}
 use Rattle.reduced_automaton.specs.Paths.{GoesOn}

@@ -1,4 +1,3 @@
-use Rattle.std.proofs.Common.{length}
 use Rattle.reduced_automaton.specs.Tables.{edges}
 use Rattle.reduced_automaton.specs.Paths.{GoesOn}
 use Rattle.reduced_automaton.specs.Framings.{AreMarks, frame_paths}

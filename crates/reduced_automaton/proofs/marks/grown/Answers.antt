@@ -1,7 +1,7 @@
-use Rattle.std.proofs.Common.{◌≡◌, ◌↔◌, Bool, List, length, true, inl, sym, ◌∙◌, ap, subst, arith}
+use Rattle.std.proofs.Common.{Bool, List, length, inl, sym, ◌∙◌, subst, arith}
 use Rattle.reduced_automaton.specs.Tables.{edges}
 use Rattle.reduced_automaton.specs.Paths.{narrowed}
-use Rattle.reduced_automaton.specs.Framings.{AreMarks, IsGrown, LeadsTo}
+use Rattle.reduced_automaton.specs.Framings.{AreMarks, IsGrown}
 use Rattle.reduced_automaton.proofs.MarkLaws.{grown_by, marks_end, marks_push, marks_start}
 use Rattle.reduced_automaton.proofs.marks.grown.Goals as goal
 use Rattle.reduced_automaton.proofs.marks.grown.Goals.{then-ends-node, else-ends-node}

@@ -1,6 +1,6 @@
 use Rattle.reduced_automaton.specs.Tables.{edges}
 use Rattle.reduced_automaton.specs.Paths.{narrowed}
-use Rattle.reduced_automaton.specs.Framings.{AreMarks, IsGrown, LeadsTo}
+use Rattle.reduced_automaton.specs.Framings.{AreMarks, IsGrown}
 use Rattle.reduced_automaton.proofs.marks.grown.Given as goal
 
 abbrev pub invariant-loop-node : goal.invariant-loop-node

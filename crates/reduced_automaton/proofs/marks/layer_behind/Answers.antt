@@ -1,7 +1,7 @@
-use Rattle.std.proofs.Common.{◌≡◌, ◌↔◌, Bool, List, length, true, sym, ◌∙◌, ap, subst, arith}
+use Rattle.std.proofs.Common.{Bool, List, length, sym, subst, arith}
 use Rattle.reduced_automaton.specs.Tables.{edges}
 use Rattle.reduced_automaton.specs.Paths.{narrowed}
-use Rattle.reduced_automaton.specs.Framings.{AreMarks, IsGrown, LeadsTo}
+use Rattle.reduced_automaton.specs.Framings.{AreMarks, LeadsTo}
 use Rattle.reduced_automaton.proofs.MarkLaws.{marks_end, marks_push, marks_start}
 use Rattle.reduced_automaton.proofs.marks.layer_behind.Goals as goal
 

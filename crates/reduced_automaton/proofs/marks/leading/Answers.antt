@@ -1,6 +1,5 @@
-use Rattle.std.proofs.Common.{◌≡◌, ◌↔◌, ◌+◌, ◌-◌, ◌<◌, ◌≤◌, Bool, List, length, true, false, sym, ◌∙◌, ap, subst, arith}
-use Rattle.theory.specs.Graph.{IsGraph}
-use Rattle.reduced_automaton.specs.Paths.{AreIn, GoesFar, GoesOn, narrowed}
+use Rattle.std.proofs.Common.{◌≡◌, ◌↔◌, ◌<◌, Bool, List, length, true, sym, ap, subst, arith}
+use Rattle.reduced_automaton.specs.Paths.{AreIn, GoesFar}
 use Rattle.reduced_automaton.specs.Framings.{AreMarks, IsGrown, count_marked, frame_paths}
 use Rattle.reduced_automaton.specs.Tables.{edges}
 use Rattle.reduced_automaton.proofs.MarkLaws.{AreGrowing, count_most, count_within, ends_in, frame_graph, growing_end, growing_less, growing_more, growing_spread, growing_start, growing_within, marks_end, narrowed_count}

@@ -1,4 +1,4 @@
-use Rattle.std.proofs.Common.{◌≡◌, ◌++◌, ℕ}
+use Rattle.std.proofs.Common.{◌≡◌, ◌++◌}
 use Rattle.theory.specs.Word.{Word}
 use Rattle.reduced_automaton.specs.Paths.{GoesOn, IsLeastPath}
 use Rattle.reduced_automaton.proofs.readers.extend_least.Given as goal

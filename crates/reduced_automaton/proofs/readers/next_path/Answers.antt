@@ -1,7 +1,7 @@
-use Rattle.std.proofs.Common.{◌≡◌, ◌+◌, ◌↔◌, ℕ, List, [], Option, length, Some, true, false, not, sym, ◌∙◌, ap, subst, arith}
+use Rattle.std.proofs.Common.{◌≡◌, ◌+◌, ℕ, List, Option, length, Some, sym, ◌∙◌, ap, subst}
 use Rattle.theory.specs.ShortLex.{◌≺◌}
 use Rattle.theory.specs.Listing.{IsLast, IsNext}
-use Rattle.reduced_automaton.specs.Paths.{GoesOn, HasPath, IsLastOfLength, IsLeastPath, IsNextOfLength, all_paths}
+use Rattle.reduced_automaton.specs.Paths.{GoesOn, HasPath, IsLeastPath, all_paths}
 use Rattle.reduced_automaton.specs.Tables.{Moves, edges}
 use Rattle.reduced_automaton.proofs.PathLaws.{none_of, not_then, some_as}
 use Rattle.reduced_automaton.proofs.NextPaths.{next_as_long}

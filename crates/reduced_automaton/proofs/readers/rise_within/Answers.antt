@@ -1,4 +1,4 @@
-use Rattle.std.proofs.Common.{◌≡◌, ◌+◌, ◌-◌, ◌<◌, ◌≤◌, length, get_or, subst, arith, refl}
+use Rattle.std.proofs.Common.{◌≡◌, ◌+◌, ◌-◌, ◌<◌, ◌≤◌, length, get_or, subst, arith}
 use Rattle.reduced_automaton.specs.Paths.{IsLeastEdge, IsWithoutEdge}
 use Rattle.reduced_automaton.proofs.PathLaws.{allows_less}
 use Rattle.reduced_automaton.proofs.NextPaths.{IsLastBehind, rise_at, scan_end, scan_start, scan_step}

@@ -1,6 +1,5 @@
-use Rattle.std.proofs.Common.{◌≡◌, ◌≤◌, sym, subst, arith}
+use Rattle.std.proofs.Common.{◌≤◌, sym, subst, arith}
 use Rattle.std.specs.Result.{IfOk}
-use Rattle.std.proofs.lemmas.Result.{IfOk-weaker}
 use Rattle.reduced_automaton.specs.Automaton.{Reading}
 use Rattle.reduced_automaton.specs.Framings.{IsFraming}
 use Rattle.reduced_automaton.specs.Tables.{edges}

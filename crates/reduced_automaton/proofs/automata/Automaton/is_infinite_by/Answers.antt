@@ -1,7 +1,4 @@
-use Rattle.std.proofs.Common.{◌≡◌, ◌≤◌, ◌↔◌, None, Option, ℕ, true, false, not, sym, ◌∙◌, ap, subst}
-use Rattle.std.specs.Option.{is_some}
-use Rattle.theory.specs.ShortLex.{◌≺◌}
-use Rattle.theory.specs.Listing.{AreFinite, AreInfinite}
+use Rattle.std.proofs.Common.{◌≡◌, true, false, sym, ◌∙◌, subst}
 use Rattle.reduced_automaton.specs.Automaton.{IsReader, Reading}
 use Rattle.reduced_automaton.proofs.FrameLaws.{framed_finite, framed_infinite, none_test}
 use Rattle.reduced_automaton.proofs.automata.Automaton.is_infinite_by.Goals as goal

@@ -1,7 +1,6 @@
-use Rattle.std.proofs.Common.{◌≡◌, ◌+◌, length, Some, None, sym, ◌∙◌, ap, subst}
+use Rattle.std.proofs.Common.{◌+◌, length, Some, None, sym, ◌∙◌, ap, subst}
 use Rattle.std.proofs.lemmas.Result.{IfOk-weaker}
 use Rattle.theory.specs.ShortLex.{◌≺◌}
-use Rattle.theory.specs.Graph.{path}
 use Rattle.reduced_automaton.specs.Paths.{HasPath}
 use Rattle.reduced_automaton.specs.Framings.{IsPathIn, frame_paths}
 use Rattle.reduced_automaton.specs.Tables.{edges}

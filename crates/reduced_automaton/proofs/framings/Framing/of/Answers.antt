@@ -1,4 +1,4 @@
-use Rattle.std.proofs.Common.{◌≡◌, ◌<◌, ◌++◌, ◌∷◌, [], ℕ, Bool, Global, List, Option, Vec, length, sym, ◌∙◌, ap, subst, subst₂, arith}
+use Rattle.std.proofs.Common.{◌++◌, ◌∷◌, [], ℕ, Bool, Global, List, Option, Vec, sym, ◌∙◌, ap, subst, subst₂, arith}
 use Rattle.std.proofs.lemmas.Option.{same_Some}
 use Rattle.theory.specs.Graph.{IsGraph}
 use Rattle.reduced_automaton.specs.Framings.{IsLimit, frame_paths}

@@ -1,5 +1,5 @@
-use Rattle.std.proofs.Common.{◌+◌, ◌∷◌, ◌++◌, [], ◌≡◌, sym, ◌∙◌, arith, true, false}
-use Rattle.std.proofs.lemmas.Bool.{eq-eqb, eqb-true}
+use Rattle.std.proofs.Common.{◌+◌, ◌∷◌, ◌++◌, [], arith}
+use Rattle.std.proofs.lemmas.Bool.{eq-eqb}
 use Rattle.reduced_automaton.proofs.LookupLaws.{ends_tested, other_last}
 use Rattle.reduced_automaton.proofs.lookups.Lookup.ends.Goals as goal
 

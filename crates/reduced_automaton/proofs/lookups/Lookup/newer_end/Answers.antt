@@ -1,4 +1,4 @@
-use Rattle.std.proofs.Common.{◌+◌, ◌∷◌, ◌++◌, [], subst, arith, inl, inr, true, false, ◌≡◌}
+use Rattle.std.proofs.Common.{◌+◌, ◌∷◌, ◌++◌, [], subst, arith, inl, inr}
 use Rattle.std.proofs.lemmas.Bool.{cases_eq}
 use Rattle.reduced_automaton.specs.States.{EndsAt}
 use Rattle.reduced_automaton.proofs.lookups.Lookup.newer_end.Goals as goal

@@ -1,4 +1,4 @@
-use Rattle.std.proofs.Common.{◌≤◌, Bool, List, subst, arith}
+use Rattle.std.proofs.Common.{Bool, List, subst, arith}
 use Rattle.theory.specs.Graph.{IsGraph}
 use Rattle.reduced_automaton.specs.Paths.{narrowed}
 use Rattle.reduced_automaton.specs.Tables.{Moves, edges}
