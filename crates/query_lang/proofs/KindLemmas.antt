@@ -13,7 +13,7 @@ use Rattle.elements.specs.MaxPlus.{TruncatedMatrix, IsTruncatedMatrix}
 use Rattle.query_lang.specs.declared.cause.Cause.{Cause}
 use Rattle.query_lang.specs.declared.cause.Cause.TheVariants.{NotInjective, WrongNumberOfEntries, BadEntry}
 use Rattle.query_lang.specs.Outcome.{and_then}
-use Rattle.query_lang.specs.Faults.{IsLineFault, fault_of_element}
+use Rattle.query_lang.specs.Faults.{IsFaultFor, IsLineFault, fault_of_element}
 use Rattle.query_lang.specs.Entries.{below, below_or_dash, bit, is_injective}
 use Rattle.query_lang.specs.Elements.{entries_of, transformation_of, partial_permutation_of, boolean_matrix_of, truncated_matrix_of}
 use Rattle.query_lang.proofs.EntryLemmas.{ReadsEntries, reads_images, reads_partial, reads_bits, good_below, named, entries-some, entries-bad, entries-count}
@@ -23,6 +23,11 @@ use Rattle.query_lang.proofs.InjectiveLemmas.{injective, not_injective}
 pub handed_on : {A B : Type 0} (r : Result B (Option Cause)) (fault : Option Cause) (outcome : Result A Cause) → IsErrAnd r (λ e. e ≡ fault) → IsLineFault outcome fault → IfErr r (IsLineFault outcome)
 handed_on (Ok x) fault outcome h p = tt
 handed_on (Err e) fault outcome h p = subst (IsLineFault outcome) (sym h) p
+
+-- a fault for the first cause that is handed on
+pub fault_handed : {B : Type 0} (r : Result B (Option Cause)) (fault : Option Cause) (first : Option Cause) → IsErrAnd r (λ e. e ≡ fault) → IsFaultFor first fault → IfErr r (IsFaultFor first)
+fault_handed (Ok x) fault first h p = tt
+fault_handed (Err e) fault first h p = subst (IsFaultFor first) (sym h) p
 
 -- what comes after a refusal is refused too
 pub refused_then : {A B : Type 0} (f : A → Result B Cause) (outcome : Result A Cause) (fault : Option Cause) → IsLineFault outcome fault → IsLineFault (and_then f outcome) fault

@@ -7,13 +7,10 @@ pub mod QueryLemmas
 pub mod AddedLemmas
 pub mod ReadLemmas
 pub mod PairingLemmas
-pub mod FoldLemmas
 pub mod ReaderLemmas
 pub mod FormLemmas
 pub mod GeneratorLemmas
 pub mod HeaderLemmas
-pub mod CauseLaw
-pub mod SoundLaw
 pub mod StepLaw
 pub mod TotalForms
 pub mod TotalLaw

@@ -1,12 +1,10 @@
 -- Forms by their names, and queries by the table of forms.
-use Rattle.std.proofs.Common.{◌≡◌, ℕ, ◌-◌, ◌≤◌, ◌⊎◌, inl, inr, take, suc, ◌<◌, Bool, true, false, not, ◌&&◌, ◌==◌, if◌then◌else◌, List, [], ◌∷◌, length, drop, get_or, drop-cons, Option, Some, None, Result, Ok, Err, Bor, codes, refl, sym, ap, ◌∙◌, subst, arith, true≢false}
+use Rattle.std.proofs.Common.{◌≡◌, ℕ, suc, ◌<◌, Bool, true, false, not, ◌&&◌, ◌==◌, if◌then◌else◌, List, [], ◌∷◌, length, drop, get_or, drop-cons, Option, Some, None, Result, Ok, Err, Bor, codes, refl, sym, ap, ◌∙◌, subst, arith, true≢false}
 use Rattle.std.specs.Option.{ok_or}
 use Rattle.std.proofs.lemmas.Bool.{eqb-true}
-use Rattle.std.proofs.lemmas.List.{take_all}
 use Rattle.theory.specs.Graph.{Graph}
 use Rattle.problem.specs.declared.kinds.Problem.{Problem}
-use Rattle.problem.specs.declared.kinds.Problem.TheVariants.{Presented, Transf, PPerm, BMat, MaxPlus}
-use Rattle.problem.specs.Problem.{allows_rules, is_presented, pairs_of}
+use Rattle.problem.specs.Problem.{allows_rules, pairs_of}
 use Rattle.std.specs.Result.{IsErrAnd, IfErr}
 use Rattle.query_lang.specs.declared.cause.Cause.{Cause}
 use Rattle.query_lang.specs.declared.cause.Cause.TheVariants.{BadNumber}
@@ -14,15 +12,11 @@ use Rattle.query_lang.specs.declared.form.Form.{Form}
 use Rattle.query_lang.specs.declared.form.QueryForm.TheVariants as asks
 use Rattle.query_lang.specs.declared.script.Query.{Query}
 use Rattle.query_lang.specs.declared.version.Version.{Version}
-use Rattle.query_lang.specs.Asked.{ScriptOf}
-use Rattle.query_lang.specs.Draft as draft
-use Rattle.query_lang.specs.Draft.{AnyDraft, posed_of}
 use Rattle.query_lang.specs.Faults.{IsLineFault}
 use Rattle.query_lang.specs.Forms.{Place, ACongruenceTable, AllGiven, Way, way, Scripts, AllScripts, OfRelations, OfGenerators, Pairs, AnyPairs, TwoSidedPairs, NoPairs, are_scripts, form_among, has_form, name_of, row_of}
 use Rattle.query_lang.specs.LineCauses.{cause_in, first_of, token_causes}
 use Rattle.query_lang.specs.Outcome.{and_then}
 use Rattle.query_lang.specs.Query.{are_none, are_of_generators, are_of_relations, are_two_sided}
-use Rattle.query_lang.specs.Script.{ReaderOf, Posing, Relating, Pairing, Asking, finished, generator_line, is_presentation, named_line, with_line}
 use Rattle.query_lang.specs.Tables.{congruence_table_of, low_table_of, two_tables}
 use Rattle.query_lang.specs.Texts.{texts}
 use Rattle.query_lang.specs.Token.{Token, is_word, number_within}
@@ -51,7 +45,7 @@ pub record IsNamed (version : Version) (kind : Bool) (t : Token) (form : Form) :
   pub named : is_word (name_of form) t ≡ true
   pub there : has_form version kind form ≡ true
 
-both_so : (a b : Bool) → (a && b) ≡ true → (a ≡ true) × (b ≡ true)
+pub both_so : (a b : Bool) → (a && b) ≡ true → (a ≡ true) × (b ≡ true)
 both_so true b h = (refl, h)
 both_so false b h = absurd (true≢false (sym h))
 
@@ -214,32 +208,3 @@ pub without_pairs : (p : Problem) (pairs : Pairs) → bars p pairs ≡ false →
 without_pairs p AnyPairs h e = absurd (true≢false (sym e))
 without_pairs p TwoSidedPairs h e = absurd (true≢false (sym e))
 without_pairs p NoPairs h e = no_pairs (pairs_of p) h
-
--- what is posed so far is of the script's kind
-
-generated : {A : Type 0} (made : A → Problem) → ((x : A) → is_presented (made x) ≡ false) → (r : Result A Cause) {s : ScriptOf}
-    → and_then (λ p. Ok (record { problem = p; queries = [] })) (and_then (λ x. Ok (made x)) r) ≡ Ok s → is_presented s.problem ≡ false
-generated made kind (Err c) h = absurd (cc)
-generated made kind (Ok x) {s} h = let same : record { problem = made x; queries = [] } ≡ s = cc in ap (λ (s : ScriptOf). is_presented s.problem) (sym same) ∙ kind x
-
-kind_of_draft : (d : AnyDraft) (s : ScriptOf) → finished (Posing d) ≡ Ok s → is_presented s.problem ≡ false
-kind_of_draft (draft.Transf d) s h = generated (λ p. Transf p) (λ p. refl) (posed_of d) h
-kind_of_draft (draft.PPerm d) s h = generated (λ p. PPerm p) (λ p. refl) (posed_of d) h
-kind_of_draft (draft.BMat d) s h = generated (λ p. BMat p) (λ p. refl) (posed_of d) h
-kind_of_draft (draft.MaxPlus d) s h = generated (λ p. MaxPlus p) (λ p. refl) (posed_of d) h
-
-pub kind_kept : (r : ReaderOf) (s : ScriptOf) → finished r ≡ Ok s → is_presented s.problem ≡ is_presentation r
-kind_kept (Posing d) s h = kind_of_draft d s h
-kind_kept (Relating o) s h = let same : record { problem = Presented o; queries = [] } ≡ s = cc in ap (λ (s : ScriptOf). is_presented s.problem) (sym same)
-kind_kept (Pairing p) s h = let same : record { problem = p; queries = [] } ≡ s = cc in ap (λ (s : ScriptOf). is_presented s.problem) (sym same)
-kind_kept (Asking t) s h = let same : t ≡ s = cc in ap (λ (s : ScriptOf). is_presented s.problem) (sym same)
-
--- a line that is no generator line
-pub is_named_line : (version : Version) (r : ReaderOf) (line : List (Bor (List ℕ))) (none : Bor (List ℕ)) → 1 ≤ length line → (length line < 2) ⊎ ((not (is_presentation r) && is_word (codes "=") (get_or line 1 none).now) ≡ false)
-    → named_line version r (get_or line 0 none).now (texts (take (length line - 1) (drop 1 line))) ≡ with_line version r (texts line)
-is_named_line version r [] none h which = absurd (omega arith)
-is_named_line version r (s ∷ []) none h which = refl
-is_named_line version r (s ∷ t ∷ ts) none h (inl short) = absurd (omega arith)
-is_named_line version r (s ∷ t ∷ ts) none h (inr other) =
-    ap (λ tokens. named_line version r s.now (texts tokens)) (take_all (length (s ∷ t ∷ ts) - 1) (t ∷ ts) (omega arith))
-    ∙ ap (λ (b : Bool). if b then generator_line version r s.now (texts ts) else named_line version r s.now (texts (t ∷ ts))) (sym other)

@@ -1,44 +1,12 @@
--- What bytes are read to is the script that the grammar has of them, or their first fault.
-use Rattle.std.proofs.Common.{◌≡◌, ℕ, suc, ◌+◌, Bool, true, false, ◌⊎◌, inl, inr, List, [], ◌∷◌, ◌++◌, length, Option, Some, None, Result, Ok, Err, refl, sym, ap, ◌∙◌, arith, subst, subst₂}
-use Rattle.std.proofs.lemmas.List.{length-map}
+-- Bytes are one script of the grammar, or have one first fault.
+use Rattle.std.proofs.Common.{◌≡◌, ℕ, suc, ◌⊎◌, inl, inr, List, [], ◌∷◌, ◌++◌, length, Option, Some, None, refl, sym, ap, ◌∙◌, subst}
 use Rattle.query_lang.specs.declared.cause.Cause.{Cause}
-use Rattle.query_lang.specs.declared.cause.Cause.TheVariants as cause
 use Rattle.query_lang.specs.Asked.{ScriptOf}
-use Rattle.query_lang.specs.Outcome.{and_then}
-use Rattle.query_lang.specs.Token.{Line, cut_lines, tokens_of}
-use Rattle.query_lang.specs.Script.{at_line, script_of, whole_of, take_tokens}
-use Rattle.query_lang.specs.Script as progress
-use Rattle.query_lang.specs.Grammar.{Partial, Said, Nothing, OfVersion, Begun, Step, Reads, none, more, lacks_generator, lines_of, script_in}
-use Rattle.query_lang.specs.LineCauses.{AreScript, IsFirstFault, cause_at_end, cause_in, cause_of_line, when}
-use Rattle.query_lang.proofs.FoldLemmas.{by_tokens, read_tokens, readers}
-use Rattle.query_lang.proofs.CauseLaw.{causes_agree, ends_agree}
-use Rattle.query_lang.proofs.SoundLaw.{sound, finished_read}
+use Rattle.query_lang.specs.Token.{Line}
+use Rattle.query_lang.specs.Grammar.{Partial, Said, Nothing, OfVersion, Begun, Step, Reads, none, more, lines_of, script_in}
+use Rattle.query_lang.specs.LineCauses.{AreScript, IsFirstFault, cause_at_end, cause_of_line}
+use Rattle.query_lang.proofs.StepLaw.{one_step, step_has_no_cause}
 use Rattle.query_lang.proofs.TotalLaw.{total}
-
--- what has a cause is refused
-refused_for : {A : Type 0} (r : Result A Cause) (c : Cause) → cause_in r ≡ Some c → r ≡ Err c
-refused_for (Ok x) c h = absurd (cc)
-refused_for (Err d) c h = let same : d ≡ c = cc in ap (λ e. Err e) same
-
-refuses : (s : Said) (line : Line) (c : Cause) → cause_of_line s line ≡ Some c → take_tokens (readers s) line ≡ Err c
-refuses s line c h = refused_for (take_tokens (readers s) line) c (causes_agree s line ∙ h)
-
--- lines that are read
-reads_all : (n : ℕ) (s t : Said) (lines : List Line) → Reads s lines t → read_tokens n (readers s) lines ≡ Ok (readers t)
-reads_all n s t [] none = refl
-reads_all n s t (line ∷ lines) (more {t = u} step rest) =
-    ap (λ r. and_then (λ v. read_tokens (suc n) v lines) (at_line n r)) (sound s u line step) ∙ reads_all (suc n) u t lines rest
-
--- lines that are read, and then one with a cause
-reads_fault : (n : ℕ) (s t : Said) (before after : List Line) (line : Line) (c : Cause) → Reads s before t → cause_of_line t line ≡ Some c
-    → read_tokens n (readers s) (before ++ line ∷ after) ≡ Err (length before + n, c)
-reads_fault n s t [] after line c none h =
-    ap (λ r. and_then (λ v. read_tokens (suc n) v after) (at_line n r)) (refuses s line c h)
-    ∙ ap (λ (m : ℕ). Err (m, c)) (let e : n ≡ 0 + n = omega arith in e)
-reads_fault n s t (x ∷ before) after line c (more {t = u} step rest) h =
-    ap (λ r. and_then (λ v. read_tokens (suc n) v (before ++ line ∷ after)) (at_line n r)) (sound s u x step)
-    ∙ reads_fault (suc n) u t before after line c rest h
-    ∙ ap (λ (m : ℕ). Err (m, c)) (let e : length before + suc n ≡ suc (length before) + n = omega arith in e)
 
 -- what lines give: they are all read, or one is the first with a cause
 data Outcome (s : Said) (lines : List Line) : Type 0 where
@@ -75,64 +43,58 @@ judged lines (faulty before after line s c whole reads h) =
 pub verdict : (lines : List Line) → Verdict lines
 verdict lines = judged lines (outcome Nothing lines)
 
--- what is a script at the end is read to it
-nothing_lacks : (lacks : Bool) → when cause.NoGenerator lacks ≡ None → lacks ≡ false
-nothing_lacks false h = refl
-nothing_lacks true h = absurd (cc)
+-- lines are read to one thing
+one_reading : (s t u : Said) (lines : List Line) → Reads s lines t → Reads s lines u → t ≡ u
+one_reading s t u [] none none = refl
+one_reading s t u (line ∷ lines) (more {t = v} step rest) (more {t = w} again others) =
+    one_reading w t u lines (subst (λ v. Reads v lines t) (one_step s v w line step again) rest) others
 
-end_read : (p : Partial) → cause_at_end (Begun p) ≡ None → whole_of (readers (Begun p)) ≡ Ok (script_in p)
-end_read p h = finished_read p.head p.problem p.queries (nothing_lacks (lacks_generator p) h)
+never : {A : Type 0} (s t : Said) (line : Line) (c : Cause) → Step s line t → cause_of_line s line ≡ Some c → A
+never s t line c step h = let none : ◌≡◌ {A = Option Cause} None (Some c) = sym (step_has_no_cause s t line step) ∙ h in absurd (cc)
 
--- the script of bytes is read
-pub script_read : (bytes : List ℕ) (script : ScriptOf) → AreScript (lines_of bytes) script → script_of bytes ≡ Ok script
-script_read bytes script a =
-    ap (and_then (λ s. at_line (length (cut_lines bytes)) (whole_of s))) (by_tokens 1 progress.Nothing (cut_lines bytes) ∙ reads_all 1 Nothing (Begun a.said) (lines_of bytes) a.reads)
-    ∙ ap (at_line (length (cut_lines bytes))) (end_read a.said a.whole)
-    ∙ ap (λ s. Ok s) a.is
+-- lines with a fault are not read
+no_reading : {A : Type 0} (s t u : Said) (lines before after : List Line) (line : Line) (c : Cause) → lines ≡ before ++ line ∷ after → Reads s before t → cause_of_line t line ≡ Some c → Reads s lines u → A
+no_reading s t u [] [] after line c whole reads h others = absurd (cc)
+no_reading s t u [] (x ∷ before) after line c whole reads h others = absurd (cc)
+no_reading s t u (y ∷ lines) [] after line c whole none h (more {t = w} step rest) = let same : y ≡ line = cc in never s w y c step (ap (cause_of_line s) same ∙ h)
+no_reading s t u (y ∷ lines) (x ∷ before) after line c whole (more {t = v} step reads) h (more {t = w} again rest) =
+    let same : y ≡ x = cc in
+    let behind : lines ≡ before ++ line ∷ after = cc in
+    no_reading w t u lines before after line c behind (subst (λ v. Reads v before t) (one_step s v w x step (subst (λ y. Step s y w) same again)) reads) h rest
 
--- the first fault of bytes is told
-pub fault_told : (bytes : List ℕ) (n : ℕ) (c : Cause) → IsFirstFault (lines_of bytes) n c → script_of bytes ≡ Err (n, c)
-fault_told bytes n c (inl f) =
-    ap (and_then (λ s. at_line (length (cut_lines bytes)) (whole_of s)))
-    (by_tokens 1 progress.Nothing (cut_lines bytes) ∙ ap (read_tokens 1 progress.Nothing) f.whole ∙ reads_fault 1 Nothing f.said f.before f.after f.line c f.reads f.faulty)
-    ∙ ap (λ (m : ℕ). Err (m, c)) (let e : length f.before + 1 ≡ n = omega (arith, f.number) in e)
-fault_told bytes n c (inr f) =
-    ap (and_then (λ s. at_line (length (cut_lines bytes)) (whole_of s))) (by_tokens 1 progress.Nothing (cut_lines bytes) ∙ reads_all 1 Nothing f.said (lines_of bytes) f.reads)
-    ∙ ap (at_line (length (cut_lines bytes))) (refused_for (whole_of (readers f.said)) c (ends_agree f.said ∙ f.missing))
-    ∙ ap (λ (m : ℕ). Err (m, c)) (sym (length-map (cut_lines bytes) tokens_of) ∙ sym f.number)
+-- two faults of lines stand in one place
+one_place : (s t u : Said) (lines before after others behind : List Line) (x y : Line) (c d : Cause) → lines ≡ before ++ x ∷ after → Reads s before t → cause_of_line t x ≡ Some c
+    → lines ≡ others ++ y ∷ behind → Reads s others u → cause_of_line u y ≡ Some d → (length before ≡ length others) × (c ≡ d)
+one_place s t u lines [] after [] behind x y c d whole none h again none k = let same : x ≡ y = cc in let causes : Some c ≡ Some d = sym h ∙ ap (cause_of_line s) same ∙ k in (refl, cc)
+one_place s t u lines [] after (z ∷ others) behind x y c d whole none h again (more {t = v} step rest) k = let same : z ≡ x = cc in never s v z c step (ap (cause_of_line s) same ∙ h)
+one_place s t u lines (z ∷ before) after [] behind x y c d whole (more {t = v} step rest) h again none k = let same : z ≡ y = cc in never s v z d step (ap (cause_of_line s) same ∙ k)
+one_place s t u lines (z ∷ before) after (w ∷ others) behind x y c d whole (more {t = v} step rest) h again (more {t = v2} step2 rest2) k =
+    let same : z ≡ w = cc in
+    let tails : before ++ x ∷ after ≡ others ++ y ∷ behind = cc in
+    let found = one_place v2 t u (before ++ x ∷ after) before after others behind x y c d refl (subst (λ v. Reads v before t) (one_step s v v2 z step (subst (λ w. Step s w v2) (sym same) step2)) rest) h tails rest2 k in
+    (ap (λ n. suc n) found.0, found.1)
 
--- a script or a fault that is read is the one of the grammar
+same_partial : (p q : Partial) → Begun p ≡ Begun q → p ≡ q
+same_partial p q e = cc
 
-same_script : (p q : ScriptOf) → ◌≡◌ {A = Result ScriptOf (ℕ × Cause)} (Ok p) (Ok q) → p ≡ q
-same_script p q e = cc
-
-same_fault : (m n : ℕ) (c d : Cause) → ◌≡◌ {A = Result ScriptOf (ℕ × Cause)} (Err (m, c)) (Err (n, d)) → (m ≡ n) × (c ≡ d)
-same_fault m n c d e = let pairs : ◌≡◌ {A = ℕ × Cause} (m, c) (n, d) = cc in (ap (λ (p : ℕ × Cause). p.0) pairs, ap (λ (p : ℕ × Cause). p.1) pairs)
-
-never_both : {A : Type 0} (p : ScriptOf) (n : ℕ) (c : Cause) → ◌≡◌ {A = Result ScriptOf (ℕ × Cause)} (Ok p) (Err (n, c)) → A
-never_both p n c e = absurd (cc)
-
-pub script_is_read : (bytes : List ℕ) (script : ScriptOf) → script_of bytes ≡ Ok script → AreScript (lines_of bytes) script
-script_is_read bytes script h = elim (verdict (lines_of bytes)) [
-  | inl found ↦ subst (AreScript (lines_of bytes)) (same_script found.0 script (sym (script_read bytes found.0 found.1) ∙ h)) found.1
-  | inr found ↦ never_both script found.0 found.1 (sym h ∙ fault_told bytes found.0 found.1 found.2)
-]
-
-pub fault_is_told : (bytes : List ℕ) (n : ℕ) (c : Cause) → script_of bytes ≡ Err (n, c) → IsFirstFault (lines_of bytes) n c
-fault_is_told bytes n c h = elim (verdict (lines_of bytes)) [
-  | inl found ↦ never_both found.0 n c (sym (script_read bytes found.0 found.1) ∙ h)
-  | inr found ↦
-      let same = same_fault found.0 n found.1 c (sym (fault_told bytes found.0 found.1 found.2) ∙ h) in
-      subst₂ (IsFirstFault (lines_of bytes)) same.0 same.1 found.2
-]
-
--- bytes are one script, or have one first fault
+same_cause : (c d : Cause) → Some c ≡ Some d → c ≡ d
+same_cause c d e = cc
 
 pub one_script : (bytes : List ℕ) (p q : ScriptOf) → AreScript (lines_of bytes) p → AreScript (lines_of bytes) q → p ≡ q
-one_script bytes p q a b = same_script p q (sym (script_read bytes p a) ∙ script_read bytes q b)
+one_script bytes p q a b =
+    sym a.is ∙ ap script_in (same_partial a.said b.said (one_reading Nothing (Begun a.said) (Begun b.said) (lines_of bytes) a.reads b.reads)) ∙ b.is
 
 pub one_fault : (bytes : List ℕ) (m n : ℕ) (c d : Cause) → IsFirstFault (lines_of bytes) m c → IsFirstFault (lines_of bytes) n d → (m ≡ n) × (c ≡ d)
-one_fault bytes m n c d f g = same_fault m n c d (sym (fault_told bytes m c f) ∙ fault_told bytes n d g)
+one_fault bytes m n c d (inl f) (inl g) =
+    let found = one_place Nothing f.said g.said (lines_of bytes) f.before f.after g.before g.after f.line g.line c d f.whole f.reads f.faulty g.whole g.reads g.faulty in
+    (f.number ∙ ap (λ k. suc k) found.0 ∙ sym g.number, found.1)
+one_fault bytes m n c d (inl f) (inr g) = no_reading Nothing f.said g.said (lines_of bytes) f.before f.after f.line c f.whole f.reads f.faulty g.reads
+one_fault bytes m n c d (inr f) (inl g) = no_reading Nothing g.said f.said (lines_of bytes) g.before g.after g.line d g.whole g.reads g.faulty f.reads
+one_fault bytes m n c d (inr f) (inr g) =
+    (f.number ∙ sym g.number, same_cause c d (sym f.missing ∙ ap cause_at_end (one_reading Nothing f.said g.said (lines_of bytes) f.reads g.reads) ∙ g.missing))
 
 pub no_script_with_fault : (bytes : List ℕ) (p : ScriptOf) (n : ℕ) (c : Cause) → AreScript (lines_of bytes) p → IsFirstFault (lines_of bytes) n c → ⊥
-no_script_with_fault bytes p n c a f = never_both p n c (sym (script_read bytes p a) ∙ fault_told bytes n c f)
+no_script_with_fault bytes p n c a (inl f) = no_reading Nothing f.said (Begun a.said) (lines_of bytes) f.before f.after f.line c f.whole f.reads f.faulty a.reads
+no_script_with_fault bytes p n c a (inr f) =
+    let none : ◌≡◌ {A = Option Cause} None (Some c) = sym a.whole ∙ ap cause_at_end (one_reading Nothing (Begun a.said) f.said (lines_of bytes) a.reads f.reads) ∙ f.missing in
+    absurd (cc)

@@ -1,127 +1,119 @@
 -- A line is read to one partial script, and only where it has no cause.
-use Rattle.std.proofs.Common.{◌≡◌, ◌==◌, Bool, true, false, if◌then◌else◌, List, [], ◌∷◌, length, None, Result, Ok, Err, refl, sym, ap, ap₂, ◌∙◌}
-use Rattle.problem.specs.declared.kinds.Problem.{Problem}
-use Rattle.problem.specs.declared.kinds.Problem.TheVariants.{Presented, Transf, PPerm, BMat, MaxPlus}
+use Rattle.std.proofs.Common.{◌≡◌, ◌&&◌, not, Bool, true, false, if◌then◌else◌, List, [], ◌∷◌, map, codes, Option, Some, None, Result, Ok, refl, sym, ap, ap₂, ◌∙◌, true≢false}
+use Rattle.std.proofs.lemmas.Bool.{le-ltb}
+use Rattle.std.specs.Cmp.Lexicographic.{same_text}
+use Rattle.problem.specs.Problem.{is_presented}
 use Rattle.query_lang.specs.declared.cause.Cause.{Cause}
-use Rattle.query_lang.specs.declared.cause.Cause.TheVariants.{UnknownHeader}
-use Rattle.query_lang.specs.Draft.{AnyDraft}
-use Rattle.query_lang.specs.Draft as draft
-use Rattle.query_lang.specs.Script.{ReaderOf}
-use Rattle.query_lang.specs.Script.{Posing, Relating, Pairing, Asking, ProgressOf, Versioned, Reading}
-use Rattle.query_lang.specs.declared.script.Query.{Query}
-use Rattle.query_lang.specs.Token.{Line}
 use Rattle.query_lang.specs.declared.version.Version.{Version}
 use Rattle.query_lang.specs.declared.version.Version.TheVariants.{One}
-use Rattle.query_lang.specs.Grammar.{Head, HeaderReads, Partial, Said, Nothing, OfVersion, Begun, Step, begin_with}
+use Rattle.query_lang.specs.Fields.{field_of}
+use Rattle.query_lang.specs.Forms.{Way, form_named}
+use Rattle.query_lang.specs.Grammar.{HeaderReads, IsOfForm, LineReads, Partial, Said, Nothing, OfVersion, Begun, Step, is_generator_line, lacks_generator, section_reached, with_added}
 use Rattle.query_lang.specs.Grammar as grammar
-use Rattle.query_lang.specs.Header.{Start, header_named, started}
-use Rattle.query_lang.specs.Versions.{is_wide}
-use Rattle.query_lang.specs.LineCauses.{cause_in, cause_of_line}
-use Rattle.query_lang.proofs.CauseLaw.{causes_agree}
-use Rattle.query_lang.proofs.FoldLemmas.{partial, reader_of}
-use Rattle.query_lang.proofs.SoundLaw.{head_stays, header_said, sound, sound_header}
+use Rattle.query_lang.specs.Header.{Start, header_named}
+use Rattle.query_lang.specs.LineCauses.{cause_in, cause_of_line, causes_after, first_of, header_causes, line_causes}
+use Rattle.query_lang.specs.Token.{Line, Token, is_kept, is_word}
+use Rattle.query_lang.specs.Reading.{added_to}
+use Rattle.query_lang.proofs.FormLemmas.{form_added, form_cause, named_cause}
+use Rattle.query_lang.proofs.GeneratorLemmas.{generator_is, more_cause, more_generated}
+use Rattle.query_lang.proofs.HeaderLemmas.{header_cause, header_said, one_header}
 
 -- a line that is read has no cause
+
+line_has_no_cause : (p q : Partial) (line : Line) → LineReads p line q → first_of (line_causes p line) ≡ None
+line_has_no_cause p q line (grammar.generator {name} {x} {entries} {problem} is early named new made) =
+    let generated = more_generated p.head.sizes p.problem x (map field_of entries) problem made in
+    ap (λ l. first_of (line_causes p l)) is
+    ∙ ap first_of (generator_is p name entries generated)
+    ∙ rw (le-ltb 2 (section_reached p) early, named, new) (sym (more_cause p.head.sizes p.problem x (map field_of entries) generated) ∙ ap cause_in made)
+line_has_no_cause p q line (grammar.of_form {form} {added} some sign early is) =
+    ap (λ l. first_of (line_causes p l)) is.is
+    ∙ named_cause p is.name is.tokens (Some form) (sym (ap (is_generator_line p) is.is) ∙ sign) is.named
+    ∙ form_cause p form is.tokens some early
+    ∙ ap cause_in (form_added p line form added is)
+
+header_has_no_cause : (version : Version) (line : Line) (q : Partial) → HeaderReads version line q → first_of (header_causes version line) ≡ None
+header_has_no_cause version line q h =
+    ap (λ l. first_of (header_causes version l)) h.is ∙ header_cause version h.name h.tokens ∙ ap cause_in (header_said version line q h)
+
+-- no header is a version line
+no_version : {A : Type 0} (name : Token) (w : Way Start) → header_named false name ≡ Some w → name ≡ codes "version" → A
+no_version name w named is = let none : ◌≡◌ {A = Option (Way Start)} None (Some w) = ap (header_named false) (sym is) ∙ named in absurd (cc)
+
+first_is_header : (line : Line) (q : Partial) → HeaderReads One line q → causes_after Nothing line ≡ header_causes One line
+first_is_header line q h = ap (causes_after Nothing) h.is ∙ by (is_word (codes "version") h.name) refl ∙ ap (header_causes One) (sym h.is)
+  where
+    by : (b : Bool) → is_word (codes "version") h.name ≡ b → causes_after Nothing (h.name ∷ h.tokens) ≡ header_causes One (h.name ∷ h.tokens)
+    by false e = rw e refl
+    by true e = no_version h.name h.way h.named (same_text h.name (codes "version") (sym e))
+
+kept_has_none : (s : Said) (line : Line) → is_kept line ≡ true → first_of (causes_after s line) ≡ None → cause_of_line s line ≡ None
+kept_has_none s line k h = ap (λ b. if b then first_of (causes_after s line) else None) k ∙ h
+
 pub step_has_no_cause : (s t : Said) (line : Line) → Step s line t → cause_of_line s line ≡ None
-step_has_no_cause s t line step = sym (causes_agree s line) ∙ ap cause_in (sound s t line step)
-
--- what a reader keeps of its partial script
-
-abbrev drafted : AnyDraft → Problem
-drafted (draft.Transf d) = Transf d.posed
-drafted (draft.PPerm d) = PPerm d.posed
-drafted (draft.BMat d) = BMat d.posed
-drafted (draft.MaxPlus d) = MaxPlus d.posed
-
-abbrev problem_kept : ReaderOf → Problem
-problem_kept (Posing d) = drafted d
-problem_kept (Relating o) = Presented o
-problem_kept (Pairing p) = p
-problem_kept (Asking script) = script.problem
-
-abbrev queries_kept : ReaderOf → List Query
-queries_kept (Posing d) = []
-queries_kept (Relating o) = []
-queries_kept (Pairing p) = []
-queries_kept (Asking script) = script.queries
-
-either_problem : (no_pair : Bool) (r : ReaderOf) (p : Problem) → problem_kept r ≡ p → problem_kept (if no_pair then r else Pairing p) ≡ p
-either_problem true r p h = h
-either_problem false r p h = refl
-
-problem_is_kept : (head : Head) (problem : Problem) (queries : List Query) → problem_kept (reader_of (partial head problem queries)) ≡ problem
-problem_is_kept head problem (q ∷ queries) = refl
-problem_is_kept head (Presented o) [] = either_problem (length o.congruence.pairs == 0) _ (Presented o) refl
-problem_is_kept head (Transf g) [] = either_problem (length g.pairs == 0) _ (Transf g) refl
-problem_is_kept head (PPerm g) [] = either_problem (length g.pairs == 0) _ (PPerm g) refl
-problem_is_kept head (BMat g) [] = either_problem (length g.pairs == 0) _ (BMat g) refl
-problem_is_kept head (MaxPlus g) [] = either_problem (length g.pairs == 0) _ (MaxPlus g) refl
-
-either_queries : (no_pair : Bool) (r : ReaderOf) (p : Problem) → queries_kept r ≡ [] → queries_kept (if no_pair then r else Pairing p) ≡ []
-either_queries true r p h = h
-either_queries false r p h = refl
-
-queries_are_kept : (head : Head) (problem : Problem) (queries : List Query) → queries_kept (reader_of (partial head problem queries)) ≡ queries
-queries_are_kept head problem (q ∷ queries) = refl
-queries_are_kept head (Presented o) [] = either_queries (length o.congruence.pairs == 0) _ (Presented o) refl
-queries_are_kept head (Transf g) [] = either_queries (length g.pairs == 0) _ (Transf g) refl
-queries_are_kept head (PPerm g) [] = either_queries (length g.pairs == 0) _ (PPerm g) refl
-queries_are_kept head (BMat g) [] = either_queries (length g.pairs == 0) _ (BMat g) refl
-queries_are_kept head (MaxPlus g) [] = either_queries (length g.pairs == 0) _ (MaxPlus g) refl
-
-one_partial : (p q : Partial) → p.head ≡ q.head → reader_of p ≡ reader_of q → p ≡ q
-one_partial p q heads same =
-    let problems : p.problem ≡ q.problem = sym (problem_is_kept p.head p.problem p.queries) ∙ ap problem_kept same ∙ problem_is_kept q.head q.problem q.queries in
-    let queries : p.queries ≡ q.queries = sym (queries_are_kept p.head p.problem p.queries) ∙ ap queries_kept same ∙ queries_are_kept q.head q.problem q.queries in
-    ap (λ h. partial h p.problem p.queries) heads ∙ ap₂ (λ x xs. partial q.head x xs) problems queries
-
-same_reader : (v w : Version) (p q : Partial) → ◌≡◌ {A = Result ProgressOf Cause} (Ok (Reading v (reader_of p))) (Ok (Reading w (reader_of q))) → reader_of p ≡ reader_of q
-same_reader v w p q e = cc
-
-same_version : (v w : Version) → ◌≡◌ {A = Result ProgressOf Cause} (Ok (Versioned v)) (Ok (Versioned w)) → v ≡ w
-same_version v w e = cc
-
-never_both : {A : Type 0} (v w : Version) (r : ReaderOf) → ◌≡◌ {A = Result ProgressOf Cause} (Ok (Versioned v)) (Ok (Reading w r)) → A
-never_both v w r e = absurd (cc)
-
--- two headers in a script of one version
-
-abbrev start_in : Version → Line → Result Start Cause
-start_in version [] = Err UnknownHeader
-start_in version (name ∷ tokens) = started (header_named (is_wide version) name) tokens
-
-same_start : (x y : Start) → ◌≡◌ {A = Result Start Cause} (Ok x) (Ok y) → x ≡ y
-same_start x y e = cc
-
-one_header : (version : Version) (line : Line) (q r : Partial) → HeaderReads version line q → HeaderReads version line r → q ≡ r
-one_header version line q r x y =
-    let same : x.way.makes x.given ≡ y.way.makes y.given =
-    same_start _ _ (sym (header_said version line q x) ∙ ap (start_in version) (sym x.is ∙ y.is) ∙ header_said version line r y) in
-    sym x.made ∙ ap (λ (s : Start). begin_with version s.0 s.1) same ∙ y.made
+step_has_no_cause s t line (grammar.skipped h) = ap (λ b. if b then first_of (causes_after s line) else None) h
+step_has_no_cause s t line (grammar.version {N} {n} {v} k is h i) = kept_has_none Nothing line k (ap (λ l. first_of (causes_after Nothing l)) is ∙ rw (h, i) refl)
+step_has_no_cause s t line (grammar.header {q} k h) = kept_has_none Nothing line k (ap first_of (first_is_header line q h) ∙ header_has_no_cause One line q h)
+step_has_no_cause s t line (grammar.header_behind {v} {q} k h) = kept_has_none (OfVersion v) line k (header_has_no_cause v line q h)
+step_has_no_cause s t line (grammar.further {p} {q} k h) = kept_has_none (Begun p) line k (line_has_no_cause p q line h)
 
 -- a line is read to one partial script
+
+never_kept : {A : Type 0} (line : Line) → is_kept line ≡ false → is_kept line ≡ true → A
+never_kept line h k = absurd (true≢false (sym k ∙ h))
+
+-- a generator line is of no form
+never_of_form : {A : Type 0} (p : Partial) (line : Line) (name : Token) (entries : List Token) → line ≡ name ∷ codes "=" ∷ entries → is_presented p.problem ≡ false → is_generator_line p line ≡ false → A
+never_of_form p line name entries is generated sign =
+    let yes : is_generator_line p (name ∷ codes "=" ∷ entries) ≡ true = ap (λ b. not b && true) generated in
+    absurd (true≢false (sym yes ∙ sym (ap (is_generator_line p) is) ∙ sign))
+
+one_line : (p q r : Partial) (line : Line) → LineReads p line q → LineReads p line r → q ≡ r
+one_line p q r line (grammar.generator {name} {x} {entries} {problem} is early named new made) (grammar.generator {name = other} {x = y} {entries = others} {problem = next} js later letter fresh more) =
+    let e : name ∷ codes "=" ∷ entries ≡ other ∷ codes "=" ∷ others = sym is ∙ js in
+    let names : name ≡ other = cc in
+    let behind : entries ≡ others = cc in
+    let same : x ≡ y = cc in
+    let problems : problem ≡ next = cc in
+    ap (λ q. record p { problem = q }) problems
+one_line p q r line (grammar.generator {name} {x} {entries} {problem} is early named new made) (grammar.of_form some sign later js) =
+    never_of_form p line name entries is (more_generated p.head.sizes p.problem x (map field_of entries) problem made) sign
+one_line p q r line (grammar.of_form some sign later js) (grammar.generator {name} {x} {entries} {problem} is early named new made) =
+    never_of_form p line name entries is (more_generated p.head.sizes p.problem x (map field_of entries) problem made) sign
+one_line p q r line (grammar.of_form {form} {added} some sign early is) (grammar.of_form {form = other} {added = more} some2 sign2 early2 js) =
+    let e : is.name ∷ is.tokens ≡ js.name ∷ js.tokens = sym is.is ∙ js.is in
+    let names : is.name ≡ js.name = cc in
+    let behind : is.tokens ≡ js.tokens = cc in
+    let named : Some form ≡ Some other = sym is.named ∙ ap (form_named p.head.version (is_presented p.problem)) names ∙ js.named in
+    let forms : form ≡ other = cc in
+    let both : ◌≡◌ {A = Result Partial Cause} (Ok (with_added p form added)) (Ok (with_added p other more)) =
+    sym (form_added p line form added is) ∙ ap₂ (added_to p) forms behind ∙ form_added p line other more js in
+    cc
+
 pub one_step : (s t u : Said) (line : Line) → Step s line t → Step s line u → t ≡ u
 one_step s t u line (grammar.skipped h) (grammar.skipped k) = refl
-one_step s t u line (grammar.skipped h) (grammar.version k is n v) = absurd (cc)
-one_step s t u line (grammar.skipped h) (grammar.header k x) = absurd (cc)
-one_step s t u line (grammar.skipped h) (grammar.header_behind k x) = absurd (cc)
-one_step s t u line (grammar.skipped h) (grammar.further k x) = absurd (cc)
-one_step s t u line (grammar.version k is n v) (grammar.skipped h) = absurd (cc)
-one_step s t u line (grammar.header k x) (grammar.skipped h) = absurd (cc)
-one_step s t u line (grammar.header_behind k x) (grammar.skipped h) = absurd (cc)
-one_step s t u line (grammar.further k x) (grammar.skipped h) = absurd (cc)
-one_step s t u line (grammar.version {v} k is n h) (grammar.version {v = w} l js m i) =
-    ap (λ v. OfVersion v) (same_version v w (sym (sound Nothing (OfVersion v) line (grammar.version k is n h)) ∙ sound Nothing (OfVersion w) line (grammar.version l js m i)))
-one_step s t u line (grammar.version {v} k is n h) (grammar.header {q} l x) =
-    never_both v One (reader_of q) (sym (sound Nothing (OfVersion v) line (grammar.version k is n h)) ∙ sound_header line q l x)
-one_step s t u line (grammar.header {q} l x) (grammar.version {v} k is n h) =
-    never_both v One (reader_of q) (sym (sound Nothing (OfVersion v) line (grammar.version k is n h)) ∙ sound_header line q l x)
-one_step s t u line (grammar.header {q} k x) (grammar.header {q = r} l y) =
-    ap (λ p. Begun p) (one_header One line q r x y)
-one_step s t u line (grammar.header_behind {v} {q} k x) (grammar.header_behind {q = r} l y) =
-    ap (λ p. Begun p) (one_header v line q r x y)
-one_step s t u line (grammar.further {p} {q} k x) (grammar.further {q = r} l y) =
-    let heads : q.head ≡ r.head = head_stays p q line x ∙ sym (head_stays p r line y) in
-    let same : reader_of q ≡ reader_of r =
-    same_reader q.head.version r.head.version q r (sym (sound (Begun p) (Begun q) line (grammar.further k x)) ∙ sound (Begun p) (Begun r) line (grammar.further l y)) in
-    ap (λ p. Begun p) (one_partial q r heads same)
+one_step s t u line (grammar.skipped h) (grammar.version k is n v) = never_kept line h k
+one_step s t u line (grammar.skipped h) (grammar.header k x) = never_kept line h k
+one_step s t u line (grammar.skipped h) (grammar.header_behind k x) = never_kept line h k
+one_step s t u line (grammar.skipped h) (grammar.further k x) = never_kept line h k
+one_step s t u line (grammar.version k is n v) (grammar.skipped h) = never_kept line h k
+one_step s t u line (grammar.header k x) (grammar.skipped h) = never_kept line h k
+one_step s t u line (grammar.header_behind k x) (grammar.skipped h) = never_kept line h k
+one_step s t u line (grammar.further k x) (grammar.skipped h) = never_kept line h k
+one_step s t u line (grammar.version {N} {n} {v} k is h i) (grammar.version {N = M} {n = m} {v = w} l js j o) =
+    let e : codes "version" ∷ N ∷ [] ≡ codes "version" ∷ M ∷ [] = sym is ∙ js in
+    let texts : N ≡ M = cc in
+    let numbers : n ≡ m = cc in
+    let same : v ≡ w = cc in
+    ap (λ v. OfVersion v) same
+one_step s t u line (grammar.version {N} k is h i) (grammar.header l x) =
+    let e : codes "version" ∷ N ∷ [] ≡ x.name ∷ x.tokens = sym is ∙ x.is in
+    let names : x.name ≡ codes "version" = cc in
+    no_version x.name x.way x.named names
+one_step s t u line (grammar.header l x) (grammar.version {N} k is h i) =
+    let e : codes "version" ∷ N ∷ [] ≡ x.name ∷ x.tokens = sym is ∙ x.is in
+    let names : x.name ≡ codes "version" = cc in
+    no_version x.name x.way x.named names
+one_step s t u line (grammar.header {q} k x) (grammar.header {q = r} l y) = ap (λ p. Begun p) (one_header One line q r x y)
+one_step s t u line (grammar.header_behind {v} {q} k x) (grammar.header_behind {q = r} l y) = ap (λ p. Begun p) (one_header v line q r x y)
+one_step s t u line (grammar.further {p} {q} k x) (grammar.further {q = r} l y) = ap (λ p. Begun p) (one_line p q r line x y)

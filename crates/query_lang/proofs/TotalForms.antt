@@ -9,7 +9,7 @@ use Rattle.query_lang.specs.Token.{Token, Line, is_word}
 use Rattle.query_lang.specs.Forms.{Gives, Way, form_named, section_of}
 use Rattle.query_lang.specs.Values.{fits, is_barred, is_pair_too_many, is_relation_too_many, mixes_kinds, scope_of, values_of, way_for, ways_in}
 use Rattle.query_lang.specs.Grammar as grammar
-use Rattle.query_lang.specs.Grammar.{Partial, section_reached, LineReads, is_generator_line, lacks_generator}
+use Rattle.query_lang.specs.Grammar.{IsOfForm, Partial, section_reached, LineReads, is_generator_line, lacks_generator}
 use Rattle.query_lang.specs.LineCauses.{when, first_of, cause_in, form_causes, named_causes, way_causes}
 use Rattle.query_lang.proofs.QueryLemmas.{values_cause, way_fits}
 
@@ -46,7 +46,7 @@ branch P G text name x y same otherwise = split (is_word text name) refl
 -- a form of line
 
 -- no cause of the form applies
-record Passes (p : Partial) (form : Form) (tokens : List Token) : Type 0 where
+pub record Passes (p : Partial) (form : Form) (tokens : List Token) : Type 0 where
   in_order : nat_lt (section_of form) (section_reached p) ≡ false
   has_generator : lacks_generator p ≡ false
   shaped : not (fits p.problem form tokens) ≡ false
@@ -56,7 +56,7 @@ record Passes (p : Partial) (form : Form) (tokens : List Token) : Type 0 where
   allowed : is_barred p.problem form ≡ false
   tokens_read : first_of (way_causes p (way_for tokens (ways_in p.problem form)) tokens) ≡ None
 
-passes : (p : Partial) (form : Form) (tokens : List Token) → first_of (form_causes p form tokens) ≡ None → Passes p form tokens
+pub passes : (p : Partial) (form : Form) (tokens : List Token) → first_of (form_causes p form tokens) ≡ None → Passes p form tokens
 passes p form tokens h =
     let a = passed _ _ _ h in
     let b = passed _ _ _ a.1 in
@@ -81,32 +81,32 @@ pub no-cause : {A : Type 0} (r : Result A Cause) → cause_in r ≡ None → (x 
 no-cause (Ok x) h = (x, refl)
 no-cause (Err c) h = absurd (some-is-none h)
 
--- a line of a form that the script has
-form-read : (p : Partial) (form : Form) (name : Token) (tokens : List Token) → is_generator_line p (name ∷ tokens) ≡ false → form_named p.head.version (is_presented p.problem) name ≡ Some form
-    → Passes p form tokens → IsRead p (name ∷ tokens)
-form-read p form name tokens sign named c = by (way_for tokens (ways_in p.problem form)) refl c.shaped c.tokens_read
+-- what a line of a form adds that the script has
+pub form-read : (p : Partial) (form : Form) (name : Token) (tokens : List Token) → form_named p.head.version (is_presented p.problem) name ≡ Some form → Passes p form tokens
+    → (added : Gives form) × IsOfForm p (name ∷ tokens) form added
+form-read p form name tokens named c = by (way_for tokens (ways_in p.problem form)) refl c.shaped c.tokens_read
   where
-    by : (o : Option (Way (Gives form))) → way_for tokens (ways_in p.problem form) ≡ o → not (not (is_none o)) ≡ false → first_of (way_causes p o tokens) ≡ None → IsRead p (name ∷ tokens)
+    by : (o : Option (Way (Gives form))) → way_for tokens (ways_in p.problem form) ≡ o → not (not (is_none o)) ≡ false → first_of (way_causes p o tokens) ≡ None
+        → (added : Gives form) × IsOfForm p (name ∷ tokens) form added
     by None e shaped read = absurd (true≢false shaped)
     by (Some w) e shaped read =
         let given = no-cause (values_of (scope_of p.head.version p.problem) tokens w.places tokens) (values_cause (scope_of p.head.version p.problem) tokens w.places tokens (way_fits tokens (ways_in p.problem form) w e) ∙ read) in (
-          _,
-          grammar.of_form {form = form} {added = w.makes given.0} c.has_generator sign (ltb-false _ _ c.in_order)
-              (record {
-                name = name;
-                tokens = tokens;
-                way = w;
-                given = given.0;
-                is = refl;
-                named = named;
-                few_relations = c.few_relations;
-                few_pairs = c.few_pairs;
-                one_kind = c.one_kind;
-                allowed = c.allowed;
-                written = e;
-                read = given.1;
-                made = refl;
-              }),
+          w.makes given.0,
+          record {
+            name = name;
+            tokens = tokens;
+            way = w;
+            given = given.0;
+            is = refl;
+            named = named;
+            few_relations = c.few_relations;
+            few_pairs = c.few_pairs;
+            one_kind = c.one_kind;
+            allowed = c.allowed;
+            written = e;
+            read = given.1;
+            made = refl;
+          },
         )
 
 -- a line that begins with a name
@@ -116,4 +116,7 @@ named-read p first tokens sign h = by (form_named p.head.version (is_presented p
   where
     by : (o : Option Form) → form_named p.head.version (is_presented p.problem) first ≡ o → first_of (named_causes p o tokens) ≡ None → IsRead p (first ∷ tokens)
     by None e h = absurd (some-is-none h)
-    by (Some form) e h = form-read p form first tokens sign e (passes p form tokens h)
+    by (Some form) e h =
+        let c = passes p form tokens h in
+        let read = form-read p form first tokens e c in
+        (_, grammar.of_form {form = form} {added = read.0} c.has_generator sign (ltb-false _ _ c.in_order) read.1)

@@ -99,7 +99,7 @@ line-read head (problem.MaxPlus g) queries (first ∷ tokens) h = elements-read 
 abbrev IsHeader : Version → Line → Type 0
 IsHeader version line = (q : Partial) × HeaderReads version line q
 
-header-read : (version : Version) (name : Token) (tokens : List Token) → first_of (header_causes version (name ∷ tokens)) ≡ None → IsHeader version (name ∷ tokens)
+pub header-read : (version : Version) (name : Token) (tokens : List Token) → first_of (header_causes version (name ∷ tokens)) ≡ None → IsHeader version (name ∷ tokens)
 header-read version name tokens h = by (header_named (is_wide version) name) refl h
   where
     by : (named : Option (Way Start)) → header_named (is_wide version) name ≡ named → first_of (start_causes named tokens) ≡ None → IsHeader version (name ∷ tokens)

@@ -1,16 +1,15 @@
 -- Generators that lines give, one after another.
-use Rattle.std.specs.Prelude.{◌≡◌, ℕ, ◌==◌, Bool, true, List, [], ◌∷◌, ◌++◌, length, All, if◌then◌else◌, Option, None, Result, Ok, Err, refl}
+use Rattle.std.specs.Prelude.{◌≡◌, ℕ, ◌==◌, Bool, true, List, [], length, All, if◌then◌else◌, None, Result, Ok, Err, refl}
 use Rattle.std.specs.Coded.{Coded, code_by, coded×, coded_ℕ}
 use Rattle.std.specs.List.{list_any}
 use Rattle.std.specs.Option.{ok_or}
 use Rattle.words.specs.Alphabet.{first_fault}
 use Rattle.theory.specs.declared.Kind.TheVariants.{TwoSided}
 use Rattle.problem.specs.Posed.{PosedOf, posed_code}
-use Rattle.elements.specs.BMat.{BooleanMatrix}
-use Rattle.elements.specs.MaxPlus.{TruncatedMatrix}
 use Rattle.elements.specs.declared.field.Field.{Field}
 use Rattle.query_lang.specs.declared.cause.Cause.{Cause}
-use Rattle.query_lang.specs.declared.cause.Cause.TheVariants.{NotALetter, RepeatedLetter, NoGenerator}
+use Rattle.query_lang.specs.declared.cause.Cause.TheVariants.{NotALetter, RepeatedLetter}
+use Rattle.query_lang.specs.Elements.{one_more}
 use Rattle.query_lang.specs.Outcome.{and_then}
 use Rattle.query_lang.specs.Token.{Token, letter_of}
 
@@ -33,13 +32,6 @@ without_pairs letters generators = record {
   pairs = [];
 }
 
--- generators so far, of one of the kinds
-pub data AnyDraft : Type 0 where
-  Transf : DraftOf (List ℕ) → AnyDraft
-  PPerm : DraftOf (List (Option ℕ)) → AnyDraft
-  BMat : DraftOf BooleanMatrix → AnyDraft
-  MaxPlus : DraftOf TruncatedMatrix → AnyDraft
-
 -- each generator has a letter and is of the one shape, and the letters are different ones
 pub record IsDraft {V : Type 0} (shape_of : V → ℕ × ℕ) (shape : ℕ × ℕ) (letters : List ℕ)
     (generators : List V) : Type 0 where
@@ -57,23 +49,9 @@ new_letter_of wide letters name = and_then
     (λ x. if list_any (λ y. y == x) letters then Err RepeatedLetter else Ok x)
     (ok_or (letter_of wide name) NotALetter)
 
--- one generator more
-abbrev pub add_generator : {V : Type 0} → DraftOf V → ℕ → V → DraftOf V
-add_generator d x g =
-    record d {
-      posed = record d.posed {
-        letters = d.posed.letters ++ x ∷ [];
-        generators = d.posed.generators ++ g ∷ [];
-      };
-    }
-
 -- the generator with this name and these entries, which are read by the numbers of the header
-abbrev pub with_generator : {V : Type 0} → (ℕ × ℕ → List Field → Result V Cause) → Bool → DraftOf V
-    → Token → List Field → Result (DraftOf V) Cause
-with_generator generator_of wide d name fields =
-    and_then (λ x. and_then (λ g. Ok (add_generator d x g)) (generator_of d.sizes fields))
+abbrev pub with_one : {V : Type 0} → (ℕ × ℕ → List Field → Result V Cause) → Bool → DraftOf V
+    → Token → List Field → Result (PosedOf V) Cause
+with_one generator_of wide d name fields =
+    and_then (λ x. and_then (λ g. Ok (one_more d.posed x g)) (generator_of d.sizes fields))
     (new_letter_of wide d.posed.letters name)
-
--- the generators with their letters, of which there are some
-abbrev pub posed_of : {V : Type 0} → DraftOf V → Result (PosedOf V) Cause
-posed_of d = if length d.posed.letters == 0 then Err NoGenerator else Ok d.posed

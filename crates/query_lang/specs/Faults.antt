@@ -23,6 +23,11 @@ abbrev pub IsLineFault : {A : Type 0} → Result A Cause → Option Cause → Ty
 IsLineFault outcome (Some cause) = outcome ≡ Err cause
 IsLineFault outcome None = Unit {0}
 
+-- a line is refused for the first of its causes; want of memory says nothing of it
+abbrev pub IsFaultFor : Option Cause → Option Cause → Type 0
+IsFaultFor first (Some cause) = first ≡ Some cause
+IsFaultFor first None = Unit {0}
+
 -- the fault of a line whose entries are refused
 abbrev pub fault_of_element : ElementFault → Option Cause
 fault_of_element element.BadCount = Some WrongNumberOfEntries

@@ -7,7 +7,6 @@ pub mod Faults
 pub mod Entries
 pub mod Elements
 pub mod Draft
-pub mod Generators
 pub mod LineWords
 pub mod Relations
 pub mod Outline
@@ -17,7 +16,7 @@ pub mod Tables
 pub mod Query
 pub mod Values
 pub mod Asked
-pub mod Script
+pub mod Reading
 pub mod Forms
 pub mod Grammar
 pub mod LineCauses

@@ -1,11 +1,12 @@
 // Generators that lines give, one after another.
-ghost use Rattle.std.specs.Prelude.{◌≡◌, ℕ, [], IfOk, IfErr, Ok, map};
-ghost use Rattle.query_lang.specs.Draft.{new_letter_of, posed_of, start_of, with_generator};
-ghost use Rattle.query_lang.specs.Draft as said;
+ghost use Rattle.std.specs.Prelude.{◌≡◌, ℕ, ◌==◌, false, [], IfOk, IfErr, OnOk, Ok, length, map};
+ghost use Rattle.problem.specs.Problem.{letters_of};
+ghost use Rattle.query_lang.specs.Draft.{new_letter_of, start_of, with_one};
 ghost use Rattle.query_lang.specs.Faults.{IsLineFault};
 ghost use Rattle.query_lang.specs.Fields.{field_of};
-ghost use Rattle.query_lang.specs.Generators.{draft_with, problem_of};
+ghost use Rattle.query_lang.specs.Header.{no_generators};
 ghost use Rattle.query_lang.specs.Pairing.{IsPairable};
+ghost use Rattle.query_lang.specs.Reading.{AreGenerators, with_generator};
 ghost use Rattle.query_lang.specs.Texts.{texts};
 
 use crate::cause::Cause;
@@ -13,6 +14,7 @@ use crate::fault::LineFault;
 use crate::generator::{Generator, fields_of};
 use crate::tokens::letter_of;
 use elements::{BMat, Field, MaxPlusTrunc, PPerm, Transf};
+use ports::NoMemory;
 use presentation::{Kind, Pairs};
 use problem::{Gens, Posed, Problem};
 use std::alloc::Global;
@@ -74,10 +76,12 @@ impl<E: Generator> Listed<E> {
         name: &[u8],
         fields: &[Field],
     ) -> Result<Listed<E>, LineFault>
-        ensures ok { IfOk result (λ next. with_generator E.generator_of wide self name.now
-            fields.now ≡ Ok next) }
+        ensures ok { IfOk result (λ next. with_one E.generator_of wide self name.now fields.now
+            ≡ Ok next.posed) }
+        ensures sizes { IfOk result (λ next. next.sizes ≡ self.sizes) }
+        ensures unpaired { IfOk result (λ next. next.posed.pairs ≡ []) }
         ensures err { IfErr result (IsLineFault
-            (with_generator E.generator_of wide self name.now fields.now)) }
+            (with_one E.generator_of wide self name.now fields.now)) }
     {
         let Listed {
             sizes,
@@ -96,10 +100,10 @@ impl<E: Generator> Listed<E> {
     }
 
     // The generators by their letters, which are an alphabet, since each was new.
-    fn posed(self, alloc: Global) -> Result<Posed<E>, LineFault>
-        ensures ok { IfOk result (λ posed. posed_of self ≡ Ok posed) }
+    fn posed(self, alloc: Global) -> Result<Posed<E>, NoMemory>
+        requires { (length self.posed.letters == 0) ≡ false }
+        ensures posed { IfOk result (λ posed. posed ≡ self.posed) }
         ensures unpaired { IfOk result (λ posed. posed.pairs ≡ []) }
-        ensures err { IfErr result (IsLineFault (posed_of self)) }
     {
         match Alphabet::wide(alloc, &self.letters) {
             Ok(alphabet) => {
@@ -107,8 +111,7 @@ impl<E: Generator> Listed<E> {
                 let pairs = Pairs::new(alloc);
                 Ok(Posed::new(alphabet, generators, Kind::TwoSided, pairs))
             }
-            Err(AlphabetFault::Empty) => Err(LineFault::refused(Cause::NoGenerator)),
-            Err(AlphabetFault::NoMemory) => Err(LineFault::no_memory()),
+            Err(AlphabetFault::NoMemory) => Err(NoMemory),
             Err(_) => unreachable!(),
         }
     }
@@ -123,31 +126,31 @@ enum AnyListed {
     MaxPlus(Listed<MaxPlusTrunc>),
 }
 
-/// The generators of a script, so far. Contracts see them with their kind.
+/// The generators of a script, so far. Contracts see the numbers of the header, and what is posed.
 #[derive(Drop)]
 pub struct Draft {
     listed: AnyListed,
 }
 
 impl Model for Draft {
-    ghost use Rattle.query_lang.specs.Draft.{AnyDraft};
-    ghost use Rattle.query_lang.specs.Draft as said;
+    ghost use Rattle.problem.specs.declared.kinds.Problem.TheVariants as problem;
+    ghost use Rattle.query_lang.specs.Header.{Start};
     ghost use Rattle.query_lang.specs.declared.draft.AnyListed.TheVariants as kept;
 
-    ghost Value = { AnyDraft };
+    ghost Value = { Start };
 
     ghost view = { λ d. elim d.listed [
-      | kept.Transf e ↦ said.Transf e
-      | kept.PPerm e ↦ said.PPerm e
-      | kept.BMat e ↦ said.BMat e
-      | kept.MaxPlus e ↦ said.MaxPlus e
+      | kept.Transf e ↦ (e.sizes, problem.Transf e.posed)
+      | kept.PPerm e ↦ (e.sizes, problem.PPerm e.posed)
+      | kept.BMat e ↦ (e.sizes, problem.BMat e.posed)
+      | kept.MaxPlus e ↦ (e.sizes, problem.MaxPlus e.posed)
     ] };
 }
 
 impl Draft {
     /// No transformation yet, of this degree.
     pub fn transf(alloc: Global, degree: u32) -> Draft
-        ensures { result ≡ said.Transf (start_of (degree, 0)) }
+        ensures { result ≡ ((degree, 0), Problem.Transf no_generators) }
     {
         Draft {
             listed: AnyListed::Transf(Listed::new(alloc, (degree, 0))),
@@ -156,7 +159,7 @@ impl Draft {
 
     /// No partial permutation yet, of this degree.
     pub fn pperm(alloc: Global, degree: u32) -> Draft
-        ensures { result ≡ said.PPerm (start_of (degree, 0)) }
+        ensures { result ≡ ((degree, 0), Problem.PPerm no_generators) }
     {
         Draft {
             listed: AnyListed::PPerm(Listed::new(alloc, (degree, 0))),
@@ -165,7 +168,7 @@ impl Draft {
 
     /// No Boolean matrix yet, of this dimension.
     pub fn bmat(alloc: Global, dimension: u32) -> Draft
-        ensures { result ≡ said.BMat (start_of (dimension, 0)) }
+        ensures { result ≡ ((dimension, 0), Problem.BMat no_generators) }
     {
         Draft {
             listed: AnyListed::BMat(Listed::new(alloc, (dimension, 0))),
@@ -174,10 +177,34 @@ impl Draft {
 
     /// No max-plus matrix yet, of this dimension and bound.
     pub fn max_plus(alloc: Global, sizes: (u32, u32)) -> Draft
-        ensures { result ≡ said.MaxPlus (start_of sizes) }
+        ensures { result ≡ (sizes, Problem.MaxPlus no_generators) }
     {
         Draft {
             listed: AnyListed::MaxPlus(Listed::new(alloc, sizes)),
+        }
+    }
+
+    /// The numbers of the header.
+    pub fn sizes(&self) -> (u32, u32)
+        ensures { result ≡ self.now.0 }
+    {
+        match &self.listed {
+            AnyListed::Transf(draft) => draft.sizes,
+            AnyListed::PPerm(draft) => draft.sizes,
+            AnyListed::BMat(draft) => draft.sizes,
+            AnyListed::MaxPlus(draft) => draft.sizes,
+        }
+    }
+
+    /// Whether there is no generator yet.
+    pub fn is_empty(&self) -> bool
+        ensures { result ≡ (length (letters_of self.now.1) == 0) }
+    {
+        match &self.listed {
+            AnyListed::Transf(draft) => draft.letters.is_empty(),
+            AnyListed::PPerm(draft) => draft.letters.is_empty(),
+            AnyListed::BMat(draft) => draft.letters.is_empty(),
+            AnyListed::MaxPlus(draft) => draft.letters.is_empty(),
         }
     }
 
@@ -189,8 +216,11 @@ impl Draft {
         name: &[u8],
         fields: &[Field],
     ) -> Result<Draft, LineFault>
-        ensures ok { IfOk result (λ next. draft_with wide self name.now fields.now ≡ Ok next) }
-        ensures err { IfErr result (IsLineFault (draft_with wide self name.now fields.now)) }
+        ensures ok { IfOk result (λ next. with_generator wide self name.now fields.now
+            ≡ Ok next.1) }
+        ensures sizes { IfOk result (λ next. next.0 ≡ self.0) }
+        ensures generators { IfOk result (λ next. AreGenerators next.1) }
+        ensures err { IfErr result (IsLineFault (with_generator wide self name.now fields.now)) }
     {
         match self.listed {
             AnyListed::Transf(draft) => {
@@ -221,10 +251,12 @@ impl Draft {
         name: &[u8],
         entries: &[&[u8]],
     ) -> Result<Draft, LineFault>
-        ensures ok { IfOk result (λ next. draft_with wide self name.now
-            (map field_of (texts entries.now)) ≡ Ok next) }
+        ensures ok { IfOk result (λ next. with_generator wide self name.now
+            (map field_of (texts entries.now)) ≡ Ok next.1) }
+        ensures sizes { IfOk result (λ next. next.0 ≡ self.0) }
+        ensures generators { IfOk result (λ next. AreGenerators next.1) }
         ensures err { IfErr result (IsLineFault
-            (draft_with wide self name.now (map field_of (texts entries.now)))) }
+            (with_generator wide self name.now (map field_of (texts entries.now)))) }
     {
         match fields_of(alloc, entries) {
             Ok(fields) => self.with_fields(alloc, wide, name, &fields),
@@ -235,11 +267,11 @@ impl Draft {
         }
     }
 
-    /// What the generators pose. Refused where there is none, or for want of memory.
-    pub fn problem(self, alloc: Global) -> Result<Problem, LineFault>
-        ensures ok { IfOk result (λ problem. problem_of self ≡ Ok problem) }
+    /// What the generators pose, of which there are some. Only want of memory refuses.
+    pub fn problem(self, alloc: Global) -> Result<Problem, NoMemory>
+        requires { (length (letters_of self.1) == 0) ≡ false }
+        ensures problem { IfOk result (λ problem. problem ≡ self.1) }
         ensures pairable { IfOk result IsPairable }
-        ensures err { IfErr result (IsLineFault (problem_of self)) }
     {
         match self.listed {
             AnyListed::Transf(draft) => Ok(Problem::Transf(draft.posed(alloc)?)),

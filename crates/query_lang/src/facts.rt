@@ -10,7 +10,6 @@ ghost use Rattle.query_lang.specs.Asked.{ScriptOf};
 ghost use Rattle.query_lang.specs.Grammar.{Said, Step, lines_of};
 ghost use Rattle.query_lang.specs.LineCauses.{AreScript, IsFirstFault, cause_of_line};
 ghost use Rattle.query_lang.specs.PowerWords.{powers_of};
-ghost use Rattle.query_lang.specs.Script.{script_of};
 ghost use Rattle.query_lang.specs.Tables.{BreaksRelation, IsCongruenceTable, IsLowTable, IsTable, IsTextOf, congruence_table_of, low_table_of};
 ghost use Rattle.query_lang.specs.Token.{AreTokens, IsNumberText, Line, Token, number_of, tokens_of};
 
@@ -76,12 +75,4 @@ pub fn powers_are_read()
     ensures word { (alphabet : List ℕ) (allow_empty : Bool) (t : Token) (u : Word)
         → IsAlphabet alphabet → (powers_of alphabet allow_empty t ≡ Ok u)
         ↔ (IsWordText alphabet t u × IsReadable allow_empty u) }
-{}
-
-/// What the reader makes of bytes is the script that they are, or their first fault.
-pub fn reader_follows_the_grammar()
-    ensures script { (bytes : List ℕ) (script : ScriptOf)
-        → (script_of bytes ≡ Ok script) ↔ AreScript (lines_of bytes) script }
-    ensures fault { (bytes : List ℕ) (n : ℕ) (cause : Cause)
-        → (script_of bytes ≡ Err (n, cause)) ↔ IsFirstFault (lines_of bytes) n cause }
 {}

@@ -1,6 +1,6 @@
 // The forms of lines behind the header that begin with a name.
 ghost use Rattle.std.specs.Prelude.{◌≡◌, ◌&&◌};
-ghost use Rattle.query_lang.specs.Forms.{form_named, has_form, has_query, name_of, row_of};
+ghost use Rattle.query_lang.specs.Forms.{form_named, has_form, has_query, name_of, row_of, section_of};
 ghost use Rattle.query_lang.specs.Token.{is_word};
 
 use crate::role::Role;
@@ -144,6 +144,17 @@ impl Form {
             Form::OfRole(_) => is_presentation && version.has_roles(),
             Form::Pair(_) => true,
             Form::Asks(query) => query.is_there(is_presentation),
+        }
+    }
+
+    /// The section of the form: 2 relations, 3 pairs, 4 queries.
+    pub fn section(self) -> u8
+        ensures { result ≡ section_of self }
+    {
+        match self {
+            Form::Relation | Form::OfRole(_) => 2,
+            Form::Pair(_) => 3,
+            Form::Asks(_) => 4,
         }
     }
 

@@ -3,9 +3,8 @@ ghost use Rattle.std.specs.Prelude.{◌≡◌, [], ◌∷◌, IfOk, IfErr, None,
 ghost use Rattle.words.specs.Alphabet.{IsAlphabetFault, alphabet_fault, marker};
 ghost use Rattle.query_lang.specs.Faults.{IsLineFault};
 ghost use Rattle.query_lang.specs.Forms.{ANumber};
-ghost use Rattle.query_lang.specs.Header.{free_way, generators_named, given_by};
-ghost use Rattle.query_lang.specs.Script.{header_by};
-ghost use Rattle.query_lang.specs.Script as said;
+ghost use Rattle.query_lang.specs.Header.{free_way, generators_named, given_by, started};
+ghost use Rattle.query_lang.specs.Reading.{AreGenerators};
 ghost use Rattle.query_lang.specs.Texts.{texts};
 
 use crate::cause::Cause;
@@ -13,6 +12,7 @@ use crate::draft::Draft;
 use crate::fault::LineFault;
 use crate::outline::Outline;
 use crate::tokens::{is_word, number_within};
+use problem::Problem;
 use std::alloc::Global;
 use words::{Alphabet, AlphabetFault};
 
@@ -69,10 +69,11 @@ pub fn outline_of(
     monoid: bool,
     tokens: &[&[u8]],
 ) -> Result<Outline, LineFault>
-    ensures ok { IfOk result (λ outline. header_by (Some (free_way wide monoid))
-        (texts tokens.now) ≡ Ok (said.Relating outline)) }
+    ensures ok { IfOk result (λ outline. started (Some (free_way wide monoid))
+        (texts tokens.now) ≡ Ok ((0, 0), Problem.Presented outline)) }
+    ensures unpaired { IfOk result (λ outline. outline.congruence.pairs ≡ []) }
     ensures err { IfErr result (IsLineFault
-        (header_by (Some (free_way wide monoid)) (texts tokens.now))) }
+        (started (Some (free_way wide monoid)) (texts tokens.now))) }
 {
     match tokens {
         [letters] => {
@@ -85,10 +86,11 @@ pub fn outline_of(
 
 /// What the header of generators gives, by its name and the tokens behind it: no generator yet.
 pub fn header_of(alloc: Global, name: &[u8], tokens: &[&[u8]]) -> Result<Draft, Cause>
-    ensures ok { IfOk result (λ draft. header_by (generators_named name.now) (texts tokens.now)
-        ≡ Ok (said.Posing draft)) }
-    ensures err { IfErr result (λ cause. header_by (generators_named name.now)
-        (texts tokens.now) ≡ Err cause) }
+    ensures ok { IfOk result (λ draft. started (generators_named name.now) (texts tokens.now)
+        ≡ Ok draft) }
+    ensures generators { IfOk result (λ draft. AreGenerators draft.1) }
+    ensures err { IfErr result (λ cause. started (generators_named name.now) (texts tokens.now)
+        ≡ Err cause) }
 {
     if is_word(b"trans", name) {
         Ok(Draft::transf(alloc, size_of(64, tokens)?))

@@ -1,13 +1,15 @@
-// What the lines of a script give, one after another.
-ghost use Rattle.std.specs.Prelude.{◌≡◌, [], ◌∷◌, true, not, ◌&&◌, codes, IfOk, IfErr, Some, Ok};
-ghost use Rattle.query_lang.specs.Faults.{IsLineFault};
-ghost use Rattle.query_lang.specs.Generators.{problem_of};
-ghost use Rattle.query_lang.specs.Forms.{has_form, has_query};
-ghost use Rattle.query_lang.specs.Script.{draft_so_far, finished, first_line, form_line, generator_line, header_line, is_presentation, named_line, outline_so_far, paired_so_far, read_line, take_line, take_tokens, whole_of, with_line};
-ghost use Rattle.query_lang.specs.Script as said;
+// What the lines of a script say, one after another.
+ghost use Rattle.std.specs.Prelude.{◌≡◌, ◌≤◌, ◌==◌, [], ◌∷◌, true, false, not, ◌&&◌, codes, length, map, IfOk, IfErr, OnOk, Some, None, Ok};
+ghost use Rattle.problem.specs.Problem.{is_presented, pairs_of};
+ghost use Rattle.query_lang.specs.Faults.{IsFaultFor, IsLineFault};
+ghost use Rattle.query_lang.specs.Fields.{field_of};
+ghost use Rattle.query_lang.specs.Forms.{has_form, has_query, section_of};
+ghost use Rattle.query_lang.specs.Grammar.{HeaderReads, LineReads, Partial, Step, begin_with, is_empty, is_generator_line, lacks_generator, script_in, section_reached};
+ghost use Rattle.query_lang.specs.Grammar as said;
+ghost use Rattle.query_lang.specs.LineCauses.{cause_at_end, cause_of_line, causes_after, first_line_causes, first_of, form_causes, generator_causes, header_causes, line_causes};
+ghost use Rattle.query_lang.specs.Reading.{AreGenerators, added_to, come_to, headed};
 ghost use Rattle.query_lang.specs.Texts.{texts};
-ghost use Rattle.query_lang.specs.Token.{is_word};
-ghost use Rattle.query_lang.specs.Versions.{is_wide};
+ghost use Rattle.query_lang.specs.Token.{is_kept, is_word, tokens_of};
 
 use crate::cause::Cause;
 use crate::draft::Draft;
@@ -20,88 +22,99 @@ use crate::role::Role;
 use crate::script::Script;
 use crate::tokens::{is_kept, is_word, tokens_of};
 use crate::version::{Version, version_of};
+use ports::NoMemory;
 use presentation::Kind;
 use problem::Problem;
 use std::alloc::Global;
 use std::marker::Model;
 
-// What the lines so far have given, by how far they have come.
+// What the lines so far pose and ask, by how far they have come.
 #[derive(Drop)]
 enum Stage {
     // Generators, before the first pair.
     Posing(Draft),
     // A presentation, before the first pair.
     Relating(Outline),
-    // A problem, from the first pair on.
-    Pairing(Paired),
-    // A script, from the first query on.
-    Asking(Script),
+    // The numbers of the header, and a problem, from the first pair on.
+    Pairing((u32, u32), Paired),
+    // The numbers of the header, and a script, from the first query on.
+    Asking((u32, u32), Script),
 }
 
-/// What the lines so far have given, from the header on: generators or a presentation, from the
-/// first pair on a problem, and from the first query on a script.
+/// What the lines so far say, from the header on. Contracts see it as the grammar does.
 #[derive(Drop)]
 pub struct Reader {
+    version: Version,
     stage: Stage,
 }
 
 impl Model for Reader {
-    ghost use Rattle.query_lang.specs.Script.{ReaderOf};
-    ghost use Rattle.query_lang.specs.Script as said;
+    ghost use Rattle.std.specs.Prelude.{◌≡◌, ◌==◌, ℕ, [], false, length};
+    ghost use Rattle.problem.specs.Problem.{pairs_of};
+    ghost use Rattle.problem.specs.declared.kinds.Problem.TheVariants as problem;
+    ghost use Rattle.query_lang.specs.Grammar.{Partial, begin_with, is_empty};
+    ghost use Rattle.query_lang.specs.Reading.{AreGenerators, come_to};
     ghost use Rattle.query_lang.specs.declared.reader.Stage.TheVariants as kept;
 
-    ghost Value = { ReaderOf };
+    ghost Value = { Partial };
 
     ghost view = { λ r. elim r.stage [
-      | kept.Posing draft ↦ said.Posing draft
-      | kept.Relating outline ↦ said.Relating outline
-      | kept.Pairing paired ↦ said.Pairing paired
-      | kept.Asking script ↦ said.Asking script
+      | kept.Posing draft ↦ begin_with r.version draft.0 draft.1
+      | kept.Relating outline ↦ begin_with r.version (0, 0) (problem.Presented outline)
+      | kept.Pairing sizes paired ↦ begin_with r.version sizes paired
+      | kept.Asking sizes script ↦ come_to r.version sizes script
+    ] };
+
+    ghost invariant = { λ r. elim r.stage [
+      | kept.Posing draft ↦ AreGenerators draft.1
+      | kept.Relating outline ↦ outline.congruence.pairs ≡ []
+      | kept.Pairing sizes paired ↦ (length (pairs_of paired) == 0) ≡ false
+      | kept.Asking sizes script ↦ is_empty script.queries ≡ false
     ] };
 }
 
 // Generators, before the first pair.
-fn posing(draft: Draft) -> Reader
-    ensures { result ≡ said.Posing draft }
+fn posing(version: Version, draft: Draft) -> Reader
+    requires { AreGenerators draft.1 }
+    ensures { result ≡ begin_with version draft.0 draft.1 }
 {
     Reader {
+        version,
         stage: Stage::Posing(draft),
     }
 }
 
 // A presentation, before the first pair.
-fn relating(outline: Outline) -> Reader
-    ensures { result ≡ said.Relating outline }
+fn relating(version: Version, outline: Outline) -> Reader
+    requires { outline.congruence.pairs ≡ [] }
+    ensures { result ≡ begin_with version (0, 0) (Problem.Presented outline) }
 {
     Reader {
+        version,
         stage: Stage::Relating(outline),
     }
 }
 
 // A problem, from the first pair on.
-fn pairing(paired: Paired) -> Reader
-    ensures { result ≡ said.Pairing paired }
+fn pairing(version: Version, sizes: (u32, u32), paired: Paired) -> Reader
+    requires { (length (pairs_of paired) == 0) ≡ false }
+    ensures { result ≡ begin_with version sizes paired }
 {
     Reader {
-        stage: Stage::Pairing(paired),
+        version,
+        stage: Stage::Pairing(sizes, paired),
     }
 }
 
 // A script, from the first query on.
-fn asking(script: Script) -> Reader
-    ensures { result ≡ said.Asking script }
+fn asking(version: Version, sizes: (u32, u32), script: Script) -> Reader
+    requires { is_empty script.queries ≡ false }
+    ensures { result ≡ come_to version sizes script }
 {
     Reader {
-        stage: Stage::Asking(script),
+        version,
+        stage: Stage::Asking(sizes, script),
     }
-}
-
-// The problem of the generators, and no pair.
-fn posed(alloc: Global, draft: Draft) -> Result<Paired, LineFault>
-    ensures ok { IfOk result (λ paired. problem_of draft ≡ Ok paired) }
-    ensures err { IfErr result (IsLineFault (problem_of draft)) }
-{
-    Ok(Paired::new(draft.problem(alloc)?))
 }
 
 // The problem of the presentation, and no pair.
@@ -118,228 +131,281 @@ fn unasked(alloc: Global, paired: Paired) -> Script
     Script::new(alloc, paired.problem())
 }
 
-// The script of the generators, and no query.
-fn drafted(alloc: Global, draft: Draft) -> Result<Script, LineFault>
-    ensures ok { IfOk result (λ script. finished (said.Posing draft) ≡ Ok script) }
-    ensures err { IfErr result (IsLineFault (finished (said.Posing draft))) }
-{
-    Ok(unasked(alloc, posed(alloc, draft)?))
-}
-
 impl Reader {
+    // The version of the script.
+    fn version(&self) -> Version
+        ensures { result ≡ self.now.head.version }
+    {
+        self.version
+    }
+
+    // The numbers of the header, 0 in the place of one that it has not.
+    fn sizes(&self) -> (u32, u32)
+        ensures { result ≡ self.now.head.sizes }
+    {
+        match &self.stage {
+            Stage::Posing(draft) => draft.sizes(),
+            Stage::Relating(_) => (0, 0),
+            Stage::Pairing(sizes, _) => *sizes,
+            Stage::Asking(sizes, _) => *sizes,
+        }
+    }
+
     // Whether the script is a presentation.
     fn is_presentation(&self) -> bool
-        ensures { result ≡ is_presentation self.now }
+        ensures { result ≡ is_presented self.now.problem }
     {
         match &self.stage {
             Stage::Posing(_) => false,
             Stage::Relating(_) => true,
-            Stage::Pairing(paired) => paired.is_presented(),
-            Stage::Asking(script) => script.problem().is_presented(),
+            Stage::Pairing(_, paired) => paired.is_presented(),
+            Stage::Asking(_, script) => script.problem().is_presented(),
         }
     }
 
-    // The script so far. Refused where there is neither a generator nor a presentation, or for want
-    // of memory.
-    fn finish(self, alloc: Global) -> Result<Script, LineFault>
-        ensures ok { IfOk result (λ script. finished self ≡ Ok script) }
-        ensures err { IfErr result (IsLineFault (finished self)) }
+    // The section that the lines have reached.
+    fn section(&self) -> u8
+        ensures { result ≡ section_reached self.now }
+    {
+        match &self.stage {
+            Stage::Posing(_) | Stage::Relating(_) => 2,
+            Stage::Pairing(_, _) => 3,
+            Stage::Asking(_, _) => 4,
+        }
+    }
+
+    // Whether generators are to be given, and there is none yet.
+    fn lacks_generator(&self) -> bool
+        ensures { result ≡ lacks_generator self.now }
+    {
+        match &self.stage {
+            Stage::Posing(draft) => draft.is_empty(),
+            Stage::Relating(_) | Stage::Pairing(_, _) | Stage::Asking(_, _) => false,
+        }
+    }
+
+    // The generators, before the first pair.
+    fn into_draft(self) -> Draft
+        requires generated { is_presented self.problem ≡ false }
+        requires early { section_reached self ≤ 2 }
+        ensures draft { self ≡ begin_with self.head.version result.0 result.1 }
+        ensures generators { AreGenerators result.1 }
     {
         match self.stage {
-            Stage::Posing(draft) => drafted(alloc, draft),
+            Stage::Posing(draft) => draft,
+            Stage::Relating(_) | Stage::Pairing(_, _) | Stage::Asking(_, _) => unreachable!(),
+        }
+    }
+
+    // The presentation, before the first pair.
+    fn into_outline(self) -> Outline
+        requires presented { is_presented self.problem ≡ true }
+        requires early { section_reached self ≤ 2 }
+        ensures outline { self ≡ begin_with self.head.version (0, 0) (Problem.Presented result) }
+        ensures unpaired { result.congruence.pairs ≡ [] }
+    {
+        match self.stage {
+            Stage::Relating(outline) => outline,
+            Stage::Posing(_) | Stage::Pairing(_, _) | Stage::Asking(_, _) => unreachable!(),
+        }
+    }
+
+    // The problem and its pairs, before the first query. Only want of memory refuses.
+    fn into_paired(self, alloc: Global) -> Result<Paired, NoMemory>
+        requires early { section_reached self ≤ 3 }
+        requires some { lacks_generator self ≡ false }
+        ensures { IfOk result (λ paired. self
+            ≡ begin_with self.head.version self.head.sizes paired) }
+    {
+        match self.stage {
+            Stage::Posing(draft) => Ok(Paired::new(draft.problem(alloc)?)),
+            Stage::Relating(outline) => Ok(outlined(alloc, outline)),
+            Stage::Pairing(_, paired) => Ok(paired),
+            Stage::Asking(_, _) => unreachable!(),
+        }
+    }
+
+    // The script so far. Only want of memory refuses.
+    fn into_script(self, alloc: Global) -> Result<Script, NoMemory>
+        requires { lacks_generator self ≡ false }
+        ensures { IfOk result (λ script. script ≡ script_in self) }
+    {
+        match self.stage {
+            Stage::Posing(draft) => Ok(unasked(alloc, Paired::new(draft.problem(alloc)?))),
             Stage::Relating(outline) => Ok(unasked(alloc, outlined(alloc, outline))),
-            Stage::Pairing(paired) => Ok(unasked(alloc, paired)),
-            Stage::Asking(script) => Ok(script),
+            Stage::Pairing(_, paired) => Ok(unasked(alloc, paired)),
+            Stage::Asking(_, script) => Ok(script),
         }
     }
 
-    // The generators so far, which stand before the pairs.
-    fn into_draft(self) -> Result<Draft, LineFault>
-        ensures ok { IfOk result (λ draft. draft_so_far self ≡ Ok draft) }
-        ensures err { IfErr result (IsLineFault (draft_so_far self)) }
-    {
-        match self.stage {
-            Stage::Posing(draft) => Ok(draft),
-            Stage::Relating(outline) => {
-                Err(LineFault::refused_after(outline, Cause::UnknownLine))
-            }
-            Stage::Pairing(paired) => {
-                Err(LineFault::refused_after(paired, Cause::LineOutOfOrder))
-            }
-            Stage::Asking(script) => {
-                Err(LineFault::refused_after(script, Cause::LineOutOfOrder))
-            }
-        }
-    }
-
+    // A generator line `NAME = ENTRIES`.
     fn add_generator(
         self,
         alloc: Global,
-        version: Version,
         name: &[u8],
         entries: &[&[u8]],
     ) -> Result<Reader, LineFault>
-        ensures ok { IfOk result (λ next. generator_line version self name.now (texts entries.now)
+        requires { is_presented self.problem ≡ false }
+        ensures ok { IfOk result
+            (LineReads self (name.now ∷ codes "=" ∷ texts entries.now)) }
+        ensures err { IfErr result (IsFaultFor (first_of
+            (generator_causes self name.now (map field_of (texts entries.now))))) }
+    {
+        if self.section() > 2 {
+            return Err(LineFault::refused_after(self, Cause::LineOutOfOrder));
+        }
+        let version = self.version();
+        let draft = self.into_draft();
+        Ok(posing(
+            version,
+            draft.with_generator(alloc, version.is_wide(), name, entries)?,
+        ))
+    }
+
+    fn add_relation(self, alloc: Global, tokens: &[&[u8]]) -> Result<Reader, LineFault>
+        requires presented { is_presented self.problem ≡ true }
+        requires early { section_reached self ≤ 2 }
+        ensures ok { IfOk result (λ next. added_to self Form.Relation (texts tokens.now)
             ≡ Ok next) }
         ensures err { IfErr result (IsLineFault
-            (generator_line version self name.now (texts entries.now))) }
+            (added_to self Form.Relation (texts tokens.now))) }
     {
-        let draft = self.into_draft()?;
-        Ok(posing(draft.with_generator(alloc, version.is_wide(), name, entries)?))
+        let version = self.version();
+        let outline = self.into_outline();
+        Ok(relating(version, outline.with_relation(alloc, version, tokens)?))
     }
 
-    // The relations so far, which stand before the pairs.
-    fn into_outline(self) -> Result<Outline, LineFault>
-        ensures ok { IfOk result (λ outline. outline_so_far self ≡ Ok outline) }
-        ensures err { IfErr result (IsLineFault (outline_so_far self)) }
-    {
-        match self.stage {
-            Stage::Posing(draft) => Err(LineFault::refused_after(draft, Cause::UnknownLine)),
-            Stage::Relating(outline) => Ok(outline),
-            Stage::Pairing(paired) => {
-                Err(LineFault::refused_after(paired, Cause::LineOutOfOrder))
-            }
-            Stage::Asking(script) => {
-                Err(LineFault::refused_after(script, Cause::LineOutOfOrder))
-            }
-        }
-    }
-
-    fn add_relation(
-        self,
-        alloc: Global,
-        version: Version,
-        tokens: &[&[u8]],
-    ) -> Result<Reader, LineFault>
-        ensures ok { IfOk result (λ next. form_line version self Form.Relation (texts tokens.now)
+    fn add_role(self, role: Role, tokens: &[&[u8]]) -> Result<Reader, LineFault>
+        requires presented { is_presented self.problem ≡ true }
+        requires early { section_reached self ≤ 2 }
+        ensures ok { IfOk result (λ next. added_to self (Form.OfRole role) (texts tokens.now)
             ≡ Ok next) }
         ensures err { IfErr result (IsLineFault
-            (form_line version self Form.Relation (texts tokens.now))) }
+            (added_to self (Form.OfRole role) (texts tokens.now))) }
     {
-        let outline = self.into_outline()?;
-        Ok(relating(outline.with_relation(alloc, version, tokens)?))
-    }
-
-    fn add_role(self, version: Version, role: Role, tokens: &[&[u8]]) -> Result<Reader, LineFault>
-        ensures ok { IfOk result (λ next. form_line version self (Form.OfRole role)
-            (texts tokens.now) ≡ Ok next) }
-        ensures err { IfErr result (IsLineFault
-            (form_line version self (Form.OfRole role) (texts tokens.now))) }
-    {
-        let outline = self.into_outline()?;
-        Ok(relating(outline.with_role(version, role, tokens)?))
-    }
-
-    // The problem and its pairs so far, which stand before the queries.
-    fn into_paired(self, alloc: Global) -> Result<Paired, LineFault>
-        ensures ok { IfOk result (λ paired. paired_so_far self ≡ Ok paired) }
-        ensures err { IfErr result (IsLineFault (paired_so_far self)) }
-    {
-        match self.stage {
-            Stage::Posing(draft) => posed(alloc, draft),
-            Stage::Relating(outline) => Ok(outlined(alloc, outline)),
-            Stage::Pairing(paired) => Ok(paired),
-            Stage::Asking(script) => {
-                Err(LineFault::refused_after(script, Cause::LineOutOfOrder))
-            }
-        }
+        let version = self.version();
+        let outline = self.into_outline();
+        Ok(relating(version, outline.with_role(version, role, tokens)?))
     }
 
     // A pair of this kind.
-    fn add_pair(
-        self,
-        alloc: Global,
-        version: Version,
-        kind: Kind,
-        tokens: &[&[u8]],
-    ) -> Result<Reader, LineFault>
-        ensures ok { IfOk result (λ next. form_line version self (Form.Pair kind)
-            (texts tokens.now) ≡ Ok next) }
+    fn add_pair(self, alloc: Global, kind: Kind, tokens: &[&[u8]]) -> Result<Reader, LineFault>
+        requires early { section_reached self ≤ 3 }
+        requires some { lacks_generator self ≡ false }
+        ensures ok { IfOk result (λ next. added_to self (Form.Pair kind) (texts tokens.now)
+            ≡ Ok next) }
         ensures err { IfErr result (IsLineFault
-            (form_line version self (Form.Pair kind) (texts tokens.now))) }
+            (added_to self (Form.Pair kind) (texts tokens.now))) }
     {
+        let version = self.version();
+        let sizes = self.sizes();
         let paired = self.into_paired(alloc)?;
-        Ok(pairing(paired.with_pair(alloc, version, kind, tokens)?))
+        Ok(pairing(
+            version,
+            sizes,
+            paired.with_pair(alloc, version, kind, tokens)?,
+        ))
     }
 
     // A query of this form. Scripts of this kind have it.
-    fn ask(
-        self,
-        alloc: Global,
-        version: Version,
-        form: QueryForm,
-        tokens: &[&[u8]],
-    ) -> Result<Reader, LineFault>
-        requires { has_query (is_presentation self) form ≡ true }
-        ensures ok { IfOk result (λ next. form_line version self (Form.Asks form)
-            (texts tokens.now) ≡ Ok next) }
-        ensures err { IfErr result (IsLineFault
-            (form_line version self (Form.Asks form) (texts tokens.now))) }
-    {
-        let script = self.finish(alloc)?;
-        Ok(asking(script.with_query(alloc, version, form, tokens)?))
-    }
-
-    // A line of this form. Scripts of this version and kind have it.
-    fn add_form(
-        self,
-        alloc: Global,
-        version: Version,
-        form: Form,
-        tokens: &[&[u8]],
-    ) -> Result<Reader, LineFault>
-        requires { has_form version (is_presentation self) form ≡ true }
-        ensures ok { IfOk result (λ next. form_line version self form (texts tokens.now)
+    fn ask(self, alloc: Global, form: QueryForm, tokens: &[&[u8]]) -> Result<Reader, LineFault>
+        requires there { has_query (is_presented self.problem) form ≡ true }
+        requires some { lacks_generator self ≡ false }
+        ensures ok { IfOk result (λ next. added_to self (Form.Asks form) (texts tokens.now)
             ≡ Ok next) }
         ensures err { IfErr result (IsLineFault
-            (form_line version self form (texts tokens.now))) }
+            (added_to self (Form.Asks form) (texts tokens.now))) }
+    {
+        let version = self.version();
+        let sizes = self.sizes();
+        let script = self.into_script(alloc)?;
+        Ok(asking(
+            version,
+            sizes,
+            script.with_query(alloc, version, form, tokens)?,
+        ))
+    }
+
+    // A line of this form, which may stand here. Scripts of this version and kind have it.
+    fn with_form(self, alloc: Global, form: Form, tokens: &[&[u8]]) -> Result<Reader, LineFault>
+        requires there { has_form self.head.version (is_presented self.problem) form ≡ true }
+        requires early { section_reached self ≤ section_of form }
+        requires some { lacks_generator self ≡ false }
+        ensures ok { IfOk result (λ next. added_to self form (texts tokens.now) ≡ Ok next) }
+        ensures err { IfErr result (IsLineFault (added_to self form (texts tokens.now))) }
     {
         match form {
-            Form::Relation => self.add_relation(alloc, version, tokens),
-            Form::OfRole(role) => self.add_role(version, role, tokens),
-            Form::Pair(kind) => self.add_pair(alloc, version, kind, tokens),
-            Form::Asks(query) => self.ask(alloc, version, query, tokens),
+            Form::Relation => self.add_relation(alloc, tokens),
+            Form::OfRole(role) => self.add_role(role, tokens),
+            Form::Pair(kind) => self.add_pair(alloc, kind, tokens),
+            Form::Asks(query) => self.ask(alloc, query, tokens),
         }
     }
 
-    // A line that begins with a name.
-    fn add_named(
-        self,
-        alloc: Global,
-        version: Version,
-        first: &[u8],
-        tokens: &[&[u8]],
-    ) -> Result<Reader, LineFault>
-        ensures ok { IfOk result (λ next. named_line version self first.now (texts tokens.now)
-            ≡ Ok next) }
-        ensures err { IfErr result (IsLineFault
-            (named_line version self first.now (texts tokens.now))) }
+    // A line of this form. Scripts of this version and kind have it.
+    fn add_form(self, alloc: Global, form: Form, tokens: &[&[u8]]) -> Result<Reader, LineFault>
+        requires { has_form self.head.version (is_presented self.problem) form ≡ true }
+        ensures early { OnOk result (section_reached self ≤ section_of form) }
+        ensures some { OnOk result (lacks_generator self ≡ false) }
+        ensures ok { IfOk result (λ next. added_to self form (texts tokens.now) ≡ Ok next) }
+        ensures err { IfErr result (IsFaultFor (first_of
+            (form_causes self form (texts tokens.now)))) }
     {
-        match form_named(version, self.is_presentation(), first) {
-            Some(form) => self.add_form(alloc, version, form, tokens),
+        if form.section() < self.section() {
+            return Err(LineFault::refused_after(self, Cause::LineOutOfOrder));
+        }
+        if self.lacks_generator() {
+            return Err(LineFault::refused_after(self, Cause::NoGenerator));
+        }
+        self.with_form(alloc, form, tokens)
+    }
+
+    // A line that begins with a name, and is no generator line.
+    fn add_named(self, alloc: Global, first: &[u8], tokens: &[&[u8]]) -> Result<Reader, LineFault>
+        requires { is_generator_line self (first.now ∷ texts tokens.now) ≡ false }
+        ensures ok { IfOk result (LineReads self (first.now ∷ texts tokens.now)) }
+        ensures err { IfErr result (IsFaultFor (first_of
+            (line_causes self (first.now ∷ texts tokens.now)))) }
+    {
+        match form_named(self.version(), self.is_presentation(), first) {
+            Some(form) => self.add_form(alloc, form, tokens),
             None => Err(LineFault::refused_after(self, Cause::UnknownLine)),
         }
     }
 
     // Whether the second token makes the line one of a generator.
     fn is_sign(&self, second: &[u8]) -> bool
-        ensures { result ≡ (not (is_presentation self.now) && is_word (codes "=") second.now) }
+        ensures { result ≡ (not (is_presented self.now.problem)
+            && is_word (codes "=") second.now) }
     {
         !self.is_presentation() && is_word(b"=", second)
     }
 
-    // A line after the header.
-    fn add_line(self, alloc: Global, version: Version, line: &[&[u8]]) -> Result<Reader, LineFault>
-        ensures ok { IfOk result (λ next. with_line version self (texts line.now) ≡ Ok next) }
-        ensures err { IfErr result (IsLineFault (with_line version self (texts line.now))) }
+    // A line behind the header.
+    fn add_line(self, alloc: Global, line: &[&[u8]]) -> Result<Reader, LineFault>
+        ensures ok { IfOk result (LineReads self (texts line.now)) }
+        ensures err { IfErr result (IsFaultFor (first_of (line_causes self (texts line.now)))) }
     {
         match line {
             [name, second, entries @ ..] if self.is_sign(second) => {
-                self.add_generator(alloc, version, name, entries)
+                self.add_generator(alloc, name, entries)
             }
-            [first, tokens @ ..] => self.add_named(alloc, version, first, tokens),
+            [first, tokens @ ..] => self.add_named(alloc, first, tokens),
             [] => Err(LineFault::refused_after(self, Cause::UnknownLine)),
         }
+    }
+
+    // The script of all lines. Refused where every generator of a script that is no presentation is
+    // missing, or for want of memory.
+    fn whole(self, alloc: Global) -> Result<Script, LineFault>
+        ensures some { OnOk result (cause_at_end (said.Begun self) ≡ None) }
+        ensures ok { IfOk result (λ script. script_in self ≡ script) }
+        ensures err { IfErr result (IsFaultFor (cause_at_end (said.Begun self))) }
+    {
+        if self.lacks_generator() {
+            return Err(LineFault::refused_after(self, Cause::NoGenerator));
+        }
+        Ok(self.into_script(alloc)?)
     }
 }
 
@@ -350,24 +416,25 @@ fn named_header(
     name: &[u8],
     tokens: &[&[u8]],
 ) -> Result<Reader, LineFault>
-    ensures ok { IfOk result (λ next. header_line version (name.now ∷ texts tokens.now)
-        ≡ Ok next) }
-    ensures err { IfErr result (IsLineFault
-        (header_line version (name.now ∷ texts tokens.now))) }
+    ensures ok { IfOk result (λ next. headed version name.now (texts tokens.now) ≡ Ok next) }
+    ensures err { IfErr result (IsLineFault (headed version name.now (texts tokens.now))) }
 {
     if is_word(b"monoid", name) {
-        Ok(relating(outline_of(alloc, version.is_wide(), true, tokens)?))
+        let outline = outline_of(alloc, version.is_wide(), true, tokens)?;
+        Ok(relating(version, outline))
     } else if is_word(b"semigroup", name) {
-        Ok(relating(outline_of(alloc, version.is_wide(), false, tokens)?))
+        let outline = outline_of(alloc, version.is_wide(), false, tokens)?;
+        Ok(relating(version, outline))
     } else {
-        Ok(posing(header_of(alloc, name, tokens)?))
+        Ok(posing(version, header_of(alloc, name, tokens)?))
     }
 }
 
 // The header, in a script of this version.
 fn header_line(alloc: Global, version: Version, line: &[&[u8]]) -> Result<Reader, LineFault>
-    ensures ok { IfOk result (λ next. header_line version (texts line.now) ≡ Ok next) }
-    ensures err { IfErr result (IsLineFault (header_line version (texts line.now))) }
+    ensures ok { IfOk result (HeaderReads version (texts line.now)) }
+    ensures err { IfErr result (IsFaultFor (first_of
+        (header_causes version (texts line.now)))) }
 {
     match line {
         [name, tokens @ ..] => named_header(alloc, version, name, tokens),
@@ -383,96 +450,76 @@ enum Begun {
     // The version line alone.
     Versioned(Version),
     // The header, and what stands behind it.
-    Reading(Version, Reader),
+    Reading(Reader),
 }
 
-/// What the lines so far have given, from the first one on: nothing, the version of the script, or
-/// what stands behind its header too.
+/// What the lines so far say, from the first one on: nothing, the version of the script, or what
+/// stands behind its header too.
 #[derive(Drop)]
 pub struct Progress {
     begun: Begun,
 }
 
 impl Model for Progress {
-    ghost use Rattle.query_lang.specs.Script.{ProgressOf};
-    ghost use Rattle.query_lang.specs.Script as said;
+    ghost use Rattle.query_lang.specs.Grammar.{Said};
+    ghost use Rattle.query_lang.specs.Grammar as said;
     ghost use Rattle.query_lang.specs.declared.reader.Begun.TheVariants as kept;
 
-    ghost Value = { ProgressOf };
+    ghost Value = { Said };
 
     ghost view = { λ p. elim p.begun [
       | kept.Nothing ↦ said.Nothing
-      | kept.Versioned version ↦ said.Versioned version
-      | kept.Reading version reader ↦ said.Reading version reader
+      | kept.Versioned version ↦ said.OfVersion version
+      | kept.Reading reader ↦ said.Begun reader
     ] };
 }
 
 // The version alone.
 fn versioned(version: Version) -> Progress
-    ensures { result ≡ said.Versioned version }
+    ensures { result ≡ said.OfVersion version }
 {
     Progress {
         begun: Begun::Versioned(version),
     }
 }
 
-// The version, and what stands from the header on.
-fn reading(version: Version, reader: Reader) -> Progress
-    ensures { result ≡ said.Reading version reader }
+// What stands from the header on.
+fn reading(reader: Reader) -> Progress
+    ensures { result ≡ said.Begun reader }
 {
     Progress {
-        begun: Begun::Reading(version, reader),
+        begun: Begun::Reading(reader),
     }
 }
 
 // The header behind the version.
 fn headed(alloc: Global, version: Version, line: &[&[u8]]) -> Result<Progress, LineFault>
-    ensures ok { IfOk result (λ next. read_line (said.Versioned version) (texts line.now)
-        ≡ Ok next) }
-    ensures err { IfErr result (IsLineFault
-        (read_line (said.Versioned version) (texts line.now))) }
+    requires { is_kept (texts line.now) ≡ true }
+    ensures ok { IfOk result (Step (said.OfVersion version) (texts line.now)) }
+    ensures err { IfErr result (IsFaultFor (first_of
+        (header_causes version (texts line.now)))) }
 {
-    Ok(reading(version, header_line(alloc, version, line)?))
+    Ok(reading(header_line(alloc, version, line)?))
 }
 
 // A line behind the header.
-fn followed(
-    alloc: Global,
-    version: Version,
-    reader: Reader,
-    line: &[&[u8]],
-) -> Result<Progress, LineFault>
-    ensures ok { IfOk result (λ next. read_line (said.Reading version reader) (texts line.now)
-        ≡ Ok next) }
-    ensures err { IfErr result (IsLineFault
-        (read_line (said.Reading version reader) (texts line.now))) }
+fn followed(alloc: Global, reader: Reader, line: &[&[u8]]) -> Result<Progress, LineFault>
+    requires { is_kept (texts line.now) ≡ true }
+    ensures ok { IfOk result (Step (said.Begun reader) (texts line.now)) }
+    ensures err { IfErr result (IsFaultFor (first_of (line_causes reader (texts line.now)))) }
 {
-    Ok(reading(version, reader.add_line(alloc, version, line)?))
-}
-
-// The version line, or else the header, by its name and the tokens behind it.
-fn named_line(alloc: Global, name: &[u8], tokens: &[&[u8]]) -> Result<Progress, LineFault>
-    ensures ok { IfOk result (λ next. first_line (name.now ∷ texts tokens.now) ≡ Ok next) }
-    ensures err { IfErr result (IsLineFault (first_line (name.now ∷ texts tokens.now))) }
-{
-    if is_word(b"version", name) {
-        Ok(versioned(version_of(tokens)?))
-    } else {
-        Ok(reading(
-            Version::One,
-            named_header(alloc, Version::One, name, tokens)?,
-        ))
-    }
+    Ok(reading(reader.add_line(alloc, line)?))
 }
 
 // The version line, or else the header.
 fn first_line(alloc: Global, line: &[&[u8]]) -> Result<Progress, LineFault>
-    ensures ok { IfOk result (λ next. first_line (texts line.now) ≡ Ok next) }
-    ensures err { IfErr result (IsLineFault (first_line (texts line.now))) }
+    requires { is_kept (texts line.now) ≡ true }
+    ensures ok { IfOk result (Step said.Nothing (texts line.now)) }
+    ensures err { IfErr result (IsFaultFor (first_of (first_line_causes (texts line.now)))) }
 {
     match line {
-        [name, tokens @ ..] => named_line(alloc, name, tokens),
-        [] => Err(LineFault::refused(Cause::UnknownHeader)),
+        [name, tokens @ ..] if is_word(b"version", name) => Ok(versioned(version_of(tokens)?)),
+        _ => Ok(reading(header_line(alloc, Version::One, line)?)),
     }
 }
 
@@ -488,20 +535,21 @@ impl Progress {
 
     // A line that is not skipped.
     fn read_line(self, alloc: Global, line: &[&[u8]]) -> Result<Progress, LineFault>
-        ensures ok { IfOk result (λ next. read_line self (texts line.now) ≡ Ok next) }
-        ensures err { IfErr result (IsLineFault (read_line self (texts line.now))) }
+        requires { is_kept (texts line.now) ≡ true }
+        ensures ok { IfOk result (Step self (texts line.now)) }
+        ensures err { IfErr result (IsFaultFor (first_of (causes_after self (texts line.now)))) }
     {
         match self.begun {
             Begun::Nothing => first_line(alloc, line),
             Begun::Versioned(version) => headed(alloc, version, line),
-            Begun::Reading(version, reader) => followed(alloc, version, reader, line),
+            Begun::Reading(reader) => followed(alloc, reader, line),
         }
     }
 
     // A line, which may be skipped.
     fn take_tokens(self, alloc: Global, line: &[&[u8]]) -> Result<Progress, LineFault>
-        ensures ok { IfOk result (λ next. take_tokens self (texts line.now) ≡ Ok next) }
-        ensures err { IfErr result (IsLineFault (take_tokens self (texts line.now))) }
+        ensures ok { IfOk result (Step self (texts line.now)) }
+        ensures err { IfErr result (IsFaultFor (cause_of_line self (texts line.now))) }
     {
         if is_kept(line) {
             self.read_line(alloc, line)
@@ -513,8 +561,8 @@ impl Progress {
     /// One line more: of the version, the header, a line after it, or one that is skipped. Refused
     /// with the cause of the line, or for want of memory.
     pub fn take_line(self, alloc: Global, line: &[u8]) -> Result<Progress, LineFault>
-        ensures ok { IfOk result (λ next. take_line self line.now ≡ Ok next) }
-        ensures err { IfErr result (IsLineFault (take_line self line.now)) }
+        ensures ok { IfOk result (Step self (tokens_of line.now)) }
+        ensures err { IfErr result (IsFaultFor (cause_of_line self (tokens_of line.now))) }
     {
         match tokens_of(alloc, line) {
             Ok(tokens) => self.take_tokens(alloc, &tokens),
@@ -528,14 +576,16 @@ impl Progress {
     /// The script of all lines. Refused where the header is missing, or every generator of a script
     /// that is no presentation, or for want of memory.
     pub fn whole(self, alloc: Global) -> Result<Script, LineFault>
-        ensures ok { IfOk result (λ script. whole_of self ≡ Ok script) }
-        ensures err { IfErr result (IsLineFault (whole_of self)) }
+        ensures some { OnOk result (cause_at_end self ≡ None) }
+        ensures ok { IfOk result (λ script. (p : Partial) × (self ≡ said.Begun p)
+            × (script_in p ≡ script)) }
+        ensures err { IfErr result (IsFaultFor (cause_at_end self)) }
     {
         match self.begun {
             Begun::Nothing | Begun::Versioned(_) => {
                 Err(LineFault::refused(Cause::HeaderMissing))
             }
-            Begun::Reading(_, reader) => reader.finish(alloc),
+            Begun::Reading(reader) => reader.whole(alloc),
         }
     }
 }

@@ -1,13 +1,13 @@
 // Scripts: a problem, and queries.
 ghost use Rattle.std.specs.Prelude.{◌≡◌, [], true, IfOk, IfErr, Ok, All};
 ghost use Rattle.problem.specs.Problem.{IsPosable, is_presented};
+ghost use Rattle.query_lang.specs.Asked.{asked, with_asked};
 ghost use Rattle.query_lang.specs.Faults.{IsLineFault, IsScriptFault};
 ghost use Rattle.query_lang.specs.Grammar.{lines_of};
 ghost use Rattle.query_lang.specs.LineCauses.{AreScript};
 ghost use Rattle.query_lang.specs.Query.{IsQueryOf};
 ghost use Rattle.query_lang.specs.Forms.{has_query};
 ghost use Rattle.query_lang.specs.Relations.{relations_of};
-ghost use Rattle.query_lang.specs.Script.{asked, with_asked};
 ghost use Rattle.query_lang.specs.Texts.{texts};
 ghost use Rattle.query_lang.specs.Values.{added_of};
 

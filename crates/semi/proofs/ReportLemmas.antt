@@ -8,7 +8,7 @@ use Rattle.ports.specs.Writes.{Writes}
 use Rattle.ports.proofs.WriteLemmas.{no_bytes, answered, faulted, writes_then}
 use Rattle.problem.specs.declared.kinds.Problem.{Problem}
 use Rattle.query_lang.specs.declared.script.Query.{Query}
-use Rattle.query_lang.specs.Script.{ScriptOf}
+use Rattle.query_lang.specs.Asked.{ScriptOf}
 use Rattle.report.specs.declared.answers.Answered.{Answered}
 use Rattle.report.specs.declared.state.State.{State}
 use Rattle.report.specs.Gains as gains

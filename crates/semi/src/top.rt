@@ -3,7 +3,7 @@ ghost use Rattle.std.specs.Prelude.{◌≡◌, ◌≤◌, ◌⊎◌, false, true
 ghost use Rattle.ports.specs.Bytes.{Rose};
 ghost use Rattle.semi.specs.Ends.{EndsBy, EndsUnder};
 ghost use Rattle.semi.specs.Report.{GainsBeginning, GainsLineOf, GainsReport, IsRefusal, IsRefused, IsScript};
-ghost use Rattle.query_lang.specs.Script.{ScriptOf};
+ghost use Rattle.query_lang.specs.Asked.{ScriptOf};
 ghost use Rattle.semi.specs.Made.{OnInput};
 ghost use Rattle.semi.specs.Settings.{AskToMake, UnlessMade};
 ghost use Rattle.semi.specs.Taken.{IsTakenAt, IsTakenWhole};

@@ -1,6 +1,7 @@
-use Rattle.std.proofs.Common.{◌≡◌, length, Ok}
+use Rattle.std.proofs.Common.{◌≡◌, length, map}
+use Rattle.query_lang.specs.Grammar.{Nothing, Reads}
 use Rattle.query_lang.specs.Texts.{texts}
-use Rattle.query_lang.specs.Script.{Nothing, read_lines}
+use Rattle.query_lang.specs.Token.{tokens_of}
 use Rattle.query_lang.proofs.script.read_script.Given as goal
 
 abbrev pub invariant-loop-line : goal.invariant-loop-line
@@ -8,5 +9,5 @@ invariant-loop-line l = record {
   can : (goal.iterator-loop-line).can_next l.line-iterator;
   finite : (goal.iterator-loop-line).is_finite l.line-iterator;
   counted : l.number ≡ length l.yielded;
-  read : read_lines 1 Nothing (texts l.yielded) ≡ Ok l.progress;
+  read : Reads Nothing (map tokens_of (texts l.yielded)) l.progress;
 }
