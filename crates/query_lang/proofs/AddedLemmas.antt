@@ -1,22 +1,24 @@
 -- What lines of relations, pairs and inverses add, by the words and letters that are read.
 use Rattle.std.proofs.Common.{◌≡◌, ℕ, ◌==◌, Bool, true, false, if◌then◌else◌, List, [], ◌∷◌, length, Option, Some, None, Result, Ok, Err, IfOk, IfErr, IsErrAnd, refl, sym, ap, ◌∙◌}
+use Rattle.theory.specs.Word.{Word}
 use Rattle.theory.specs.declared.Kind.{Kind}
 use Rattle.presentation.specs.Presented.{Posed}
-use Rattle.presentation.specs.Added.{inverse_relations}
+use Rattle.presentation.specs.Added.{identity_relations, inverse_relations, zero_relations}
 use Rattle.problem.specs.declared.kinds.Problem.{Problem}
 use Rattle.problem.specs.declared.kinds.Problem.TheVariants.{Presented}
 use Rattle.problem.specs.Problem.{has_empty_word, letters_of, pairs_of}
 use Rattle.query_lang.specs.declared.cause.Cause.{Cause}
 use Rattle.query_lang.specs.declared.cause.Cause.TheVariants as cause
 use Rattle.query_lang.specs.declared.form.Form.TheVariants.{Relation, OfRole, Pair}
-use Rattle.query_lang.specs.declared.role.Role.TheVariants.{Inverse}
+use Rattle.query_lang.specs.declared.role.Role.TheVariants.{Identity, Zero, Inverse}
 use Rattle.query_lang.specs.declared.version.Version.{Version}
 use Rattle.query_lang.specs.Faults.{IsLineFault}
 use Rattle.query_lang.specs.LineWords.{both_elements, element_of, two_tokens}
 use Rattle.query_lang.specs.Outcome.{and_then}
+use Rattle.query_lang.specs.Outline.{related}
 use Rattle.query_lang.specs.Pairing.{most_pairs}
-use Rattle.query_lang.specs.Relations.{most_relations}
-use Rattle.query_lang.specs.Roles.{both_letters, count_for_both, is_too_many, letter_in}
+use Rattle.query_lang.specs.Relations.{add_relations, most_relations}
+use Rattle.query_lang.specs.Roles.{both_letters, count_for, count_for_both, is_too_many, letter_for, letter_in}
 use Rattle.query_lang.specs.Token.{Token}
 use Rattle.query_lang.specs.Values.{added_of, mixes_kinds}
 use Rattle.query_lang.proofs.QueryLemmas.{carried, same_fault, two_in}
@@ -54,6 +56,35 @@ made_err f (Err fault) outcome added e h = same_fault _ _ fault e (carried f out
 pub cause_handed : {A B : Type 0} (r : Result B Cause) (c : Cause) (outcome : Result A Cause) → IsErrAnd r (λ e. e ≡ c) → outcome ≡ Err c → IfErr r (λ e. outcome ≡ Err e)
 cause_handed (Ok x) c outcome h p = tt
 cause_handed (Err e) c outcome h p = p ∙ ap (λ c. Err c) (sym h)
+
+-- an identity or a zero
+
+few_one : {A : Type 0} (makes : ℕ × Unit {0} → A) (many : Bool) (u : Result ℕ Cause)
+    → (if many then Err cause.TooManyRelations else and_then (λ vs. Ok (makes vs)) (and_then (λ x. Ok (x, tt)) u)) ≡ and_then (λ x. Ok (makes (x, tt))) (if many then Err cause.TooManyRelations else u)
+few_one makes true u = refl
+few_one makes false (Err c) = refl
+few_one makes false (Ok x) = refl
+
+identity_in : (version : Version) (o : Posed) (tokens : List Token) → added_of version (Presented o) (OfRole Identity) tokens ≡ and_then (λ x. Ok (identity_relations (length o.alphabet) x)) (letter_for version o tokens)
+identity_in version o [] = refl
+identity_in version o (t ∷ u ∷ tokens) = refl
+identity_in version o (t ∷ []) = few_one (λ v. identity_relations (length o.alphabet) v.0) (is_too_many o (count_for o.alphabet t)) (letter_in version o.alphabet t)
+
+zero_in : (version : Version) (o : Posed) (tokens : List Token) → added_of version (Presented o) (OfRole Zero) tokens ≡ and_then (λ x. Ok (zero_relations (length o.alphabet) x)) (letter_for version o tokens)
+zero_in version o [] = refl
+zero_in version o (t ∷ u ∷ tokens) = refl
+zero_in version o (t ∷ []) = few_one (λ v. zero_relations (length o.alphabet) v.0) (is_too_many o (count_for o.alphabet t)) (letter_in version o.alphabet t)
+
+-- what is made of the letter
+made_related : (o : Posed) (f : ℕ → List (Word × Word)) (r : Result ℕ Cause) (added : Result (List (Word × Word)) Cause) → added ≡ and_then (λ x. Ok (f x)) r → related o added ≡ and_then (λ x. Ok (add_relations o (f x))) r
+made_related o f (Ok x) added e = ap (related o) e
+made_related o f (Err c) added e = ap (related o) e
+
+pub identity_related : (version : Version) (o : Posed) (tokens : List Token) → related o (added_of version (Presented o) (OfRole Identity) tokens) ≡ and_then (λ x. Ok (add_relations o (identity_relations (length o.alphabet) x))) (letter_for version o tokens)
+identity_related version o tokens = made_related o (identity_relations (length o.alphabet)) (letter_for version o tokens) _ (identity_in version o tokens)
+
+pub zero_related : (version : Version) (o : Posed) (tokens : List Token) → related o (added_of version (Presented o) (OfRole Zero) tokens) ≡ and_then (λ x. Ok (add_relations o (zero_relations (length o.alphabet) x))) (letter_for version o tokens)
+zero_related version o tokens = made_related o (zero_relations (length o.alphabet)) (letter_for version o tokens) _ (zero_in version o tokens)
 
 -- inverses
 

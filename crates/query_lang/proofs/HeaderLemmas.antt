@@ -1,5 +1,5 @@
 -- What comes of headers and version lines: what they say, or the cause.
-use Rattle.std.proofs.Common.{◌≡◌, ℕ, Bool, true, false, not, if◌then◌else◌, List, [], ◌∷◌, codes, Option, Some, None, Result, Ok, Err, is_none, option_and_then, refl, sym, ap, ap₂, ◌∙◌, subst, arith, inl, inr, Contains}
+use Rattle.std.proofs.Common.{◌≡◌, ℕ, Bool, true, false, not, if◌then◌else◌, List, [], ◌∷◌, codes, Option, Some, None, Result, Ok, Err, refl, sym, ap, ap₂, ◌∙◌, subst, arith, inl, inr, Contains}
 use Rattle.std.specs.Option.{ok_or}
 use Rattle.std.proofs.lemmas.List.Elements.{All-contains}
 use Rattle.words.specs.Alphabet.{IsAlphabetOf, IsLetterByte, marker}
@@ -16,7 +16,7 @@ use Rattle.query_lang.specs.Grammar as grammar
 use Rattle.query_lang.specs.Reading.{headed}
 use Rattle.query_lang.specs.Token.{Line, Token, is_kept, number_of}
 use Rattle.query_lang.specs.Values.{as_many, values_of}
-use Rattle.query_lang.specs.LineCauses.{when, first_of, cause_in, header_causes, start_causes, token_causes, version_causes}
+use Rattle.query_lang.specs.LineCauses.{when, first_of, cause_in, header_causes, start_causes, token_causes}
 use Rattle.query_lang.proofs.FormLemmas.{in_fault, same-cause}
 use Rattle.query_lang.proofs.QueryLemmas.{values_cause}
 use Rattle.query_lang.proofs.TotalLaw.{header-read}
@@ -73,22 +73,6 @@ header_reads version name tokens q h =
     let behind : read.tokens ≡ tokens = let e : name ∷ tokens ≡ read.name ∷ read.tokens = read.is in cc in
     let same : found.0 ≡ q = same_said found.0 q (sym (header_said version (name ∷ tokens) found.0 read) ∙ ap₂ (headed version) names behind ∙ h) in
     subst (HeaderReads version (name ∷ tokens)) same read
-
--- the cause of a version line
-pub version_cause : (tokens : List Token) → first_of (version_causes tokens) ≡ cause_in (version_of tokens)
-version_cause [] = refl
-version_cause (t ∷ u ∷ tokens) = refl
-version_cause (t ∷ []) = by (number_of t)
-  where
-    known : (version : Option Version) → first_of (None ∷ when cause.UnknownVersion (is_none version) ∷ []) ≡ cause_in (ok_or version cause.UnknownVersion)
-    known None = refl
-    known (Some version) = refl
-
-    by : (number : Option ℕ)
-        → first_of (when cause.BadNumber (is_none number) ∷ when cause.UnknownVersion (is_none (option_and_then version_numbered number)) ∷ [])
-        ≡ cause_in (and_then (λ n. ok_or (version_numbered n) cause.UnknownVersion) (ok_or number cause.BadNumber))
-    by None = refl
-    by (Some n) = known (version_numbered n)
 
 -- what the tokens say is a version line
 number_reads : (t : Token) (v : Version) → is_kept (codes "version" ∷ t ∷ []) ≡ true → version_of (t ∷ []) ≡ Ok v → Step Nothing (codes "version" ∷ t ∷ []) (OfVersion v)

@@ -1,11 +1,11 @@
 -- Problems with one pair more.
-use Rattle.std.proofs.Common.{◌≡◌, ◌≢◌, ◌==◌, ◌≤◌, false, List, [], ◌∷◌, ◌++◌, length, length-append, refl, sym, ap, ◌∙◌, subst, arith, ne_eqb, true, Contains}
+use Rattle.std.proofs.Common.{◌≡◌, ◌≢◌, ◌==◌, ◌≤◌, false, List, [], ◌∷◌, ◌++◌, length, length-append, refl, sym, ap, ◌∙◌, subst, arith, ne_eqb, Contains}
 use Rattle.theory.specs.declared.Kind.{Kind}
 use Rattle.theory.specs.Word.{Word}
 use Rattle.words.specs.Alphabet.{marker}
 use Rattle.problem.specs.declared.kinds.Problem.{Problem}
 use Rattle.problem.specs.declared.kinds.Problem.TheVariants.{Presented, Transf, PPerm, BMat, MaxPlus}
-use Rattle.problem.specs.Problem.{IsPosable, is_presented, letters_of, pairs_of, with_pair}
+use Rattle.problem.specs.Problem.{is_presented, letters_of, pairs_of, with_pair}
 use Rattle.query_lang.specs.Relations.{most_relations, relations_of}
 use Rattle.query_lang.specs.Pairing.{IsPairable, most_pairs}
 
@@ -41,21 +41,6 @@ pair_fits p kind s fits few = record {
       let stay = letters_stay p kind s in
       subst (λ letters. Contains letters marker → ⊥) (sym stay.0) (fits.unmarked (sym stay.1 ∙ presented));
 }
-
--- so the problem may be posed
-pub pairable_posed : (p : Problem) → IsPairable p → IsPosable p
-pairable_posed (Presented o) fits = record {
-  few = omega (arith, fits.few_relations, fits.few_pairs);
-  unmarked = λ one_sided. fits.unmarked refl;
-}
-pairable_posed (Transf g) fits = tt
-pairable_posed (PPerm g) fits = tt
-pairable_posed (BMat g) fits = tt
-pairable_posed (MaxPlus g) fits = tt
-
--- generators have pairs whatever the letters are
-pub unmarked_generators : (p : Problem) → is_presented p ≡ false → is_presented p ≡ true → Contains (letters_of p) marker → ⊥
-unmarked_generators p generated presented has = cc
 
 some_pair : {A : Type 0} (xs : List A) (x : A) → (length (xs ++ x ∷ []) == 0) ≡ false
 some_pair xs x = ne_eqb (length (xs ++ x ∷ [])) 0 (λ e. omega (arith, e, length-append xs (x ∷ [])))

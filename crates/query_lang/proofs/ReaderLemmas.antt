@@ -65,11 +65,6 @@ query_is p script form tokens v s e k h =
     ap (λ p. added_to p (Asks form) tokens) (sym (ap (λ script. come_to v s script) h ∙ ap₂ (λ v s. come_to v s (script_in p)) e k))
     ∙ fused (with_asked script) (λ n. come_to v s n) (with_added (come_to v s script) (Asks form)) (added_of v script.problem (Asks form) tokens) (λ x. refl)
 
--- lines of relations add no pair
-pub still_unpaired : (o next : Posed) (r : Result (List (Word × Word)) Cause) → related o r ≡ Ok next → o.congruence.pairs ≡ [] → next.congruence.pairs ≡ []
-still_unpaired o next (Ok rs) h e = let same : add_relations o rs ≡ next = cc in ap (λ (o : Posed). o.congruence.pairs) (sym same) ∙ e
-still_unpaired o next (Err c) h e = absurd (cc)
-
 -- a pair is there once one is added
 pub pair_there : (p next : Problem) (kind : Kind) (r : Result (Word × Word) Cause) → paired p kind r ≡ Ok next → (length (pairs_of next) == 0) ≡ false
 pair_there p next kind (Ok s) h = let same : with_pair p kind s ≡ next = cc in ap (λ q. length (pairs_of q) == 0) (sym same) ∙ has_pairs p kind s
@@ -86,18 +81,6 @@ query_there v s next form tokens h = by (added_of v s.problem (Asks form) tokens
     by : (r : Result _ Cause) → and_then (λ q. Ok (with_asked s q)) r ≡ Ok next → is_empty next.queries ≡ false
     by (Ok q) h = let same : with_asked s q ≡ next = cc in ap (λ (s : ScriptOf). is_empty s.queries) (sym same) ∙ some_there s.queries q
     by (Err c) h = absurd (cc)
-
--- with pairs or queries no generator lacks
-pub pairs_lack_none : (a b c : Bool) → (a && (b && (false && c))) ≡ false
-pairs_lack_none false b c = refl
-pairs_lack_none true false c = refl
-pairs_lack_none true true c = refl
-
-pub queries_lack_none : (a b c d : Bool) → d ≡ false → (a && (b && (c && d))) ≡ false
-queries_lack_none false b c d h = refl
-queries_lack_none true false c d h = refl
-queries_lack_none true true false d h = refl
-queries_lack_none true true true d h = h
 
 -- a line of a form is read
 pub form_reads : (p : Partial) (form : Form) (name : Token) (tokens : List Token) (q : Partial) → lacks_generator p ≡ false → section_reached p ≤ section_of form → is_generator_line p (name ∷ tokens) ≡ false

@@ -7,6 +7,7 @@ use Rattle.presentation.specs.Added.{inverse_relations}
 use Rattle.query_lang.specs.declared.cause.Cause.{Cause}
 use Rattle.query_lang.specs.declared.cause.Cause.TheVariants as cause
 use Rattle.query_lang.specs.declared.version.Version.{Version}
+use Rattle.query_lang.specs.LineWords.{one_token}
 use Rattle.query_lang.specs.Outcome.{and_then}
 use Rattle.query_lang.specs.Relations.{most_relations}
 use Rattle.query_lang.specs.Token.{Token, is_word, letter_of}
@@ -37,6 +38,12 @@ count_for_both x y = if is_word x y then 1 else 2
 abbrev pub is_too_many : Posed → ℕ → Bool
 is_too_many o count =
     nat_lt most_relations (length o.congruence.presentation.relations + count)
+
+-- the letter that the tokens name, where its relations in a role are not too many
+abbrev pub letter_for : Version → Posed → List Token → Result ℕ Cause
+letter_for version o tokens = and_then
+    (λ t. if is_too_many o (count_for o.alphabet t) then Err cause.TooManyRelations
+    else letter_in version o.alphabet t) (one_token tokens)
 
 -- two letters, of which the first is read first, where relations that make them inverse are not
 -- too many

@@ -6,7 +6,7 @@ ghost use Rattle.presentation.specs.Added.{identity_relations, zero_relations, i
 ghost use Rattle.query_lang.specs.Faults.{IsLineFault};
 ghost use Rattle.query_lang.specs.Relations.{IsSide, add_relation, add_relations, free_over, most_relations};
 ghost use Rattle.query_lang.specs.LineWords.{both_elements};
-ghost use Rattle.query_lang.specs.Roles.{AreInverses, both_letters, is_too_many, letter_in};
+ghost use Rattle.query_lang.specs.Roles.{AreInverses, both_letters, is_too_many, letter_for, letter_in};
 ghost use Rattle.query_lang.specs.Outline.{related};
 ghost use Rattle.query_lang.specs.Pairing.{IsPairable};
 ghost use Rattle.query_lang.specs.Texts.{texts};
@@ -198,20 +198,14 @@ impl Outline {
 
     // The letter that the tokens name, where its relations in a role are not too many.
     fn letter_for(&self, version: Version, tokens: &[&[u8]]) -> Result<Letter, LineFault>
-        ensures identity { IfOk result (λ letter. added_of version (Problem.Presented self.now)
-            (Form.OfRole Role.Identity) (texts tokens.now)
-            ≡ Ok (identity_relations (length self.now.alphabet) letter)) }
-        ensures zero { IfOk result (λ letter. added_of version (Problem.Presented self.now)
-            (Form.OfRole Role.Zero) (texts tokens.now)
-            ≡ Ok (zero_relations (length self.now.alphabet) letter)) }
+        ensures ok { IfOk result (λ letter. letter_for version self.now (texts tokens.now)
+            ≡ Ok letter) }
         ensures within { IfOk result (λ letter. letter < length self.now.alphabet) }
         ensures few { (word : ℕ → Letters) → IfOk result
             (λ letter. length self.now.congruence.presentation.relations
             + length (products_with letter word (length self.now.alphabet)) ≤ most_relations) }
-        ensures no_identity { IfErr result (IsLineFault (added_of version
-            (Problem.Presented self.now) (Form.OfRole Role.Identity) (texts tokens.now))) }
-        ensures no_zero { IfErr result (IsLineFault (added_of version
-            (Problem.Presented self.now) (Form.OfRole Role.Zero) (texts tokens.now))) }
+        ensures err { IfErr result (IsLineFault
+            (letter_for version self.now (texts tokens.now))) }
     {
         let token = one_token(tokens)?;
         if self.is_too_many(count_for(self.presentation.alphabet(), token)) {
