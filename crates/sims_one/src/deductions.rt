@@ -113,6 +113,19 @@ fn read_back(
     Ok(true)
 }
 
+// Whether the letter of a side at the place is that of the edge, and the side leads on from there. Else
+// nothing follows from the edge there.
+fn is_due(letters: usize, known: &Known, side: &Word, place: usize, edge: Edge) -> bool
+    requires few { known.now.nodes ≤ MOST_NODES }
+    requires letters { letters ≤ 53 }
+    requires side { IsOver letters side.now }
+    requires place { place < length side.now }
+{
+    side.letter(place).number() == edge.letter
+        && edge.node < known.nodes
+        && known.leads_on(letters, edge.node, side, place)
+}
+
 // Reads a relation at each node from which a side goes over the edge. False where its sides lead to
 // two nodes.
 fn read_side(
@@ -130,8 +143,9 @@ fn read_side(
     ensures keeps { IfOk result (λ holds.
         Keeps presentation.now.presentation known.old known.new holds) }
 {
+    let letters = presentation.letters();
     for i in 0..side.len() {
-        if side.letter(i).number() == edge.letter
+        if is_due(letters, known, side, i, edge)
             && !read_back(presentation, known, fresh, relation, side, i, edge.node)?
         {
             return Ok(false);

@@ -143,4 +143,21 @@ impl Known {
             node: at,
         }
     }
+
+    /// Whether the letters of the word from this one on lead from the node by known edges, perhaps but
+    /// for the last.
+    pub fn leads_on(&self, letters: usize, node: usize, word: &Word, first: usize) -> bool
+        requires node { node < MOST_NODES }
+        requires letters { letters ≤ 53 }
+        requires word { IsOver letters word.now }
+    {
+        let mut at = node;
+        for i in first..word.len() {
+            match self.target(at * letters + word.letter(i).number()) {
+                None => return i + 1 == word.len(),
+                Some(next) => at = next,
+            }
+        }
+        true
+    }
 }

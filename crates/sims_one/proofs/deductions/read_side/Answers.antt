@@ -2,7 +2,7 @@ use Rattle.std.proofs.Common.{◌∙◌, true, false, ap}
 use Rattle.sims_one.specs.declared.known.Known.{Known}
 use Rattle.sims_one.proofs.EdgeLaws.{kept_to, kept_same}
 use Rattle.sims_one.proofs.deductions.read_side.Goals as goal
-use Rattle.sims_one.proofs.deductions.read_side.Goals.{else-number-edge-via-then-number-edge+in_ok-read_back+else-not-branch, else-number-edge-via-else-number-edge}
+use Rattle.sims_one.proofs.deductions.read_side.Goals.{else-is_due-via-then-is_due+in_ok-read_back+else-not-branch, else-is_due-via-else-is_due}
 
 pub returns-then-not-branch-clause-keeps : goal.returns-then-not-branch-clause-keeps
 returns-then-not-branch-clause-keeps c =
@@ -12,14 +12,14 @@ pub loop-i-preserved : goal.loop-i-preserved
 loop-i-preserved c =
     let p = c.args.presentation.now.presentation in
     let old = c.args.known.now in
-    elim c.else-number-edge.branch [
-      | else-number-edge-via-then-number-edge+in_ok-read_back+else-not-branch w ↦ record {
+    elim c.else-is_due.branch [
+      | else-is_due-via-then-is_due+in_ok-read_back+else-not-branch w ↦ record {
         nodes = ap (λ (k : Known). k.nodes) w.known-is ∙ w.in_ok-read_back.ensures.nodes ∙ c.loop-i.invariant.nodes;
-        keeps = kept_same p old c.else-number-edge.known w.read_back.new.known w.known-is
+        keeps = kept_same p old c.else-is_due.known w.read_back.new.known w.known-is
             (kept_to p old c.loop-i.known w.read_back.new.known w.in_ok-read_back.field-0 true c.loop-i.invariant.keeps w.if-not-branch.false w.in_ok-read_back.ensures.keeps);
       }
-      | else-number-edge-via-else-number-edge w ↦ record {
+      | else-is_due-via-else-is_due w ↦ record {
         nodes = ap (λ (k : Known). k.nodes) w.known-is ∙ c.loop-i.invariant.nodes;
-        keeps = kept_same p old c.else-number-edge.known c.loop-i.known w.known-is c.loop-i.invariant.keeps;
+        keeps = kept_same p old c.else-is_due.known c.loop-i.known w.known-is c.loop-i.invariant.keeps;
       }
     ]
