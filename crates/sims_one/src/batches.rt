@@ -30,13 +30,20 @@ const FIRST_SHARE: usize = 2;
 
 const MOST_SHARE: usize = 256;
 
-// A search: the front parts behind which it has still to go, the tables before these, and how many
-// parts of the next batch each worker has.
+// A search that has taken fewer steps needs no threads after the first batch: they would take
+// longer. So many parts of it are a batch then.
+const FEW_STEPS: usize = 8192;
+
+const SMALL_BATCH: usize = 8;
+
+// A search: the front parts behind which it has still to go, the tables before these, how many
+// parts of the next batch with threads each worker has, and how many steps it has taken.
 #[derive(Drop)]
 struct Sweep {
     fronts: Vec<Vec<usize>>,
     tables: Vec<Vec<usize>>,
     share: usize,
+    steps: usize,
 }
 
 // The parts of these front parts.
@@ -56,6 +63,15 @@ fn parts_of<'a>(
         parts.push(TablePart::new(alloc, request, front))?;
     }
     Ok(parts)
+}
+
+// How many steps the parts have taken.
+fn steps_of(parts: &[TablePart]) -> usize {
+    let mut steps: usize = 0;
+    for part in parts {
+        steps = steps.saturating_add(part.steps());
+    }
+    steps
 }
 
 // Puts what the parts have found behind the tables.
@@ -82,6 +98,7 @@ impl Sweep {
             fronts,
             tables: Vec::new(alloc),
             share: FIRST_SHARE,
+            steps: 0,
         })
     }
 
@@ -110,6 +127,39 @@ impl Sweep {
         Ok(())
     }
 
+    // Whether the first batch was run, and the search has taken few steps.
+    fn is_small(&self) -> bool {
+        0 < self.steps && self.steps < FEW_STEPS
+    }
+
+    // How many workers run the next batch, of so many that there are.
+    fn batch_workers(&self, workers: usize) -> usize
+        requires { 1 ≤ workers }
+        ensures { 1 ≤ result }
+    {
+        if self.is_small() { 1 } else { workers }
+    }
+
+    // How many parts the next batch has.
+    fn batch_size(&self, workers: usize) -> usize
+        ensures { 1 ≤ result }
+    {
+        if self.is_small() {
+            SMALL_BATCH
+        } else {
+            workers.saturating_mul(self.share).max(1)
+        }
+    }
+
+    // How many parts each worker has of the batch with threads after the next one.
+    fn next_share(&self) -> usize {
+        if self.is_small() {
+            self.share
+        } else {
+            min(self.share.saturating_mul(2), MOST_SHARE)
+        }
+    }
+
     // Searches behind the next front parts, a batch of them.
     fn run_batch<T: Threads + Sync, G: Gate + Sync>(
         &mut self,
@@ -129,13 +179,14 @@ impl Sweep {
         ensures fewer { OnOk result (length self.new.fronts.items
             < length self.old.fronts.items) }
     {
-        let share = workers.saturating_mul(self.share).max(1);
-        let most = min(share, self.fronts.len());
-        self.share = min(self.share.saturating_mul(2), MOST_SHARE);
+        let workers = self.batch_workers(workers);
+        let most = min(self.batch_size(workers), self.fronts.len());
+        self.share = self.next_share();
         let rest = self.fronts.split_off(most)?;
         let mut parts = parts_of(alloc, request, self.fronts.as_slice())?;
         self.fronts = rest;
         run_parts(rt, alloc, &mut parts, workers, gate)?;
+        self.steps = self.steps.saturating_add(steps_of(&parts));
         add_tables(&mut self.tables, parts)
     }
 

@@ -16,6 +16,8 @@ pub struct Branch {
     levels: Vec<Known>,
     /// Room for the edges that are still to be read.
     pub fresh: Vec<Edge>,
+    /// How many targets have been put.
+    pub steps: usize,
 }
 
 impl Branch {
@@ -31,6 +33,7 @@ impl Branch {
             targets: Vec::new(alloc),
             levels,
             fresh: Vec::new(alloc),
+            steps: 0,
         })
     }
 
@@ -54,6 +57,7 @@ impl Branch {
     {
         self.targets.push(target)?;
         self.levels.push(known)?;
+        self.steps = self.steps.saturating_add(1);
         Ok(())
     }
 

@@ -113,8 +113,8 @@ fn read_back(
     Ok(true)
 }
 
-// Whether the letter of a side at the place is that of the edge, and the side leads on from there. Else
-// nothing follows from the edge there.
+// Whether the letter of a side at the place is that of the edge, and the side leads on from there.
+// Else nothing follows from the edge there.
 fn is_due(letters: usize, known: &Known, side: &Word, place: usize, edge: Edge) -> bool
     requires few { known.now.nodes ≤ MOST_NODES }
     requires letters { letters ≤ 53 }

@@ -144,8 +144,8 @@ impl Known {
         }
     }
 
-    /// Whether the letters of the word from this one on lead from the node by known edges, perhaps but
-    /// for the last.
+    /// Whether the letters of the word from this one on lead from the node by known edges, perhaps
+    /// but for the last.
     pub fn leads_on(&self, letters: usize, node: usize, word: &Word, first: usize) -> bool
         requires node { node < MOST_NODES }
         requires letters { letters ≤ 53 }

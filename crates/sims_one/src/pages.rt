@@ -63,7 +63,7 @@ fn find_tables<T: Threads + Sync, G: Gate + Sync>(
     ensures { IfOk result (λ ts. AreTables (asked request.now) (lists_in ts.items)) }
 {
     if workers == 1 {
-        tables_within(alloc, request, &[])
+        tables_within(alloc, request, &[], &mut 0)
     } else {
         tables_by_parts(rt, alloc, request, workers, gate)
     }
@@ -116,8 +116,8 @@ fn page_of<T: Threads + Sync, G: Gate + Sync>(
 /// the search is cut at the first targets of tables into parts, which run in batches by
 /// [`run_parts`], each batch once the one before it has ended; the batch that fills the page is the
 /// last one. The parts of a batch pass the gate with their numbers in it. In a monoid, with `n`
-/// above 1 and no cursor, the first batch has at least two parts. Refused only where memory is
-/// wanting.
+/// above 1 and no cursor, the first batch has at least two parts. While the search has taken few
+/// steps, the batches after the first have one worker. Refused only where memory is wanting.
 ///
 /// [`run_parts`]: crate::run_parts
 pub fn page<T: Threads + Sync, G: Gate + Sync>(

@@ -17,6 +17,7 @@ pub struct TablePart<'a> {
     request: Request<'a>,
     front: Vec<usize>,
     tables: Vec<Vec<usize>>,
+    steps: usize,
 }
 
 impl<'a> Model for TablePart<'a> {
@@ -53,7 +54,13 @@ impl<'a> TablePart<'a> {
             request: *request,
             front,
             tables: Vec::new(alloc),
+            steps: 0,
         }
+    }
+
+    /// How many steps its search has taken.
+    pub fn steps(&self) -> usize {
+        self.steps
     }
 
     /// What it has found.
@@ -75,7 +82,12 @@ impl<'a> Part for TablePart<'a> {
     ghost is_done = { λ s. AreTablesWithin s.asked s.front s.tables };
 
     fn run(&mut self) -> Result<(), NoMemory> {
-        self.tables = tables_within(self.alloc, &self.request, self.front.as_slice())?;
+        self.tables = tables_within(
+            self.alloc,
+            &self.request,
+            self.front.as_slice(),
+            &mut self.steps,
+        )?;
         Ok(())
     }
 }

@@ -96,11 +96,12 @@ fn search_place(request: &Request, place: Ordering, branch: &mut Branch) -> Resu
 }
 
 // The branch of the least table after the cursor that goes on behind the front part. `None` exactly
-// where there is none.
+// where there is none. Sets how many steps the search has taken.
 fn first_within(
     alloc: Global,
     request: &Request,
     front: &[usize],
+    steps: &mut usize,
 ) -> Result<Option<Branch>, NoMemory>
     requires asked { IsAsked (asked request.now) }
     requires opened { IsOpen (asked request.now) front.now }
@@ -117,11 +118,9 @@ fn first_within(
     let Some(mut branch) = branch_of(alloc, request, front)? else {
         return Ok(None);
     };
-    if search_place(request, place, &mut branch)? {
-        Ok(Some(branch))
-    } else {
-        Ok(None)
-    }
+    let found = search_place(request, place, &mut branch)?;
+    *steps = branch.steps;
+    if found { Ok(Some(branch)) } else { Ok(None) }
 }
 
 /// The table of these targets as a graph. Refused only where memory is wanting.
@@ -171,11 +170,13 @@ fn add_wanted(
 }
 
 /// The first tables that go on behind the front part and are asked for, in order, one more than a
-/// page has; all of them where they are fewer. Refused only where memory is wanting.
+/// page has; all of them where they are fewer. Sets how many steps the search has taken. Refused
+/// only where memory is wanting.
 pub fn tables_within(
     alloc: Global,
     request: &Request,
     front: &[usize],
+    steps: &mut usize,
 ) -> Result<Vec<Vec<usize>>, NoMemory>
     requires asked { IsAsked (asked request.now) }
     requires opened { IsOpen (asked request.now) front.now }
@@ -184,10 +185,11 @@ pub fn tables_within(
 {
     let _letters = request.presentation.letters();
     let mut tables = Vec::new(alloc);
-    let Some(mut branch) = first_within(alloc, request, front)? else {
+    let Some(mut branch) = first_within(alloc, request, front, steps)? else {
         return Ok(tables);
     };
     loop {
+        *steps = branch.steps;
         add_wanted(alloc, request, &branch.targets, &mut tables)?;
         if tables.len() > request.count {
             return Ok(tables);
