@@ -1,5 +1,5 @@
 // All that follows, drawn from what is pending.
-ghost use Rattle.std.specs.Prelude.{None, Some, OnOk};
+ghost use Rattle.std.specs.Prelude.{◌≡◌, None, Some, OnOk};
 ghost use Rattle.std.specs.Option.{ForSome};
 ghost use Rattle.theory.specs.Graph.{PathsRelate};
 ghost use Rattle.coincidence.specs.Closing.{ClosedThere};
@@ -94,34 +94,29 @@ fn due_there(
     }
 }
 
-// What is asked for next: anywhere, or at one node.
-fn due_in(
-    congruence: &Indexed,
-    edges: &Edges,
-    live: &Vec<bool>,
-    pending: &mut Worklist,
-    at: Option<usize>,
-    held: &mut usize,
-) -> Due
-    requires live { IsLiveGraph edges.now.graph live.now.items }
-    requires at { ForSome at (IsOn live.now.items) }
-    requires held { ForSome at (λ node. HoldBefore
-        congruence.now.congruence.presentation.relations edges.now.graph node held.old) }
-    requires closed { IsClosedBut congruence.now.congruence.presentation.relations edges.now.graph
-        live.now.items pending.old }
-    ensures held { ForSome at (λ node. HoldOnceDrawn
-        congruence.now.congruence.presentation.relations edges.now.graph node result held.new) }
-    ensures due { IsDueIn congruence.now.congruence edges.now.graph live.now.items at result }
-    ensures closed { IsClosedBut congruence.now.congruence.presentation.relations edges.now.graph
-        live.now.items pending.new }
-{
-    match at {
-        None => due_next(congruence, edges, live, pending),
-        Some(node) => due_there(congruence, edges, live, node, held),
-    }
-}
-
 impl Cosets {
+    // What is asked for next: anywhere, or at one node, at which the relations before a place are
+    // known to hold; it goes past those that do once what is asked for is drawn. Entries that ask
+    // for nothing are no longer pending.
+    fn next_due(&mut self, congruence: &Indexed, at: Option<usize>, held: &mut usize) -> Due
+        requires whole { IsWhole congruence.now.congruence self.old }
+        requires at { ForSome at (IsOn self.old.live.items) }
+        requires held { ForSome at (λ node. HoldBefore
+            congruence.now.congruence.presentation.relations self.old.edges.graph node held.old) }
+        ensures same { self.new ≡ record self.old { pending = self.new.pending } }
+        ensures whole { IsWhole congruence.now.congruence self.new }
+        ensures due { IsDueIn congruence.now.congruence self.new.edges.graph self.new.live.items at
+            result }
+        ensures held { ForSome at (λ node. HoldOnceDrawn
+            congruence.now.congruence.presentation.relations self.new.edges.graph node result
+            held.new) }
+    {
+        match at {
+            None => due_next(congruence, &self.edges, &self.live, &mut self.pending),
+            Some(node) => due_there(congruence, &self.edges, &self.live, node, held),
+        }
+    }
+
     /// Draws what the relations ask for everywhere, or at one node and where it goes, and the pairs
     /// at the root, until nothing is left. At the one node so many relations, the first ones, hold.
     /// Marks go with their nodes. Refused only where memory is wanting.
@@ -144,14 +139,7 @@ impl Cosets {
         let mut place = at;
         let mut held = held;
         loop {
-            match due_in(
-                congruence,
-                &self.edges,
-                &self.live,
-                &mut self.pending,
-                place,
-                &mut held,
-            ) {
+            match self.next_due(congruence, place, &mut held) {
                 Due::Nothing => return Ok(()),
                 Due::Edge(node, letter, to) => {
                     self.pending.push(Pending::NewEdge(node, letter))?;

@@ -36,7 +36,7 @@ pub fn period(word: &Word) -> usize
 {
     let len = word.len();
     for count in 1..len {
-        if len % count == 0 && is_period(word, count) {
+        if is_period(word, count) {
             return count;
         }
     }

@@ -261,50 +261,49 @@ fn front_from(edges: &Edges, node: usize, side: &Word, place: usize) -> Option<u
     Some(at)
 }
 
-// What a pair asks for at a node from which the one side leads to a place of it.
-fn due_beyond(
-    edges: &Edges,
-    node: usize,
-    side: &Word,
+// A side of a pair that is read up to a place of it, where it has come to a node in the middle, and
+// the other side.
+#[derive(Drop)]
+struct Crossing<'a> {
+    side: &'a Word,
     place: usize,
     middle: usize,
-    other: &Word,
-) -> Due
-    requires place { place < length side.now }
-    requires middle { path_of edges.now.graph node (take place side.now) ≡ Some middle }
-    ensures { IsDueBoth edges.now.graph node side.now other.now result }
+    other: &'a Word,
+}
+
+// What a pair asks for at a node from which the one side leads to a place of it.
+fn due_beyond(edges: &Edges, node: usize, crossing: &Crossing) -> Due
+    requires place { crossing.now.place < length crossing.now.side.now }
+    requires middle { path_of edges.now.graph node
+        (take crossing.now.place crossing.now.side.now) ≡ Some crossing.now.middle }
+    ensures { IsDueBoth edges.now.graph node crossing.now.side.now crossing.now.other.now result }
 {
-    match front_from(edges, middle, side, place) {
+    match front_from(edges, crossing.middle, crossing.side, crossing.place) {
         None => Due::Nothing,
-        Some(one) => due_beside(edges, node, side, one, other),
+        Some(one) => due_beside(edges, node, crossing.side, one, crossing.other),
     }
 }
 
-// What a pair asks for at the nodes from which the first letters of the one side lead to this one,
-// and on to a place of it.
-fn due_behind(
-    edges: &Edges,
-    node: usize,
-    side: &Word,
-    count: usize,
-    place: usize,
-    middle: usize,
-    other: &Word,
-) -> Due
-    requires count { count ≤ place }
-    requires place { place < length side.now }
-    requires middle { (n : ℕ) → path_of edges.now.graph n (take count side.now) ≡ Some node
-        → path_of edges.now.graph n (take place side.now) ≡ Some middle }
-    ensures { IsDueBehind edges.now.graph node (take count side.now) side.now other.now result }
+// What a pair asks for at the nodes from which the first letters of the one side, so many, lead to
+// this one, and on to a place of it.
+fn due_behind(edges: &Edges, node: usize, count: usize, crossing: &Crossing) -> Due
+    requires count { count ≤ crossing.now.place }
+    requires place { crossing.now.place < length crossing.now.side.now }
+    requires middle { (n : ℕ)
+        → path_of edges.now.graph n (take count crossing.now.side.now) ≡ Some node
+        → path_of edges.now.graph n (take crossing.now.place crossing.now.side.now)
+        ≡ Some crossing.now.middle }
+    ensures { IsDueBehind edges.now.graph node (take count crossing.now.side.now)
+        crossing.now.side.now crossing.now.other.now result }
 {
     if count == 0 {
-        return due_beyond(edges, node, side, place, middle, other);
+        return due_beyond(edges, node, crossing);
     }
     let _letters = edges.letters();
-    let letter = side.letter(count - 1);
+    let letter = crossing.side.letter(count - 1);
     let mut at = edges.first_source(node, letter);
     while let Some(source) = at {
-        match due_behind(edges, source, side, count - 1, place, middle, other) {
+        match due_behind(edges, source, count - 1, crossing) {
             Due::Nothing => {}
             due => return due,
         }
@@ -318,7 +317,13 @@ fn due_across(edges: &Edges, node: usize, side: &Word, place: usize, other: &Wor
     requires { place < length side.now }
     ensures { IsDueBehind edges.now.graph node (take place side.now) side.now other.now result }
 {
-    due_behind(edges, node, side, place, place, node, other)
+    let crossing = Crossing {
+        side,
+        place,
+        middle: node,
+        other,
+    };
+    due_behind(edges, node, place, &crossing)
 }
 
 // Whether the side may be read across the edge of the letter from the node with its letter at the
@@ -359,27 +364,31 @@ fn due_along(edges: &Edges, node: usize, letter: Letter, side: &Word, other: &Wo
     Due::Nothing
 }
 
+// The first sides of pairs, or the second ones, and where letters stand in them.
+#[derive(Drop)]
+struct Sides<'a> {
+    pairs: &'a Pairs,
+    second: bool,
+    uses: &'a Uses,
+}
+
 // What pairs ask for at places of the letter, read from the node on.
 fn due_at_places(
     edges: &Edges,
     node: usize,
     letter: Letter,
-    pairs: &Pairs,
-    second: bool,
+    sides: &Sides,
     places: &[(usize, usize)],
 ) -> Due
-    requires { ArePlaces second pairs.now places.now }
-    ensures { IsDueAtPlaces second edges.now.graph pairs.now node letter places.now result }
+    requires { ArePlaces sides.now.second sides.now.pairs.now places.now }
+    ensures { IsDueAtPlaces sides.now.second edges.now.graph sides.now.pairs.now node letter
+        places.now result }
 {
     for k in 0..places.len() {
-        let pair = pairs.pair(places[k].0);
-        match due_across(
-            edges,
-            node,
-            side(pair, second),
-            places[k].1,
-            other_side(pair, second),
-        ) {
+        let pair = sides.pairs.pair(places[k].0);
+        let one = side(pair, sides.second);
+        let other = other_side(pair, sides.second);
+        match due_across(edges, node, one, places[k].1, other) {
             Due::Nothing => {}
             due => return due,
         }
@@ -392,22 +401,18 @@ fn due_in_powers(
     edges: &Edges,
     node: usize,
     letter: Letter,
-    pairs: &Pairs,
-    second: bool,
+    sides: &Sides,
     places: &[(usize, usize)],
 ) -> Due
-    requires { ArePlaces second pairs.now places.now }
-    ensures { IsDueInPowers second edges.now.graph pairs.now node letter places.now result }
+    requires { ArePlaces sides.now.second sides.now.pairs.now places.now }
+    ensures { IsDueInPowers sides.now.second edges.now.graph sides.now.pairs.now node letter
+        places.now result }
 {
     for k in 0..places.len() {
-        let pair = pairs.pair(places[k].0);
-        match due_along(
-            edges,
-            node,
-            letter,
-            side(pair, second),
-            other_side(pair, second),
-        ) {
+        let pair = sides.pairs.pair(places[k].0);
+        let one = side(pair, sides.second);
+        let other = other_side(pair, sides.second);
+        match due_along(edges, node, letter, one, other) {
             Due::Nothing => {}
             due => return due,
         }
@@ -416,49 +421,33 @@ fn due_in_powers(
 }
 
 // What pairs ask for at places of the letter before another one, if both lead on.
-fn due_before(
-    edges: &Edges,
-    node: usize,
-    letter: Letter,
-    pairs: &Pairs,
-    second: bool,
-    uses: &Uses,
-    behind: Letter,
-) -> Due
-    requires { AreUses second pairs.now uses.now }
-    ensures { IsDueBefore second edges.now.graph pairs.now node letter uses.now behind result }
+fn due_before(edges: &Edges, node: usize, letter: Letter, sides: &Sides, behind: Letter) -> Due
+    requires { AreUses sides.now.second sides.now.pairs.now sides.now.uses.now }
+    ensures { IsDueBefore sides.now.second edges.now.graph sides.now.pairs.now node letter
+        sides.now.uses.now behind result }
 {
+    let places = sides.uses.ahead_of(letter, behind);
+    if places.is_empty() {
+        return Due::Nothing;
+    }
     let Some(next) = edges.target(node, letter) else {
         return Due::Nothing;
     };
-    let Some(_) = edges.target(next, behind) else {
-        return Due::Nothing;
-    };
-    due_at_places(
-        edges,
-        node,
-        letter,
-        pairs,
-        second,
-        uses.ahead_of(letter, behind),
-    )
+    match edges.target(next, behind) {
+        None => Due::Nothing,
+        Some(_) => due_at_places(edges, node, letter, sides, places),
+    }
 }
 
 // What pairs ask for at places of the letter before any other one.
-fn due_before_any(
-    edges: &Edges,
-    node: usize,
-    letter: Letter,
-    pairs: &Pairs,
-    second: bool,
-    uses: &Uses,
-) -> Due
-    requires { AreUses second pairs.now uses.now }
-    ensures { IsDueBeforeAny second edges.now.graph pairs.now node letter uses.now result }
+fn due_before_any(edges: &Edges, node: usize, letter: Letter, sides: &Sides) -> Due
+    requires { AreUses sides.now.second sides.now.pairs.now sides.now.uses.now }
+    ensures { IsDueBeforeAny sides.now.second edges.now.graph sides.now.pairs.now node letter
+        sides.now.uses.now result }
 {
     for number in 0..edges.letters() {
         let behind = Letter::new(number as u8);
-        match due_before(edges, node, letter, pairs, second, uses, behind) {
+        match due_before(edges, node, letter, sides, behind) {
             Due::Nothing => {}
             due => return due,
         }
@@ -480,15 +469,20 @@ fn due_in_sides(
 {
     let pairs = congruence.relations();
     let uses = congruence.uses(second);
-    match due_at_places(edges, node, letter, pairs, second, uses.ends(letter)) {
+    let sides = Sides {
+        pairs,
+        second,
+        uses,
+    };
+    match due_at_places(edges, node, letter, &sides, uses.ends(letter)) {
         Due::Nothing => {}
         due => return due,
     }
-    match due_in_powers(edges, node, letter, pairs, second, uses.powers(letter)) {
+    match due_in_powers(edges, node, letter, &sides, uses.powers(letter)) {
         Due::Nothing => {}
         due => return due,
     }
-    due_before_any(edges, node, letter, pairs, second, uses)
+    due_before_any(edges, node, letter, &sides)
 }
 
 /// What the relations ask for where a side is read across the edge of the letter from the node.

@@ -7,53 +7,53 @@ use Rattle.coincidence.proofs.ReadLaws.{IsListing, listing_start, listing_step, 
 use Rattle.coincidence.proofs.reads.+due_behind.Goals as goal
 
 pub returns-then-count-eq0 : goal.returns-then-count-eq0
-returns-then-count-eq0 t c = behind_here c.args.edges.now.graph c.args.node c.args.count c.args.side.now c.args.side.now c.args.other.now c.due_beyond.result c.if-count-eq0.true c.due_beyond.ensures
+returns-then-count-eq0 t c = behind_here c.args.edges.now.graph c.args.node c.args.count c.args.crossing.now.side.now c.args.crossing.now.side.now c.args.crossing.now.other.now c.due_beyond.result c.if-count-eq0.true c.due_beyond.ensures
 
 pub loop-at-init : goal.loop-at-init
-loop-at-init t c = subst (λ z. IsListing c.args.edges.now c.args.node c.letter-letter.result (λ source. IsDueBehind c.args.edges.now.graph source (take (c.args.count - 1) c.args.side.now) c.args.side.now c.args.other.now Nothing) z) (sym c.first_source-at.ensures)
-    (listing_start c.letters-letters.result c.args.edges.now c.args.node c.letter-letter.result (λ source. IsDueBehind c.args.edges.now.graph source (take (c.args.count - 1) c.args.side.now) c.args.side.now c.args.other.now Nothing) c.letters-letters.ensures)
+loop-at-init t c = subst (λ z. IsListing c.args.edges.now c.args.node c.letter-letter.result (λ source. IsDueBehind c.args.edges.now.graph source (take (c.args.count - 1) c.args.crossing.now.side.now) c.args.crossing.now.side.now c.args.crossing.now.other.now Nothing) z) (sym c.first_source-at.ensures)
+    (listing_start c.letters-letters.result c.args.edges.now c.args.node c.letter-letter.result (λ source. IsDueBehind c.args.edges.now.graph source (take (c.args.count - 1) c.args.crossing.now.side.now) c.args.crossing.now.side.now c.args.crossing.now.other.now Nothing) c.letters-letters.ensures)
 
 pub returns-in_default-due_behind : goal.returns-in_default-due_behind
 returns-in_default-due_behind t c =
-    let here = subst (λ z. IsListing c.args.edges.now c.args.node c.letter-letter.result (λ source. IsDueBehind c.args.edges.now.graph source (take (c.args.count - 1) c.args.side.now) c.args.side.now c.args.other.now Nothing) z) c.in-Some.is c.loop-at.invariant in
-    behind_found c.args.edges.now.graph c.args.node c.in-Some.source c.letter-letter.result (take (c.args.count - 1) c.args.side.now) (take c.args.count c.args.side.now) c.args.side.now c.args.other.now c.due_behind.result
-    (front_last c.args.side.now c.args.count c.letter-letter.result c.if-count-eq0.false (omega (arith, c.requires.count, c.requires.place)) c.letter-letter.ensures)
-    (listing_leads c.args.edges.now c.args.node c.letter-letter.result (λ source. IsDueBehind c.args.edges.now.graph source (take (c.args.count - 1) c.args.side.now) c.args.side.now c.args.other.now Nothing) c.in-Some.source here)
+    let here = subst (λ z. IsListing c.args.edges.now c.args.node c.letter-letter.result (λ source. IsDueBehind c.args.edges.now.graph source (take (c.args.count - 1) c.args.crossing.now.side.now) c.args.crossing.now.side.now c.args.crossing.now.other.now Nothing) z) c.in-Some.is c.loop-at.invariant in
+    behind_found c.args.edges.now.graph c.args.node c.in-Some.source c.letter-letter.result (take (c.args.count - 1) c.args.crossing.now.side.now) (take c.args.count c.args.crossing.now.side.now) c.args.crossing.now.side.now c.args.crossing.now.other.now c.due_behind.result
+    (front_last c.args.crossing.now.side.now c.args.count c.letter-letter.result c.if-count-eq0.false (omega (arith, c.requires.count, c.requires.place)) c.letter-letter.ensures)
+    (listing_leads c.args.edges.now c.args.node c.letter-letter.result (λ source. IsDueBehind c.args.edges.now.graph source (take (c.args.count - 1) c.args.crossing.now.side.now) c.args.crossing.now.side.now c.args.crossing.now.other.now Nothing) c.in-Some.source here)
     (λ e. c.in_default-due_behind.not-Nothing e) c.due_behind.ensures
 
 pub loop-at-smaller : goal.loop-at-smaller
 loop-at-smaller t c =
-    let here = subst (λ z. IsListing c.args.edges.now c.args.node c.letter-letter.result (λ source. IsDueBehind c.args.edges.now.graph source (take (c.args.count - 1) c.args.side.now) c.args.side.now c.args.other.now Nothing) z) c.in-Some.is c.loop-at.invariant in
+    let here = subst (λ z. IsListing c.args.edges.now c.args.node c.letter-letter.result (λ source. IsDueBehind c.args.edges.now.graph source (take (c.args.count - 1) c.args.crossing.now.side.now) c.args.crossing.now.side.now c.args.crossing.now.other.now Nothing) z) c.in-Some.is c.loop-at.invariant in
     rw (c.next_source-at.ensures, c.in-Some.is)
-    (listing_step c.args.edges.now c.args.node c.letter-letter.result (λ source. IsDueBehind c.args.edges.now.graph source (take (c.args.count - 1) c.args.side.now) c.args.side.now c.args.other.now Nothing) c.in-Some.source c.in-Nothing.ensures here).1
+    (listing_step c.args.edges.now c.args.node c.letter-letter.result (λ source. IsDueBehind c.args.edges.now.graph source (take (c.args.count - 1) c.args.crossing.now.side.now) c.args.crossing.now.side.now c.args.crossing.now.other.now Nothing) c.in-Some.source c.in-Nothing.ensures here).1
 
 pub loop-at-preserved : goal.loop-at-preserved
 loop-at-preserved t c =
-    let here = subst (λ z. IsListing c.args.edges.now c.args.node c.letter-letter.result (λ source. IsDueBehind c.args.edges.now.graph source (take (c.args.count - 1) c.args.side.now) c.args.side.now c.args.other.now Nothing) z) c.in-Some.is c.loop-at.invariant in
-    subst (λ z. IsListing c.args.edges.now c.args.node c.letter-letter.result (λ source. IsDueBehind c.args.edges.now.graph source (take (c.args.count - 1) c.args.side.now) c.args.side.now c.args.other.now Nothing) z) (sym c.next_source-at.ensures)
-    (listing_step c.args.edges.now c.args.node c.letter-letter.result (λ source. IsDueBehind c.args.edges.now.graph source (take (c.args.count - 1) c.args.side.now) c.args.side.now c.args.other.now Nothing) c.in-Some.source c.in-Nothing.ensures here).0
+    let here = subst (λ z. IsListing c.args.edges.now c.args.node c.letter-letter.result (λ source. IsDueBehind c.args.edges.now.graph source (take (c.args.count - 1) c.args.crossing.now.side.now) c.args.crossing.now.side.now c.args.crossing.now.other.now Nothing) z) c.in-Some.is c.loop-at.invariant in
+    subst (λ z. IsListing c.args.edges.now c.args.node c.letter-letter.result (λ source. IsDueBehind c.args.edges.now.graph source (take (c.args.count - 1) c.args.crossing.now.side.now) c.args.crossing.now.side.now c.args.crossing.now.other.now Nothing) z) (sym c.next_source-at.ensures)
+    (listing_step c.args.edges.now c.args.node c.letter-letter.result (λ source. IsDueBehind c.args.edges.now.graph source (take (c.args.count - 1) c.args.crossing.now.side.now) c.args.crossing.now.side.now c.args.crossing.now.other.now Nothing) c.in-Some.source c.in-Nothing.ensures here).0
 
 pub returns : goal.returns
 returns t c =
-    let here = subst (λ z. IsListing c.args.edges.now c.args.node c.letter-letter.result (λ source. IsDueBehind c.args.edges.now.graph source (take (c.args.count - 1) c.args.side.now) c.args.side.now c.args.other.now Nothing) z) c.in_default.is c.loop-at.invariant in
-    behind_nothing c.args.edges.now c.args.node c.letter-letter.result (take (c.args.count - 1) c.args.side.now) (take c.args.count c.args.side.now) c.args.side.now c.args.other.now
-    (front_last c.args.side.now c.args.count c.letter-letter.result c.if-count-eq0.false (omega (arith, c.requires.count, c.requires.place)) c.letter-letter.ensures) here
+    let here = subst (λ z. IsListing c.args.edges.now c.args.node c.letter-letter.result (λ source. IsDueBehind c.args.edges.now.graph source (take (c.args.count - 1) c.args.crossing.now.side.now) c.args.crossing.now.side.now c.args.crossing.now.other.now Nothing) z) c.in_default.is c.loop-at.invariant in
+    behind_nothing c.args.edges.now c.args.node c.letter-letter.result (take (c.args.count - 1) c.args.crossing.now.side.now) (take c.args.count c.args.crossing.now.side.now) c.args.crossing.now.side.now c.args.crossing.now.other.now
+    (front_last c.args.crossing.now.side.now c.args.count c.letter-letter.result c.if-count-eq0.false (omega (arith, c.requires.count, c.requires.place)) c.letter-letter.ensures) here
 
 pub due_beyond-requires-clause-middle : goal.due_beyond-requires-clause-middle
-due_beyond-requires-clause-middle t c = c.requires.middle c.args.node (ap (λ z. path c.args.edges.now.graph c.args.node (take z c.args.side.now)) c.if-count-eq0.true)
+due_beyond-requires-clause-middle t c = c.requires.middle c.args.node (ap (λ z. path c.args.edges.now.graph c.args.node (take z c.args.crossing.now.side.now)) c.if-count-eq0.true)
 
 pub due_behind-requires : goal.due_behind-requires
 due_behind-requires t c =
-    let here = subst (λ z. IsListing c.args.edges.now c.args.node c.letter-letter.result (λ source. IsDueBehind c.args.edges.now.graph source (take (c.args.count - 1) c.args.side.now) c.args.side.now c.args.other.now Nothing) z) c.in-Some.is c.loop-at.invariant in
-    let leads = listing_leads c.args.edges.now c.args.node c.letter-letter.result (λ source. IsDueBehind c.args.edges.now.graph source (take (c.args.count - 1) c.args.side.now) c.args.side.now c.args.other.now Nothing) c.in-Some.source here in (
+    let here = subst (λ z. IsListing c.args.edges.now c.args.node c.letter-letter.result (λ source. IsDueBehind c.args.edges.now.graph source (take (c.args.count - 1) c.args.crossing.now.side.now) c.args.crossing.now.side.now c.args.crossing.now.other.now Nothing) z) c.in-Some.is c.loop-at.invariant in
+    let leads = listing_leads c.args.edges.now c.args.node c.letter-letter.result (λ source. IsDueBehind c.args.edges.now.graph source (take (c.args.count - 1) c.args.crossing.now.side.now) c.args.crossing.now.side.now c.args.crossing.now.other.now Nothing) c.in-Some.source here in (
       omega (arith, c.decreases, c.if-count-eq0.false),
       (
         omega (arith, c.requires.count),
         (
           c.requires.place,
           λ n front. c.requires.middle n
-              (ap (path c.args.edges.now.graph n) (front_last c.args.side.now c.args.count c.letter-letter.result c.if-count-eq0.false (omega (arith, c.requires.count, c.requires.place)) c.letter-letter.ensures)
-              ∙ path_more c.args.edges.now.graph n c.in-Some.source (take (c.args.count - 1) c.args.side.now) c.letter-letter.result front ∙ leads),
+              (ap (path c.args.edges.now.graph n) (front_last c.args.crossing.now.side.now c.args.count c.letter-letter.result c.if-count-eq0.false (omega (arith, c.requires.count, c.requires.place)) c.letter-letter.ensures)
+              ∙ path_more c.args.edges.now.graph n c.in-Some.source (take (c.args.count - 1) c.args.crossing.now.side.now) c.letter-letter.result front ∙ leads),
         ),
       ),
     )

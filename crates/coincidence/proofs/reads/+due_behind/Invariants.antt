@@ -10,7 +10,7 @@ abbrev pub decreases-due_behind : goal.decreases-due_behind
 decreases-due_behind l = l.count
 
 abbrev pub invariant-loop-at : goal.invariant-loop-at
-invariant-loop-at l = IsListing l.edges l.node l.letter (λ source. IsDueBehind l.edges.graph source (take (l.count - 1) l.side) l.side l.other Nothing) l.at
+invariant-loop-at l = IsListing l.edges l.node l.letter (λ source. IsDueBehind l.edges.graph source (take (l.count - 1) l.crossing.side.now) l.crossing.side.now l.crossing.other.now Nothing) l.at
 
 abbrev pub decreases-loop-at : goal.decreases-loop-at
 decreases-loop-at l = chain_count (length l.edges.graph) (λ n. target l.edges.nexts n l.letter) l.at

@@ -6,29 +6,29 @@ use Rattle.coincidence.proofs.PlaceLaws.{behind_of, place_within, places_found, 
 use Rattle.coincidence.proofs.reads.due_at_places.Goals as goal
 
 pub pair-pair-requires : goal.pair-pair-requires
-pair-pair-requires c = (place_within c.args.second c.args.pairs.now c.args.places.now c.loop-k.k ([], []) (omega arith) c.requires).0
+pair-pair-requires c = (place_within c.args.sides.now.second c.args.sides.now.pairs.now c.args.places.now c.loop-k.k ([], []) (omega arith) c.requires).0
 
 pub due_across-requires : goal.due_across-requires
 due_across-requires c =
-    let within : (get_or c.args.places.now c.loop-k.k (0, 0)).1 < length c.side.result.now =
-    subst (λ (z : Word). (get_or c.args.places.now c.loop-k.k (0, 0)).1 < length z) (sym c.side.ensures)
-    (subst (λ (z : Word × Word). (get_or c.args.places.now c.loop-k.k (0, 0)).1 < length (side_of c.args.second z)) (sym c.pair-pair.ensures)
-    (place_within c.args.second c.args.pairs.now c.args.places.now c.loop-k.k c.pair-pair.result.now (omega arith) c.requires).1) in
+    let within : (get_or c.args.places.now c.loop-k.k (0, 0)).1 < length c.side-one.result.now =
+    subst (λ (z : Word). (get_or c.args.places.now c.loop-k.k (0, 0)).1 < length z) (sym c.side-one.ensures)
+    (subst (λ (z : Word × Word). (get_or c.args.places.now c.loop-k.k (0, 0)).1 < length (side_of c.args.sides.now.second z)) (sym c.pair-pair.ensures)
+    (place_within c.args.sides.now.second c.args.sides.now.pairs.now c.args.places.now c.loop-k.k c.pair-pair.result.now (omega arith) c.requires).1) in
     omega (arith, within)
 
 pub returns-in_default : goal.returns-in_default
 returns-in_default c =
-    places_found c.args.second c.args.edges.now.graph c.args.pairs.now c.args.node c.args.letter (get_or c.args.places.now c.loop-k.k (0, 0)).0 (get_or c.args.places.now c.loop-k.k (0, 0)).1 c.args.places.now c.pair-pair.result.now c.due_across.result
-    (λ e. c.in_default.not-Nothing e) (place_within c.args.second c.args.pairs.now c.args.places.now c.loop-k.k ([], []) (omega arith) c.requires).0 c.pair-pair.ensures
-    (behind_of c.args.second c.args.edges.now.graph c.args.node (get_or c.args.places.now c.loop-k.k (0, 0)).1 c.pair-pair.result.now c.side.result.now c.other_side.result.now c.due_across.result c.side.ensures c.other_side.ensures c.due_across.ensures)
+    places_found c.args.sides.now.second c.args.edges.now.graph c.args.sides.now.pairs.now c.args.node c.args.letter (get_or c.args.places.now c.loop-k.k (0, 0)).0 (get_or c.args.places.now c.loop-k.k (0, 0)).1 c.args.places.now c.pair-pair.result.now c.due_across.result
+    (λ e. c.in_default.not-Nothing e) (place_within c.args.sides.now.second c.args.sides.now.pairs.now c.args.places.now c.loop-k.k ([], []) (omega arith) c.requires).0 c.pair-pair.ensures
+    (behind_of c.args.sides.now.second c.args.edges.now.graph c.args.node (get_or c.args.places.now c.loop-k.k (0, 0)).1 c.pair-pair.result.now c.side-one.result.now c.other_side-other.result.now c.due_across.result c.side-one.ensures c.other_side-other.ensures c.due_across.ensures)
 
 pub loop-k-preserved : goal.loop-k-preserved
 loop-k-preserved c =
-    places_more c.args.second c.args.edges.now.graph c.args.pairs.now c.args.node c.args.places.now c.loop-k.k c.pair-pair.result.now
-    (place_within c.args.second c.args.pairs.now c.args.places.now c.loop-k.k ([], []) (omega arith) c.requires).0 c.pair-pair.ensures
-    (behind_of c.args.second c.args.edges.now.graph c.args.node (get_or c.args.places.now c.loop-k.k (0, 0)).1 c.pair-pair.result.now c.side.result.now c.other_side.result.now Nothing c.side.ensures c.other_side.ensures c.in-Nothing.ensures) c.loop-k.invariant
+    places_more c.args.sides.now.second c.args.edges.now.graph c.args.sides.now.pairs.now c.args.node c.args.places.now c.loop-k.k c.pair-pair.result.now
+    (place_within c.args.sides.now.second c.args.sides.now.pairs.now c.args.places.now c.loop-k.k ([], []) (omega arith) c.requires).0 c.pair-pair.ensures
+    (behind_of c.args.sides.now.second c.args.edges.now.graph c.args.node (get_or c.args.places.now c.loop-k.k (0, 0)).1 c.pair-pair.result.now c.side-one.result.now c.other_side-other.result.now Nothing c.side-one.ensures c.other_side-other.ensures c.in-Nothing.ensures) c.loop-k.invariant
 
 pub returns : goal.returns
 returns c =
     let end : c.loop-k.k ≡ length c.args.places.now = omega arith in
-    places_end c.args.second c.args.edges.now.graph c.args.pairs.now c.args.node c.args.letter c.args.places.now c.loop-k.k end c.loop-k.invariant
+    places_end c.args.sides.now.second c.args.edges.now.graph c.args.sides.now.pairs.now c.args.node c.args.letter c.args.places.now c.loop-k.k end c.loop-k.invariant

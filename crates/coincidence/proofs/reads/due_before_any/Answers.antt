@@ -4,9 +4,9 @@ use Rattle.coincidence.proofs.reads.due_before_any.Goals as goal
 
 pub loop-number-preserved : goal.loop-number-preserved
 loop-number-preserved c =
-    quiet_before_more c.args.second c.args.edges.now.graph c.args.pairs.now c.args.node c.args.letter c.args.uses.now c.loop-number.number c.new-behind.result c.new-behind.ensures c.in-Nothing.ensures c.loop-number.invariant
+    quiet_before_more c.args.sides.now.second c.args.edges.now.graph c.args.sides.now.pairs.now c.args.node c.args.letter c.args.sides.now.uses.now c.loop-number.number c.new-behind.result c.new-behind.ensures c.in-Nothing.ensures c.loop-number.invariant
 
 pub returns : goal.returns
 returns c =
     let end : c.loop-number.number ≡ c.letters-number-end.result = omega arith in
-    quiet_before_end c.args.second c.args.edges.now.graph c.args.pairs.now c.args.node c.args.letter c.args.uses.now c.letters-number-end.result c.loop-number.number c.letters-number-end.ensures.graph end c.loop-number.invariant
+    quiet_before_end c.args.sides.now.second c.args.edges.now.graph c.args.sides.now.pairs.now c.args.node c.args.letter c.args.sides.now.uses.now c.letters-number-end.result c.loop-number.number c.letters-number-end.ensures.graph end c.loop-number.invariant

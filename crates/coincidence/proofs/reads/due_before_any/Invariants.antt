@@ -2,4 +2,4 @@ use Rattle.coincidence.proofs.PlaceLaws.{AreQuietBefore}
 use Rattle.coincidence.proofs.reads.due_before_any.Given as goal
 
 abbrev pub invariant-loop-number : goal.invariant-loop-number
-invariant-loop-number l = AreQuietBefore l.second l.edges.graph l.pairs l.node l.letter l.uses l.number
+invariant-loop-number l = AreQuietBefore l.sides.second l.edges.graph l.sides.pairs.now l.node l.letter l.sides.uses.now l.number
