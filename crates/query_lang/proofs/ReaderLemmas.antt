@@ -1,5 +1,5 @@
 -- What the steps of the reader make of what the lines said before.
-use Rattle.std.proofs.Common.{◌≡◌, ℕ, ◌==◌, ◌≤◌, ◌&&◌, Bool, true, false, List, [], ◌∷◌, ◌++◌, length, Some, Result, Ok, Err, IfOk, OnOk, Bor, ◌-◌, take, drop, get_or, codes, refl, sym, ap, ap₂, ◌∙◌, subst, arith}
+use Rattle.std.proofs.Common.{◌≡◌, ℕ, ◌==◌, ◌≤◌, ◌&&◌, Bool, true, false, List, [], ◌∷◌, ◌++◌, length, Some, Result, Ok, Err, IfOk, OnOk, Bor, ◌-◌, map, not, true≢false, take, drop, get_or, codes, refl, sym, ap, ap₂, ◌∙◌, subst, arith, Option, None}
 use Rattle.std.proofs.lemmas.List.{take_all}
 use Rattle.std.specs.Cmp.Lexicographic.{same_text}
 use Rattle.presentation.specs.Presented.{Posed}
@@ -15,6 +15,8 @@ use Rattle.query_lang.specs.declared.form.QueryForm.{QueryForm}
 use Rattle.query_lang.specs.declared.role.Role.{Role}
 use Rattle.query_lang.specs.declared.version.Version.{Version}
 use Rattle.query_lang.specs.Asked.{ScriptOf, asked, with_asked}
+use Rattle.query_lang.specs.Faults.{IsFaultFor}
+use Rattle.query_lang.specs.Fields.{field_of}
 use Rattle.query_lang.specs.Forms.{form_named, section_of}
 use Rattle.query_lang.specs.Outcome.{and_then}
 use Rattle.query_lang.specs.Outline.{related}
@@ -25,9 +27,10 @@ use Rattle.query_lang.specs.Token.{Token, is_word}
 use Rattle.query_lang.specs.Values.{added_of}
 use Rattle.query_lang.specs.Grammar.{LineReads, Partial, begin_with, is_empty, is_generator_line, lacks_generator, script_in, section_reached, with_added}
 use Rattle.query_lang.specs.Grammar as grammar
-use Rattle.query_lang.specs.LineCauses.{cause_in}
+use Rattle.query_lang.specs.LineCauses.{cause_in, first_of, generator_causes, line_causes}
 use Rattle.query_lang.specs.Reading.{added_to, come_to}
 use Rattle.query_lang.proofs.FormLemmas.{form_added, form_cause}
+use Rattle.query_lang.proofs.GeneratorLemmas.{generator_is}
 use Rattle.query_lang.proofs.PairingLemmas.{has_pairs}
 use Rattle.query_lang.proofs.QueryLemmas.{both_so}
 use Rattle.query_lang.proofs.TotalForms.{form-read, passes}
@@ -111,3 +114,15 @@ generator_texts (s ∷ []) a b kind h sign = absurd (omega arith)
 generator_texts (s ∷ t ∷ ts) a b kind h sign =
     ap (λ tokens. s.now ∷ codes "=" ∷ texts tokens) (take_all (length (s ∷ t ∷ ts) - 2) ts (omega arith))
     ∙ ap (λ sign. s.now ∷ sign ∷ texts ts) (sym (same_text t.now (codes "=") (sym (both_so kind (is_word (codes "=") t.now) sign).1)))
+
+-- why a generator line is refused
+pub generator_fault : (p : Partial) (line : List (Bor (List ℕ))) (a b : Bor (List ℕ)) (fault : Option Cause) → 2 ≤ length line → (not (is_presented p.problem) && is_word (codes "=") (get_or line 1 b).now) ≡ true
+    → IsFaultFor (first_of (generator_causes p (get_or line 0 a).now (map field_of (texts (take (length line - 2) (drop 2 line)))))) fault → IsFaultFor (first_of (line_causes p (texts line))) fault
+generator_fault p line a b fault h sign k =
+    let tokens : List Token = texts (take (length line - 2) (drop 2 line)) in
+    subst (λ line. IsFaultFor (first_of (line_causes p line)) fault) (generator_texts line a b _ h sign)
+    (subst (λ causes. IsFaultFor (first_of causes) fault) (sym (generator_is p (get_or line 0 a).now tokens (denied (is_presented p.problem) (both_so _ _ sign).0))) k)
+  where
+    denied : (b : Bool) → not b ≡ true → b ≡ false
+    denied false h = refl
+    denied true h = absurd (true≢false (sym h))

@@ -35,3 +35,12 @@ pub returns-in_ok-e-in-len3-clause-ok : goal.returns-in_ok-e-in-len3-clause-ok
 returns-in_ok-e-in-len3-clause-ok c =
     let semigroup = sym (c.is_monoid.ensures ∙ ap (λ o. o.congruence.presentation.is_monoid) c.self.view_is) ∙ c.if-is_monoid.false in
     inverse_by_letter c.args.version c.args.self.now _ _ _ _ _ _ semigroup (sym (three_texts c.args.tokens.now _ _ _ (omega (arith, c.in-len3.len_at_least, c.in-len3.len_below)))) c.in_ok-x-in-len3.ensures.ok _ c.in_ok-e-in-len3.ensures.letter
+
+pub returns-then-is_monoid-clause-fit : goal.returns-then-is_monoid-clause-fit
+returns-then-is_monoid-clause-fit c = record {
+  left = c.in_ok-x.ensures.left;
+  right = c.in_ok-x.ensures.right;
+  unit = tt;
+  some = λ _. sym (c.is_monoid.ensures ∙ ap (λ o. o.congruence.presentation.is_monoid) c.self.view_is) ∙ c.if-is_monoid.true;
+  few = c.in_ok-x.ensures.few None;
+}
