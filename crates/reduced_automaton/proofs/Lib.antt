@@ -16,6 +16,7 @@ pub mod LevelLaws
 pub mod LinkLaws
 pub mod TableLaws
 pub mod ReductionLaws
+pub mod NewerLaws
 pub mod LookupLaws
 pub mod PartLaws
 pub mod TraceLaws

@@ -4,7 +4,7 @@ use Rattle.std.specs.Cmp.Lexicographic.{pointwise}
 use Rattle.std.proofs.lemmas.Bool.{cases_Bool, cases_eq, cases_lt}
 use Rattle.std.proofs.lemmas.Bool.Decides.{Decides-eqb}
 use Rattle.std.proofs.lemmas.Slice.Eq.{ends_is}
-use Rattle.std.proofs.lemmas.List.{append_assoc, append-nil, get_or_append_left, get_or_default, get_or_push, get_or_read, get_or-set_same, get_or-set_other, length-set, same_from_push}
+use Rattle.std.proofs.lemmas.List.{append_assoc, append-nil, get_or_default, get_or-set_same, get_or-set_other, length-set, same_from_push}
 use Rattle.theory.specs.Word.{Word, IsFactor}
 use Rattle.theory.specs.Completion.{IsReduced, Listed}
 use Rattle.theory.proofs.FactsLaws.{last_letter}
@@ -12,9 +12,11 @@ use Rattle.reduced_automaton.specs.Rules.{AreFalling}
 use Rattle.reduced_automaton.specs.States.{EndsAt, HasEnd, IsLongest, IsStep}
 use Rattle.reduced_automaton.specs.Tables.{IsTableOf}
 use Rattle.reduced_automaton.specs.Tries.{left_at, longer, Reads}
+use Rattle.reduced_automaton.specs.Newer.{AreNewer}
+use Rattle.reduced_automaton.proofs.NewerLaws.{same_newer}
 use Rattle.reduced_automaton.specs.Reductions.{IsAtStep}
 use Rattle.reduced_automaton.specs.declared.reductions.Reduction.{Reduction}
-use Rattle.reduced_automaton.specs.Lookups.{AreLasts, IsAtLetter, IsLookup, IsPlaced, IsReducingBy, IsRewritingAt, StandsLast, moves_of, no_moves, reads_to, states_by}
+use Rattle.reduced_automaton.specs.Lookups.{IsAtLetter, IsLookup, IsPlaced, IsReducingBy, IsRewritingAt, StandsLast, moves_of, no_moves, reads_to, states_by}
 use Rattle.reduced_automaton.specs.declared.lookups.Lookup.{Lookup}
 use Rattle.reduced_automaton.proofs.Standing.{listed_at, rule_read}
 use Rattle.reduced_automaton.proofs.ReductionLaws.{last_read, reducing_start}
@@ -142,15 +144,8 @@ empty_table = record {
     not_snoc p a (zero, h, e) = omega (arith, ap length e, length-append p (a ∷ []))
     not_snoc p a (suc i, h, e) = omega (arith, h)
 
--- the last letters of no rule
-no_lasts : (rules : List (Word × Word)) (first : ℕ) (lasts : Word) → first ≡ length rules → lasts ≡ [] → AreLasts rules first lasts
-no_lasts rules first lasts all none = record {
-  count = omega (arith, all, ap length none);
-  at = λ number within. absurd (omega (arith, within, ap length none));
-}
-
-pub empty_lookup : (lookup : Lookup) → moves_of lookup ≡ no_moves → lookup.places.items ≡ [] → lookup.first ≡ 0 → lookup.lasts.items ≡ [] → IsLookup [] lookup
-empty_lookup lookup moves places first lasts = record {
+pub empty_lookup : (lookup : Lookup) → moves_of lookup ≡ no_moves → lookup.places.items ≡ [] → lookup.first ≡ 0 → AreNewer [] lookup.first lookup.newer → IsLookup [] lookup
+empty_lookup lookup moves places first newer = record {
   letters = 0;
   tabled = [];
   falling = λ i d within. absurd (omega (arith, within));
@@ -159,7 +154,7 @@ empty_lookup lookup moves places first lasts = record {
   known = λ place before. absurd (omega (arith, before, first));
   count = ap length places;
   placed = λ number within. absurd (omega (arith, within));
-  lasts = no_lasts [] lookup.first lookup.lasts.items first lasts;
+  newer = newer;
 }
 
 -- the same left sides
@@ -174,10 +169,7 @@ same_lefts rules new lookup is size same = record {
   known = λ place before. let by = is.known place before in (by.0, by.1, by.2 ∙ sym (same place));
   count = is.count;
   placed = λ number h. placed number (get_or lookup.places.items number None) (is.placed number h);
-  lasts = record {
-    count = is.lasts.count ∙ sym size;
-    at = λ number h. subst (λ l. StandsLast l (get_or lookup.lasts.items number 0 ∷ [])) (sym (same (lookup.first + number))) (is.lasts.at number h);
-  };
+  newer = same_newer rules new lookup.first lookup.newer size same is.newer;
 }
   where
     placed : (n : ℕ) (p : Option ℕ) → IsPlaced rules lookup.first (left_at is.tabled n) p → IsPlaced new lookup.first (left_at is.tabled n) p
@@ -187,8 +179,8 @@ same_lefts rules new lookup is size same = record {
 -- a table of all rules
 pub all_lookup : (rules : List (Word × Word)) (lookup : Lookup) (letters : ℕ) → AreFalling rules → IsTableOf letters rules (moves_of lookup)
     → length lookup.places.items ≡ length rules → lookup.first ≡ length rules
-    → ((place : ℕ) → place < length rules → get_or lookup.places.items place None ≡ Some place) → lookup.lasts.items ≡ [] → IsLookup rules lookup
-all_lookup rules lookup letters falling table count first each lasts = record {
+    → ((place : ℕ) → place < length rules → get_or lookup.places.items place None ≡ Some place) → AreNewer rules lookup.first lookup.newer → IsLookup rules lookup
+all_lookup rules lookup letters falling table count first each newer = record {
   letters = letters;
   tabled = rules;
   falling = falling;
@@ -197,7 +189,7 @@ all_lookup rules lookup letters falling table count first each lasts = record {
   known = λ place before. (place, omega (arith, before, first), refl);
   count = count;
   placed = λ n h. subst (λ p. IsPlaced rules lookup.first (left_at rules n) p) (sym (each n h)) (h, refl);
-  lasts = no_lasts rules lookup.first lookup.lasts.items first lasts;
+  newer = newer;
 }
 
 -- a rule with another right side
@@ -233,30 +225,6 @@ ends_tested rules u place rule left r within read left_is tested =
       test.0,
       λ ends. elim (cases_Bool r) [ inl t ↦ t | inr f ↦ absurd (test.1 f ends) ],
     )
-
--- no left side with another last letter stands at the end
-pub other_last : (rules : List (Word × Word)) (first : ℕ) (lasts : Word) → AreLasts rules first lasts → (done : Word) (a b number : ℕ) → number < length lasts
-    → b ≡ get_or lasts number b → (b ≡ a → ⊥) → EndsAt rules (done ++ a ∷ []) (first + number) → ⊥
-other_last rules first lasts are done a b number within read differ ends =
-    let last = are.at number within in
-    let whole : done ++ a ∷ [] ≡ (ends.before ++ last.before) ++ get_or lasts number 0 ∷ [] =
-    ends.is ∙ ap (λ w. ends.before ++ w) last.is ∙ sym (append_assoc ends.before last.before (get_or lasts number 0 ∷ [])) in
-    differ (get_or_read lasts number b within read 0 ∙ sym (same_from_push done (ends.before ++ last.before) a (get_or lasts number 0) whole).1)
-
--- the last letter of one more left side
-pub lasts_pushed : (rules : List (Word × Word)) (first place : ℕ) (lasts left : Word) (last b : ℕ) → first + length lasts ≡ place → left ≡ left_at rules place
-    → last + 1 ≡ length left → b ≡ get_or left last b
-    → ((number : ℕ) → number < length lasts → StandsLast (left_at rules (first + number)) (get_or lasts number 0 ∷ []))
-    → (number : ℕ) → number < length (lasts ++ b ∷ []) → StandsLast (left_at rules (first + number)) (get_or (lasts ++ b ∷ []) number 0 ∷ [])
-lasts_pushed rules first place lasts left last b count left_is size read each number within = elim (cases_lt number (length lasts)) [
-  | inl before ↦
-      subst (λ n. StandsLast (left_at rules (first + number)) (n ∷ [])) (sym (get_or_append_left lasts (b ∷ []) 0 number before)) (each number before)
-  | inr past ↦
-      let here : length lasts ≡ number = omega (arith, past, within, length-append lasts (b ∷ [])) in
-      let there : place ≡ first + number = omega (arith, count, here) in
-      subst (λ n. StandsLast (left_at rules (first + number)) (n ∷ [])) (sym (get_or_push lasts b 0 number here))
-      (record { before = take last left; is = ap (left_at rules) (sym there) ∙ sym left_is ∙ last_split left last b size read })
-]
 
 -- a word without its last letter stands at the end before the letter
 pub last_tested : (u : Word) (a : ℕ) (word : Word) (last b : ℕ) (r : Bool) → last + 1 ≡ length word → b ≡ get_or word last b → b ≡ a

@@ -8,7 +8,8 @@ use Rattle.theory.specs.Word.{Word, IsFactor}
 use Rattle.reduced_automaton.specs.Rules.{stands_in}
 use Rattle.reduced_automaton.specs.Tables.{IsTableOf}
 use Rattle.reduced_automaton.specs.Tries.{left_at}
-use Rattle.reduced_automaton.specs.Lookups.{AreLasts, IsLookup, IsPlaced, moves_of}
+use Rattle.reduced_automaton.specs.Newer.{AreNewer}
+use Rattle.reduced_automaton.specs.Lookups.{IsLookup, IsPlaced, moves_of}
 use Rattle.reduced_automaton.specs.Parts.{AreMoved, AreParts, through}
 use Rattle.reduced_automaton.specs.declared.lookups.Lookup.{Lookup}
 use Rattle.reduced_automaton.specs.declared.parts.Parts.{Parts}
@@ -207,7 +208,7 @@ module _ (left : Word) (rules kept : List (Word × Word)) (rule : Word × Word) 
 -- a new rule behind those in whose left sides its own does not stand
 module _ (rules kept : List (Word × Word)) (lookup new : Lookup) (rule : Word × Word) (moved : List (Option ℕ)) (is : IsLookup rules lookup)
     (are : AreMoved rule.0 rules kept moved lookup.first new.first) (table : moves_of new ≡ moves_of lookup)
-    (places : new.places.items ≡ map (through moved) lookup.places.items) (lasts : AreLasts (kept ++ rule ∷ []) new.first new.lasts.items) where
+    (places : new.places.items ≡ map (through moved) lookup.places.items) (newer : AreNewer (kept ++ rule ∷ []) new.first new.newer) where
   abbrev pub added : List (Word × Word)
   added = kept ++ rule ∷ []
 
@@ -254,7 +255,7 @@ module _ (rules kept : List (Word × Word)) (lookup new : Lookup) (rule : Word �
         subst (λ p. IsPlaced added new.first (left_at is.tabled number) p)
         (sym (ap (λ (ps : List (Option ℕ)). get_or ps number None) places ∙ get_or-map (through moved) lookup.places.items number None None (omega (arith, h, is.count))))
         (placed (left_at is.tabled number) (get_or lookup.places.items number None) (is.placed number h));
-    lasts = lasts;
+    newer = newer;
   }
     where
       known : (place : ℕ) → place < new.first → (number : ℕ) × (number < length is.tabled) × (left_at is.tabled number ≡ left_at added place)

@@ -8,6 +8,7 @@ pub mod Tries
 pub mod Links
 pub mod Tables
 pub mod Reductions
+pub mod Newer
 pub mod Lookups
 pub mod Parts
 pub mod Traces

@@ -1,12 +1,13 @@
--- How rules that change are found: by a table of those that were there when it was made, and by a
--- scan of the newer.
-use Rattle.std.specs.Prelude.{◌≡◌, ℕ, ◌+◌, ◌<◌, ◌≤◌, List, [], ◌∷◌, ◌++◌, length, slice_index_or, Option, None, Some}
+-- How rules that change are found: by a table of those that were there when it was made, and the
+-- newer ones by their last letters.
+use Rattle.std.specs.Prelude.{◌≡◌, ℕ, ◌<◌, ◌≤◌, List, [], ◌∷◌, ◌++◌, length, slice_index_or, Option, None, Some}
 use Rattle.theory.specs.Word.{Word, IsFactor}
 use Rattle.theory.specs.Completion.{IsReduced, Listed}
 use Rattle.reduced_automaton.specs.Rules.{AreFalling}
 use Rattle.reduced_automaton.specs.States.{IsLongest}
 use Rattle.reduced_automaton.specs.Tables.{Moves, IsTableOf}
 use Rattle.reduced_automaton.specs.Tries.{left_at, words_of}
+use Rattle.reduced_automaton.specs.Newer.{AreNewer}
 use Rattle.reduced_automaton.specs.Reductions.{IsReducing}
 use Rattle.reduced_automaton.specs.declared.lookups.Lookup.{Lookup}
 use Rattle.reduced_automaton.specs.declared.reductions.Reduction.{Reduction}
@@ -41,12 +42,6 @@ IsPlaced rules first left (Some place) = (place < length rules) × (left_at rule
 IsPlaced rules first left None =
     (place : ℕ) × (first ≤ place) × (place < length rules) × IsFactor (left_at rules place) left
 
--- the last letters of the left sides of the rules from a place on, in order
-pub record AreLasts (rules : List (Word × Word)) (first : ℕ) (lasts : Word) : Type 0 where
-  pub count : first + length lasts ≡ length rules
-  pub at : (number : ℕ) → number < length lasts → StandsLast (left_at rules (first + number))
-      (slice_index_or lasts number 0 ∷ [])
-
 -- the lookup finds the rules: its table is that of some rules, and the rules before the first newer
 -- one are among these
 pub record IsLookup (rules : List (Word × Word)) (lookup : Lookup) : Type 0 where
@@ -61,7 +56,7 @@ pub record IsLookup (rules : List (Word × Word)) (lookup : Lookup) : Type 0 whe
   pub placed : (number : ℕ) → number < length tabled
       → IsPlaced rules lookup.first (left_at tabled number)
       (slice_index_or lookup.places.items number None)
-  pub lasts : AreLasts rules lookup.first lookup.lasts.items
+  pub newer : AreNewer rules lookup.first lookup.newer
 
 -- the states of the table
 abbrev pub states_by : {rules : List (Word × Word)} {lookup : Lookup} → IsLookup rules lookup

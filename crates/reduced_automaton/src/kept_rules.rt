@@ -6,7 +6,8 @@ ghost use Rattle.theory.specs.Completion.{IsReduced, Listed, Reduces};
 ghost use Rattle.reduced_automaton.specs.Rules.{AreFalling, stands_in};
 ghost use Rattle.reduced_automaton.specs.Traces.{LeadBy};
 
-use crate::lookups::{Lookup, lasts_of};
+use crate::lookups::Lookup;
+use crate::newer::Newer;
 use crate::parts::{part, places_after};
 use crate::reductions::unread;
 use crate::rewriting::word_of;
@@ -18,16 +19,16 @@ use std::alloc::Global;
 use std::marker::Model;
 use words::Word;
 
-// With more newer rules than this the table is made anew. More of them slow each letter that is
-// read; fewer cost more tables.
+// With more newer rules than this the table is made anew. More of them slow each rule that is added;
+// fewer cost more tables.
 const NEWER_AT_MOST: usize = 32;
 
 // A table with many states is dear: so many of them are worth one newer rule more.
-const STATES_FOR_ONE_MORE: usize = 1024;
+const STATES_FOR_ONE_MORE: usize = 512;
 
 /// A list of rewriting rules that changes often. Words are reduced by the states of an
-/// [`Automaton`](crate::Automaton) of the rules that were there some time ago, and the few newer
-/// rules are looked through one by one.
+/// [`Automaton`](crate::Automaton) of the rules that were there some time ago, and the newer rules
+/// are found by the last letters of their left sides.
 #[derive(Drop)]
 pub struct KeptRules {
     rules: Rules,
@@ -116,7 +117,7 @@ impl KeptRules {
             table: Some(table),
             places: all_places(alloc, count)?,
             first: count,
-            lasts: Vec::new(alloc),
+            newer: Newer::none(alloc),
         };
         Ok(())
     }
@@ -136,18 +137,18 @@ impl KeptRules {
         let places = places_after(alloc, lookup.places.as_slice(), parts.moved.as_slice())?;
         let mut rules = Rules::from_vec(alloc, parts.kept);
         rules.push(left, right)?;
-        let lasts = lasts_of(alloc, &rules, parts.first)?;
+        let newer = Newer::of(alloc, &rules, parts.first)?;
         let lookup = Lookup {
             table: lookup.table,
             places,
             first: parts.first,
-            lasts,
+            newer,
         };
         let kept = KeptRules { rules, lookup }.renewed()?;
         Ok((kept, parts.gone))
     }
 
-    // How many newer rules are looked through before the table is made anew.
+    // How many rules may be newer before the table is made anew.
     fn newer_at_most(&self) -> usize {
         NEWER_AT_MOST + self.lookup.states() / STATES_FOR_ONE_MORE
     }

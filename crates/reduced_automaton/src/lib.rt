@@ -19,6 +19,7 @@ mod levels;
 mod links;
 mod lookups;
 mod marks;
+mod newer;
 mod parts;
 mod paths;
 mod readers;

@@ -1,5 +1,5 @@
 // How rules are found at the end of a word: in a table of those that were there when it was made,
-// and one by one where they are newer.
+// and by their last letters where they are newer.
 ghost use Rattle.std.specs.Prelude.{◌≡◌, ℕ, ◌+◌, ◌<◌, ◌≤◌, [], ◌∷◌, ◌++◌, List, length, true, false, IfOk, OnOk, IsTrue, ◌↔◌, MatchOption};
 ghost use Rattle.theory.specs.Word.{Word as Letters};
 ghost use Rattle.reduced_automaton.specs.Rules.{AreFalling};
@@ -8,8 +8,10 @@ ghost use Rattle.reduced_automaton.specs.Tables.{IsTableOf};
 ghost use Rattle.reduced_automaton.specs.Tries.{longer, words_of, Reads};
 ghost use Rattle.reduced_automaton.specs.Reductions.{weight_at, weight_of};
 ghost use Rattle.reduced_automaton.specs.Traces.{LeadsOn};
-ghost use Rattle.reduced_automaton.specs.Lookups.{AreLasts, IsAtLetter, IsLookup, IsRewriting, IsRewritingAt, StandsLast, moves_of, reads_to};
+ghost use Rattle.reduced_automaton.specs.Newer.{AreNewer};
+ghost use Rattle.reduced_automaton.specs.Lookups.{IsAtLetter, IsLookup, IsRewriting, IsRewritingAt, StandsLast, moves_of, reads_to};
 
+use crate::newer::{Newer, key_of, key_on};
 use crate::reductions::Reduction;
 use crate::rule_lists::Rules;
 use crate::table::Table;
@@ -19,14 +21,14 @@ use std::alloc::Global;
 use words::{Letter, Word};
 
 /// The table of the rules that were there when it was made, the place where each of these stands
-/// now, if it is still there, the place of the first newer rule, behind which all are newer, and the
-/// last letters of their left sides.
+/// now, if it is still there, the place of the first newer rule, behind which all are newer, and
+/// these by their last letters.
 #[derive(Drop)]
 pub struct Lookup {
     pub table: Option<Table>,
     pub places: Vec<Option<usize>>,
     pub first: usize,
-    pub lasts: Vec<Letter>,
+    pub newer: Newer,
 }
 
 // Whether the word stands at the end of the letters and the letter.
@@ -38,20 +40,6 @@ fn stands_last(letters: &[Letter], letter: Letter, word: &[Letter]) -> bool
     word[last] == letter && letters.ends_with(&word[..last])
 }
 
-/// The last letters of the left sides of the rules from a place on. Refused only where memory is
-/// wanting.
-pub fn lasts_of(alloc: Global, rules: &Rules, first: usize) -> Result<Vec<Letter>, NoMemory>
-    requires { first ≤ length rules.now }
-    ensures { IfOk result (λ lasts. AreLasts rules.now first lasts.items) }
-{
-    let mut lasts = Vec::new(alloc);
-    for place in first..rules.len() {
-        let left = rules.rule(place).0.letters();
-        lasts.push(left[left.len() - 1])?;
-    }
-    Ok(lasts)
-}
-
 impl Lookup {
     /// The lookup of no rule.
     pub fn new(alloc: Global) -> Lookup
@@ -61,7 +49,7 @@ impl Lookup {
             table: None,
             places: Vec::new(alloc),
             first: 0,
-            lasts: Vec::new(alloc),
+            newer: Newer::none(alloc),
         }
     }
 
@@ -78,29 +66,34 @@ impl Lookup {
     // Whether the left side of the newer rule of a number, from 0, stands at the end of the letters
     // and the letter.
     fn ends(&self, rules: &Rules, letters: &[Letter], letter: Letter, number: usize) -> bool
-        requires within { number < length self.now.lasts.items }
-        requires lasts { AreLasts rules.now self.now.first self.now.lasts.items }
+        requires { self.now.first + number < length rules.now }
         ensures { IsTrue result
             ↔ EndsAt rules.now (letters.now ++ letter ∷ []) (self.now.first + number) }
     {
         let _count = rules.len();
-        self.lasts[number] == letter
-            && stands_last(letters, letter, rules.rule(self.first + number).0.letters())
+        stands_last(letters, letter, rules.rule(self.first + number).0.letters())
     }
 
     // A newer rule whose left side stands at the end of the letters and the letter.
     fn newer_end(&self, rules: &Rules, letters: &[Letter], letter: Letter) -> Option<usize>
-        requires { AreLasts rules.now self.now.first self.now.lasts.items }
+        requires { AreNewer rules.now self.now.first self.now.newer }
         ensures { MatchOption result
             ((place : ℕ) → self.now.first ≤ place
             → EndsAt rules.now (letters.now ++ letter ∷ []) place → ⊥)
             (EndsAt rules.now (letters.now ++ letter ∷ [])) }
     {
         let _count = rules.len();
-        for number in 0..self.lasts.len() {
+        let others = self.newer.depth - 1;
+        if letters.len() < others {
+            return None;
+        }
+        let key = key_on(key_of(&letters[letters.len() - others..]), letter);
+        let mut at = self.newer.last_of(key);
+        while let Some(number) = at {
             if self.ends(rules, letters, letter, number) {
                 return Some(self.first + number);
             }
+            at = self.newer.before[number];
         }
         None
     }

@@ -4,7 +4,8 @@ use Rattle.std.proofs.lemmas.List.Elements.{All-filter}
 use Rattle.theory.specs.Word.{Word}
 use Rattle.theory.specs.ShortLex.{◌≺◌}
 use Rattle.reduced_automaton.specs.Rules.{AreFalling, stands_in}
-use Rattle.reduced_automaton.specs.Lookups.{AreLasts, IsLookup}
+use Rattle.reduced_automaton.specs.Newer.{AreNewer}
+use Rattle.reduced_automaton.specs.Lookups.{IsLookup}
 use Rattle.reduced_automaton.specs.Parts.{AreMoved, through}
 use Rattle.reduced_automaton.proofs.PartLaws.{added_lookup}
 use Rattle.reduced_automaton.proofs.kept_rules.KeptRules.add.Goals as goal
@@ -24,13 +25,13 @@ invariant_of-renewed c =
       table = c.self.inside.lookup.table;
       places = c.in_ok-places.places;
       first = parts.first;
-      lasts = c.in_ok-lasts.lasts;
+      newer = c.in_ok-newer.newer;
     }))
     (sym (c.in_ok-push.ensures.ok ∙ ap (λ (rs : List (Word × Word)). rs ++ (c.args.left, c.args.right) ∷ []) c.from_vec-rules.ensures))
     (added_lookup c.self.inside.rules parts.kept.items c.self.inside.lookup _ (c.args.left, c.args.right) parts.moved.items c.self.invariant moved refl
     (c.in_ok-places.ensures ∙ ap₂ (λ (ms ps : List (Option ℕ)). map (through ms) ps) c.as_slice-2.ensures.value c.as_slice.ensures.value)
-    (subst (λ (rs : List (Word × Word)). AreLasts rs parts.first c.in_ok-lasts.lasts.items) (c.in_ok-push.ensures.ok ∙ ap (λ (rs : List (Word × Word)). rs ++ (c.args.left, c.args.right) ∷ []) c.from_vec-rules.ensures)
-    c.in_ok-lasts.ensures))
+    (subst (λ (rs : List (Word × Word)). AreNewer rs parts.first c.in_ok-newer.newer) (c.in_ok-push.ensures.ok ∙ ap (λ (rs : List (Word × Word)). rs ++ (c.args.left, c.args.right) ∷ []) c.from_vec-rules.ensures)
+    c.in_ok-newer.ensures))
 
 pub returns-clause-kept : goal.returns-clause-kept
 returns-clause-kept c =
@@ -44,6 +45,6 @@ returns-clause-gone c =
     let goes : Word × Word → Bool = λ q. stands_in c.args.left q.0 in
     c.in_ok-parts.ensures.gone ∙ ap (filter goes) (c.into_vec.ensures.rules ∙ c.self.view_is)
 
-pub lasts_of-requires : goal.lasts_of-requires
-lasts_of-requires c =
+pub of-requires : goal.of-requires
+of-requires c =
     omega (arith, c.in_ok-parts.ensures.moved.few, ap length c.in_ok-push.ensures.ok, ap length c.from_vec-rules.ensures, length-append c.from_vec-rules.result ((c.args.left, c.args.right) ∷ []))

@@ -1,5 +1,6 @@
 use Rattle.std.proofs.Common.{List, Option, None, Some, ℕ, length, get_or, ap, ◌∙◌, arith}
 use Rattle.std.proofs.lemmas.List.FromFn.{length-map-range_with_len, get_or-map-range_with_len}
+use Rattle.reduced_automaton.proofs.NewerLaws.{no_newer}
 use Rattle.reduced_automaton.proofs.LookupLaws.{all_lookup}
 use Rattle.reduced_automaton.proofs.kept_rules.KeptRules.rebuild.Goals as goal
 
@@ -9,4 +10,4 @@ invariant_of-self c =
     (ap length c.in_ok-all_places.ensures ∙ length-map-range_with_len Some 0 c.len-count.result ∙ c.len-count.ensures.len) c.len-count.ensures.len
     (λ place h. ap (λ (ps : List (Option ℕ)). get_or ps place None) c.in_ok-all_places.ensures
     ∙ get_or-map-range_with_len Some 0 c.len-count.result place place None (omega (arith, h, c.len-count.ensures.len)) (omega arith))
-    c.new.ensures.items
+    (no_newer c.self.inside.rules c.len-count.result c.none.result c.len-count.ensures.len c.none.ensures.depth c.none.ensures.before c.none.ensures.latest)

@@ -1,7 +1,10 @@
-use Rattle.std.proofs.Common.{ℕ, ◌+◌, ◌<◌, ◌≤◌, ◌∷◌, ◌++◌, []}
-use Rattle.reduced_automaton.specs.States.{EndsAt}
+use Rattle.std.proofs.Common.{◌∷◌, ◌++◌, [], length}
+use Rattle.reduced_automaton.proofs.NewerLaws.{IsSought, height}
 use Rattle.reduced_automaton.proofs.lookups.Lookup.newer_end.Given as goal
 
-abbrev pub invariant-loop-number : goal.invariant-loop-number
-invariant-loop-number l = (i : ℕ) → l.self.first ≤ i → i < l.self.first + l.number
-    → EndsAt l.rules (l.letters ++ l.letter ∷ []) i → ⊥
+abbrev pub invariant-loop-at : goal.invariant-loop-at
+invariant-loop-at l =
+    IsSought l.rules l.self.first l.self.newer.depth (length l.self.newer.before.items) l.key (l.letters ++ l.letter ∷ []) l.at
+
+abbrev pub decreases-loop-at : goal.decreases-loop-at
+decreases-loop-at l = height l.at
