@@ -1,5 +1,5 @@
 -- What a turn leaves.
-use Rattle.std.proofs.Common.{◌≡◌, ℕ, ◌<◌, ◌≤◌, refl, sym, ◌∙◌, ap, arith, inl, inr, subst, Bool, true, false, cond, nat_lt, List}
+use Rattle.std.proofs.Common.{◌≡◌, ℕ, ◌<◌, ◌≤◌, refl, sym, ◌∙◌, ap, arith, inl, inr, true, false, cond, nat_lt, List}
 use Rattle.std.proofs.lemmas.Bool.{cases_lt}
 use Rattle.race.specs.declared.engines.Progress.{Progress}
 use Rattle.race.specs.declared.engines.Progress.TheVariants.{More, Decided, Spent}
