@@ -24,7 +24,7 @@ use words::Word;
 const NEWER_AT_MOST: usize = 32;
 
 // A table with many states is dear: so many of them are worth one newer rule more.
-const STATES_FOR_ONE_MORE: usize = 512;
+const STATES_FOR_ONE_MORE: usize = 256;
 
 /// A list of rewriting rules that changes often. Words are reduced by the states of an
 /// [`Automaton`](crate::Automaton) of the rules that were there some time ago, and the newer rules
