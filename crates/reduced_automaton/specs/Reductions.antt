@@ -50,8 +50,8 @@ abbrev pub IsReductionBy : List (Word × Word) → List Word → Word → Reduct
 IsReductionBy rules states word r =
     IsReducing rules states word r.done.items r.rest.items r.states.items
 
--- a reduction of the word, but that the letter is read next, and that a rule's left side ends there,
--- or else a state
+-- a reduction of the word, but that the letter is read next, where a left side or else a state
+-- ends
 pub record IsAtStep (rules : List (Word × Word)) (states : List Word) (word : Word) (r : Reduction)
     (letter next : ℕ) (end : Option ℕ) : Type 0 where
   pub reducing : IsReducing rules states word r.done.items (r.rest.items ++ letter ∷ [])

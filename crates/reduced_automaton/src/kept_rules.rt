@@ -19,8 +19,8 @@ use std::alloc::Global;
 use std::marker::Model;
 use words::Word;
 
-// With more newer rules than this the table is made anew. More of them slow each rule that is added;
-// fewer cost more tables.
+// With more newer rules than this the table is made anew. More of them slow each rule that is
+// added; fewer cost more tables.
 const NEWER_AT_MOST: usize = 32;
 
 // A table with many states is dear: so many of them are worth one newer rule more.
