@@ -1,13 +1,14 @@
 -- Rows that stand in one list.
-use Rattle.std.proofs.Common.{◌≡◌, ◌≢◌, ℕ, zero, suc, ◌+◌, ◌-◌, ◌*◌, ◌<◌, ◌≤◌, List, [], ◌∷◌, ◌++◌, refl, sym, ◌∙◌, ap, arith, ◌⊎◌, inl, inr, Option, None, length, subst, get_or, set, take, drop, replicate}
+use Rattle.std.proofs.Common.{◌≡◌, ◌≢◌, ℕ, zero, suc, ◌+◌, ◌-◌, ◌*◌, ◌<◌, ◌≤◌, All, List, [], ◌∷◌, ◌++◌, refl, sym, ◌∙◌, ap, ap₂, arith, ◌⊎◌, inl, inr, Option, None, length, subst, get_or, set, take, drop, replicate, append_assoc, append-nil}
 use Rattle.std.proofs.lemmas.Bool.{cases_eq}
 use Rattle.std.proofs.Math.Nat.{suc-mul, mul-le-mul_right}
-use Rattle.std.proofs.Math.Seq.{take-set-lt, take-length}
-use Rattle.std.proofs.lemmas.List.{get_or-set_same, get_or-set_other, take-append-le, drop-append-le, take-set-le, drop-set-lt, drop-set-add, get_or-take, get_or-drop, length-take-le, length-drop, take-replicate, drop-replicate}
+use Rattle.std.proofs.Math.Seq.{take-set-lt, take-length, take-append_seam, drop-append_seam}
+use Rattle.std.proofs.lemmas.List.{get_or-set_same, get_or-set_other, take-append-le, drop-append-le, take-set-le, drop-set-lt, drop-set-add, get_or-take, get_or-drop, nil_from_length, length-append, take-append-drop, drop-drop, length-take-le, length-drop, take-replicate, drop-replicate}
+use Rattle.std.proofs.lemmas.List.Elements.{All-tail}
 use Rattle.std.specs.Option.{ForSome}
 use Rattle.std.below.core.specs.declared.int.u32.TheConstants.{MAX}
 use Rattle.theory.specs.Graph.{Graph, target}
-use Rattle.cells.specs.Rows.{AreRows, rows_of, with_entry}
+use Rattle.cells.specs.Rows.{AreRows, flat, rows_of, with_entry}
 use Rattle.cells.proofs.EntryLaws.{target_is}
 
 -- a node of the table has a code
@@ -56,6 +57,38 @@ read_target k n xs node a hn ha = target_is (rows_of k n xs) node a ∙ read_row
 
 pub rows_are : (k n : ℕ) (xs : List (Option ℕ)) → length xs ≡ n * k → AreRows n k (rows_of k n xs)
 rows_are k n xs e = record { count = length_rows k n xs; width = λ i d h. width_rows k n xs e i d (omega (arith, h, length_rows k n xs)) }
+
+-- a row
+pub row_is : (k n : ℕ) (xs : List (Option ℕ)) (node : ℕ) → node < n → get_or (rows_of k n xs) node [] ≡ take k (drop (node * k) xs)
+row_is k zero xs node h = absurd (omega (arith, h))
+row_is k (suc n) xs zero h = ap (λ z. take k (drop z xs)) (let e : 0 ≡ 0 * k = omega arith in e)
+row_is k (suc n) xs (suc node) h =
+    row_is k n (drop k xs) node (omega (arith, h)) ∙ ap (take k) (drop-drop (node * k) k xs)
+    ∙ ap (λ z. take k (drop z xs)) (let e : k + node * k ≡ suc node * k = omega (arith, suc-mul node k) in e)
+
+-- rows that are put one behind another, and that are cut again
+pub flat_rows : (k n : ℕ) (xs : List (Option ℕ)) → length xs ≡ n * k → flat (rows_of k n xs) ≡ xs
+flat_rows k zero xs e = sym (nil_from_length xs (omega (arith, e)))
+flat_rows k (suc n) xs e = ap (λ z. take k xs ++ z) (flat_rows k n (drop k xs) (long k n xs e).1) ∙ take-append-drop k xs
+
+pub flat_long : (k : ℕ) (g : Graph) → All (λ row. length row ≡ k) g → length (flat g) ≡ length g * k
+flat_long k [] w = let none : 0 ≡ 0 * k = omega arith in none
+flat_long k (row ∷ g) w =
+    let wide : length row ≡ k = w 0 [] (omega arith) in
+    length-append row (flat g) ∙ (let sum : length row + length (flat g) ≡ suc (length g) * k = omega (arith, wide, flat_long k g (All-tail (λ row. length row ≡ k) row g w), suc-mul (length g) k) in sum)
+
+pub flat_more : (g : Graph) (row : List (Option ℕ)) → flat g ++ row ≡ flat (g ++ row ∷ [])
+flat_more [] row = sym (append-nil row)
+flat_more (first ∷ g) row = append_assoc first (flat g) row ∙ ap (λ z. first ++ z) (flat_more g row)
+
+pub rows_flat : (k : ℕ) (g : Graph) → All (λ row. length row ≡ k) g → rows_of k (length g) (flat g) ≡ g
+rows_flat k [] w = refl
+rows_flat k (row ∷ g) w =
+    let wide : length row ≡ k = w 0 [] (omega arith) in
+    let first : take k (row ++ flat g) ≡ row = subst (λ z. take z (row ++ flat g) ≡ row) wide (take-append_seam row (flat g)) in
+    let rest : drop k (row ++ flat g) ≡ flat g = subst (λ z. drop z (row ++ flat g) ≡ flat g) wide (drop-append_seam row (flat g)) in
+    ap₂ (λ (r : List (Option ℕ)) (xs : List (Option ℕ)). r ∷ rows_of k (length g) xs) first rest
+    ∙ ap (λ (rs : Graph). row ∷ rs) (rows_flat k g (All-tail (λ row. length row ≡ k) row g w))
 
 -- one row more
 pub add_rows : (k n : ℕ) (xs row : List (Option ℕ)) → length xs ≡ n * k → length row ≡ k → rows_of k (suc n) (xs ++ row) ≡ rows_of k n xs ++ row ∷ []

@@ -1,16 +1,16 @@
 -- Rows of entries, which are a number or none, and rows that stand in one list.
-use Rattle.std.specs.Prelude.{◌≡◌, ℕ, zero, suc, ◌++◌, All, List, [], ◌∷◌, length, take, drop, replicate, Option, None, Some, slice_set, slice_index_or}
+use Rattle.std.specs.Prelude.{◌≡◌, ℕ, zero, suc, ◌++◌, All, List, [], ◌∷◌, length, take, drop, replicate, Option, None, slice_set, slice_index_or}
+use Rattle.std.specs.List.{flat_map}
 use Rattle.theory.specs.Graph.{Graph, target}
-
--- none is 0, and a number stands with one added
-abbrev pub coded : ℕ → Option ℕ
-coded zero = None
-coded (suc n) = Some n
 
 -- the first rows of k entries each
 abbrev pub rows_of : ℕ → ℕ → List (Option ℕ) → Graph
 rows_of k zero xs = []
 rows_of k (suc n) xs = take k xs ∷ rows_of k n (drop k xs)
+
+-- the entries of rows, row after row
+abbrev pub flat : Graph → List (Option ℕ)
+flat = flat_map (λ row. row)
 
 -- n rows of k entries each
 pub record AreRows (n k : ℕ) (g : Graph) : Type 0 where

@@ -4,19 +4,24 @@ ghost use Rattle.std.specs.Option.{ForSome};
 
 use std::marker::Model;
 
-// A number or none: none is 0, and a number stands with one added.
-#[derive(Drop)]
+/// A number or none in four bytes: none is 0, and a number stands with one added.
+#[derive(Clone, Copy)]
 pub struct Entry {
     code: u32,
 }
 
 impl Model for Entry {
     ghost use Rattle.std.specs.Prelude.{ℕ, Option};
-    ghost use Rattle.cells.specs.Rows.{coded};
+    ghost use Rattle.std.proofs.Common.{ap};
+    ghost use Rattle.cells.specs.Codes.{coded, code_of, code_back};
 
     ghost Value = { Option ℕ };
 
     ghost view = { λ e. coded e.code };
+
+    ghost inverse = { λ x. record { code = code_of x } };
+
+    ghost inverse_ok = { λ e h. ap (λ n. record { code = n }) (code_back e.code) };
 }
 
 impl Entry {

@@ -2,7 +2,7 @@
 ghost use Rattle.std.specs.Prelude.{◌≡◌, ℕ, ◌+◌, ◌*◌, ◌<◌, ◌≤◌, All, List, [], ◌∷◌, ◌++◌, length, replicate, slice_index_or, None, IfOk, OnOk, OnErr};
 ghost use Rattle.std.specs.Option.{ForSome};
 ghost use Rattle.theory.specs.Graph.{target};
-ghost use Rattle.cells.specs.Rows.{with_entry, with_node};
+ghost use Rattle.cells.specs.Rows.{flat, rows_of, with_entry, with_node};
 
 use crate::entries::Entry;
 use ports::NoMemory;
@@ -47,6 +47,16 @@ fn place(nodes: usize, letters: usize, node: usize, letter: usize) -> usize
     ensures within { result < nodes * letters }
 {
     node * letters + letter
+}
+
+// Where the entries of the node begin.
+fn row_start(nodes: usize, letters: usize, node: usize) -> usize
+    requires room { nodes * letters ≤ usize.MAX }
+    requires node { node < nodes }
+    ensures start { result ≡ node * letters }
+    ensures within { result + letters ≤ nodes * letters }
+{
+    node * letters
 }
 
 // So many entries more, and nothing in them. Only want of memory refuses it, and then nothing has
@@ -103,6 +113,32 @@ impl Cells {
         })
     }
 
+    /// The rows of so many entries each that stand one behind another in a list.
+    pub fn of_entries(nodes: usize, letters: usize, entries: Vec<Entry>) -> Cells
+        requires some { 0 < nodes }
+        requires few { nodes ≤ NUMBERS_AT_MOST }
+        requires whole { length entries.items ≡ nodes * letters }
+        ensures { result ≡ rows_of letters nodes entries.items }
+    {
+        Cells {
+            nodes,
+            letters,
+            entries,
+        }
+    }
+
+    /// The same rows in memory of their own. Refused only where memory is wanting.
+    pub fn copy(&self, alloc: Global) -> Result<Cells, NoMemory>
+        ensures { IfOk result (λ c. c ≡ self.now) }
+    {
+        let entries = Vec::from_slice(alloc, self.entries.as_slice())?;
+        Ok(Cells {
+            nodes: self.nodes,
+            letters: self.letters,
+            entries,
+        })
+    }
+
     /// How many nodes there are.
     pub fn nodes(&self) -> usize
         ensures { result ≡ length self.now }
@@ -110,12 +146,31 @@ impl Cells {
         self.nodes
     }
 
-    /// How many letters there are: as many as each row has entries.
+    /// How many letters there are: as many as each row has entries. What holds of all [`Cells`] is
+    /// told here.
     pub fn letters(&self) -> usize
         ensures rows { All (λ row. length row ≡ result) self.now }
         ensures some { 0 < length self.now }
+        ensures few { length self.now ≤ NUMBERS_AT_MOST }
     {
         self.letters
+    }
+
+    /// The entries of a node, letter by letter.
+    pub fn row(&self, node: usize) -> &[Entry]
+        requires { node < length self.now }
+        ensures { result.now ≡ slice_index_or self.now node [] }
+    {
+        let start = row_start(self.nodes, self.letters, node);
+        &self.entries.as_slice()[start..start + self.letters]
+    }
+
+    /// The entries of all nodes, row after row.
+    pub fn entries(&self) -> &[Entry]
+        ensures { result.now ≡ flat self.now }
+    {
+        let _nodes = self.nodes;
+        self.entries.as_slice()
     }
 
     /// The entry of the node and letter. `None` also where there is no such node or letter.

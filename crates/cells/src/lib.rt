@@ -7,4 +7,5 @@
 mod entries;
 mod flat;
 
+pub use entries::Entry;
 pub use flat::{Cells, NUMBERS_AT_MOST};

@@ -10,8 +10,8 @@ use Rattle.word_graph.specs.Walk.{IsBefore}
 use Rattle.word_graph.proofs.WalkLaws.{some_same, before_next}
 
 -- the entries of rows without gaps
-abbrev pub rows_of : Graph → Rows
-rows_of = map (map (λ t. unwrap_or t 0))
+abbrev pub target_rows : Graph → Rows
+target_rows = map (map (λ t. unwrap_or t 0))
 
 row_exact : (row : List (Option ℕ)) → ((a : ℕ) → a < length row → (m : ℕ) × (get_or row a None ≡ Some m)) → row ≡ map Some (map (λ t. unwrap_or t 0) row)
 row_exact [] full = refl
@@ -19,7 +19,7 @@ row_exact (None ∷ row) full = let e = (full 0 (omega arith)).1 in cc
 row_exact (Some m ∷ row) full = ap (λ (r : List (Option ℕ)). Some m ∷ r) (row_exact row (λ a h. full (suc a) (omega arith)))
 
 pub rows_exact : (g : Graph) → ((n a : ℕ) → n < length g → a < length (get_or g n []) → (m : ℕ) × (get_or (get_or g n []) a None ≡ Some m))
-    → g ≡ graph_of (rows_of g)
+    → g ≡ graph_of (target_rows g)
 rows_exact [] full = refl
 rows_exact (row ∷ g) full =
     ap₂ (λ (r : List (Option ℕ)) (rs : Graph). r ∷ rs) (row_exact row (λ a h. full 0 a (omega arith) h)) (rows_exact g (λ n a hn ha. full (suc n) a (omega arith) ha))

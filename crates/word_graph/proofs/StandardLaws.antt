@@ -1,5 +1,5 @@
 -- The part that a walk reaches, as the code makes it.
-use Rattle.std.proofs.Common.{◌≡◌, ℕ, suc, ◌<◌, List, [], ◌∷◌, length, map, refl, sym, ◌∙◌, ap, subst, arith, inl, inr, Option, Some, None, option_and_then, get_or, All}
+use Rattle.std.proofs.Common.{◌≡◌, ℕ, suc, ◌*◌, ◌<◌, ◌≤◌, List, [], ◌∷◌, length, map, refl, sym, ◌∙◌, ap, subst, arith, inl, inr, Option, Some, None, option_and_then, get_or, All}
 use Rattle.std.specs.Option.{unwrap_or}
 use Rattle.std.proofs.lemmas.Bool.{cases_lt}
 use Rattle.std.proofs.lemmas.List.{length-map, get_or-map, get_or_past}
@@ -13,10 +13,12 @@ use Rattle.word_graph.specs.Steps.{step_at, walked, IsWalkedTo}
 use Rattle.word_graph.specs.Renumber.{renumber}
 use Rattle.word_graph.specs.Standard.{IsStandardGraph, renumbered}
 use Rattle.word_graph.specs.declared.walks.Step.{Step}
+use Rattle.cells.specs.Rows.{flat, rows_of}
+use Rattle.cells.proofs.CellLaws.{flat_long, rows_flat}
 use Rattle.cells.proofs.EntryLaws.{target_is}
 use Rattle.word_graph.proofs.WalkLaws.{some_same}
 use Rattle.word_graph.proofs.RenumberLaws.{renumbered_paths, word_leads, renumbered_nodes, place_edge, appears_before, renumbered_complete}
-use Rattle.word_graph.proofs.RowLaws.{rows_of, rows_exact, entries_all, numbered}
+use Rattle.word_graph.proofs.RowLaws.{target_rows, rows_exact, entries_all, numbered}
 
 -- a path ends within the graph
 pub path_in : (k : ℕ) (g : Graph) → IsGraph k g → (p n : ℕ) (u : Word) → p < length g → path g p u ≡ Some n → n < length g
@@ -72,6 +74,21 @@ module _ (k : ℕ) (g : Graph) (steps : List Step) (places : List (Option ℕ)) 
     nodes = renumbered_nodes k g (walked steps places is.word) (renumbered steps places g) is.walk renumbering;
   }
 
+  -- places are those of steps, of which there are no more than nodes
+  pub renumbered_few : (target : Option ℕ) (p : ℕ) → renumber places target ≡ Some p → p < length steps
+  renumbered_few None p e = cc
+  renumbered_few (Some m) p e = (is.walk.placed m p e).0
+
+  pub steps_few : length steps ≤ length g
+  steps_few = omega (arith, is.left)
+
+  -- the rows, one behind another
+  pub renumbered_long : length (flat (renumbered steps places g)) ≡ length steps * k
+  renumbered_long = flat_long k (renumbered steps places g) widths ∙ ap (λ n. n * k) size
+
+  pub renumbered_rows : rows_of k (length steps) (flat (renumbered steps places g)) ≡ renumbered steps places g
+  renumbered_rows = ap (λ n. rows_of k n (flat (renumbered steps places g))) (sym size) ∙ rows_flat k (renumbered steps places g) widths
+
   -- it shows the same
   pub renumbered_shows : Shows (renumbered steps places g) (SameEnd g)
   renumbered_shows = record {
@@ -83,15 +100,15 @@ module _ (k : ℕ) (g : Graph) (steps : List Step) (places : List (Option ℕ)) 
   pub renumbered_standard : AllDefined k (SameEnd g) → IsStandardGraph k (renumbered steps places g)
   renumbered_standard all =
       record {
-        rows = rows_of (renumbered steps places g);
+        rows = target_rows (renumbered steps places g);
         is = exact;
         standard = record {
           rooted = omega (arith, same_size, size, is.walk.some);
           width = All-map (λ (row : List ℕ). length row ≡ k) (map (λ (t : Option ℕ). unwrap_or t 0)) (renumbered steps places g)
               (λ p d h. length-map (get_or (renumbered steps places g) p d) (λ (t : Option ℕ). unwrap_or t 0) ∙ widths p d h);
-          nodes = entries_all (λ n. n < length (rows_of (renumbered steps places g))) (rows_of (renumbered steps places g))
+          nodes = entries_all (λ n. n < length (target_rows (renumbered steps places g))) (target_rows (renumbered steps places g))
               (λ i b n e. omega (arith, same_size, renumbered_graph.nodes i b n (back i b n e)));
-          numbered = numbered (rows_of (renumbered steps places g))
+          numbered = numbered (target_rows (renumbered steps places g))
               (λ i b n e.
               let f = appears_before k g (walked steps places is.word) (renumbered steps places g) is.walk renumbering i b n (back i b (suc (suc n)) e) in
               (f.0, f.1, f.2, there f.0 f.1 (suc n) f.3));
@@ -116,14 +133,14 @@ module _ (k : ℕ) (g : Graph) (steps : List Step) (places : List (Option ℕ)) 
           let edge = complete n a hn (omega (arith, width_at n (omega (arith, size, hn)), ha)) in
           (edge.0, sym (target_is (renumbered steps places g) n a) ∙ edge.1)
 
-      exact : renumbered steps places g ≡ graph_of (rows_of (renumbered steps places g))
+      exact : renumbered steps places g ≡ graph_of (target_rows (renumbered steps places g))
       exact = rows_exact (renumbered steps places g) full
 
-      same_size : length (rows_of (renumbered steps places g)) ≡ length (renumbered steps places g)
+      same_size : length (target_rows (renumbered steps places g)) ≡ length (renumbered steps places g)
       same_size = length-map (renumbered steps places g) (map (λ (t : Option ℕ). unwrap_or t 0))
 
-      there : (i b n : ℕ) → target (renumbered steps places g) i b ≡ Some n → target (graph_of (rows_of (renumbered steps places g))) i b ≡ Some n
+      there : (i b n : ℕ) → target (renumbered steps places g) i b ≡ Some n → target (graph_of (target_rows (renumbered steps places g))) i b ≡ Some n
       there i b n e = ap (λ (h : Graph). target h i b) (sym exact) ∙ e
 
-      back : (i b n : ℕ) → target (graph_of (rows_of (renumbered steps places g))) i b ≡ Some n → target (renumbered steps places g) i b ≡ Some n
+      back : (i b n : ℕ) → target (graph_of (target_rows (renumbered steps places g))) i b ≡ Some n → target (renumbered steps places g) i b ≡ Some n
       back i b n e = ap (λ (h : Graph). target h i b) exact ∙ e

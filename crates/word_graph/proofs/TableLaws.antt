@@ -1,85 +1,52 @@
 -- Complete graphs as lists of targets, and their order.
-use Rattle.std.proofs.Common.{◌≡◌, ℕ, zero, suc, ◌+◌, ◌*◌, ◌<◌, ◌≤◌, List, [], ◌∷◌, ◌++◌, length, map, take, drop, get_or, slice_get, All, Option, Some, None, refl, sym, ◌∙◌, ap, arith, inl, inr, nat_cmp, Ordering, Less, Equal, Greater, ap₂, subst₂, ◌⊎◌, min, true, false, not, ◌==◌, nat_lt, if◌then◌else◌, option_and_then}
+use Rattle.std.proofs.Common.{◌≡◌, ℕ, zero, suc, ◌+◌, ◌*◌, ◌<◌, List, [], ◌∷◌, ◌++◌, length, map, take, drop, get_or, slice_get, All, Option, Some, None, refl, sym, ◌∙◌, ap, arith, inl, inr, nat_cmp, Ordering, Less, Equal, Greater, ap₂, subst₂, min, true, false, not, ◌==◌, nat_lt, if◌then◌else◌, option_and_then}
 use Rattle.std.specs.Ordering.{ordering_then, ordering_index}
 use Rattle.std.specs.Cmp.Lexicographic.{slice_cmp}
 use Rattle.std.specs.Option.{unwrap_or, option_to_list}
 use Rattle.std.specs.List.{flat_map}
-use Rattle.std.proofs.lemmas.List.{length-map, map-append, get_or-map, length-drop, length-take-le, take-append-drop, drop_more, nil_from_length}
+use Rattle.std.proofs.lemmas.List.{length-map, map-append, take-map, drop-map, get_or-map, length-drop, length-take-le, take-append-drop, drop_more, nil_from_length}
 use Rattle.std.proofs.lemmas.Bool.{cases_lt, cases_eq}
-use Rattle.std.proofs.Math.ListN.{drop_of_length-le}
 use Rattle.std.proofs.lemmas.List.Elements.{All-cons, All-map}
-use Rattle.std.proofs.Math.Seq.{drop-nil}
+use Rattle.std.proofs.lemmas.Grind.{flat_map-append}
 use Rattle.theory.specs.Graph.{Graph, target, IsGraph}
 use Rattle.theory.specs.LowIndex.{Rows, graph_of, entries}
 use Rattle.theory.proofs.TableLaws.{target_within}
 use Rattle.std.proofs.lemmas.List.Splits.{length-slice_split}
 use Rattle.std.proofs.lemmas.Option.{slice_get-get_or}
+use Rattle.cells.specs.Rows.{flat, rows_of}
 use Rattle.word_graph.specs.TableText.{IsFaultAt, table_read, rows_cut, fields_cut, row_read, target_read, number_of}
 use Rattle.word_graph.specs.Table.{HasWidth, targets_of, cut}
 
-then_assoc : (a b c : Ordering) → ordering_then (ordering_then a b) c ≡ ordering_then a (ordering_then b c)
-then_assoc Less b c = refl
-then_assoc Equal b c = refl
-then_assoc Greater b c = refl
+-- two lists from a place on
+pub first_decides : (s t : List ℕ) (i : ℕ) → i < length s → i < length t
+    → slice_cmp nat_cmp (drop i s) (drop i t) ≡ ordering_then (nat_cmp (get_or s i 0) (get_or t i 0)) (slice_cmp nat_cmp (drop (i + 1) s) (drop (i + 1) t))
+first_decides s t i hs ht = rw (drop_more s i 0 hs, drop_more t i 0 ht) refl
 
--- lists of one length in front decide first
-pub front_first : (x y xs ys : List ℕ) → length x ≡ length y → slice_cmp nat_cmp (x ++ xs) (y ++ ys) ≡ ordering_then (slice_cmp nat_cmp x y) (slice_cmp nat_cmp xs ys)
-front_first [] [] xs ys h = refl
-front_first [] (b ∷ y) xs ys h = absurd (omega arith)
-front_first (a ∷ x) [] xs ys h = absurd (omega arith)
-front_first (a ∷ x) (b ∷ y) xs ys h =
-    ap (ordering_then (nat_cmp a b)) (front_first x y xs ys (omega arith)) ∙ sym (then_assoc (nat_cmp a b) (slice_cmp nat_cmp x y) (slice_cmp nat_cmp xs ys))
-
-pub row_width : (k : ℕ) (rows : Rows) (i : ℕ) → HasWidth k rows → i < length rows → length (get_or rows i []) ≡ k
-row_width k rows i wide h = wide i [] h
-
--- a row more of each
-pub rows_first : (k : ℕ) (s t : Rows) (i : ℕ) → HasWidth k s → HasWidth k t → i < length s → i < length t
-    → slice_cmp nat_cmp (entries (drop i s)) (entries (drop i t))
-    ≡ ordering_then (slice_cmp nat_cmp (get_or s i []) (get_or t i [])) (slice_cmp nat_cmp (entries (drop (i + 1) s)) (entries (drop (i + 1) t)))
-rows_first k s t i ws wt hs ht =
-    rw (drop_more s i [] hs, drop_more t i [] ht)
-    (front_first (get_or s i []) (get_or t i []) (entries (drop (i + 1) s)) (entries (drop (i + 1) t)) (row_width k s i ws hs ∙ sym (row_width k t i wt ht)))
-
-drop_all : {A : Type 0} (xs : List A) (i : ℕ) → length xs ≤ i → drop i xs ≡ []
-drop_all xs i h = drop_of_length-le xs h
-
--- rows are left in one alone
-more_rows : (k : ℕ) (s : Rows) (i : ℕ) → 0 < k → HasWidth k s → i < length s → (x : ℕ) × (xs : List ℕ) × (entries (drop i s) ≡ x ∷ xs)
-more_rows k s i some ws h = go (get_or s i []) (row_width k s i ws h) (drop_more s i [] h)
+-- where one of them ends, the lengths decide
+pub lengths_decide : (s t : List ℕ) (i : ℕ) → i ≡ min (length s) (length t) → slice_cmp nat_cmp (drop i s) (drop i t) ≡ nat_cmp (length s) (length t)
+lengths_decide [] [] zero e = refl
+lengths_decide [] [] (suc i) e = absurd (omega (arith, e))
+lengths_decide [] (y ∷ t) zero e = sym (less (length t))
   where
-    go : (row : List ℕ) → length row ≡ k → drop i s ≡ row ∷ drop (i + 1) s → (x : ℕ) × (xs : List ℕ) × (entries (drop i s) ≡ x ∷ xs)
-    go [] wide e = absurd (omega arith)
-    go (x ∷ row) wide e = (x, row ++ entries (drop (i + 1) s), ap entries e)
-
--- behind the rows that are there in both, the lengths decide
-pub rows_last : (k : ℕ) (s t : Rows) (i : ℕ) → 0 < k → HasWidth k s → HasWidth k t → i ≤ length s → i ≤ length t → (length s ≤ i) ⊎ (length t ≤ i)
-    → slice_cmp nat_cmp (entries (drop i s)) (entries (drop i t)) ≡ nat_cmp (length s) (length t)
-rows_last k s t i some ws wt hs ht h = elim (cases_lt i (length s)) [
-  | inl more ↦
-      let m = more_rows k s i some ws more in
-      let none : drop i t ≡ [] = drop_all t i (omega arith) in
-      ap₂ (slice_cmp nat_cmp) m.2 (ap entries none) ∙ sym (greater (length s) (length t) (omega arith))
-  | inr past ↦ elim (cases_lt i (length t)) [
-    | inl more ↦
-        let m = more_rows k t i some wt more in
-        let none : drop i s ≡ [] = drop_all s i (omega arith) in
-        ap₂ (slice_cmp nat_cmp) (ap entries none) m.2 ∙ sym (less (length s) (length t) (omega arith))
-    | inr both ↦
-        let none : drop i s ≡ [] = drop_all s i (omega arith) in
-        let none' : drop i t ≡ [] = drop_all t i (omega arith) in
-        ap₂ (slice_cmp nat_cmp) (ap entries none) (ap entries none') ∙ sym (equal (length s) (length t) (omega arith))
-  ]
-]
+    less : (n : ℕ) → nat_cmp 0 (suc n) ≡ Less
+    less n = grind arith
+lengths_decide [] (y ∷ t) (suc i) e = absurd (omega (arith, e))
+lengths_decide (x ∷ s) [] zero e = sym (greater (length s))
   where
-    greater : (m n : ℕ) → n < m → nat_cmp m n ≡ Greater
-    greater m n h = grind (arith, h)
+    greater : (n : ℕ) → nat_cmp (suc n) 0 ≡ Greater
+    greater n = grind arith
+lengths_decide (x ∷ s) [] (suc i) e = absurd (omega (arith, e))
+lengths_decide (x ∷ s) (y ∷ t) zero e = absurd (omega (arith, e))
+lengths_decide (x ∷ s) (y ∷ t) (suc i) e = lengths_decide s t i (omega (arith, e)) ∙ one_more (length s) (length t)
+  where
+    one_more : (m n : ℕ) → nat_cmp m n ≡ nat_cmp (suc m) (suc n)
+    one_more m n = grind arith
 
-    less : (m n : ℕ) → m < n → nat_cmp m n ≡ Less
-    less m n h = grind (arith, h)
-
-    equal : (m n : ℕ) → m ≡ n → nat_cmp m n ≡ Equal
-    equal m n h = grind (arith, h)
+-- what stands at a place of a list of edges
+pub edge_at : (xs : List (Option ℕ)) (s : List ℕ) (i : ℕ) (x : Option ℕ) → xs ≡ map Some s → i < length xs → x ≡ get_or xs i x → x ≡ Some (get_or s i 0)
+edge_at xs s i x e h at =
+    let within : i < length s = omega (arith, h, ap length e, length-map s Some) in
+    at ∙ ap (λ (z : List (Option ℕ)). get_or z i x) e ∙ get_or-map Some s i 0 x within
 
 -- the cut rows
 pub cut_long : (k n : ℕ) (es : List ℕ) → length (cut k n es) ≡ n
@@ -97,28 +64,12 @@ pub cut_entries : (k n : ℕ) (es : List ℕ) → length es ≡ n * k → entrie
 cut_entries k zero es h = sym (nil_from_length es (omega (arith, h)))
 cut_entries k (suc n) es h = ap (λ z. take k es ++ z) (cut_entries k n (drop k es) (rest_long k n es h)) ∙ take-append-drop k es
 
-drop_twice : (a b : ℕ) (es : List ℕ) → drop b (drop a es) ≡ drop (a + b) es
-drop_twice zero b es = ap (λ z. drop z es) (omega arith)
-drop_twice (suc a) b [] = drop-nil {A = ℕ} b ∙ sym (drop-nil {A = ℕ} (suc a + b))
-drop_twice (suc a) b (x ∷ es) = drop_twice a b es ∙ sym (next (a + b) (suc a + b) (omega arith))
-  where
-    next : (m n : ℕ) → n ≡ suc m → drop n (x ∷ es) ≡ drop m es
-    next m n e = ap (λ z. drop z (x ∷ es)) e
-
-pub cut_more : (k n : ℕ) (es : List ℕ) → cut k (n + 1) es ≡ cut k n es ++ take k (drop (n * k) es) ∷ []
-cut_more k zero es =
-    let one : 0 + 1 ≡ suc 0 = omega arith in
-    let none : 0 ≡ 0 * k = omega arith in
-    ap (λ z. cut k z es) one ∙ ap (λ z. take k (drop z es) ∷ []) none
-cut_more k (suc n) es =
-    let one : suc n + 1 ≡ suc (n + 1) = omega arith in
-    let more : k + n * k ≡ suc n * k = omega arith in
-    ap (λ z. cut k z es) one ∙ ap (λ (r : Rows). take k es ∷ r) (cut_more k n (drop k es))
-    ∙ ap (λ z. take k es ∷ (cut k n (drop k es) ++ take k z ∷ [])) (drop_twice k (n * k) es ∙ ap (λ z. drop z es) more)
-
--- and one more as a graph
-pub cut_graph_more : (k n : ℕ) (es : List ℕ) → graph_of (cut k (n + 1) es) ≡ graph_of (cut k n es) ++ map Some (take k (drop (n * k) es)) ∷ []
-cut_graph_more k n es = ap graph_of (cut_more k n es) ∙ map-append (map Some) (cut k n es) (take k (drop (n * k) es) ∷ [])
+-- edges to the targets, cut into rows
+pub cut_rows : (k n : ℕ) (es : List ℕ) → rows_of k n (map Some es) ≡ graph_of (cut k n es)
+cut_rows k zero es = refl
+cut_rows k (suc n) es =
+    ap₂ (λ (row : List (Option ℕ)) (xs : List (Option ℕ)). row ∷ rows_of k n xs) (take-map Some k es) (drop-map Some k es)
+    ∙ ap (λ (g : Graph). map Some (take k es) ∷ g) (cut_rows k n (drop k es))
 
 -- complete graphs are graphs
 pub graph_is : (k : ℕ) (rows : Rows) → 0 < length rows → HasWidth k rows → All (λ m. m < length rows) (entries rows) → IsGraph k (graph_of rows)
@@ -146,12 +97,16 @@ pub targets_entries : (rows : Rows) → targets_of (graph_of rows) ≡ entries r
 targets_entries [] = refl
 targets_entries (row ∷ rows) = ap₂ (λ (a b : List ℕ). a ++ b) (row_targets row) (targets_entries rows)
 
--- the row of a node
-pub row_at : (g : Graph) (rows : Rows) (i : ℕ) (row : List (Option ℕ)) → g ≡ graph_of rows → i < length g → row ≡ get_or g i row → row ≡ map Some (get_or rows i [])
-row_at g rows i row e h at =
-    let within : i < length rows = omega (arith, h, ap length e, length-map rows (map Some)) in
-    at ∙ ap (λ (z : Graph). get_or z i row) e ∙ get_or-map (map Some) rows i [] row within
+-- the entries of a graph, row after row
+pub flat_edges : (rows : Rows) → flat (graph_of rows) ≡ map Some (entries rows)
+flat_edges [] = refl
+flat_edges (row ∷ rows) = ap (λ z. map Some row ++ z) (flat_edges rows) ∙ sym (map-append Some row (entries rows))
 
+pub flat_targets : (g : Graph) → flat_map option_to_list (flat g) ≡ targets_of g
+flat_targets [] = refl
+flat_targets (row ∷ g) = flat_map-append option_to_list row (flat g) ∙ ap (λ z. flat_map option_to_list row ++ z) (flat_targets g)
+
+-- an order that is followed by another
 pub decided : (o p : Ordering) → true ≡ not (ordering_index o == 1) → ordering_then o p ≡ o
 decided Less p h = refl
 decided Equal p h = cc

@@ -1,14 +1,16 @@
 // Word graphs, their nodes and edges.
-ghost use Rattle.std.specs.Prelude.{◌≡◌, ◌≢◌, ℕ, ◌<◌, ◌≤◌, ◌↔◌, List, [], ◌∷◌, ◌++◌, length, replicate, take, Option, None, Some, slice_get, slice_set, slice_index_or, unwrap_or, IfOk, MatchOption, OnErr, IfSome, IfNone, IsTrue};
+ghost use Rattle.std.specs.Prelude.{◌≡◌, ◌≢◌, ℕ, ◌*◌, ◌<◌, ◌≤◌, ◌↔◌, List, [], ◌∷◌, ◌++◌, length, replicate, take, Option, None, Some, slice_get, slice_set, slice_index_or, unwrap_or, IfOk, MatchOption, OnErr, IfSome, IfNone, IsTrue};
 ghost use Rattle.theory.specs.Graph.{target as target_of, path as path_of, IsGraph, IsComplete, SameEnd, Shows};
 ghost use Rattle.theory.specs.Facts.{AllDefined};
+ghost use Rattle.cells.specs.Rows.{rows_of};
 ghost use Rattle.word_graph.specs.Edges.{with_edge, with_node};
 ghost use Rattle.theory.specs.LowIndex.{Rows, graph_of, IsNumberedFrom, IsStandard};
 ghost use Rattle.word_graph.specs.Numbered.{max_from, seen_at};
 ghost use Rattle.word_graph.specs.Standard.{IsStandardGraph};
 
-use crate::rows::Row;
+use crate::rows::push_renumbered;
 use crate::walks::Walk;
+use cells::{Cells, Entry, NUMBERS_AT_MOST};
 use ports::NoMemory;
 use std::alloc::Global;
 use std::marker::Model;
@@ -22,9 +24,8 @@ pub const MOST_LETTERS: usize = 256;
 /// [`MOST_LETTERS`] letters.
 #[derive(Drop)]
 pub struct WordGraph {
-    alloc: Global,
     letters: usize,
-    rows: Vec<Row>,
+    rows: Cells,
 }
 
 impl Model for WordGraph {
@@ -33,10 +34,10 @@ impl Model for WordGraph {
 
     ghost Value = { Graph };
 
-    ghost view = { λ g. g.rows.items };
+    ghost view = { λ g. g.rows };
 
     ghost invariant = { λ g. record {
-      graph : IsGraph g.letters g.rows.items;
+      graph : IsGraph g.letters g.rows;
       few : g.letters ≤ 256;
     } };
 }
@@ -63,36 +64,28 @@ impl WordGraph {
         requires nodes { 0 < nodes }
         ensures { IfOk result (λ g. g ≡ replicate nodes (replicate letters None)) }
     {
-        let mut rows = Vec::new(alloc);
-        for _ in 0..nodes {
-            rows.push(Row::new(alloc, letters)?)?;
-        }
-        Ok(WordGraph {
-            alloc,
-            letters,
-            rows,
-        })
+        let rows = Cells::of(alloc, nodes, letters)?;
+        Ok(WordGraph { letters, rows })
     }
 
-    // The graph with these rows, of so many letters each.
-    pub(crate) fn of_rows(alloc: Global, letters: usize, rows: Vec<Row>) -> WordGraph
+    // The graph whose rows stand one behind another in these entries.
+    pub(crate) fn of_entries(nodes: usize, letters: usize, entries: Vec<Entry>) -> WordGraph
         requires few { letters ≤ MOST_LETTERS }
-        requires graph { IsGraph letters rows.items }
-        ensures { result ≡ rows.items }
+        requires room { nodes ≤ NUMBERS_AT_MOST }
+        requires whole { length entries.items ≡ nodes * letters }
+        requires graph { IsGraph letters (rows_of letters nodes entries.items) }
+        ensures { result ≡ rows_of letters nodes entries.items }
     {
-        WordGraph {
-            alloc,
-            letters,
-            rows,
-        }
+        let rows = Cells::of_entries(nodes, letters, entries);
+        WordGraph { letters, rows }
     }
 
     // The rows.
-    pub(crate) fn rows(&self) -> &[Row]
+    pub(crate) fn rows(&self) -> &Cells
         ensures { result.now ≡ self.now }
     {
         let _letters = &self.letters;
-        self.rows.as_slice()
+        &self.rows
     }
 
     /// How many nodes there are: at least one.
@@ -101,7 +94,7 @@ impl WordGraph {
         ensures rooted { 0 < result }
     {
         let _letters = &self.letters;
-        self.rows.len()
+        self.rows.nodes()
     }
 
     /// How many letters there are. What holds of every word graph is told here: each row has as
@@ -118,11 +111,7 @@ impl WordGraph {
     pub fn target(&self, node: usize, letter: Letter) -> Option<usize>
         ensures { result ≡ target_of self.now node letter }
     {
-        if node < self.rows.len() {
-            self.rows[node].get(letter)
-        } else {
-            None
-        }
+        self.rows.get(node, letter)
     }
 
     /// Where the word leads from the node. `None` exactly where an edge is missing on the way.
@@ -154,7 +143,7 @@ impl WordGraph {
         ensures { IsTrue result ↔ ((node : ℕ) → node < length self.now
             → path_of self.now node left.now ≡ path_of self.now node right.now) }
     {
-        for node in 0..self.rows.len() {
+        for node in 0..self.rows.nodes() {
             if self.path(node, left) != self.path(node, right) {
                 return false;
             }
@@ -169,9 +158,8 @@ impl WordGraph {
             × ((k : ℕ) → IsGraph k self.old → self.new ≡ with_node k self.old)) }
         ensures err { OnErr result (self.new ≡ self.old) }
     {
-        let node = self.rows.len();
-        let row = Row::new(self.alloc, self.letters)?;
-        self.rows.push(row)?;
+        let node = self.rows.nodes();
+        self.rows.add_row()?;
         Ok(node)
     }
 
@@ -184,8 +172,7 @@ impl WordGraph {
         ensures { self.new ≡ with_edge self.old node letter to }
     {
         let _letters = &self.letters;
-        let row = &mut self.rows[node];
-        row.set(letter, to);
+        self.rows.put(node, letter, Some(to));
     }
 
     /// The least letter without an edge at the node. `None` exactly where the node has every edge.
@@ -210,7 +197,7 @@ impl WordGraph {
         ensures { (k : ℕ) → IsGraph k self.now → IsTrue result ↔ IsComplete k self.now }
     {
         let _letters = &self.letters;
-        for node in 0..self.rows.len() {
+        for node in 0..self.rows.nodes() {
             if self.missing_letter(node).is_some() {
                 return false;
             }
@@ -233,7 +220,7 @@ impl WordGraph {
     {
         let _letters = &self.letters;
         let mut seen = 0;
-        for node in 0..self.rows.len() {
+        for node in 0..self.rows.nodes() {
             if seen < node {
                 return false;
             }
@@ -266,12 +253,8 @@ impl WordGraph {
     pub fn copy(&self, alloc: Global) -> Result<WordGraph, NoMemory>
         ensures { IfOk result (λ g. g ≡ self.now) }
     {
-        let mut rows = Vec::new(alloc);
-        for row in &self.rows {
-            rows.push(row.copy(alloc)?)?;
-        }
+        let rows = self.rows.copy(alloc)?;
         Ok(WordGraph {
-            alloc,
             letters: self.letters,
             rows,
         })
@@ -287,16 +270,12 @@ impl WordGraph {
         ensures standard { IfOk result (λ g. (k : ℕ) → IsGraph k self.now
             → AllDefined k (SameEnd self.now) → IsStandardGraph k g) }
     {
+        let letters = self.rows.letters();
         let Walk { steps, places } = Walk::over(alloc, self)?;
-        let mut rows = Vec::new(alloc);
+        let mut entries = Vec::new(alloc);
         for step in &steps {
-            let row = &self.rows[step.node];
-            rows.push(row.renumbered(alloc, places.as_slice())?)?;
+            push_renumbered(&mut entries, self.rows.row(step.node), places.as_slice())?;
         }
-        Ok(WordGraph {
-            alloc,
-            letters: self.letters,
-            rows,
-        })
+        Ok(WordGraph::of_entries(steps.len(), letters, entries))
     }
 }

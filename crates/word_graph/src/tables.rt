@@ -9,8 +9,9 @@ ghost use Rattle.word_graph.specs.TableText.{table_text, table_read, IsFaultless
 
 use crate::fault::TableFault;
 use crate::graphs::{MOST_LETTERS, WordGraph};
-use crate::rows::Row;
+use crate::rows::{compare, push_edges, push_targets};
 use crate::texts::{print_row, read_rows, rows_of};
+use cells::NUMBERS_AT_MOST;
 use ports::NoMemory;
 use std::alloc::Global;
 use std::cmp::Ordering;
@@ -22,14 +23,7 @@ impl WordGraph {
         ensures { (k : ℕ) (s t : Rows) → 0 < k → HasWidth k s → HasWidth k t → self.now ≡ graph_of s
             → other.now ≡ graph_of t → result ≡ slice_cmp nat_cmp (entries s) (entries t) }
     {
-        let (rows, others) = (self.rows(), other.rows());
-        for node in 0..rows.len().min(others.len()) {
-            let order = rows[node].compare(&others[node]);
-            if order != Ordering::Equal {
-                return order;
-            }
-        }
-        rows.len().cmp(&others.len())
+        compare(self.rows().entries(), other.rows().entries())
     }
 
     /// The nodes that edges lead to, row after row, letter by letter. Refused only where memory is
@@ -37,10 +31,9 @@ impl WordGraph {
     pub fn targets(&self, alloc: Global) -> Result<Vec<usize>, NoMemory>
         ensures { IfOk result (λ targets. targets.items ≡ targets_of self.now) }
     {
-        let mut targets = Vec::new(alloc);
-        for row in self.rows() {
-            row.push_targets(&mut targets)?;
-        }
+        let entries = self.rows().entries();
+        let mut targets = Vec::with_capacity(alloc, entries.len())?;
+        push_targets(&mut targets, entries)?;
         Ok(targets)
     }
 
@@ -58,12 +51,12 @@ impl WordGraph {
         requires nodes { All (λ m. m < nodes) targets.now }
         ensures { IfOk result (λ g. g ≡ graph_of (cut letters nodes targets.now)) }
     {
-        let mut rows = Vec::new(alloc);
-        for node in 0..nodes {
-            let start = node * letters;
-            rows.push(Row::of_targets(alloc, &targets[start..start + letters])?)?;
+        if NUMBERS_AT_MOST < nodes {
+            return Err(NoMemory);
         }
-        Ok(WordGraph::of_rows(alloc, letters, rows))
+        let mut entries = Vec::with_capacity(alloc, targets.len())?;
+        push_edges(&mut entries, targets)?;
+        Ok(WordGraph::of_entries(nodes, letters, entries))
     }
 
     /// The targets in decimal, with a comma between each two of a row, and a slash between each two
@@ -72,11 +65,11 @@ impl WordGraph {
         ensures { IfOk result (λ text. text.items ≡ table_text self.now) }
     {
         let mut text = Vec::new(alloc);
-        for (i, row) in self.rows().iter().enumerate() {
-            if 0 < i {
+        for node in 0..self.nodes() {
+            if 0 < node {
                 text.push(b'/')?;
             }
-            let printed = print_row(alloc, row.entries())?;
+            let printed = print_row(alloc, self.rows().row(node))?;
             text.extend_from_slice(printed.as_slice())?;
         }
         Ok(text)
@@ -95,7 +88,7 @@ impl WordGraph {
     {
         let pieces = rows_of(alloc, text)?;
         match read_rows(alloc, letters, pieces.as_slice()) {
-            Ok(rows) => Ok(WordGraph::of_rows(alloc, letters, rows)),
+            Ok(entries) => Ok(WordGraph::of_entries(pieces.len(), letters, entries)),
             Err(fault) => return Err(fault),
         }
     }

@@ -1,10 +1,12 @@
 // Rows of a table as texts.
 ghost use Rattle.std.specs.Prelude.{◌≡◌, ℕ, ◌+◌, ◌<◌, ◌≤◌, ◌++◌, map, length, IfOk, OnOk, IsErrOf, codes, Some, Option};
 ghost use Rattle.std.specs.List.{join_by};
+ghost use Rattle.std.specs.Option.{ForSome};
+ghost use Rattle.cells.specs.Rows.{flat};
 ghost use Rattle.word_graph.specs.TableText.{target_text, row_text, has_leading_zero, number_of, target_read, row_read, IsGoodRow, IsFirstInRow, IsFaultless, IsLeastFault, texts, fields_cut, rows_cut};
 
 use crate::fault::TableFault;
-use crate::rows::Row;
+use cells::Entry;
 use itoa::Buffer;
 use ports::NoMemory;
 use std::alloc::{AllocError, Global};
@@ -22,15 +24,15 @@ fn push_target(text: &mut Vec<u8>, target: Option<usize>) -> Result<(), NoMemory
 
 /// The targets of a row in decimal, with a comma between each two. Refused only where memory is
 /// wanting.
-pub fn print_row(alloc: Global, entries: &[Option<usize>]) -> Result<Vec<u8>, NoMemory>
+pub fn print_row(alloc: Global, entries: &[Entry]) -> Result<Vec<u8>, NoMemory>
     ensures { IfOk result (λ text. text.items ≡ row_text entries.now) }
 {
     let mut text = Vec::new(alloc);
-    for (i, target) in entries.iter().enumerate() {
+    for (i, entry) in entries.iter().enumerate() {
         if 0 < i {
             text.push(b',')?;
         }
-        push_target(&mut text, *target)?;
+        push_target(&mut text, entry.value())?;
     }
     Ok(text)
 }
@@ -44,7 +46,8 @@ fn has_leading_zero(field: &[u8]) -> bool
 
 // The number of one to four decimal digits without a leading zero, if the field is one.
 fn number_of(field: &[u8]) -> Option<usize>
-    ensures { result ≡ number_of field.now }
+    ensures number { result ≡ number_of field.now }
+    ensures small { ForSome result (λ n. n < 10_000) }
 {
     if field.is_empty() || field.len() > 4 || has_leading_zero(field) {
         return None;
@@ -61,7 +64,8 @@ fn number_of(field: &[u8]) -> Option<usize>
 
 // The node of a table of so many rows that a field names.
 fn read_target(nodes: usize, field: &[u8]) -> Option<usize>
-    ensures { result ≡ target_read nodes field.now }
+    ensures target { result ≡ target_read nodes field.now }
+    ensures small { ForSome result (λ n. n < 10_000) }
 {
     number_of(field).filter(|number| *number < nodes)
 }
@@ -80,56 +84,53 @@ pub fn rows_of(alloc: Global, text: &[u8]) -> Result<Vec<&[u8]>, AllocError>
     text.split(|byte| *byte == b'/').collect(alloc)
 }
 
-// The targets that fields name, in a table of so many rows and letters, or the first place at which
-// something is wrong; places count from a start.
+// Adds the targets that the fields of a row name, in a table of so many rows and letters. Where
+// something is wrong, the place is that of the first such field, or of the one that is wanting.
 fn read_fields(
-    alloc: Global,
+    entries: &mut Vec<Entry>,
     letters: usize,
     nodes: usize,
-    start: usize,
     fields: &[&[u8]],
-) -> Result<Vec<Option<usize>>, TableFault>
-    requires { start + letters ≤ usize.MAX }
-    ensures ok { IfOk result (λ row. row.items ≡ map (target_read nodes) (texts fields.now)) }
+) -> Result<(), TableFault>
+    ensures ok { OnOk result (entries.new.items
+        ≡ entries.old.items ++ map (target_read nodes) (texts fields.now)) }
     ensures good { OnOk result (IsGoodRow letters (map (target_read nodes) (texts fields.now))) }
     ensures bad { (place : ℕ) → IsErrOf result (TableFault.BadTable place)
-        → (j : ℕ) × (place ≡ start + j)
+        → (j : ℕ) × (place ≡ length entries.old.items + j)
         × IsFirstInRow letters (map (target_read nodes) (texts fields.now)) j }
 {
-    let mut row = Vec::new(alloc);
     for (place, field) in fields.iter().enumerate() {
         if place == letters {
-            return Err(TableFault::BadTable(start + place));
+            return Err(TableFault::BadTable(entries.len()));
         }
         match read_target(nodes, field) {
-            Some(node) => row.push(Some(node))?,
-            None => return Err(TableFault::BadTable(start + place)),
+            Some(node) => entries.push(Entry::new(Some(node)))?,
+            None => return Err(TableFault::BadTable(entries.len())),
         }
     }
     if fields.len() < letters {
-        return Err(TableFault::BadTable(start + fields.len()));
+        return Err(TableFault::BadTable(entries.len()));
     }
-    Ok(row)
+    Ok(())
 }
 
-// The targets that the fields of a row name, in a table of so many rows and letters, or the first
-// place at which something is wrong; places count from a start.
+// The same for the text of a row.
 fn read_row(
     alloc: Global,
+    entries: &mut Vec<Entry>,
     letters: usize,
     nodes: usize,
-    start: usize,
     text: &[u8],
-) -> Result<Row, TableFault>
-    requires { start + letters ≤ usize.MAX }
-    ensures ok { IfOk result (λ row. row ≡ row_read nodes text.now) }
+) -> Result<(), TableFault>
+    ensures ok { OnOk result (entries.new.items ≡ entries.old.items ++ row_read nodes text.now) }
     ensures good { OnOk result (IsGoodRow letters (row_read nodes text.now)) }
     ensures bad { (place : ℕ) → IsErrOf result (TableFault.BadTable place)
-        → (j : ℕ) × (place ≡ start + j) × IsFirstInRow letters (row_read nodes text.now) j }
+        → (j : ℕ) × (place ≡ length entries.old.items + j)
+        × IsFirstInRow letters (row_read nodes text.now) j }
 {
     let fields = fields_of(alloc, text)?;
-    match read_fields(alloc, letters, nodes, start, fields.as_slice()) {
-        Ok(entries) => Ok(Row::of(entries)),
+    match read_fields(entries, letters, nodes, fields.as_slice()) {
+        Ok(()) => Ok(()),
         Err(fault) => return Err(fault),
     }
 }
@@ -137,26 +138,26 @@ fn read_row(
 /// The most rows of a table that is read.
 pub const MOST_ROWS: usize = 1024;
 
-/// The rows that texts name, in a table of so many letters, or the least place at which something
-/// is wrong.
-pub fn read_rows(alloc: Global, letters: usize, pieces: &[&[u8]]) -> Result<Vec<Row>, TableFault>
+/// The targets that the texts of rows name, row after row, in a table of so many letters, or the
+/// least place at which something is wrong.
+pub fn read_rows(alloc: Global, letters: usize, pieces: &[&[u8]]) -> Result<Vec<Entry>, TableFault>
     requires { letters ≤ 256 }
-    ensures ok { IfOk result (λ rows. rows.items
-        ≡ map (row_read (length pieces.now)) (texts pieces.now)) }
+    ensures ok { IfOk result (λ entries. entries.items
+        ≡ flat (map (row_read (length pieces.now)) (texts pieces.now))) }
     ensures good { OnOk result
         (IsFaultless letters (map (row_read (length pieces.now)) (texts pieces.now))) }
     ensures bad { (place : ℕ) → IsErrOf result (TableFault.BadTable place)
         → IsLeastFault letters (map (row_read (length pieces.now)) (texts pieces.now)) place }
 {
-    let mut rows = Vec::new(alloc);
+    let mut entries = Vec::new(alloc);
     for (i, text) in pieces.iter().enumerate() {
         if i == MOST_ROWS {
-            return Err(TableFault::BadTable(i * letters));
+            return Err(TableFault::BadTable(entries.len()));
         }
-        match read_row(alloc, letters, pieces.len(), i * letters, text) {
-            Ok(row) => rows.push(row)?,
+        match read_row(alloc, &mut entries, letters, pieces.len(), text) {
+            Ok(()) => {}
             Err(fault) => return Err(fault),
         }
     }
-    Ok(rows)
+    Ok(entries)
 }

@@ -1,11 +1,11 @@
-use Rattle.std.proofs.Common.{◌≡◌, ◌≢◌, ℕ, ◌<◌, ◌≤◌, take, map, slice_get}
+use Rattle.std.proofs.Common.{◌≡◌, ◌≢◌, ◌++◌, ℕ, ◌<◌, ◌≤◌, take, map, slice_get}
 use Rattle.std.specs.Prelude.{Some, None}
 use Rattle.word_graph.specs.TableText.{target_read, texts}
 use Rattle.word_graph.proofs.texts.read_fields.Given as goal
 
 abbrev pub invariant-loop-place : goal.invariant-loop-place
 invariant-loop-place l = record {
-  read : l.row.items ≡ take l.place (map (target_read l.nodes) (texts l.fields));
+  read : l.entries.items ≡ l.initial.entries.items ++ take l.place (map (target_read l.nodes) (texts l.fields));
   good : (i : ℕ) → i < l.place → slice_get (map (target_read l.nodes) (texts l.fields)) i ≢ Some None;
   few : l.place ≤ l.letters;
 }

@@ -1,4 +1,4 @@
-use Rattle.std.proofs.Common.{◌≡◌, ◌<◌, ℕ, List, Option, length, get_or, subst, arith}
+use Rattle.std.proofs.Common.{◌≡◌, ◌<◌, ℕ, List, Option, length, ap, get_or, subst, arith}
 use Rattle.theory.specs.Graph.{Graph}
 use Rattle.cells.proofs.CellLaws.{width_rows, length_rows}
 use Rattle.cells.proofs.flat.Cells.letters.Goals as goal
@@ -13,3 +13,6 @@ returns-clause-rows c =
 
 pub returns-clause-some : goal.returns-clause-some
 returns-clause-some c = subst (λ (g : Graph). 0 < length g) c.self.view_is (omega (arith, c.self.invariant.some, length_rows c.self.inside.letters c.self.inside.nodes c.self.inside.entries.items))
+
+pub returns-clause-few : goal.returns-clause-few
+returns-clause-few c = omega (arith, c.self.invariant.few, length_rows c.self.inside.letters c.self.inside.nodes c.self.inside.entries.items, ap length c.self.view_is)

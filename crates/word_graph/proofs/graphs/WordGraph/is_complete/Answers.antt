@@ -22,7 +22,7 @@ returns-then-is_some c = λ k graph. (
   λ complete.
       let found = some_of c.missing_letter.result _ c.missing_letter.ensures.some (sym c.is_some.ensures ∙ c.if-is_some.true) in
       let at = found.1 k graph in
-      let size : length c.self.inside.rows.items ≡ length c.args.self.now = ap (λ (g : Graph). length g) c.self.view_is in
+      let size : length c.self.inside.rows ≡ length c.args.self.now = ap (λ (g : Graph). length g) c.self.view_is in
       let edge = complete c.loop-node.node found.0 (omega (arith, size)) at.0 in
       let e : None ≡ Some edge.0 = sym at.1 ∙ edge.1 in
       absurd (let bad : ⊥ = cc in bad),
@@ -41,7 +41,7 @@ loop-node-preserved c = λ k n b graph hn hb.
 pub returns : goal.returns
 returns c = λ k graph. (
   λ e n b hn hb.
-      let size : length c.self.inside.rows.items ≡ length c.args.self.now = ap (λ (g : Graph). length g) c.self.view_is in
+      let size : length c.self.inside.rows ≡ length c.args.self.now = ap (λ (g : Graph). length g) c.self.view_is in
       there (target c.args.self.now n b) (c.loop-node.invariant k n b graph (omega (arith, size)) hb),
   λ complete. refl,
 )

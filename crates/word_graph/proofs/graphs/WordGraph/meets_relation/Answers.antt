@@ -29,7 +29,7 @@ pub returns-then-ne : goal.returns-then-ne
 returns-then-ne c = (
   λ e. absurd (let bad : ⊥ = cc in bad),
   λ h.
-      let size : length c.self.inside.rows.items ≡ length c.args.self.now = ap (λ (g : Graph). length g) c.self.view_is in
+      let size : length c.self.inside.rows ≡ length c.args.self.now = ap (λ (g : Graph). length g) c.self.view_is in
       let one : path c.args.self.now c.loop-node.node c.args.left.now ≡ path c.args.self.now c.loop-node.node c.args.right.now = h c.loop-node.node (omega (arith, size)) in
       absurd (other (option_eq nat_eq c.path.result c.path-in-loop-node.result) (sym c.if-ne.true ∙ c.ne.ensures) (equal_of c.path.result c.path-in-loop-node.result (c.path.ensures ∙ one ∙ sym c.path-in-loop-node.ensures))),
 )
@@ -47,7 +47,7 @@ loop-node-preserved c = λ n h.
 pub returns : goal.returns
 returns c = (
   λ e n h.
-      let size : length c.self.inside.rows.items ≡ length c.args.self.now = ap (λ (g : Graph). length g) c.self.view_is in
+      let size : length c.self.inside.rows ≡ length c.args.self.now = ap (λ (g : Graph). length g) c.self.view_is in
       c.loop-node.invariant n (omega (arith, size)),
   λ h. refl,
 )

@@ -1,22 +1,31 @@
-use Rattle.std.proofs.Common.{◌≡◌, ℕ, ◌*◌, ◌+◌, ◌-◌, List, [], ◌∷◌, ◌++◌, map, take, drop, Option, Some, sym, arith, ap, ap₂, ◌∙◌}
-use Rattle.theory.specs.Graph.{Graph}
-use Rattle.theory.specs.LowIndex.{graph_of}
-use Rattle.word_graph.specs.Table.{cut}
-use Rattle.word_graph.proofs.TableLaws.{cut_is_graph, cut_graph_more}
+use Rattle.std.proofs.Common.{◌≡◌, ◌++◌, ℕ, [], List, map, length, Some, sym, arith, ap, ◌∙◌, subst}
+use Rattle.std.specs.Prelude.{Option}
+use Rattle.std.proofs.lemmas.List.{length-map}
+use Rattle.theory.specs.Graph.{Graph, IsGraph}
+use Rattle.cells.specs.Rows.{rows_of}
+use Rattle.word_graph.proofs.TableLaws.{cut_is_graph, cut_rows}
 use Rattle.word_graph.proofs.graphs.WordGraph.of_targets.Goals as goal
 
-pub of_rows-requires-clause-graph : goal.of_rows-requires-clause-graph
-of_rows-requires-clause-graph c =
-    let all : c.loop-node.node ≡ c.args.nodes = omega arith in
-    let is : c.loop-node.rows.items ≡ graph_of (cut c.args.letters c.args.nodes c.args.targets.now) = c.loop-node.invariant ∙ ap (λ n. graph_of (cut c.args.letters n c.args.targets.now)) all in
-    rw is (cut_is_graph c.args.letters c.args.nodes c.args.targets.now c.requires.rooted c.requires.full c.requires.nodes)
+-- the entries are those of the targets
+pushed : (es : List ℕ) (old new : List (Option ℕ)) → old ≡ [] → new ≡ old ++ map Some es → new ≡ map Some es
+pushed es old new e d = d ∙ ap (λ (xs : List (Option ℕ)). xs ++ map Some es) e
 
-pub loop-node-preserved : goal.loop-node-preserved
-loop-node-preserved c =
-    let k : ℕ = c.args.letters in
-    let n : ℕ = c.loop-node.node in
-    let es : List ℕ = c.args.targets.now in
-    let wide : (n * k + k) - n * k ≡ k = omega arith in
-    let row : c.in_ok-of_targets.field-0 ≡ map Some (take ((n * k + k) - n * k) (drop (n * k) es)) = c.in_ok-of_targets.ensures in
-    let row' : c.in_ok-of_targets.field-0 ≡ map Some (take k (drop (n * k) es)) = row ∙ ap (λ z. map Some (take z (drop (n * k) es))) wide in
-    c.in_ok-push.ensures.items ∙ ap₂ (λ (a : Graph) (b : List (Option ℕ)). a ++ b ∷ []) c.loop-node.invariant row' ∙ sym (cut_graph_more k n es)
+pub push_edges-requires : goal.push_edges-requires
+push_edges-requires c = λ i d h. omega (arith, c.requires.nodes i d h, c.if-nodes-gt-NUMBERS_AT_MOST.false)
+
+pub of_entries-requires-clause-whole : goal.of_entries-requires-clause-whole
+of_entries-requires-clause-whole c =
+    let items = pushed c.args.targets.now _ _ c.in_ok-entries.ensures.items c.in_ok-push_edges.ensures in
+    ap length items ∙ length-map c.args.targets.now Some ∙ c.requires.full
+
+pub of_entries-requires-clause-graph : goal.of_entries-requires-clause-graph
+of_entries-requires-clause-graph c =
+    let k = c.args.letters in
+    let items = pushed c.args.targets.now _ _ c.in_ok-entries.ensures.items c.in_ok-push_edges.ensures in
+    subst (λ (g : Graph). IsGraph k g) (sym (ap (rows_of k c.args.nodes) items ∙ cut_rows k c.args.nodes c.args.targets.now))
+    (cut_is_graph k c.args.nodes c.args.targets.now c.requires.rooted c.requires.full c.requires.nodes)
+
+pub returns : goal.returns
+returns c =
+    let items = pushed c.args.targets.now _ _ c.in_ok-entries.ensures.items c.in_ok-push_edges.ensures in
+    c.of_entries.ensures ∙ ap (rows_of c.args.letters c.args.nodes) items ∙ cut_rows c.args.letters c.args.nodes c.args.targets.now

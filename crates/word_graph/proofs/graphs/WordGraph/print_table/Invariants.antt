@@ -2,5 +2,5 @@ use Rattle.std.proofs.Common.{◌≡◌, take}
 use Rattle.word_graph.specs.TableText.{table_text}
 use Rattle.word_graph.proofs.graphs.WordGraph.print_table.Given as goal
 
-abbrev pub invariant-loop-i : goal.invariant-loop-i
-invariant-loop-i l = l.text.items ≡ table_text (take l.i l.self)
+abbrev pub invariant-loop-node : goal.invariant-loop-node
+invariant-loop-node l = l.text.items ≡ table_text (take l.node l.self)
