@@ -18,3 +18,4 @@ pub mod TextLaws
 pub mod SameTables
 pub mod LineLaws
 pub mod NeedLaws
+pub mod AnswersLaws

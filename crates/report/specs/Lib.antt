@@ -9,3 +9,4 @@ pub mod Gains
 pub mod Known
 pub mod Kept
 pub mod Collected
+pub mod Answers

@@ -4,6 +4,7 @@
 mod answers;
 mod awaited;
 mod blocks;
+mod bounds;
 mod class_lines;
 mod completing;
 mod facts;
@@ -13,6 +14,7 @@ mod known;
 mod line;
 mod listings;
 mod logged;
+mod script_answers;
 mod single;
 mod solved;
 mod state;
@@ -20,7 +22,7 @@ mod tables;
 mod texts;
 mod told;
 
-pub use answers::{Answered, write_answer};
 pub use awaited::Awaited;
+pub use bounds::Bounds;
 pub use facts::{answer_is_one, chain_kind_is_one};
-pub use state::State;
+pub use script_answers::write_answers;

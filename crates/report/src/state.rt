@@ -2,8 +2,10 @@
 ghost use Rattle.std.specs.Prelude.{◌≡◌, ◌<◌, true, None, Some, OnOk, MatchOption};
 ghost use Rattle.problem.specs.declared.kinds.Problem.{Problem as Posed};
 ghost use Rattle.problem.specs.Problem.{IsPosable, is_presented};
+ghost use Rattle.report.specs.Answers.{state_bounds};
 ghost use Rattle.report.specs.Kept.{KeepsFound, KeepsOf, KeepsSettings};
 
+use crate::bounds::Bounds;
 use crate::completing::logged_completion;
 use crate::known::KnownElements;
 use congruence::{Verdict, solve};
@@ -30,16 +32,14 @@ pub struct State {
 
 impl State {
     /// Nothing is found yet.
-    pub fn new(budgets: Budgets, classes: usize, workers: usize) -> State
-        ensures budgets { result.budgets ≡ budgets }
-        ensures classes { result.classes ≡ classes }
-        ensures workers { result.workers ≡ workers }
+    pub fn new(bounds: Bounds) -> State
+        ensures bounds { state_bounds result ≡ bounds }
         ensures kept { (problem : Posed) → KeepsOf problem result }
     {
         State {
-            budgets,
-            classes,
-            workers,
+            budgets: bounds.budgets,
+            classes: bounds.classes,
+            workers: bounds.workers,
             verdict: None,
             completion: None,
             elements: KnownElements::new(),

@@ -1,7 +1,7 @@
 -- What the status says of how a run ends.
 use Rattle.ports.specs.declared.sink.Sink as sinks
 use Rattle.ports.specs.declared.source.Source as sources
-use Rattle.std.proofs.Common.{◌≡◌, ◌≤◌, ◌⊎◌, ◌∙◌, ℕ, Bool, List, [], Option, Some, None, IfSome, IsSome, inl, inr, refl, sym, ap, subst, true≢false, arith}
+use Rattle.std.proofs.Common.{◌≡◌, ◌≤◌, ◌⊎◌, ◌∙◌, ℕ, Bool, List, [], Option, Some, None, IsSome, inl, inr, refl, sym, ap, subst, true≢false, arith}
 use Rattle.ports.specs.Bytes.{GaveUpTo, Rose}
 use Rattle.query_lang.specs.Asked.{ScriptOf}
 use Rattle.settings.specs.Settings.{AreAccepted, AreRefused, Reads, or_name}
@@ -15,7 +15,7 @@ use Rattle.semi.specs.Status.{status_of}
 use Rattle.semi.specs.Taken.{IsTakenAt, IsTakenWhole}
 use Rattle.semi.specs.declared.fault.Fault.{Fault}
 use Rattle.semi.specs.declared.fault.Fault.TheVariants.{TooLong, Script, Arguments, Read, Write, NoMemory}
-use Rattle.semi.proofs.UniqueReport.{any_refused, any_script, begun_not_refused, refused_no_script, why_refused}
+use Rattle.semi.proofs.UniqueReport.{any_refused, begun_not_refused, refused_no_script, why_refused}
 
 -- the faults of the statuses
 pub least_status : (fault : Fault) → 2 ≤ status_of fault

@@ -1,7 +1,7 @@
 -- How a run ends by what it calls.
 use Rattle.ports.specs.declared.sink.Sink as sinks
 use Rattle.ports.specs.declared.source.Source as sources
-use Rattle.std.proofs.Common.{◌≡◌, ◌≤◌, ◌⊎◌, ℕ, Bool, List, Option, Result, Ok, Err, IfSome, IsErrAnd, IsSome, inl, inr, refl, sym, subst, arith}
+use Rattle.std.proofs.Common.{◌≡◌, ◌≤◌, ◌⊎◌, ℕ, Bool, List, Result, Ok, Err, IfSome, IsErrAnd, IsSome, inl, inr, refl, sym, subst, arith}
 use Rattle.ports.specs.declared.fault.WriteFault.{WriteFault}
 use Rattle.ports.specs.declared.fault.WriteFault.TheVariants as write
 use Rattle.query_lang.specs.Asked.{ScriptOf}
@@ -11,11 +11,12 @@ use Rattle.settings.specs.declared.SettingsFault.{SettingsFault}
 use Rattle.settings.specs.declared.SettingsFault.TheVariants as settings
 use Rattle.semi.specs.Ends.{EndsBy, EndsUnder, HasFailed, HasNoSettings}
 use Rattle.semi.specs.Made.{input_of}
-use Rattle.semi.specs.Report.{IsScript, WritesLines}
+use Rattle.report.specs.Answers.{WritesLines}
+use Rattle.semi.specs.Report.{IsScript, bounds_of}
 use Rattle.semi.specs.Status.{of_settings, of_write}
 use Rattle.semi.specs.Taken.{IsTakenWhole}
 use Rattle.semi.specs.declared.fault.Fault.{Fault}
-use Rattle.semi.proofs.ReportLemmas.{beginning_gained, report_gained}
+use Rattle.semi.proofs.ReportLemmas.{beginning_gained}
 
 -- what holds with a fault holds of a result that passes it on
 pub passed_on : {A E : Type 0} (P : Result A E → Type 0) (r : Result A E) (fault : E) → IsErrAnd r (λ e. e ≡ fault) → P (Err fault) → P r
@@ -27,7 +28,7 @@ module _ {A B : Type 0} (source : sources.Ghosts A) (sink : sinks.Ghosts B) (old
       (taken : IsSome settings.make ⊎ IsTakenWhole (source.left old) (source.left new))
       (still : source.faults new ≡ source.faults old) (made : IsSome settings.make → new ≡ old) where
     -- the writing of the report fails
-    pub broken_off : (fault : WriteFault) → WritesLines sink settings script.problem script.queries before after (Err fault)
+    pub broken_off : (fault : WriteFault) → WritesLines sink (bounds_of settings) script.problem script.queries before after (Err fault)
         → HasFailed source sink old new before after settings (of_write fault)
     broken_off write.Failed h = record {
       refused = λ e. let bad : 5 ≡ 2 = e in absurd (omega arith);

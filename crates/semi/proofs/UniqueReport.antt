@@ -22,23 +22,24 @@ use Rattle.semi.specs.declared.fault.Fault.{Fault}
 use Rattle.semi.specs.declared.fault.Fault.TheVariants.{TooLong, Script, Arguments, Read, Write, NoMemory}
 use Rattle.semi.specs.Limits.{most_bytes}
 use Rattle.semi.specs.Status.{of_script, status_of}
-use Rattle.semi.specs.Report.{Answer, AreAnswers, AreFirstAnswers, AsksNoChain, GainsBeginning, GainsReport, IsAnswerOf, IsRefusal, IsRefused, IsReport, IsScript, budgets_of, is_undecided, lines_of}
+use Rattle.report.specs.Answers.{Answer, AreAnswers, AreFirstAnswers, IsAnswerOf, answer_bytes, leaves_undecided}
+use Rattle.semi.specs.Report.{AsksNoChain, GainsBeginning, GainsReport, IsRefusal, IsRefused, IsReport, IsScript, bounds_of, budgets_of}
 
 -- the query asks for no chain
 abbrev NoChain : Query → Type 0
 NoChain query = awaited_by query ≢ Log
 
 module _ (settings : Settings) (problem : Problem) where
-  one_status : (query : Query) (x y : Answer) → IsAnswerOf settings problem query x → IsAnswerOf settings problem query y → x.undecided ≡ y.undecided
+  one_status : (query : Query) (x y : Answer) → IsAnswerOf (bounds_of settings) problem query x → IsAnswerOf (bounds_of settings) problem query y → x.undecided ≡ y.undecided
   one_status query x y p q = unique.one_status problem (budgets_of settings) settings.classes query x.lines y.lines x.undecided y.undecided p q
 
-  one_answer : (query : Query) → NoChain query → (x y : Answer) → IsAnswerOf settings problem query x → IsAnswerOf settings problem query y → x ≡ y
+  one_answer : (query : Query) → NoChain query → (x y : Answer) → IsAnswerOf (bounds_of settings) problem query x → IsAnswerOf (bounds_of settings) problem query y → x ≡ y
   one_answer query none x y p q =
       ap₂ (λ (lines : List (List ℕ)) (undecided : Bool). let a : Answer = record { lines = lines; undecided = undecided } in a)
       (unique.one_answer problem (budgets_of settings) settings.classes query x.lines y.lines x.undecided y.undecided none p q) (one_status query x y p q)
 
   -- all answers are alike in whether they are undecided
-  one_due : (queries : List Query) (xs ys : List Answer) → AreAnswers settings problem queries xs → AreAnswers settings problem queries ys → list_any is_undecided xs ≡ list_any is_undecided ys
+  one_due : (queries : List Query) (xs ys : List Answer) → AreAnswers (bounds_of settings) problem queries xs → AreAnswers (bounds_of settings) problem queries ys → list_any leaves_undecided xs ≡ list_any leaves_undecided ys
   one_due [] [] [] p q = refl
   one_due [] (x ∷ xs) ys p q = absurd p
   one_due [] [] (y ∷ ys) p q = absurd q
@@ -46,7 +47,7 @@ module _ (settings : Settings) (problem : Problem) where
   one_due (r ∷ queries) (x ∷ xs) [] p q = absurd q
   one_due (r ∷ queries) (x ∷ xs) (y ∷ ys) p q = ap₂ ◌||◌ (one_status r x y p.0 q.0) (one_due queries xs ys p.1 q.1)
 
-  one_list : (queries : List Query) → All NoChain queries → (xs ys : List Answer) → AreAnswers settings problem queries xs → AreAnswers settings problem queries ys → xs ≡ ys
+  one_list : (queries : List Query) → All NoChain queries → (xs ys : List Answer) → AreAnswers (bounds_of settings) problem queries xs → AreAnswers (bounds_of settings) problem queries ys → xs ≡ ys
   one_list [] none [] [] p q = refl
   one_list [] none (x ∷ xs) ys p q = absurd p
   one_list [] none [] (y ∷ ys) p q = absurd q
@@ -56,7 +57,7 @@ module _ (settings : Settings) (problem : Problem) where
       ap₂ ◌∷◌ (one_answer r (All-head NoChain r queries none) x y p.0 q.0) (one_list queries (All-tail NoChain r queries none) xs ys p.1 q.1)
 
   -- the first answers are the beginning of all answers
-  first_of_all : (queries : List Query) → All NoChain queries → (xs ys : List Answer) → AreFirstAnswers settings problem queries xs → AreAnswers settings problem queries ys → (zs : List Answer) × (ys ≡ xs ++ zs)
+  first_of_all : (queries : List Query) → All NoChain queries → (xs ys : List Answer) → AreFirstAnswers (bounds_of settings) problem queries xs → AreAnswers (bounds_of settings) problem queries ys → (zs : List Answer) × (ys ≡ xs ++ zs)
   first_of_all queries none [] ys p q = (ys, refl)
   first_of_all [] none (x ∷ xs) ys p q = absurd p
   first_of_all (r ∷ queries) none (x ∷ xs) [] p q = absurd q
@@ -137,7 +138,7 @@ any_script (Some input) A a = λ script s. a
 
 -- settings with the same budgets and bound have the same answers
 same_answers : (s t : Settings) (problem : Problem) (queries : List Query) (answers : List Answer) → budgets_of s ≡ budgets_of t → s.classes ≡ t.classes
-    → AreAnswers t problem queries answers → AreAnswers s problem queries answers
+    → AreAnswers (bounds_of t) problem queries answers → AreAnswers (bounds_of s) problem queries answers
 same_answers s t problem [] [] budgets classes e = tt
 same_answers s t problem [] (a ∷ answers) budgets classes e = absurd e
 same_answers s t problem (q ∷ queries) [] budgets classes e = absurd e
@@ -148,9 +149,9 @@ same_answers s t problem (q ∷ queries) (a ∷ answers) budgets classes e =
     )
 
 -- the answers of one report are those of the script of the other
-answers_of : (settings : Settings) (input r s : List ℕ) (u v : Bool) (others : Settings) (p : IsReport settings input r u) (q : IsReport others input s v) → AreAnswers settings q.script.problem q.script.queries p.are_lines.answers
+answers_of : (settings : Settings) (input r s : List ℕ) (u v : Bool) (others : Settings) (p : IsReport settings input r u) (q : IsReport others input s v) → AreAnswers (bounds_of settings) q.script.problem q.script.queries p.are_lines.answers
 answers_of settings input r s u v others p q =
-    subst (λ t. AreAnswers settings t.problem t.queries p.are_lines.answers) (one_script input p.script q.script p.is_script.reads q.is_script.reads) p.are_lines.correct
+    subst (λ t. AreAnswers (bounds_of settings) t.problem t.queries p.are_lines.answers) (one_script input p.script q.script p.is_script.reads q.is_script.reads) p.are_lines.correct
 
 pub same_status : (settings others : Settings) (input r s : List ℕ) (u v : Bool) → budgets_of settings ≡ budgets_of others → settings.classes ≡ others.classes
     → IsReport settings input r u → IsReport others input s v → u ≡ v
@@ -164,12 +165,12 @@ pub one_report : (settings others : Settings) (input r s : List ℕ) (u v : Bool
 one_report settings others input r s u v budgets classes none p q =
     let answered = same_answers settings others q.script.problem q.script.queries q.are_lines.answers budgets classes q.are_lines.correct in
     let same = one_list settings q.script.problem q.script.queries (none q.script q.is_script) p.are_lines.answers q.are_lines.answers (answers_of settings input r s u v others p q) answered in
-    p.are_lines.lines ∙ ap (flat_map lines_of) same ∙ sym q.are_lines.lines
+    p.are_lines.lines ∙ ap (flat_map answer_bytes) same ∙ sym q.are_lines.lines
 
 pub beginning_prefix : (settings : Settings) (input report : List ℕ) (undecided : Bool) (old new : Option (List ℕ)) → AsksNoChain input → IsReport settings input report undecided → GainsBeginning settings input old new → TakesPrefix old new report
 beginning_prefix settings input report undecided old new none p q =
     let scripts : q.script ≡ p.script = one_script input q.script p.script q.is_script.reads p.is_script.reads in
-    let first : AreFirstAnswers settings p.script.problem p.script.queries q.are_first.answers = subst (λ t. AreFirstAnswers settings t.problem t.queries q.are_first.answers) scripts q.are_first.correct in
+    let first : AreFirstAnswers (bounds_of settings) p.script.problem p.script.queries q.are_first.answers = subst (λ t. AreFirstAnswers (bounds_of settings) t.problem t.queries q.are_first.answers) scripts q.are_first.correct in
     let rest = first_of_all settings p.script.problem p.script.queries (none p.script p.is_script) q.are_first.answers p.are_lines.answers first p.are_lines.correct in
-    let whole : report ≡ flat_map lines_of q.are_first.answers ++ flat_map lines_of rest.0 = p.are_lines.lines ∙ ap (flat_map lines_of) rest.1 ∙ flat_map-append lines_of q.are_first.answers rest.0 in
-    subst (TakesPrefix old new) (sym (whole ∙ ap (λ front. front ++ flat_map lines_of rest.0) (sym q.are_first.lines))) (prefix_more old new q.beginning (flat_map lines_of rest.0) q.gained)
+    let whole : report ≡ flat_map answer_bytes q.are_first.answers ++ flat_map answer_bytes rest.0 = p.are_lines.lines ∙ ap (flat_map answer_bytes) rest.1 ∙ flat_map-append answer_bytes q.are_first.answers rest.0 in
+    subst (TakesPrefix old new) (sym (whole ∙ ap (λ front. front ++ flat_map answer_bytes rest.0) (sym q.are_first.lines))) (prefix_more old new q.beginning (flat_map answer_bytes rest.0) q.gained)

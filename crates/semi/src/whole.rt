@@ -1,11 +1,9 @@
 // The report of a script.
-ghost use Rattle.std.specs.Prelude.{◌≡◌, ℕ, ◌≤◌, Bool, List, Option, [], ◌∷◌, IfErr, IfOk, IfSome, IsErrOf, MatchResult, OnOk};
+ghost use Rattle.std.specs.Prelude.{◌≡◌, ℕ, ◌≤◌, Bool, List, Option, IfErr, IfOk, IfSome, IsErrOf, MatchResult, OnOk};
 ghost use Rattle.ports.specs.Bytes.{Rose, TakesPrefix};
-ghost use Rattle.problem.specs.declared.kinds.Problem.{Problem};
-ghost use Rattle.query_lang.specs.Query.{IsQueryOf};
-ghost use Rattle.report.specs.Gains.{is_undecided};
+ghost use Rattle.report.specs.Answers.{WritesLines};
 ghost use Rattle.settings.specs.declared.Settings.{Settings};
-ghost use Rattle.semi.specs.Report.{AsksNoChain, GainsBeginning, IsRefusal, IsReport, IsScript, IsStateOf, WritesLines, budgets_of};
+ghost use Rattle.semi.specs.Report.{AsksNoChain, GainsBeginning, IsRefusal, IsReport, IsScript, bounds_of, budgets_of};
 ghost use Rattle.semi.specs.Taken.{IsTakenAt, IsTakenWhole};
 ghost use Rattle.semi.specs.Status.{status_of};
 ghost use Rattle.semi.specs.declared.fault.Fault.{Fault};
@@ -13,8 +11,8 @@ ghost use Rattle.semi.specs.declared.fault.Fault.{Fault};
 use crate::fault::Fault;
 use ports::{Gate, Sink, Source, WriteFault, read_all};
 use problem::Budgets;
-use query_lang::{Query, Script, read_script};
-use report::{Answered, State, write_answer};
+use query_lang::{Script, read_script};
+use report::{Bounds, write_answers};
 use settings::Settings;
 use std::alloc::Global;
 use std::thread::Threads;
@@ -44,60 +42,9 @@ pub fn take_script<S: Source>(alloc: Global, source: &mut S) -> Result<Script, F
     Ok(script)
 }
 
-// Whether a query was left undecided.
-fn left_undecided(answered: Answered) -> bool
-    ensures { result ≡ is_undecided answered }
-{
-    answered == Answered::Undecided
-}
-
-// Writes the answer of one query, and tells whether it is undecided.
-fn write_one<R: Threads + Sync, O: Sink, G: Gate + Sync>(
-    rt: &R,
-    alloc: Global,
-    settings: Settings,
-    script: &Script,
-    query: &Query,
-    state: &mut State,
-    out: &mut O,
-    gate: &G,
-) -> Result<bool, WriteFault>
-    requires query { IsQueryOf script.now.problem query.now }
-    requires state { IsStateOf settings script.now.problem state.old }
-    requires workers { 1 ≤ settings.workers }
-    ensures state { IsStateOf settings script.now.problem state.new }
-    ensures written { WritesLines O.Sink settings script.now.problem (query.now ∷ [])
-        out.old out.new result }
-{
-    let answered = write_answer(rt, alloc, script, query, state, out, gate)?;
-    Ok(left_undecided(answered))
-}
-
-// Writes the answers of all queries with the state, and tells whether one is undecided.
-fn write_answers<R: Threads + Sync, O: Sink, G: Gate + Sync>(
-    rt: &R,
-    alloc: Global,
-    settings: Settings,
-    script: &Script,
-    state: &mut State,
-    out: &mut O,
-    gate: &G,
-) -> Result<bool, WriteFault>
-    requires state { IsStateOf settings script.now.problem state.old }
-    requires workers { 1 ≤ settings.workers }
-    ensures { WritesLines O.Sink settings script.now.problem script.now.queries
-        out.old out.new result }
-{
-    let mut undecided = false;
-    for query in script.queries() {
-        undecided |= write_one(rt, alloc, settings, script, query, state, out, gate)?;
-    }
-    Ok(undecided)
-}
-
-// The state under the settings, which knows nothing yet.
-fn state_of(settings: Settings) -> State
-    ensures { (problem : Problem) → IsStateOf settings problem result }
+// What the answers may use under the settings.
+fn bounds_of(settings: Settings) -> Bounds
+    ensures { result ≡ bounds_of settings }
 {
     let budgets = Budgets {
         defs: settings.defs,
@@ -105,7 +52,11 @@ fn state_of(settings: Settings) -> State
         length: settings.length,
         elements: settings.elements,
     };
-    State::new(budgets, settings.classes, settings.workers)
+    Bounds {
+        budgets,
+        classes: settings.classes,
+        workers: settings.workers,
+    }
 }
 
 /// Writes the report of a script, and tells whether an answer is undecided. Refused with `Failed`
@@ -119,13 +70,10 @@ pub fn write_report<R: Threads + Sync, O: Sink, G: Gate + Sync>(
     gate: &G,
 ) -> Result<bool, WriteFault>
     requires { 1 ≤ settings.workers }
-    ensures { WritesLines O.Sink settings script.now.problem script.now.queries
+    ensures { WritesLines O.Sink (bounds_of settings) script.now.problem script.now.queries
         out.old out.new result }
 {
-    let mut state = state_of(settings);
-    let written = write_answers(rt, alloc, settings, script, &mut state, out, gate);
-    drop(state);
-    written
+    write_answers(rt, alloc, script, bounds_of(settings), out, gate)
 }
 
 /// The budgets, the bound of the index and the input have one status, whatever the number of

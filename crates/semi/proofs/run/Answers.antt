@@ -1,4 +1,4 @@
-use Rattle.std.proofs.Common.{◌≡◌, ◌≢◌, ◌≤◌, ◌∙◌, ℕ, List, map, string_bytes, inl, inr, sym, ap, subst, arith}
+use Rattle.std.proofs.Common.{◌≤◌, ◌∙◌, ℕ, List, map, string_bytes, inl, inr, sym, subst, arith}
 use Rattle.semi.specs.Report.{GainsLineOf}
 use Rattle.semi.specs.declared.fault.Fault.TheVariants.{Write}
 use Rattle.ports.specs.Bytes.{Rose}

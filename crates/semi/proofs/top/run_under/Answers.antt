@@ -1,4 +1,4 @@
-use Rattle.std.proofs.Common.{◌≡◌, ◌≤◌, ap, arith, inl, refl, subst, sym, Bool, Err, Result}
+use Rattle.std.proofs.Common.{◌≤◌, ap, arith, inl, refl, subst, sym, Bool, Err, Result}
 use Rattle.semi.specs.Ends.{EndsUnder}
 use Rattle.semi.specs.Made.{input_of}
 use Rattle.semi.specs.Status.{status_of}
