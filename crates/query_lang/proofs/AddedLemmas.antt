@@ -7,19 +7,19 @@ use Rattle.presentation.specs.Added.{identity_relations, inverse_relations, zero
 use Rattle.problem.specs.declared.kinds.Problem.{Problem}
 use Rattle.problem.specs.declared.kinds.Problem.TheVariants.{Presented}
 use Rattle.problem.specs.Problem.{has_empty_word, letters_of, pairs_of}
-use Rattle.query_lang.specs.declared.cause.Cause.{Cause}
-use Rattle.query_lang.specs.declared.cause.Cause.TheVariants as cause
+use Rattle.line_parts.specs.declared.cause.Cause.{Cause}
+use Rattle.line_parts.specs.declared.cause.Cause.TheVariants as cause
+use Rattle.line_parts.specs.declared.version.Version.{Version}
+use Rattle.line_parts.specs.Faults.{IsLineFault}
+use Rattle.line_parts.specs.LineWords.{both_elements, element_of, two_tokens}
+use Rattle.line_parts.specs.Outcome.{and_then}
+use Rattle.line_parts.specs.Token.{Token}
 use Rattle.query_lang.specs.declared.form.Form.TheVariants.{Relation, OfRole, Pair}
 use Rattle.query_lang.specs.declared.role.Role.TheVariants.{Identity, Zero, Inverse}
-use Rattle.query_lang.specs.declared.version.Version.{Version}
-use Rattle.query_lang.specs.Faults.{IsLineFault}
-use Rattle.query_lang.specs.LineWords.{both_elements, element_of, two_tokens}
-use Rattle.query_lang.specs.Outcome.{and_then}
 use Rattle.query_lang.specs.Outline.{related}
 use Rattle.query_lang.specs.Pairing.{most_pairs}
 use Rattle.query_lang.specs.Relations.{add_relations, most_relations}
 use Rattle.query_lang.specs.Roles.{both_letters, count_for, count_for_both, is_too_many, letter_for, letter_in}
-use Rattle.query_lang.specs.Token.{Token}
 use Rattle.query_lang.specs.Values.{added_of, mixes_kinds}
 use Rattle.query_lang.proofs.QueryLemmas.{carried, same_fault, two_in}
 

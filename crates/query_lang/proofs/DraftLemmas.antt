@@ -6,9 +6,9 @@ use Rattle.std.specs.Option.{option_or, ok_or}
 use Rattle.words.specs.Alphabet.{first_fault, fault_at, is_letter, is_lowercase, is_uppercase}
 use Rattle.words.specs.declared.fault.AlphabetFault.{AlphabetFault}
 use Rattle.words.specs.declared.fault.AlphabetFault.TheVariants.{Repeated, NotALetter}
-use Rattle.query_lang.specs.declared.cause.Cause.{Cause}
-use Rattle.query_lang.specs.declared.cause.Cause.TheVariants as cause
-use Rattle.query_lang.specs.Outcome.{and_then}
+use Rattle.line_parts.specs.declared.cause.Cause.{Cause}
+use Rattle.line_parts.specs.declared.cause.Cause.TheVariants as cause
+use Rattle.line_parts.specs.Outcome.{and_then}
 use Rattle.query_lang.specs.Draft.{IsDraft, new_letter_of}
 
 or_later : (o p q : Option AlphabetFault) → option_or o (option_or p q) ≡ option_or (option_or o p) q

@@ -1,15 +1,16 @@
 -- What comes of lines of a form: what the lines say then, or the cause.
-use Rattle.std.proofs.Common.{◌≡◌, ◌≤◌, Bool, true, false, not, if◌then◌else◌, List, [], ◌∷◌, map, Option, Some, None, Result, Ok, Err, is_none, refl, sym, ap, ap₂, ◌∙◌}
+use Rattle.std.proofs.Common.{◌≡◌, ◌≤◌, Bool, true, false, not, if◌then◌else◌, List, [], ◌∷◌, map, Option, Some, None, Result, Ok, Err, IfErr, IsErrAnd, is_none, refl, sym, ap, ap₂, ◌∙◌, subst}
 use Rattle.std.proofs.lemmas.Bool.{le-ltb}
 use Rattle.std.specs.Option.{ok_or}
 use Rattle.problem.specs.Problem.{is_presented}
-use Rattle.query_lang.specs.declared.cause.Cause.{Cause}
-use Rattle.query_lang.specs.declared.cause.Cause.TheVariants as cause
+use Rattle.line_parts.specs.declared.cause.Cause.{Cause}
+use Rattle.line_parts.specs.declared.cause.Cause.TheVariants as cause
+use Rattle.line_parts.specs.Faults.{IsLineFault}
+use Rattle.line_parts.specs.Outcome.{and_then}
+use Rattle.line_parts.specs.Token.{Token, Line}
+use Rattle.line_parts.specs.Fields.{field_of}
 use Rattle.query_lang.specs.declared.form.Form.{Form}
-use Rattle.query_lang.specs.Faults.{IsFaultFor, IsLineFault}
-use Rattle.query_lang.specs.Outcome.{and_then}
-use Rattle.query_lang.specs.Token.{Token, Line}
-use Rattle.query_lang.specs.Fields.{field_of}
+use Rattle.query_lang.specs.Faults.{IsFaultFor}
 use Rattle.query_lang.specs.Forms.{Gives, Way, form_named, section_of}
 use Rattle.query_lang.specs.Values.{Scope, added_of, as_many, fits, is_barred, is_pair_too_many, is_relation_too_many, made_by, mixes_kinds, scope_of, values_of, way_for, ways_in}
 use Rattle.query_lang.specs.Grammar.{IsOfForm, Partial, is_generator_line, lacks_generator, section_reached, with_added}
@@ -99,3 +100,8 @@ named_cause p name tokens named sign e = ap first_of (named_is p name tokens sig
 pub in_fault : {A : Type 0} (r : Result A Cause) (first : Option Cause) (fault : Option Cause) → first ≡ cause_in r → IsLineFault r fault → IsFaultFor first fault
 in_fault r first None e h = tt
 in_fault r first (Some c) e h = e ∙ ap cause_in h
+
+-- a fault for the first cause that is handed on
+pub fault_handed : {B : Type 0} (r : Result B (Option Cause)) (fault : Option Cause) (first : Option Cause) → IsErrAnd r (λ e. e ≡ fault) → IsFaultFor first fault → IfErr r (IsFaultFor first)
+fault_handed (Ok x) fault first h p = tt
+fault_handed (Err e) fault first h p = subst (IsFaultFor first) (sym h) p

@@ -8,18 +8,19 @@ use Rattle.problem.specs.Posed.{PosedOf}
 use Rattle.problem.specs.Problem.{is_presented, letters_of}
 use Rattle.problem.specs.declared.kinds.Problem.{Problem}
 use Rattle.problem.specs.declared.kinds.Problem.TheVariants as problem
-use Rattle.query_lang.specs.declared.cause.Cause.{Cause}
-use Rattle.query_lang.specs.declared.cause.Cause.TheVariants as cause
-use Rattle.query_lang.specs.Outcome.{and_then}
-use Rattle.query_lang.specs.Token.{Token, letter_of}
-use Rattle.query_lang.specs.Fields.{field_of}
+use Rattle.line_parts.specs.declared.cause.Cause.{Cause}
+use Rattle.line_parts.specs.declared.cause.Cause.TheVariants as cause
+use Rattle.line_parts.specs.Outcome.{and_then}
+use Rattle.line_parts.specs.Token.{Token, letter_of}
+use Rattle.line_parts.specs.Fields.{field_of}
+use Rattle.line_parts.specs.Elements.{boolean_matrix_of, partial_permutation_of, transformation_of, truncated_matrix_of}
+use Rattle.line_parts.specs.declared.version.Version.{Version}
+use Rattle.line_parts.specs.Versions.{is_wide}
 use Rattle.query_lang.specs.Draft.{DraftOf, new_letter_of, with_one}
-use Rattle.query_lang.specs.Elements.{boolean_matrix_of, generator_more, one_more, partial_permutation_of, transformation_of, truncated_matrix_of}
+use Rattle.query_lang.specs.Generators.{generator_more, one_more}
 use Rattle.query_lang.specs.Grammar.{LineReads, Partial, begin_with, section_reached}
 use Rattle.query_lang.specs.Grammar as grammar
 use Rattle.query_lang.specs.Reading.{AreGenerators, with_generator}
-use Rattle.query_lang.specs.declared.version.Version.{Version}
-use Rattle.query_lang.specs.Versions.{is_wide}
 use Rattle.query_lang.specs.LineCauses.{when, first_of, cause_in, entries_cause, is_taken, generator_causes, line_causes}
 use Rattle.query_lang.proofs.FormLemmas.{same-cause}
 

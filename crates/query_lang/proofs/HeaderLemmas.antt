@@ -3,18 +3,19 @@ use Rattle.std.proofs.Common.{◌≡◌, ℕ, Bool, true, false, not, if◌then�
 use Rattle.std.specs.Option.{ok_or}
 use Rattle.std.proofs.lemmas.List.Elements.{All-contains}
 use Rattle.words.specs.Alphabet.{IsAlphabetOf, IsLetterByte, marker}
-use Rattle.query_lang.specs.declared.cause.Cause.{Cause}
-use Rattle.query_lang.specs.declared.cause.Cause.TheVariants as cause
-use Rattle.query_lang.specs.declared.version.Version.{Version}
-use Rattle.query_lang.specs.Versions.{is_wide, version_numbered, version_of}
-use Rattle.query_lang.specs.Faults.{IsFaultFor, IsLineFault}
+use Rattle.line_parts.specs.declared.cause.Cause.{Cause}
+use Rattle.line_parts.specs.declared.cause.Cause.TheVariants as cause
+use Rattle.line_parts.specs.declared.version.Version.{Version}
+use Rattle.line_parts.specs.Versions.{is_wide, version_numbered, version_of}
+use Rattle.line_parts.specs.Faults.{IsLineFault}
+use Rattle.line_parts.specs.Outcome.{and_then}
+use Rattle.line_parts.specs.Token.{Line, Token, is_kept, number_of}
+use Rattle.query_lang.specs.Faults.{IsFaultFor}
 use Rattle.query_lang.specs.Forms.{Place, Way}
 use Rattle.query_lang.specs.Header.{Start, given_by, header_named, no_letters, started}
-use Rattle.query_lang.specs.Outcome.{and_then}
 use Rattle.query_lang.specs.Grammar.{HeaderReads, Nothing, OfVersion, Partial, Step, begin_with}
 use Rattle.query_lang.specs.Grammar as grammar
 use Rattle.query_lang.specs.Reading.{headed}
-use Rattle.query_lang.specs.Token.{Line, Token, is_kept, number_of}
 use Rattle.query_lang.specs.Values.{as_many, values_of}
 use Rattle.query_lang.specs.LineCauses.{when, first_of, cause_in, header_causes, start_causes, token_causes}
 use Rattle.query_lang.proofs.FormLemmas.{in_fault, same-cause}

@@ -1,7 +1,3 @@
-pub mod TableLemmas
-pub mod EntryLemmas
-pub mod InjectiveLemmas
-pub mod KindLemmas
 pub mod DraftLemmas
 pub mod QueryLemmas
 pub mod AddedLemmas
@@ -15,6 +11,4 @@ pub mod StepLaw
 pub mod TotalForms
 pub mod TotalLaw
 pub mod ScriptLaw
-pub mod PowerWordLaws
 pub mod RoleLemmas
-pub mod TokenLaws

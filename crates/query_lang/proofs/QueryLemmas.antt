@@ -6,22 +6,22 @@ use Rattle.theory.specs.Graph.{Graph}
 use Rattle.problem.specs.declared.kinds.Problem.{Problem}
 use Rattle.problem.specs.Problem.{allows_rules, pairs_of}
 use Rattle.std.specs.Result.{IsErrAnd, IfErr}
-use Rattle.query_lang.specs.declared.cause.Cause.{Cause}
-use Rattle.query_lang.specs.declared.cause.Cause.TheVariants.{BadNumber}
+use Rattle.line_parts.specs.declared.cause.Cause.{Cause}
+use Rattle.line_parts.specs.declared.cause.Cause.TheVariants.{BadNumber}
+use Rattle.line_parts.specs.declared.version.Version.{Version}
+use Rattle.line_parts.specs.Faults.{IsLineFault}
+use Rattle.line_parts.specs.Outcome.{and_then}
+use Rattle.line_parts.specs.Tables.{congruence_table_of, low_table_of, two_tables}
+use Rattle.line_parts.specs.Texts.{texts}
+use Rattle.line_parts.specs.Token.{Token, is_word, number_within}
+use Rattle.line_parts.proofs.FaultLemmas.{handed_on}
 use Rattle.query_lang.specs.declared.form.Form.{Form}
 use Rattle.query_lang.specs.declared.form.QueryForm.TheVariants as asks
 use Rattle.query_lang.specs.declared.script.Query.{Query}
-use Rattle.query_lang.specs.declared.version.Version.{Version}
-use Rattle.query_lang.specs.Faults.{IsLineFault}
 use Rattle.query_lang.specs.Forms.{Place, ACongruenceTable, AllGiven, Way, way, Scripts, AllScripts, OfRelations, OfGenerators, Pairs, AnyPairs, TwoSidedPairs, NoPairs, are_scripts, form_among, has_form, name_of, row_of}
 use Rattle.query_lang.specs.LineCauses.{cause_in, first_of, token_causes}
-use Rattle.query_lang.specs.Outcome.{and_then}
 use Rattle.query_lang.specs.Query.{are_none, are_of_generators, are_of_relations, are_two_sided}
-use Rattle.query_lang.specs.Tables.{congruence_table_of, low_table_of, two_tables}
-use Rattle.query_lang.specs.Texts.{texts}
-use Rattle.query_lang.specs.Token.{Token, is_word, number_within}
 use Rattle.query_lang.specs.Values.{Scope, as_many, bars, limits_of, made_in, value_of, values_of, way_for}
-use Rattle.query_lang.proofs.KindLemmas.{handed_on}
 
 -- forms by their names
 

@@ -7,12 +7,12 @@ use Rattle.std.proofs.lemmas.Iterator.Consumers.{YieldsList-turn, YieldsList-end
 use Rattle.std.proofs.lemmas.List.Splits.{length-slice_split}
 use Rattle.std.proofs.lemmas.List.Sums.{count_by-le-length}
 use Rattle.std.proofs.Math.Seq.{drop-cons}
-use Rattle.query_lang.specs.declared.cause.Cause.{Cause}
+use Rattle.line_parts.specs.declared.cause.Cause.{Cause}
+use Rattle.line_parts.specs.Token.{Line, cut_lines, tokens_of}
 use Rattle.query_lang.specs.Asked.{ScriptOf}
 use Rattle.query_lang.specs.Faults.{IsFaultFor, IsScriptFault, fault_at_line}
 use Rattle.query_lang.specs.Grammar.{Partial, Said, Nothing, Begun, Reads, Step, more, none, lines_of, script_in}
 use Rattle.query_lang.specs.LineCauses.{AreScript, cause_at_end, cause_of_line}
-use Rattle.query_lang.specs.Token.{Line, cut_lines, tokens_of}
 
 one_more : (s t u : Said) (lines : List Line) (line : Line) → Reads s lines t → Step t line u → Reads s (lines ++ line ∷ []) u
 one_more s t u [] line none step = more step none

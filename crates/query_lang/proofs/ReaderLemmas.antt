@@ -8,22 +8,22 @@ use Rattle.theory.specs.declared.Kind.{Kind}
 use Rattle.problem.specs.Problem.{is_presented, pairs_of, with_pair}
 use Rattle.problem.specs.declared.kinds.Problem.{Problem}
 use Rattle.problem.specs.declared.kinds.Problem.TheVariants.{Presented}
-use Rattle.query_lang.specs.declared.cause.Cause.{Cause}
+use Rattle.line_parts.specs.declared.cause.Cause.{Cause}
+use Rattle.line_parts.specs.declared.version.Version.{Version}
+use Rattle.line_parts.specs.Fields.{field_of}
+use Rattle.line_parts.specs.Outcome.{and_then}
+use Rattle.line_parts.specs.Texts.{texts}
+use Rattle.line_parts.specs.Token.{Token, is_word}
 use Rattle.query_lang.specs.declared.form.Form.{Form}
 use Rattle.query_lang.specs.declared.form.Form.TheVariants.{Relation, OfRole, Pair, Asks}
 use Rattle.query_lang.specs.declared.form.QueryForm.{QueryForm}
 use Rattle.query_lang.specs.declared.role.Role.{Role}
-use Rattle.query_lang.specs.declared.version.Version.{Version}
 use Rattle.query_lang.specs.Asked.{ScriptOf, asked, with_asked}
 use Rattle.query_lang.specs.Faults.{IsFaultFor}
-use Rattle.query_lang.specs.Fields.{field_of}
 use Rattle.query_lang.specs.Forms.{form_named, section_of}
-use Rattle.query_lang.specs.Outcome.{and_then}
 use Rattle.query_lang.specs.Outline.{related}
 use Rattle.query_lang.specs.Pairing.{paired}
 use Rattle.query_lang.specs.Relations.{add_relations}
-use Rattle.query_lang.specs.Texts.{texts}
-use Rattle.query_lang.specs.Token.{Token, is_word}
 use Rattle.query_lang.specs.Values.{added_of}
 use Rattle.query_lang.specs.Grammar.{LineReads, Partial, begin_with, is_empty, is_generator_line, lacks_generator, script_in, section_reached, with_added}
 use Rattle.query_lang.specs.Grammar as grammar

@@ -10,14 +10,14 @@ use Rattle.words.proofs.TextLaws.{place_below}
 use Rattle.presentation.specs.Presented.{Posed}
 use Rattle.presentation.specs.Added.{both_products, products_with}
 use Rattle.presentation.proofs.AddedLemmas.{both_count, both_count_same, products_count}
-use Rattle.query_lang.specs.declared.cause.Cause.{Cause}
-use Rattle.query_lang.specs.declared.cause.Cause.TheVariants as cause
-use Rattle.query_lang.specs.declared.version.Version.{Version}
-use Rattle.query_lang.specs.Outcome.{and_then}
+use Rattle.line_parts.specs.declared.cause.Cause.{Cause}
+use Rattle.line_parts.specs.declared.cause.Cause.TheVariants as cause
+use Rattle.line_parts.specs.declared.version.Version.{Version}
+use Rattle.line_parts.specs.Outcome.{and_then}
+use Rattle.line_parts.specs.Token.{Token, is_word, letter_of}
+use Rattle.line_parts.specs.Versions.{is_wide}
 use Rattle.query_lang.specs.Relations.{most_relations}
 use Rattle.query_lang.specs.Roles.{count_for, count_for_both, is_too_many, letter_in}
-use Rattle.query_lang.specs.Token.{Token, is_word, letter_of}
-use Rattle.query_lang.specs.Versions.{is_wide}
 
 one_byte : (wide : Bool) (t : Token) (b : ℕ) → letter_of wide t ≡ Some b → t ≡ b ∷ []
 one_byte wide [] b h = absurd (cc)

@@ -1,8 +1,8 @@
 -- Bytes are one script of the grammar, or have one first fault.
 use Rattle.std.proofs.Common.{◌≡◌, ℕ, suc, ◌⊎◌, inl, inr, List, [], ◌∷◌, ◌++◌, length, Option, Some, None, refl, sym, ap, ◌∙◌, subst}
-use Rattle.query_lang.specs.declared.cause.Cause.{Cause}
+use Rattle.line_parts.specs.declared.cause.Cause.{Cause}
+use Rattle.line_parts.specs.Token.{Line}
 use Rattle.query_lang.specs.Asked.{ScriptOf}
-use Rattle.query_lang.specs.Token.{Line}
 use Rattle.query_lang.specs.Grammar.{Partial, Said, Nothing, OfVersion, Begun, Step, Reads, none, more, lines_of, script_in}
 use Rattle.query_lang.specs.LineCauses.{AreScript, IsFirstFault, cause_at_end, cause_of_line}
 use Rattle.query_lang.proofs.StepLaw.{one_step, step_has_no_cause}

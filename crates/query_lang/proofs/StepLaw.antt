@@ -3,16 +3,16 @@ use Rattle.std.proofs.Common.{◌≡◌, ◌&&◌, not, Bool, true, false, if◌
 use Rattle.std.proofs.lemmas.Bool.{le-ltb}
 use Rattle.std.specs.Cmp.Lexicographic.{same_text}
 use Rattle.problem.specs.Problem.{is_presented}
-use Rattle.query_lang.specs.declared.cause.Cause.{Cause}
-use Rattle.query_lang.specs.declared.version.Version.{Version}
-use Rattle.query_lang.specs.declared.version.Version.TheVariants.{One}
-use Rattle.query_lang.specs.Fields.{field_of}
+use Rattle.line_parts.specs.declared.cause.Cause.{Cause}
+use Rattle.line_parts.specs.declared.version.Version.{Version}
+use Rattle.line_parts.specs.declared.version.Version.TheVariants.{One}
+use Rattle.line_parts.specs.Fields.{field_of}
+use Rattle.line_parts.specs.Token.{Line, Token, is_kept, is_word}
 use Rattle.query_lang.specs.Forms.{Way, form_named}
 use Rattle.query_lang.specs.Grammar.{HeaderReads, IsOfForm, LineReads, Partial, Said, Nothing, OfVersion, Begun, Step, is_generator_line, lacks_generator, section_reached, with_added}
 use Rattle.query_lang.specs.Grammar as grammar
 use Rattle.query_lang.specs.Header.{Start, header_named}
 use Rattle.query_lang.specs.LineCauses.{cause_in, cause_of_line, causes_after, first_of, header_causes, line_causes}
-use Rattle.query_lang.specs.Token.{Line, Token, is_kept, is_word}
 use Rattle.query_lang.specs.Reading.{added_to}
 use Rattle.query_lang.proofs.FormLemmas.{form_added, form_cause, named_cause}
 use Rattle.query_lang.proofs.GeneratorLemmas.{generator_is, more_cause, more_generated}

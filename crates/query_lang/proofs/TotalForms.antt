@@ -3,9 +3,9 @@ use Rattle.std.proofs.Common.{◌≡◌, nat_lt, Bool, true, false, not, if◌th
 use Rattle.std.proofs.lemmas.Bool.{ltb-false}
 use Rattle.std.specs.Cmp.Lexicographic.{same_text}
 use Rattle.problem.specs.Problem.{is_presented}
-use Rattle.query_lang.specs.declared.cause.Cause.{Cause}
+use Rattle.line_parts.specs.declared.cause.Cause.{Cause}
+use Rattle.line_parts.specs.Token.{Token, Line, is_word}
 use Rattle.query_lang.specs.declared.form.Form.{Form}
-use Rattle.query_lang.specs.Token.{Token, Line, is_word}
 use Rattle.query_lang.specs.Forms.{Gives, Way, form_named, section_of}
 use Rattle.query_lang.specs.Values.{fits, is_barred, is_pair_too_many, is_relation_too_many, mixes_kinds, scope_of, values_of, way_for, ways_in}
 use Rattle.query_lang.specs.Grammar as grammar

@@ -6,17 +6,18 @@ use Rattle.elements.specs.declared.field.Field.{Field}
 use Rattle.problem.specs.Problem.{is_presented}
 use Rattle.problem.specs.declared.kinds.Problem.{Problem}
 use Rattle.problem.specs.declared.kinds.Problem.TheVariants as problem
+use Rattle.line_parts.specs.Token.{Token, Line, is_kept, is_word, letter_of, number_of}
+use Rattle.line_parts.specs.Fields.{field_of}
+use Rattle.line_parts.specs.Elements.{boolean_matrix_of, partial_permutation_of, transformation_of, truncated_matrix_of}
+use Rattle.line_parts.specs.Outcome.{and_then}
+use Rattle.line_parts.specs.Versions.{is_wide, version_numbered}
+use Rattle.line_parts.specs.declared.version.Version.{Version}
+use Rattle.line_parts.specs.declared.version.Version.TheVariants.{One}
+use Rattle.line_parts.specs.declared.cause.Cause.{Cause}
+use Rattle.line_parts.specs.declared.cause.Cause.TheVariants as cause
 use Rattle.query_lang.specs.declared.script.Query.{Query}
-use Rattle.query_lang.specs.Token.{Token, Line, is_kept, is_word, letter_of, number_of}
-use Rattle.query_lang.specs.Fields.{field_of}
-use Rattle.query_lang.specs.Elements.{boolean_matrix_of, generator_more, one_more, partial_permutation_of, transformation_of, truncated_matrix_of}
-use Rattle.query_lang.specs.Outcome.{and_then}
+use Rattle.query_lang.specs.Generators.{generator_more, one_more}
 use Rattle.query_lang.specs.Grammar as grammar
-use Rattle.query_lang.specs.Versions.{is_wide, version_numbered}
-use Rattle.query_lang.specs.declared.version.Version.{Version}
-use Rattle.query_lang.specs.declared.version.Version.TheVariants.{One}
-use Rattle.query_lang.specs.declared.cause.Cause.{Cause}
-use Rattle.query_lang.specs.declared.cause.Cause.TheVariants as cause
 use Rattle.query_lang.specs.Grammar.{Head, Partial, Said, Nothing, OfVersion, Begun, section_reached, HeaderReads, Step, is_generator_line}
 use Rattle.query_lang.specs.Forms.{Way, form_named}
 use Rattle.query_lang.specs.Header.{Start, header_named, no_letters}

@@ -1,13 +1,13 @@
 -- What a script poses and asks.
 use Rattle.std.specs.Prelude.{List, [], ◌∷◌, ◌++◌, Result, Ok}
 use Rattle.problem.specs.declared.kinds.Problem.{Problem}
-use Rattle.query_lang.specs.declared.cause.Cause.{Cause}
+use Rattle.line_parts.specs.declared.cause.Cause.{Cause}
+use Rattle.line_parts.specs.declared.version.Version.{Version}
+use Rattle.line_parts.specs.Outcome.{and_then}
+use Rattle.line_parts.specs.Token.{Token}
 use Rattle.query_lang.specs.declared.form.Form.TheVariants.{Asks}
 use Rattle.query_lang.specs.declared.form.QueryForm.{QueryForm}
 use Rattle.query_lang.specs.declared.script.Query.{Query}
-use Rattle.query_lang.specs.declared.version.Version.{Version}
-use Rattle.query_lang.specs.Outcome.{and_then}
-use Rattle.query_lang.specs.Token.{Token}
 use Rattle.query_lang.specs.Values.{added_of}
 
 pub record ScriptOf : Type 0 where

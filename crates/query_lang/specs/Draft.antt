@@ -7,11 +7,11 @@ use Rattle.words.specs.Alphabet.{first_fault}
 use Rattle.theory.specs.declared.Kind.TheVariants.{TwoSided}
 use Rattle.problem.specs.Posed.{PosedOf, posed_code}
 use Rattle.elements.specs.declared.field.Field.{Field}
-use Rattle.query_lang.specs.declared.cause.Cause.{Cause}
-use Rattle.query_lang.specs.declared.cause.Cause.TheVariants.{NotALetter, RepeatedLetter}
-use Rattle.query_lang.specs.Elements.{one_more}
-use Rattle.query_lang.specs.Outcome.{and_then}
-use Rattle.query_lang.specs.Token.{Token, letter_of}
+use Rattle.line_parts.specs.declared.cause.Cause.{Cause}
+use Rattle.line_parts.specs.declared.cause.Cause.TheVariants.{NotALetter, RepeatedLetter}
+use Rattle.line_parts.specs.Outcome.{and_then}
+use Rattle.line_parts.specs.Token.{Token, letter_of}
+use Rattle.query_lang.specs.Generators.{one_more}
 
 -- the numbers of the header, and the generators so far, each with its letter
 pub record DraftOf (V : Type 0) : Type 0 where

@@ -6,6 +6,9 @@ use Rattle.theory.specs.declared.Relation.{Relation as GreenRelation}
 use Rattle.theory.specs.Graph.{Graph}
 use Rattle.theory.specs.Word.{Word}
 use Rattle.presentation.specs.Added.{identity_relations, zero_relations, inverse_relations}
+use Rattle.line_parts.specs.declared.version.Version.{Version}
+use Rattle.line_parts.specs.Token.{Token, is_word}
+use Rattle.line_parts.specs.Versions.{has_roles}
 use Rattle.query_lang.specs.declared.form.Form.{Form}
 use Rattle.query_lang.specs.declared.form.Form.TheVariants.{Relation, OfRole, Pair, Asks}
 use Rattle.query_lang.specs.declared.form.QueryForm.{QueryForm}
@@ -13,9 +16,6 @@ use Rattle.query_lang.specs.declared.form.QueryForm.TheVariants as query_form
 use Rattle.query_lang.specs.declared.role.Role.TheVariants.{Identity, Zero, Inverse}
 use Rattle.query_lang.specs.declared.script.Query.{Query}
 use Rattle.query_lang.specs.declared.script.Query.TheVariants as ask
-use Rattle.query_lang.specs.declared.version.Version.{Version}
-use Rattle.query_lang.specs.declared.version.Version.TheVariants.{One, Two}
-use Rattle.query_lang.specs.Token.{Token, is_word}
 
 -- what may stand in the place of a token
 pub data Place : Type 0 where
@@ -150,11 +150,6 @@ section_of Relation = 2
 section_of (OfRole role) = 2
 section_of (Pair kind) = 3
 section_of (Asks query) = 4
-
--- lines that give letters a role came with the second version
-abbrev pub has_roles : Version → Bool
-has_roles One = false
-has_roles Two = true
 
 -- whether a presentation is among these scripts, or a script of generators
 abbrev pub are_scripts : Scripts → (is_presentation : Bool) → Bool

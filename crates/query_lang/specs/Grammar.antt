@@ -6,20 +6,20 @@ use Rattle.theory.specs.Word.{Word}
 use Rattle.problem.specs.declared.kinds.Problem.{Problem}
 use Rattle.problem.specs.declared.kinds.Problem.TheVariants.{Presented}
 use Rattle.problem.specs.Problem.{is_presented, letters_of, pairs_of, with_pair}
+use Rattle.line_parts.specs.declared.version.Version.{Version}
+use Rattle.line_parts.specs.declared.version.Version.TheVariants.{One}
+use Rattle.line_parts.specs.Fields.{field_of}
+use Rattle.line_parts.specs.Token.{Token, Line, cut_lines, is_kept, is_word, letter_of, number_of, tokens_of}
+use Rattle.line_parts.specs.Versions.{is_wide, version_numbered}
 use Rattle.query_lang.specs.declared.script.Query.{Query}
-use Rattle.query_lang.specs.declared.version.Version.{Version}
-use Rattle.query_lang.specs.declared.version.Version.TheVariants.{One}
 use Rattle.query_lang.specs.Asked.{ScriptOf}
-use Rattle.query_lang.specs.Fields.{field_of}
-use Rattle.query_lang.specs.Elements.{generator_more}
+use Rattle.query_lang.specs.Generators.{generator_more}
 use Rattle.query_lang.specs.declared.form.Form.{Form}
 use Rattle.query_lang.specs.declared.form.Form.TheVariants.{Relation, OfRole, Pair, Asks}
 use Rattle.query_lang.specs.Forms.{AllGiven, Gives, Way, form_named, section_of}
 use Rattle.query_lang.specs.Header.{Start, header_named, no_letters}
 use Rattle.query_lang.specs.Relations.{add_relations}
-use Rattle.query_lang.specs.Token.{Token, Line, cut_lines, is_kept, is_word, letter_of, number_of, tokens_of}
 use Rattle.query_lang.specs.Values.{as_many, is_barred, is_pair_too_many, is_relation_too_many, mixes_kinds, scope_of, values_of, way_for, ways_in}
-use Rattle.query_lang.specs.Versions.{is_wide, version_numbered}
 
 -- what is said at the head of a script: the version, and the numbers of the header, 0 in the place
 -- of one that it has not

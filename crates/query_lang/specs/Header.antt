@@ -5,13 +5,13 @@ use Rattle.theory.specs.declared.Kind.TheVariants.{TwoSided}
 use Rattle.problem.specs.Posed.{PosedOf}
 use Rattle.problem.specs.declared.kinds.Problem.{Problem}
 use Rattle.problem.specs.declared.kinds.Problem.TheVariants.{Presented, Transf, PPerm, BMat, MaxPlus}
-use Rattle.query_lang.specs.declared.cause.Cause.{Cause}
-use Rattle.query_lang.specs.declared.cause.Cause.TheVariants.{UnknownHeader, WrongNumberOfWords}
-use Rattle.query_lang.specs.declared.version.Version.TheVariants.{One}
+use Rattle.line_parts.specs.declared.cause.Cause.{Cause}
+use Rattle.line_parts.specs.declared.cause.Cause.TheVariants.{UnknownHeader, WrongNumberOfWords}
+use Rattle.line_parts.specs.declared.version.Version.TheVariants.{One}
+use Rattle.line_parts.specs.Outcome.{and_then}
+use Rattle.line_parts.specs.Token.{Token, is_word}
 use Rattle.query_lang.specs.Forms.{Place, ALetters, ANumber, AllGiven, Way, way}
-use Rattle.query_lang.specs.Outcome.{and_then}
 use Rattle.query_lang.specs.Relations.{free_over}
-use Rattle.query_lang.specs.Token.{Token, is_word}
 use Rattle.query_lang.specs.Values.{Scope, as_many, scope, values_of}
 
 -- no generator yet

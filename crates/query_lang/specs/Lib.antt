@@ -1,18 +1,10 @@
-pub mod Outcome
-pub mod Token
-pub mod Texts
-pub mod Fields
-pub mod Causes
 pub mod Faults
-pub mod Entries
-pub mod Elements
+pub mod Generators
 pub mod Draft
-pub mod LineWords
 pub mod Relations
 pub mod Outline
 pub mod Pairing
 pub mod Header
-pub mod Tables
 pub mod Query
 pub mod Values
 pub mod Asked
@@ -20,6 +12,4 @@ pub mod Reading
 pub mod Forms
 pub mod Grammar
 pub mod LineCauses
-pub mod Versions
-pub mod PowerWords
 pub mod Roles

@@ -5,19 +5,19 @@ use Rattle.problem.specs.declared.kinds.Problem.{Problem}
 use Rattle.problem.specs.declared.kinds.Problem.TheVariants.{Presented, Transf, PPerm, BMat, MaxPlus}
 use Rattle.problem.specs.Problem.{is_presented, letters_of}
 use Rattle.elements.specs.declared.field.Field.{Field}
-use Rattle.query_lang.specs.declared.cause.Cause.{Cause}
-use Rattle.query_lang.specs.declared.cause.Cause.TheVariants as cause
-use Rattle.query_lang.specs.declared.version.Version.{Version}
-use Rattle.query_lang.specs.declared.version.Version.TheVariants.{One}
+use Rattle.line_parts.specs.declared.cause.Cause.{Cause}
+use Rattle.line_parts.specs.declared.cause.Cause.TheVariants as cause
+use Rattle.line_parts.specs.declared.version.Version.{Version}
+use Rattle.line_parts.specs.declared.version.Version.TheVariants.{One}
+use Rattle.line_parts.specs.Elements.{boolean_matrix_of, partial_permutation_of, transformation_of, truncated_matrix_of}
+use Rattle.line_parts.specs.Fields.{field_of}
+use Rattle.line_parts.specs.Token.{Token, Line, is_kept, is_word, letter_of, number_of}
+use Rattle.line_parts.specs.Versions.{is_wide, version_numbered}
 use Rattle.query_lang.specs.Asked.{ScriptOf}
-use Rattle.query_lang.specs.Elements.{boolean_matrix_of, partial_permutation_of, transformation_of, truncated_matrix_of}
-use Rattle.query_lang.specs.Fields.{field_of}
 use Rattle.query_lang.specs.declared.form.Form.{Form}
 use Rattle.query_lang.specs.Forms.{Place, Way, form_named, section_of}
 use Rattle.query_lang.specs.Header.{Start, header_named, no_letters}
 use Rattle.query_lang.specs.Values.{Scope, as_many, fits, is_barred, is_pair_too_many, is_relation_too_many, mixes_kinds, scope_of, value_of, way_for, ways_in}
-use Rattle.query_lang.specs.Token.{Token, Line, is_kept, is_word, letter_of, number_of}
-use Rattle.query_lang.specs.Versions.{is_wide, version_numbered}
 use Rattle.query_lang.specs.Grammar.{Partial, Said, Nothing, OfVersion, Begun, lacks_generator, section_reached, is_generator_line, Reads, script_in}
 
 -- the cause, where it applies

@@ -5,10 +5,10 @@ use Rattle.presentation.specs.Presented.{Posed}
 use Rattle.words.specs.Alphabet.{alphabet_fault}
 use Rattle.words.specs.declared.fault.AlphabetFault.{AlphabetFault}
 use Rattle.words.specs.declared.fault.AlphabetFault.TheVariants as fault
-use Rattle.query_lang.specs.declared.cause.Cause.{Cause}
-use Rattle.query_lang.specs.declared.cause.Cause.TheVariants as cause
-use Rattle.query_lang.specs.Outcome.{and_then}
-use Rattle.query_lang.specs.Token.{Token}
+use Rattle.line_parts.specs.declared.cause.Cause.{Cause}
+use Rattle.line_parts.specs.declared.cause.Cause.TheVariants as cause
+use Rattle.line_parts.specs.Outcome.{and_then}
+use Rattle.line_parts.specs.Token.{Token}
 use Rattle.query_lang.specs.Relations.{add_relations}
 
 -- why letters are refused; a token is never empty, and `alphabet_fault` never tells want of memory

@@ -6,8 +6,8 @@ use Rattle.theory.specs.Word.{Word}
 use Rattle.words.specs.Alphabet.{marker}
 use Rattle.problem.specs.declared.kinds.Problem.{Problem}
 use Rattle.problem.specs.Problem.{is_presented, letters_of, pairs_of, with_pair}
-use Rattle.query_lang.specs.declared.cause.Cause.{Cause}
-use Rattle.query_lang.specs.Outcome.{and_then}
+use Rattle.line_parts.specs.declared.cause.Cause.{Cause}
+use Rattle.line_parts.specs.Outcome.{and_then}
 use Rattle.query_lang.specs.Relations.{most_relations, relations_of}
 
 -- the most pairs

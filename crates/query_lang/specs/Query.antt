@@ -3,13 +3,13 @@ use Rattle.std.specs.Prelude.{◌≡◌, ℕ, ◌≤◌, Bool, true, false, List
 use Rattle.theory.specs.Word.{IsElement, Word}
 use Rattle.problem.specs.declared.kinds.Problem.{Problem}
 use Rattle.problem.specs.Problem.{allows_rules, has_empty_word, is_presented, letters_of, pairs_of}
+use Rattle.line_parts.specs.Tables.{IsCongruenceTable, IsLowTable}
 use Rattle.query_lang.specs.declared.form.QueryForm.{QueryForm}
 use Rattle.query_lang.specs.declared.form.QueryForm.TheVariants as query_form
 use Rattle.query_lang.specs.declared.script.Query.{Query}
 use Rattle.query_lang.specs.declared.script.Query.TheVariants.{Index, Equal, Normal, Classes, RuleList, ElementOf, Cayley, LowIndex, Meet, Join, Chain, Green, Idempotents}
 use Rattle.query_lang.specs.Forms.{Scripts, AllScripts, OfRelations, OfGenerators, Pairs, AnyPairs, TwoSidedPairs, NoPairs, row_of}
 use Rattle.query_lang.specs.Relations.{relations_of}
-use Rattle.query_lang.specs.Tables.{IsCongruenceTable, IsLowTable}
 
 -- from 1 to 16 classes, and at most 1,000,000 tables
 abbrev pub AreLimits : ℕ → ℕ → Type 0

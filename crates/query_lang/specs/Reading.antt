@@ -3,18 +3,18 @@ use Rattle.std.specs.Prelude.{◌≡◌, ℕ, Bool, false, List, [], Result, Ok}
 use Rattle.problem.specs.Problem.{is_presented, letters_of, pairs_of}
 use Rattle.problem.specs.declared.kinds.Problem.{Problem}
 use Rattle.elements.specs.declared.field.Field.{Field}
-use Rattle.query_lang.specs.declared.cause.Cause.{Cause}
+use Rattle.line_parts.specs.declared.cause.Cause.{Cause}
+use Rattle.line_parts.specs.declared.version.Version.{Version}
+use Rattle.line_parts.specs.Outcome.{and_then}
+use Rattle.line_parts.specs.Token.{Token}
+use Rattle.line_parts.specs.Versions.{is_wide}
 use Rattle.query_lang.specs.declared.form.Form.{Form}
-use Rattle.query_lang.specs.declared.version.Version.{Version}
 use Rattle.query_lang.specs.Asked.{ScriptOf}
 use Rattle.query_lang.specs.Draft.{new_letter_of}
-use Rattle.query_lang.specs.Elements.{generator_more}
+use Rattle.query_lang.specs.Generators.{generator_more}
 use Rattle.query_lang.specs.Grammar.{Partial, begin_with, with_added}
 use Rattle.query_lang.specs.Header.{Start, header_named, started}
-use Rattle.query_lang.specs.Outcome.{and_then}
-use Rattle.query_lang.specs.Token.{Token}
 use Rattle.query_lang.specs.Values.{added_of}
-use Rattle.query_lang.specs.Versions.{is_wide}
 
 -- what lines say that have come to this script
 abbrev pub come_to : Version → ℕ × ℕ → ScriptOf → Partial

@@ -4,14 +4,14 @@ use Rattle.std.specs.Option.{ok_or}
 use Rattle.words.specs.Alphabet.{place_of}
 use Rattle.presentation.specs.Presented.{Posed}
 use Rattle.presentation.specs.Added.{inverse_relations}
-use Rattle.query_lang.specs.declared.cause.Cause.{Cause}
-use Rattle.query_lang.specs.declared.cause.Cause.TheVariants as cause
-use Rattle.query_lang.specs.declared.version.Version.{Version}
-use Rattle.query_lang.specs.LineWords.{one_token}
-use Rattle.query_lang.specs.Outcome.{and_then}
+use Rattle.line_parts.specs.declared.cause.Cause.{Cause}
+use Rattle.line_parts.specs.declared.cause.Cause.TheVariants as cause
+use Rattle.line_parts.specs.declared.version.Version.{Version}
+use Rattle.line_parts.specs.LineWords.{one_token}
+use Rattle.line_parts.specs.Outcome.{and_then}
+use Rattle.line_parts.specs.Token.{Token, is_word, letter_of}
+use Rattle.line_parts.specs.Versions.{is_wide}
 use Rattle.query_lang.specs.Relations.{most_relations}
-use Rattle.query_lang.specs.Token.{Token, is_word, letter_of}
-use Rattle.query_lang.specs.Versions.{is_wide}
 
 -- the place of the letter that the token is
 abbrev pub place_named : List ℕ → Token → Option ℕ

@@ -4,23 +4,23 @@ use Rattle.std.specs.Option.{ok_or, unwrap_or}
 use Rattle.theory.specs.Word.{Word}
 use Rattle.problem.specs.declared.kinds.Problem.{Problem}
 use Rattle.problem.specs.Problem.{allows_rules, has_empty_word, kind_of, letters_of, pairs_of}
-use Rattle.query_lang.specs.declared.cause.Cause.{Cause}
-use Rattle.query_lang.specs.declared.cause.Cause.TheVariants.{WrongNumberOfWords, BadNumber, AfterExpected, UnknownRelation, TooManyRelations, TooManyPairs, MixedKinds, QueryNotAllowed}
+use Rattle.line_parts.specs.declared.cause.Cause.{Cause}
+use Rattle.line_parts.specs.declared.cause.Cause.TheVariants.{WrongNumberOfWords, BadNumber, AfterExpected, UnknownRelation, TooManyRelations, TooManyPairs, MixedKinds, QueryNotAllowed}
+use Rattle.line_parts.specs.declared.version.Version.{Version}
+use Rattle.line_parts.specs.LineWords.{element_of}
+use Rattle.line_parts.specs.Outcome.{and_then}
+use Rattle.line_parts.specs.Tables.{congruence_table_of, low_table_of}
+use Rattle.line_parts.specs.Token.{Token, is_word, number_within, relation_of}
 use Rattle.query_lang.specs.declared.form.Form.{Form}
 use Rattle.query_lang.specs.declared.form.Form.TheVariants.{Relation, OfRole, Pair, Asks}
 use Rattle.query_lang.specs.declared.form.QueryForm.{QueryForm}
 use Rattle.query_lang.specs.declared.role.Role.{Role}
 use Rattle.query_lang.specs.declared.role.Role.TheVariants as role
-use Rattle.query_lang.specs.declared.version.Version.{Version}
 use Rattle.query_lang.specs.Forms.{Place, AWord, ALetter, ANumber, After, ALowTable, ACongruenceTable, ARelation, ALetters, Given, AllGiven, Way, Gives, Pairs, AnyPairs, TwoSidedPairs, NoPairs, row_of, ways_of}
-use Rattle.query_lang.specs.LineWords.{element_of}
-use Rattle.query_lang.specs.Outcome.{and_then}
 use Rattle.query_lang.specs.Outline.{alphabet_of}
 use Rattle.query_lang.specs.Pairing.{is_same_kind, most_pairs}
 use Rattle.query_lang.specs.Relations.{most_relations, relations_of}
 use Rattle.query_lang.specs.Roles.{count_for, count_for_both, letter_in}
-use Rattle.query_lang.specs.Tables.{congruence_table_of, low_table_of}
-use Rattle.query_lang.specs.Token.{Token, is_word, number_within, relation_of}
 
 -- what tokens are read over: the version, the letters, whether a word may be empty, and relations
 pub record Scope : Type 0 where

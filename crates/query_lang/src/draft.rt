@@ -1,19 +1,16 @@
 // Generators that lines give, one after another.
 ghost use Rattle.std.specs.Prelude.{◌≡◌, ℕ, ◌==◌, false, [], IfOk, IfErr, OnOk, Ok, length, map};
 ghost use Rattle.problem.specs.Problem.{letters_of};
+ghost use Rattle.line_parts.specs.Faults.{IsLineFault};
+ghost use Rattle.line_parts.specs.Fields.{field_of};
+ghost use Rattle.line_parts.specs.Texts.{texts};
 ghost use Rattle.query_lang.specs.Draft.{new_letter_of, start_of, with_one};
-ghost use Rattle.query_lang.specs.Faults.{IsLineFault};
-ghost use Rattle.query_lang.specs.Fields.{field_of};
 ghost use Rattle.query_lang.specs.Header.{no_generators};
 ghost use Rattle.query_lang.specs.Pairing.{IsPairable};
 ghost use Rattle.query_lang.specs.Reading.{AreGenerators, with_generator};
-ghost use Rattle.query_lang.specs.Texts.{texts};
 
-use crate::cause::Cause;
-use crate::fault::LineFault;
-use crate::generator::{Generator, fields_of};
-use crate::tokens::letter_of;
 use elements::{BMat, Field, MaxPlusTrunc, PPerm, Transf};
+use line_parts::{Cause, Generator, LineFault, fields_of, letter_of};
 use ports::NoMemory;
 use presentation::{Kind, Pairs};
 use problem::{Gens, Posed, Problem};

@@ -1,11 +1,10 @@
 // The forms of lines behind the header that begin with a name.
 ghost use Rattle.std.specs.Prelude.{◌≡◌, ◌&&◌};
+ghost use Rattle.line_parts.specs.Token.{is_word};
 ghost use Rattle.query_lang.specs.Forms.{form_named, has_form, has_query, name_of, row_of, section_of};
-ghost use Rattle.query_lang.specs.Token.{is_word};
 
 use crate::role::Role;
-use crate::tokens::is_word;
-use crate::version::Version;
+use line_parts::{Version, is_word};
 use presentation::Kind;
 
 /// The forms of queries.

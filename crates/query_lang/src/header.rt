@@ -1,17 +1,15 @@
 // The header of a script.
 ghost use Rattle.std.specs.Prelude.{◌≡◌, [], ◌∷◌, IfOk, IfErr, None, Some, Ok, Err, Contains};
 ghost use Rattle.words.specs.Alphabet.{IsAlphabetFault, alphabet_fault, marker};
-ghost use Rattle.query_lang.specs.Faults.{IsLineFault};
+ghost use Rattle.line_parts.specs.Faults.{IsLineFault};
+ghost use Rattle.line_parts.specs.Texts.{texts};
 ghost use Rattle.query_lang.specs.Forms.{ANumber};
 ghost use Rattle.query_lang.specs.Header.{free_way, generators_named, given_by, started};
 ghost use Rattle.query_lang.specs.Reading.{AreGenerators};
-ghost use Rattle.query_lang.specs.Texts.{texts};
 
-use crate::cause::Cause;
 use crate::draft::Draft;
-use crate::fault::LineFault;
 use crate::outline::Outline;
-use crate::tokens::{is_word, number_within};
+use line_parts::{Cause, LineFault, is_word, number_within};
 use problem::Problem;
 use std::alloc::Global;
 use words::{Alphabet, AlphabetFault};

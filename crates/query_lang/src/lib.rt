@@ -3,24 +3,18 @@
 //! relations, or on a semigroup that is given by generators of one kind.
 #![tactic(auto)]
 
-mod cause;
 mod draft;
 pub mod facts;
 mod fault;
 mod form;
-mod generator;
 mod header;
-mod line_words;
 mod outline;
 mod pairing;
 mod query_line;
 mod reader;
 mod role;
 mod script;
-mod tables;
-mod tokens;
-mod version;
 
-pub use cause::{Cause, cause_text};
 pub use fault::ScriptFault;
+pub use line_parts::{Cause, cause_text};
 pub use script::{Query, Script, read_script};

@@ -3,22 +3,18 @@ ghost use Rattle.std.specs.Prelude.{◌≡◌, ◌≢◌, ◌<◌, ◌≤◌, �
 ghost use Rattle.theory.specs.Word.{Word as Letters};
 ghost use Rattle.words.specs.Alphabet.{marker};
 ghost use Rattle.presentation.specs.Added.{identity_relations, zero_relations, inverse_relations, products_with};
-ghost use Rattle.query_lang.specs.Faults.{IsLineFault};
+ghost use Rattle.line_parts.specs.Faults.{IsLineFault};
+ghost use Rattle.line_parts.specs.LineWords.{both_elements};
+ghost use Rattle.line_parts.specs.Texts.{texts};
 ghost use Rattle.query_lang.specs.Relations.{IsSide, add_relation, add_relations, free_over, most_relations};
-ghost use Rattle.query_lang.specs.LineWords.{both_elements};
 ghost use Rattle.query_lang.specs.Roles.{AreInverses, both_letters, is_too_many, letter_for, letter_in};
 ghost use Rattle.query_lang.specs.Outline.{related};
 ghost use Rattle.query_lang.specs.Pairing.{IsPairable};
-ghost use Rattle.query_lang.specs.Texts.{texts};
 ghost use Rattle.query_lang.specs.Values.{added_of};
 
-use crate::cause::Cause;
-use crate::fault::LineFault;
 use crate::form::Form;
-use crate::line_words::{both_elements, one_token, two_tokens};
 use crate::role::{Role, count_for, count_for_both};
-use crate::tokens::letter_of;
-use crate::version::Version;
+use line_parts::{Cause, LineFault, Version, both_elements, letter_of, one_token, two_tokens};
 use ports::NoMemory;
 use presentation::{AddFault, Congruence, Kind, Pairs, Presentation};
 use problem::Problem;

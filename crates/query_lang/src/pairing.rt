@@ -2,17 +2,14 @@
 ghost use Rattle.std.specs.Prelude.{◌≡◌, ◌≢◌, IfOk, IfErr, OnOk, Ok, length};
 ghost use Rattle.theory.specs.Word.{IsElement};
 ghost use Rattle.problem.specs.Problem.{IsPosable, has_empty_word, is_presented, letters_of, pairs_of, with_pair};
-ghost use Rattle.query_lang.specs.Faults.{IsLineFault};
-ghost use Rattle.query_lang.specs.LineWords.{both_elements};
+ghost use Rattle.line_parts.specs.Faults.{IsLineFault};
+ghost use Rattle.line_parts.specs.LineWords.{both_elements};
+ghost use Rattle.line_parts.specs.Texts.{texts};
 ghost use Rattle.query_lang.specs.Pairing.{IsPairable, is_same_kind, most_pairs, paired};
-ghost use Rattle.query_lang.specs.Texts.{texts};
 ghost use Rattle.query_lang.specs.Values.{added_of, mixes_kinds};
 
-use crate::cause::Cause;
-use crate::fault::LineFault;
 use crate::form::Form;
-use crate::line_words::{both_elements, two_tokens};
-use crate::version::Version;
+use line_parts::{Cause, LineFault, Version, both_elements, two_tokens};
 use ports::NoMemory;
 use presentation::Kind;
 use problem::Problem;

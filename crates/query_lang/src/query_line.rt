@@ -2,28 +2,24 @@
 ghost use Rattle.std.specs.Prelude.{◌≡◌, List, [], ◌∷◌, IfOk, IfErr, Ok, length, true};
 ghost use Rattle.std.specs.Option.{ok_or};
 ghost use Rattle.theory.specs.Word.{Word as Letters};
-ghost use Rattle.query_lang.specs.declared.cause.Cause.TheVariants.{BadNumber};
+ghost use Rattle.line_parts.specs.declared.cause.Cause.TheVariants.{BadNumber};
+ghost use Rattle.line_parts.specs.declared.version.Version.{Version as VersionOf};
+ghost use Rattle.line_parts.specs.Faults.{IsLineFault};
+ghost use Rattle.line_parts.specs.Texts.{texts};
+ghost use Rattle.line_parts.specs.Token.{number_within};
 ghost use Rattle.query_lang.specs.declared.form.QueryForm.TheVariants as asks;
-ghost use Rattle.query_lang.specs.declared.version.Version.{Version as VersionOf};
-ghost use Rattle.query_lang.specs.Faults.{IsLineFault};
 ghost use Rattle.query_lang.specs.Forms.{row_of};
-ghost use Rattle.query_lang.specs.LineWords.{one_relation};
 ghost use Rattle.query_lang.specs.Query.{AreLimits, IsQueryOver, form_of};
-ghost use Rattle.query_lang.specs.Texts.{texts};
-ghost use Rattle.query_lang.specs.Token.{number_within};
 ghost use Rattle.query_lang.specs.Values.{bars_query, limits_of, made_in, scope, takes};
 
-use crate::cause::Cause;
-use crate::fault::LineFault;
 use crate::form::QueryForm;
-use crate::line_words::{element_of, one_token, one_word, two_words};
 use crate::script::Query;
-use crate::tables::{low_table_of, two_tables};
-use crate::tokens::{is_word, number_within, relation_of};
-use crate::version::Version;
+use line_parts::{
+    Cause, LineFault, Version, element_of, is_word, low_table_of, number_within, one_relation,
+    one_word, two_tables, two_words,
+};
 use problem::Problem;
 use std::alloc::Global;
-use theory::Relation;
 use word_graph::WordGraph;
 use words::{Alphabet, Word};
 
@@ -215,13 +211,6 @@ fn search_of(
         ),
         _ => Err(LineFault::refused(Cause::WrongNumberOfWords)),
     }
-}
-
-// The one of Green's relations that the tokens are.
-fn one_relation(tokens: &[&[u8]]) -> Result<Relation, Cause>
-    ensures { result ≡ one_relation (texts tokens.now) }
-{
-    relation_of(one_token(tokens)?).ok_or(Cause::UnknownRelation)
 }
 
 /// The query of this form, by the tokens behind its name, which are as many as it takes; the

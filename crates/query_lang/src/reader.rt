@@ -1,27 +1,25 @@
 // What the lines of a script say, one after another.
 ghost use Rattle.std.specs.Prelude.{◌≡◌, ◌≤◌, ◌==◌, [], ◌∷◌, true, false, not, ◌&&◌, codes, length, map, IfOk, IfErr, OnOk, Some, None, Ok};
 ghost use Rattle.problem.specs.Problem.{is_presented, pairs_of};
-ghost use Rattle.query_lang.specs.Faults.{IsFaultFor, IsLineFault};
-ghost use Rattle.query_lang.specs.Fields.{field_of};
+ghost use Rattle.line_parts.specs.Faults.{IsLineFault};
+ghost use Rattle.line_parts.specs.Fields.{field_of};
+ghost use Rattle.line_parts.specs.Texts.{texts};
+ghost use Rattle.line_parts.specs.Token.{is_kept, is_word, tokens_of};
+ghost use Rattle.query_lang.specs.Faults.{IsFaultFor};
 ghost use Rattle.query_lang.specs.Forms.{has_form, has_query, section_of};
 ghost use Rattle.query_lang.specs.Grammar.{HeaderReads, LineReads, Partial, Step, begin_with, is_empty, is_generator_line, lacks_generator, script_in, section_reached};
 ghost use Rattle.query_lang.specs.Grammar as said;
 ghost use Rattle.query_lang.specs.LineCauses.{cause_at_end, cause_of_line, causes_after, first_line_causes, first_of, form_causes, generator_causes, header_causes, line_causes};
 ghost use Rattle.query_lang.specs.Reading.{AreGenerators, added_to, come_to, headed};
-ghost use Rattle.query_lang.specs.Texts.{texts};
-ghost use Rattle.query_lang.specs.Token.{is_kept, is_word, tokens_of};
 
-use crate::cause::Cause;
 use crate::draft::Draft;
-use crate::fault::LineFault;
 use crate::form::{Form, QueryForm, form_named};
 use crate::header::{header_of, outline_of};
 use crate::outline::Outline;
 use crate::pairing::Paired;
 use crate::role::Role;
 use crate::script::Script;
-use crate::tokens::{is_kept, is_word, tokens_of};
-use crate::version::{Version, version_of};
+use line_parts::{Cause, LineFault, Version, is_kept, is_word, tokens_of, version_of};
 use ports::NoMemory;
 use presentation::Kind;
 use problem::Problem;

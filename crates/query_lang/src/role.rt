@@ -2,7 +2,7 @@
 ghost use Rattle.std.specs.Prelude.{◌≡◌, ◌≤◌};
 ghost use Rattle.query_lang.specs.Roles.{count_for, count_for_both, place_named};
 
-use crate::tokens::is_word;
+use line_parts::is_word;
 use words::{Alphabet, Letter};
 
 /// What a line says of letters: one is an identity or a zero, or two are inverse (libsemigroups,

@@ -1,22 +1,22 @@
 // Scripts: a problem, and queries.
 ghost use Rattle.std.specs.Prelude.{◌≡◌, [], true, IfOk, IfErr, Ok, All};
 ghost use Rattle.problem.specs.Problem.{IsPosable, is_presented};
+ghost use Rattle.line_parts.specs.Faults.{IsLineFault};
+ghost use Rattle.line_parts.specs.Texts.{texts};
 ghost use Rattle.query_lang.specs.Asked.{asked, with_asked};
-ghost use Rattle.query_lang.specs.Faults.{IsLineFault, IsScriptFault};
+ghost use Rattle.query_lang.specs.Faults.{IsScriptFault};
 ghost use Rattle.query_lang.specs.Grammar.{lines_of};
 ghost use Rattle.query_lang.specs.LineCauses.{AreScript};
 ghost use Rattle.query_lang.specs.Query.{IsQueryOf};
 ghost use Rattle.query_lang.specs.Forms.{has_query};
 ghost use Rattle.query_lang.specs.Relations.{relations_of};
-ghost use Rattle.query_lang.specs.Texts.{texts};
 ghost use Rattle.query_lang.specs.Values.{added_of};
 
-use crate::cause::Cause;
-use crate::fault::{LineFault, ScriptFault};
+use crate::fault::ScriptFault;
 use crate::form::{Form, QueryForm};
 use crate::query_line::query_of;
 use crate::reader::Progress;
-use crate::version::Version;
+use line_parts::{Cause, LineFault, Version};
 use ports::NoMemory;
 use problem::Problem;
 use std::alloc::Global;
@@ -223,11 +223,11 @@ pub fn read_script(alloc: Global, bytes: &[u8]) -> Result<Script, ScriptFault>
         number += 1;
         progress = match progress.take_line(alloc, line) {
             Ok(next) => next,
-            Err(fault) => return Err(fault.at_line(number)),
+            Err(fault) => return Err(ScriptFault::at_line(fault, number)),
         };
     }
     match progress.whole(alloc) {
         Ok(script) => Ok(script),
-        Err(fault) => Err(fault.at_line(number)),
+        Err(fault) => Err(ScriptFault::at_line(fault, number)),
     }
 }

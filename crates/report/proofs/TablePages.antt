@@ -14,7 +14,7 @@ use Rattle.problem.specs.declared.kinds.Problem.TheVariants.{Presented}
 use Rattle.ports.specs.declared.fault.NoMemory.{NoMemory}
 use Rattle.sims_one.specs.declared.pages.TablePage.{TablePage}
 use Rattle.sims_one.specs.Pages.{IsTablePage}
-use Rattle.query_lang.specs.Tables.{rows_in}
+use Rattle.line_parts.specs.Tables.{rows_in}
 use Rattle.report.specs.Answer.{AreTableLines, IsListed}
 use Rattle.report.specs.Lines.{end_line, graph_line, page_lines, table_line}
 

@@ -28,7 +28,7 @@ use Rattle.problem.specs.declared.kinds.Problem.{Problem}
 use Rattle.problem.specs.declared.kinds.Problem.TheVariants as problem
 use Rattle.problem.specs.Problem.{SameClassOf, IsDecided, IsUndecided, letters_of, count_of, no_matrix, no_truncated_matrix}
 use Rattle.congruence.specs.CayleyGraphs.{AreCayleyGraphs}
-use Rattle.query_lang.specs.Tables.{rows_in}
+use Rattle.line_parts.specs.Tables.{rows_in}
 use Rattle.query_lang.specs.declared.script.Query.{Query}
 use Rattle.query_lang.specs.declared.script.Query.TheVariants.{Index, Equal, Normal, Classes, RuleList, ElementOf, Cayley, LowIndex, Meet, Join, Chain, Green, Idempotents}
 use Rattle.report.specs.Lines.{index_line, end_line, normal_line, no_chain_line, page_lines, word_line, rule_line, table_line, numbers_text, cayley_line, meet_line, join_line}

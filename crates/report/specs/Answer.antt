@@ -14,7 +14,7 @@ use Rattle.lattice.specs.Tables.{IsTableOf}
 use Rattle.problem.specs.declared.budgets.Budgets.{Budgets}
 use Rattle.problem.specs.declared.kinds.Problem.{Problem}
 use Rattle.problem.specs.Problem.{OfProblem, SameClassOf, IsDecided, IsUndecided, letters_of, count_of, value_text}
-use Rattle.query_lang.specs.Tables.{rows_in}
+use Rattle.line_parts.specs.Tables.{rows_in}
 use Rattle.query_lang.specs.declared.script.Query.{Query}
 use Rattle.query_lang.specs.declared.script.Query.TheVariants.{Index, Equal, Normal, Classes, RuleList, ElementOf, Cayley, LowIndex, Meet, Join, Chain, Green, Idempotents}
 use Rattle.congruence.specs.CayleyGraphs.{AreCayleyGraphs}

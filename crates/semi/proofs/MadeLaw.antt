@@ -12,22 +12,22 @@ use Rattle.words.proofs.TextLaws.{prints_back}
 use Rattle.presentation.specs.Presented.{Posed}
 use Rattle.problem.specs.declared.kinds.Problem.TheVariants.{Presented}
 use Rattle.problem.specs.Problem.{is_presented}
-use Rattle.query_lang.specs.declared.cause.Cause.{Cause}
+use Rattle.line_parts.specs.declared.cause.Cause.{Cause}
+use Rattle.line_parts.specs.declared.version.Version.TheVariants.{One}
+use Rattle.line_parts.specs.LineWords.{element_of, with_cause}
+use Rattle.line_parts.specs.Outcome.{and_then}
+use Rattle.line_parts.specs.Token.{Line, Token, cut_lines, is_blank, tokens_of}
 use Rattle.query_lang.specs.declared.form.Form.TheVariants.{Relation, Asks}
 use Rattle.query_lang.specs.declared.form.QueryForm.{QueryForm}
 use Rattle.query_lang.specs.declared.form.QueryForm.TheVariants as query_form
 use Rattle.query_lang.specs.declared.script.Query.{Query}
 use Rattle.query_lang.specs.declared.script.Query.TheVariants as ask
-use Rattle.query_lang.specs.declared.version.Version.TheVariants.{One}
 use Rattle.query_lang.specs.Asked.{ScriptOf}
 use Rattle.query_lang.specs.Forms.{ANumber, AWord, AllGiven, Way, form_named, row_of, way}
 use Rattle.query_lang.specs.Grammar as grammar
 use Rattle.query_lang.specs.Grammar.{Begun, HeaderReads, IsOfForm, Nothing, Partial, Reads, Step, begin_with, lines_of, script_in}
 use Rattle.query_lang.specs.Header.{free_way}
-use Rattle.query_lang.specs.LineWords.{element_of, with_cause}
-use Rattle.query_lang.specs.Outcome.{and_then}
 use Rattle.query_lang.specs.Relations.{add_relation, free_over}
-use Rattle.query_lang.specs.Token.{Line, Token, cut_lines, is_blank, tokens_of}
 use Rattle.query_lang.specs.Values.{is_barred, scope_of, values_of, way_for}
 use Rattle.semi.specs.Limits.{most_bytes}
 use Rattle.semi.specs.Made.{made_script}

@@ -7,11 +7,11 @@ use Rattle.std.proofs.lemmas.Grind.{flat_map-append}
 use Rattle.ports.specs.Bytes.{Gave, IsAtEnd, TakesPrefix}
 use Rattle.ports.proofs.BytesLemmas.{prefix_more}
 use Rattle.problem.specs.declared.kinds.Problem.{Problem}
+use Rattle.line_parts.specs.Causes.{number_of_cause}
 use Rattle.query_lang.specs.declared.script.Query.{Query}
 use Rattle.query_lang.specs.declared.fault.ScriptFault.{ScriptFault}
 use Rattle.query_lang.specs.declared.fault.ScriptFault.TheVariants as script
 use Rattle.query_lang.specs.Asked.{ScriptOf}
-use Rattle.query_lang.specs.Causes.{number_of_cause}
 use Rattle.query_lang.specs.Faults.{IsScriptFault}
 use Rattle.query_lang.proofs.ScriptLaw.{no_script_with_fault, one_fault, one_script}
 use Rattle.report.specs.declared.awaited.Awaited.TheVariants.{Log}

@@ -4,7 +4,7 @@ use Rattle.ports.specs.declared.fault.ReadFault.{ReadFault}
 use Rattle.ports.specs.declared.fault.ReadFault.TheVariants as read
 use Rattle.ports.specs.declared.fault.WriteFault.{WriteFault}
 use Rattle.ports.specs.declared.fault.WriteFault.TheVariants as write
-use Rattle.query_lang.specs.Causes.{cause_text}
+use Rattle.line_parts.specs.Causes.{cause_text}
 use Rattle.query_lang.specs.declared.fault.ScriptFault.{ScriptFault}
 use Rattle.query_lang.specs.declared.fault.ScriptFault.TheVariants as script
 use Rattle.settings.specs.declared.SettingsFault.{SettingsFault}

@@ -1,6 +1,6 @@
 use Rattle.std.proofs.Common.{◌≡◌, IfErr, IfOk, List, ℕ, Ok, arith, subst}
+use Rattle.line_parts.specs.Faults.{IsLineFault}
 use Rattle.query_lang.specs.declared.form.QueryForm.TheVariants as asks
-use Rattle.query_lang.specs.Faults.{IsLineFault}
 use Rattle.query_lang.specs.Forms.{row_of}
 use Rattle.query_lang.specs.Values.{made_in, scope}
 use Rattle.query_lang.proofs.QueryLemmas.{three_texts}

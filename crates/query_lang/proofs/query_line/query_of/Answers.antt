@@ -1,8 +1,8 @@
 use Rattle.std.proofs.Common.{◌≡◌, IfErr, IfOk, Ok, ap, subst, sym}
+use Rattle.line_parts.specs.Faults.{IsLineFault}
+use Rattle.line_parts.specs.Texts.{texts}
 use Rattle.query_lang.specs.declared.script.Query.TheVariants as query
-use Rattle.query_lang.specs.Faults.{IsLineFault}
 use Rattle.query_lang.specs.Forms.{row_of}
-use Rattle.query_lang.specs.Texts.{texts}
 use Rattle.query_lang.specs.Values.{made_in, scope}
 use Rattle.query_lang.proofs.QueryLemmas.{tables_handed}
 use Rattle.query_lang.proofs.query_line.query_of.Goals as goal

@@ -1,9 +1,9 @@
 use Rattle.std.proofs.Common.{◌≡◌, IfErr, IfOk, List, ℕ, Ok, arith, subst, sym}
+use Rattle.line_parts.specs.Faults.{IsLineFault}
+use Rattle.line_parts.proofs.FaultLemmas.{handed_on}
 use Rattle.query_lang.specs.declared.form.QueryForm.TheVariants as asks
-use Rattle.query_lang.specs.Faults.{IsLineFault}
 use Rattle.query_lang.specs.Forms.{row_of}
 use Rattle.query_lang.specs.Values.{made_in, scope}
-use Rattle.query_lang.proofs.KindLemmas.{handed_on}
 use Rattle.query_lang.proofs.QueryLemmas.{four_texts, limits_refused}
 use Rattle.query_lang.proofs.query_line.search_of.Goals as goal
 

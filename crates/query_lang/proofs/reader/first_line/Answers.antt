@@ -1,7 +1,7 @@
 use Rattle.std.proofs.Common.{ℕ, List, [], Bor, sym, ◌∙◌, subst}
 use Rattle.std.specs.Cmp.Lexicographic.{same_text}
+use Rattle.line_parts.specs.Texts.{texts}
 use Rattle.query_lang.specs.Grammar.{Nothing, Step, header}
-use Rattle.query_lang.specs.Texts.{texts}
 use Rattle.query_lang.proofs.HeaderLemmas.{version_reads}
 use Rattle.query_lang.proofs.ReaderLemmas.{named_texts}
 use Rattle.query_lang.proofs.reader.first_line.Goals as goal

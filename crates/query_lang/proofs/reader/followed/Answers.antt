@@ -1,6 +1,6 @@
 use Rattle.std.proofs.Common.{sym, subst}
+use Rattle.line_parts.specs.Texts.{texts}
 use Rattle.query_lang.specs.Grammar.{Begun, Step, further}
-use Rattle.query_lang.specs.Texts.{texts}
 use Rattle.query_lang.proofs.reader.followed.Goals as goal
 
 pub returns-clause-ok : goal.returns-clause-ok

@@ -1,10 +1,10 @@
 use Rattle.std.proofs.Common.{◌≡◌, Some, Ok, false, ap, rules}
+use Rattle.line_parts.specs.Outcome.{and_then}
+use Rattle.line_parts.specs.Texts.{texts}
+use Rattle.line_parts.specs.Versions.{is_wide}
+use Rattle.line_parts.proofs.FaultLemmas.{handed_on}
 use Rattle.query_lang.specs.Grammar.{begin_with}
 use Rattle.query_lang.specs.Header.{Start, free_way, header_named, started}
-use Rattle.query_lang.specs.Outcome.{and_then}
-use Rattle.query_lang.specs.Texts.{texts}
-use Rattle.query_lang.specs.Versions.{is_wide}
-use Rattle.query_lang.proofs.KindLemmas.{handed_on}
 use Rattle.query_lang.proofs.QueryLemmas.{carried, same_fault}
 use Rattle.query_lang.proofs.reader.named_header.Goals as goal
 

@@ -3,9 +3,9 @@ use Rattle.std.proofs.Common.{◌≡◌, ℕ, ◌+◌, List, [], ◌∷◌, Bor,
 use Rattle.std.proofs.lemmas.List.{map-append, length-map, length-append}
 use Rattle.std.proofs.lemmas.Iterator.Consumers.{YieldsList-at}
 use Rattle.std.proofs.lemmas.Iterator.Splits.{YieldsList-from_slice_split}
+use Rattle.line_parts.specs.Token.{cut_lines, tokens_of}
+use Rattle.line_parts.specs.Texts.{texts}
 use Rattle.query_lang.specs.Faults.{IsScriptFault}
-use Rattle.query_lang.specs.Token.{cut_lines, tokens_of}
-use Rattle.query_lang.specs.Texts.{texts}
 use Rattle.query_lang.specs.Grammar.{Nothing, Reads, none}
 use Rattle.query_lang.proofs.ReadLemmas.{line_fault, end_fault, whole_script, read_more, items_around, items_all, few_lines}
 use Rattle.query_lang.proofs.script.read_script.Goals as goal

@@ -1,7 +1,7 @@
 use Rattle.std.proofs.Common.{◌≡◌, length, map}
+use Rattle.line_parts.specs.Texts.{texts}
+use Rattle.line_parts.specs.Token.{tokens_of}
 use Rattle.query_lang.specs.Grammar.{Nothing, Reads}
-use Rattle.query_lang.specs.Texts.{texts}
-use Rattle.query_lang.specs.Token.{tokens_of}
 use Rattle.query_lang.proofs.script.read_script.Given as goal
 
 abbrev pub invariant-loop-line : goal.invariant-loop-line

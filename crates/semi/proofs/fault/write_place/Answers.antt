@@ -1,6 +1,6 @@
 use Rattle.std.proofs.Common.{◌≡◌, List, ℕ, ◌++◌, codes, decimal, ◌∙◌}
 use Rattle.ports.proofs.WriteLemmas.{handed_on, same_bytes, bytes_then, bytes_broken_off}
-use Rattle.query_lang.specs.Causes.{cause_text}
+use Rattle.line_parts.specs.Causes.{cause_text}
 use Rattle.semi.proofs.fault.write_place.Goals as goal
 
 pub returns-in_err-write_all-clause-bytes : goal.returns-in_err-write_all-clause-bytes

@@ -1,13 +1,13 @@
 use Rattle.std.proofs.Common.{◌≡◌, Ok, ap, ◌∙◌, subst, rules}
 use Rattle.problem.specs.declared.kinds.Problem.TheVariants.{Transf, PPerm, BMat, MaxPlus}
+use Rattle.line_parts.specs.Elements.{boolean_matrix_of, partial_permutation_of, transformation_of, truncated_matrix_of}
+use Rattle.line_parts.specs.Faults.{IsLineFault}
+use Rattle.line_parts.specs.Outcome.{and_then}
+use Rattle.line_parts.proofs.FaultLemmas.{handed_on}
 use Rattle.query_lang.specs.Draft.{with_one}
-use Rattle.query_lang.specs.Elements.{boolean_matrix_of, partial_permutation_of, transformation_of, truncated_matrix_of}
-use Rattle.query_lang.specs.Faults.{IsLineFault}
 use Rattle.query_lang.specs.Header.{Start}
-use Rattle.query_lang.specs.Outcome.{and_then}
 use Rattle.query_lang.specs.Reading.{with_generator}
 use Rattle.query_lang.proofs.GeneratorLemmas.{kind_is}
-use Rattle.query_lang.proofs.KindLemmas.{handed_on}
 use Rattle.query_lang.proofs.QueryLemmas.{carried, same_fault}
 use Rattle.query_lang.proofs.draft.Draft.with_fields.Goals as goal
 

@@ -1,6 +1,6 @@
 use Rattle.std.proofs.Common.{ℕ, List, [], Bor, None, Ok, sym, ap, ◌∙◌, arith}
 use Rattle.presentation.specs.Added.{inverse_relations}
-use Rattle.query_lang.specs.Outcome.{and_then}
+use Rattle.line_parts.specs.Outcome.{and_then}
 use Rattle.query_lang.proofs.AddedLemmas.{cause_handed, inverse_by_letter, inverse_by_refused, inverse_in}
 use Rattle.query_lang.proofs.QueryLemmas.{three_texts}
 use Rattle.query_lang.proofs.outline.Outline.inverse_letters.Goals as goal

@@ -1,6 +1,6 @@
 use Rattle.std.proofs.Common.{IfErr, subst₂, ap, ◌∙◌}
-use Rattle.query_lang.specs.Faults.{IsLineFault}
-use Rattle.query_lang.specs.LineWords.{both_elements}
+use Rattle.line_parts.specs.Faults.{IsLineFault}
+use Rattle.line_parts.specs.LineWords.{both_elements}
 use Rattle.query_lang.proofs.outline.Outline.sides.Goals as goal
 
 pub returns-clause-err : goal.returns-clause-err

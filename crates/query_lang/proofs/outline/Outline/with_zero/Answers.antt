@@ -1,11 +1,11 @@
 use Rattle.std.proofs.Common.{ℕ, [], ◌∷◌, Ok, sym, ap, ◌∙◌, length}
 use Rattle.presentation.specs.Added.{zero_relations}
 use Rattle.presentation.specs.Presented.{Posed}
-use Rattle.query_lang.specs.Outcome.{and_then}
+use Rattle.line_parts.specs.Outcome.{and_then}
+use Rattle.line_parts.specs.Texts.{texts}
+use Rattle.line_parts.proofs.FaultLemmas.{handed_on}
 use Rattle.query_lang.specs.Relations.{add_relations}
-use Rattle.query_lang.specs.Texts.{texts}
 use Rattle.query_lang.proofs.AddedLemmas.{zero_related}
-use Rattle.query_lang.proofs.KindLemmas.{handed_on}
 use Rattle.query_lang.proofs.QueryLemmas.{carried, same_fault}
 use Rattle.query_lang.proofs.outline.Outline.with_zero.Goals as goal
 

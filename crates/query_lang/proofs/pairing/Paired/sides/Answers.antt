@@ -1,7 +1,7 @@
 use Rattle.std.proofs.Common.{IfErr, subst₂, ap, ◌∙◌}
 use Rattle.problem.specs.Problem.{has_empty_word, letters_of}
-use Rattle.query_lang.specs.Faults.{IsLineFault}
-use Rattle.query_lang.specs.LineWords.{both_elements}
+use Rattle.line_parts.specs.Faults.{IsLineFault}
+use Rattle.line_parts.specs.LineWords.{both_elements}
 use Rattle.query_lang.proofs.pairing.Paired.sides.Goals as goal
 
 pub returns-clause-err : goal.returns-clause-err

@@ -1,9 +1,9 @@
 use Rattle.std.proofs.Common.{◌≡◌, ◌≤◌, false, rules}
 use Rattle.std.proofs.lemmas.Result.{IfErr-weaker}
+use Rattle.line_parts.specs.Texts.{texts}
 use Rattle.query_lang.specs.Forms.{section_of}
 use Rattle.query_lang.specs.Grammar.{lacks_generator, section_reached}
 use Rattle.query_lang.specs.Reading.{added_to}
-use Rattle.query_lang.specs.Texts.{texts}
 use Rattle.query_lang.proofs.FormLemmas.{form_cause, in_fault}
 use Rattle.query_lang.proofs.reader.Reader.add_form.Goals as goal
 

@@ -1,14 +1,14 @@
 use Rattle.std.proofs.Common.{◌≡◌, ◌∷◌, codes, map, Ok, sym, ap, ◌∙◌, subst, subst₂}
-use Rattle.query_lang.specs.Faults.{IsLineFault}
-use Rattle.query_lang.specs.Fields.{field_of}
+use Rattle.line_parts.specs.Faults.{IsLineFault}
+use Rattle.line_parts.specs.Fields.{field_of}
+use Rattle.line_parts.specs.Texts.{texts}
+use Rattle.line_parts.specs.Versions.{is_wide}
 use Rattle.query_lang.specs.Grammar.{LineReads, begin_with}
 use Rattle.query_lang.specs.LineCauses.{first_of, generator_causes}
 use Rattle.query_lang.specs.Reading.{with_generator}
-use Rattle.query_lang.specs.Texts.{texts}
-use Rattle.query_lang.specs.Versions.{is_wide}
 use Rattle.query_lang.proofs.FormLemmas.{in_fault}
 use Rattle.query_lang.proofs.GeneratorLemmas.{generator_cause, generator_reads}
-use Rattle.query_lang.proofs.KindLemmas.{fault_handed}
+use Rattle.query_lang.proofs.FormLemmas.{fault_handed}
 use Rattle.query_lang.proofs.reader.Reader.add_generator.Goals as goal
 
 pub returns-in_err-with_generator-clause-err : goal.returns-in_err-with_generator-clause-err

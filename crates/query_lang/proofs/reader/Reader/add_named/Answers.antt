@@ -1,7 +1,7 @@
 use Rattle.std.proofs.Common.{◌≡◌, Some, sym, ap₂, ◌∙◌}
 use Rattle.problem.specs.Problem.{is_presented}
+use Rattle.line_parts.specs.Texts.{texts}
 use Rattle.query_lang.specs.Forms.{all_forms, form_named}
-use Rattle.query_lang.specs.Texts.{texts}
 use Rattle.query_lang.proofs.QueryLemmas.{form_found}
 use Rattle.query_lang.proofs.ReaderLemmas.{form_reads, read_by}
 use Rattle.query_lang.proofs.reader.Reader.add_named.Goals as goal

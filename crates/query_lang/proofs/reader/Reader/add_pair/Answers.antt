@@ -1,7 +1,7 @@
 use Rattle.std.proofs.Common.{Ok, sym, ap, ◌∙◌}
+use Rattle.line_parts.specs.Outcome.{and_then}
+use Rattle.line_parts.proofs.FaultLemmas.{handed_on}
 use Rattle.query_lang.specs.Grammar.{Partial, begin_with}
-use Rattle.query_lang.specs.Outcome.{and_then}
-use Rattle.query_lang.proofs.KindLemmas.{handed_on}
 use Rattle.query_lang.proofs.QueryLemmas.{carried, same_fault}
 use Rattle.query_lang.proofs.ReaderLemmas.{pair_is, pair_there}
 use Rattle.query_lang.proofs.reader.Reader.add_pair.Goals as goal

@@ -1,4 +1,4 @@
-use Rattle.query_lang.proofs.KindLemmas.{handed_on}
+use Rattle.line_parts.proofs.FaultLemmas.{handed_on}
 use Rattle.query_lang.proofs.QueryLemmas.{carried, same_fault}
 use Rattle.query_lang.proofs.ReaderLemmas.{relation_is}
 use Rattle.query_lang.proofs.reader.Reader.add_relation.Goals as goal

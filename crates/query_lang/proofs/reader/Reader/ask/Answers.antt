@@ -1,8 +1,8 @@
 use Rattle.std.proofs.Common.{Ok, sym, ap, ◌∙◌}
+use Rattle.line_parts.specs.Outcome.{and_then}
+use Rattle.line_parts.proofs.FaultLemmas.{handed_on}
 use Rattle.query_lang.specs.Grammar.{Partial}
-use Rattle.query_lang.specs.Outcome.{and_then}
 use Rattle.query_lang.specs.Reading.{come_to}
-use Rattle.query_lang.proofs.KindLemmas.{handed_on}
 use Rattle.query_lang.proofs.QueryLemmas.{carried, same_fault}
 use Rattle.query_lang.proofs.ReaderLemmas.{query_is, query_there}
 use Rattle.query_lang.proofs.reader.Reader.ask.Goals as goal

@@ -1,7 +1,7 @@
 use Rattle.std.proofs.Common.{◌≡◌, IfErr, IfOk, Ok, subst, sym}
-use Rattle.query_lang.specs.Faults.{IsLineFault}
+use Rattle.line_parts.specs.Faults.{IsLineFault}
+use Rattle.line_parts.specs.Texts.{texts}
 use Rattle.query_lang.specs.Reading.{added_to}
-use Rattle.query_lang.specs.Texts.{texts}
 use Rattle.query_lang.proofs.reader.Reader.with_form.Goals as goal
 
 pub returns-in-Relation-clause-ok : goal.returns-in-Relation-clause-ok

@@ -1,0 +1,12 @@
+pub mod Outcome
+pub mod Token
+pub mod Texts
+pub mod Fields
+pub mod Causes
+pub mod Faults
+pub mod Entries
+pub mod Elements
+pub mod LineWords
+pub mod Tables
+pub mod Versions
+pub mod PowerWords
