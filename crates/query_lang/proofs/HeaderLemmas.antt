@@ -1,5 +1,5 @@
 -- What comes of headers and version lines: what they say, or the cause.
-use Rattle.std.proofs.Common.{◌≡◌, ℕ, Bool, true, false, not, if◌then◌else◌, List, [], ◌∷◌, codes, Option, Some, None, Result, Ok, Err, refl, sym, ap, ap₂, ◌∙◌, subst, arith, inl, inr, Contains}
+use Rattle.std.proofs.Common.{◌≡◌, ℕ, Bool, true, false, not, if◌then◌else◌, is_none, option_and_then, List, [], ◌∷◌, codes, Option, Some, None, Result, Ok, Err, refl, sym, ap, ap₂, ◌∙◌, subst, arith, inl, inr, Contains}
 use Rattle.std.specs.Option.{ok_or}
 use Rattle.std.proofs.lemmas.List.Elements.{All-contains}
 use Rattle.words.specs.Alphabet.{IsAlphabetOf, IsLetterByte, marker}
@@ -9,15 +9,15 @@ use Rattle.line_parts.specs.declared.version.Version.{Version}
 use Rattle.line_parts.specs.Versions.{is_wide, version_numbered, version_of}
 use Rattle.line_parts.specs.Faults.{IsLineFault}
 use Rattle.line_parts.specs.Outcome.{and_then}
-use Rattle.line_parts.specs.Token.{Line, Token, is_kept, number_of}
+use Rattle.line_parts.specs.Token.{Line, Token, is_kept, is_word, number_of}
 use Rattle.query_lang.specs.Faults.{IsFaultFor}
 use Rattle.query_lang.specs.Forms.{Place, Way}
-use Rattle.query_lang.specs.Header.{Start, given_by, header_named, no_letters, started}
+use Rattle.query_lang.specs.Header.{Start, free_way, generators_named, given_by, header_named, no_letters, started}
 use Rattle.query_lang.specs.Grammar.{HeaderReads, Nothing, OfVersion, Partial, Step, begin_with}
 use Rattle.query_lang.specs.Grammar as grammar
 use Rattle.query_lang.specs.Reading.{headed}
 use Rattle.query_lang.specs.Values.{as_many, values_of}
-use Rattle.query_lang.specs.LineCauses.{when, first_of, cause_in, header_causes, start_causes, token_causes}
+use Rattle.query_lang.specs.LineCauses.{when, first_of, cause_in, first_line_causes, header_causes, start_causes, token_causes, version_causes}
 use Rattle.query_lang.proofs.FormLemmas.{in_fault, same-cause}
 use Rattle.query_lang.proofs.QueryLemmas.{values_cause}
 use Rattle.query_lang.proofs.TotalLaw.{header-read}
@@ -28,6 +28,17 @@ letters_unmarked wide letters is has = elim (All-contains (IsLetterByte wide) le
   | inl h ↦ omega (arith, h.0)
   | inr h ↦ omega (arith, h.1)
 ]
+
+-- a header by its name
+
+pub monoid_named : (wide : Bool) (t : Token) → is_word (codes "monoid") t ≡ true → header_named wide t ≡ Some (free_way wide true)
+monoid_named wide t h = rw h refl
+
+pub semigroup_named : (wide : Bool) (t : Token) → is_word (codes "monoid") t ≡ false → is_word (codes "semigroup") t ≡ true → header_named wide t ≡ Some (free_way wide false)
+semigroup_named wide t h k = rw (h, k) refl
+
+pub kind_named : (wide : Bool) (t : Token) → is_word (codes "monoid") t ≡ false → is_word (codes "semigroup") t ≡ false → header_named wide t ≡ generators_named t
+kind_named wide t h k = rw (h, k) refl
 
 -- what the tokens of a header give in their places
 given_cause : (places : List Place) (tokens : List Token) → cause_in (given_by places tokens) ≡ first_of (when cause.WrongNumberOfWords (not (as_many places tokens)) ∷ token_causes no_letters tokens places tokens)
@@ -96,6 +107,25 @@ pub version_reads : (line : Line) (name : Token) (tokens : List Token) (v : Vers
 version_reads line name tokens v is named k h =
     let whole : codes "version" ∷ tokens ≡ line = ap (λ name. name ∷ tokens) (sym named) ∙ is in
     subst (λ line. Step Nothing line (OfVersion v)) whole (tokens_read tokens v (ap is_kept whole ∙ k) h)
+
+-- why the first line says no version
+version_cause : (tokens : List Token) (c : Cause) → version_of tokens ≡ Err c → first_of (version_causes tokens) ≡ Some c
+version_cause [] c h = let same : cause.WrongNumberOfWords ≡ c = cc in ap (λ c. Some c) same
+version_cause (t ∷ u ∷ tokens) c h = let same : cause.WrongNumberOfWords ≡ c = cc in ap (λ c. Some c) same
+version_cause (t ∷ []) c h = by (number_of t) h
+  where
+    known : (v : Option Version) → ok_or v cause.UnknownVersion ≡ Err c → first_of (when cause.UnknownVersion (is_none v) ∷ []) ≡ Some c
+    known None h = let same : cause.UnknownVersion ≡ c = cc in ap (λ c. Some c) same
+    known (Some v) h = absurd (cc)
+
+    by : (o : Option ℕ) → and_then (λ n. ok_or (version_numbered n) cause.UnknownVersion) (ok_or o cause.BadNumber) ≡ Err c
+        → first_of (when cause.BadNumber (is_none o) ∷ when cause.UnknownVersion (is_none (option_and_then version_numbered o)) ∷ []) ≡ Some c
+    by None h = let same : cause.BadNumber ≡ c = cc in ap (λ c. Some c) same
+    by (Some n) h = known (version_numbered n) h
+
+pub version_fault : (line : Line) (name : Token) (tokens : List Token) (c : Cause) → name ∷ tokens ≡ line → name ≡ codes "version" → version_of tokens ≡ Err c → first_of (first_line_causes line) ≡ Some c
+version_fault line name tokens c is named h =
+    subst (λ line. first_of (first_line_causes line) ≡ Some c) (ap (λ name. name ∷ tokens) (sym named) ∙ is) (version_cause tokens c h)
 
 -- why a line is no header
 pub header_fault : (version : Version) (line : Line) (name : Token) (tokens : List Token) (fault : Option Cause) → name ∷ tokens ≡ line → IsLineFault (headed version name tokens) fault → IsFaultFor (first_of (header_causes version line)) fault

@@ -1,7 +1,8 @@
 -- Forms by their names, and queries by the table of forms.
-use Rattle.std.proofs.Common.{◌≡◌, ℕ, suc, ◌<◌, Bool, true, false, not, ◌&&◌, ◌==◌, if◌then◌else◌, List, [], ◌∷◌, length, drop, get_or, drop-cons, Option, Some, None, Result, Ok, Err, Bor, codes, refl, sym, ap, ◌∙◌, subst, arith, true≢false}
+use Rattle.std.proofs.Common.{◌≡◌, ℕ, suc, ◌<◌, ◌≤◌, Bool, true, false, not, ◌&&◌, ◌==◌, if◌then◌else◌, List, [], ◌∷◌, length, drop, get_or, drop-cons, Option, Some, None, Result, Ok, Err, Bor, codes, refl, sym, ap, ◌∙◌, subst, arith, true≢false}
 use Rattle.std.specs.Option.{ok_or}
 use Rattle.std.proofs.lemmas.Bool.{eqb-true}
+use Rattle.std.proofs.lemmas.List.{drop_all}
 use Rattle.theory.specs.Graph.{Graph}
 use Rattle.problem.specs.declared.kinds.Problem.{Problem}
 use Rattle.problem.specs.Problem.{allows_rules, pairs_of}
@@ -39,6 +40,10 @@ pub form_taken : (version : Version) (kind : Bool) (forms : List Form) (t : Toke
 form_taken version kind forms t i other h k =
     ap (λ fs. form_among version kind fs t) (drop-cons forms i other h)
     ∙ ap (λ c. if c then Some (get_or forms i other) else form_among version kind (drop (suc i) forms) t) k
+
+-- where no form is left, none is named
+pub form_missing : (version : Version) (kind : Bool) (forms : List Form) (t : Token) (i : ℕ) → length forms ≤ i → form_among version kind (drop i forms) t ≡ None
+form_missing version kind forms t i h = ap (λ forms. form_among version kind forms t) (drop_all i forms h)
 
 -- the form that is named is one that the script has, and its name is the token
 pub record IsNamed (version : Version) (kind : Bool) (t : Token) (form : Form) : Type 0 where

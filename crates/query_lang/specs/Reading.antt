@@ -1,5 +1,5 @@
 -- What lines say after those before them, as the reader's steps have it.
-use Rattle.std.specs.Prelude.{◌≡◌, ℕ, Bool, false, List, [], Result, Ok}
+use Rattle.std.specs.Prelude.{◌≡◌, ℕ, Bool, false, List, [], Option, Result, Ok}
 use Rattle.problem.specs.Problem.{is_presented, letters_of, pairs_of}
 use Rattle.problem.specs.declared.kinds.Problem.{Problem}
 use Rattle.elements.specs.declared.field.Field.{Field}
@@ -12,6 +12,7 @@ use Rattle.query_lang.specs.declared.form.Form.{Form}
 use Rattle.query_lang.specs.Asked.{ScriptOf}
 use Rattle.query_lang.specs.Draft.{new_letter_of}
 use Rattle.query_lang.specs.Generators.{generator_more}
+use Rattle.query_lang.specs.Forms.{Way}
 use Rattle.query_lang.specs.Grammar.{Partial, begin_with, with_added}
 use Rattle.query_lang.specs.Header.{Start, header_named, started}
 use Rattle.query_lang.specs.Values.{added_of}
@@ -28,10 +29,14 @@ come_to version sizes script = record {
 abbrev pub AreGenerators : Problem → Type 0
 AreGenerators p = (is_presented p ≡ false) × (pairs_of p ≡ [])
 
+-- what this header says, or why it is refused
+abbrev pub said_by : Version → Option (Way Start) → List Token → Result Partial Cause
+said_by version named tokens =
+    and_then (λ s. Ok (begin_with version s.0 s.1)) (started named tokens)
+
 -- what a header of this name says, or why it is refused
 abbrev pub headed : Version → Token → List Token → Result Partial Cause
-headed version name tokens = and_then (λ s. Ok (begin_with version s.0 s.1))
-    (started (header_named (is_wide version) name) tokens)
+headed version name tokens = said_by version (header_named (is_wide version) name) tokens
 
 -- the problem with the generator of this name and these entries
 abbrev pub with_generator : (wide : Bool) → Start → Token → List Field → Result Problem Cause

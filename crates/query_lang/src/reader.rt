@@ -5,12 +5,14 @@ ghost use Rattle.line_parts.specs.Faults.{IsLineFault};
 ghost use Rattle.line_parts.specs.Fields.{field_of};
 ghost use Rattle.line_parts.specs.Texts.{texts};
 ghost use Rattle.line_parts.specs.Token.{is_kept, is_word, tokens_of};
+ghost use Rattle.line_parts.specs.Versions.{is_wide};
 ghost use Rattle.query_lang.specs.Faults.{IsFaultFor};
 ghost use Rattle.query_lang.specs.Forms.{has_form, has_query, section_of};
 ghost use Rattle.query_lang.specs.Grammar.{HeaderReads, LineReads, Partial, Step, begin_with, is_empty, is_generator_line, lacks_generator, script_in, section_reached};
 ghost use Rattle.query_lang.specs.Grammar as said;
+ghost use Rattle.query_lang.specs.Header.{free_way, generators_named};
 ghost use Rattle.query_lang.specs.LineCauses.{cause_at_end, cause_of_line, causes_after, first_line_causes, first_of, form_causes, generator_causes, header_causes, line_causes};
-ghost use Rattle.query_lang.specs.Reading.{AreGenerators, added_to, come_to, headed};
+ghost use Rattle.query_lang.specs.Reading.{AreGenerators, added_to, come_to, headed, said_by};
 
 use crate::draft::Draft;
 use crate::form::{Form, QueryForm, form_named};
@@ -407,6 +409,37 @@ impl Reader {
     }
 }
 
+// The header of a monoid or a semigroup, by the tokens behind its name.
+fn presented_header(
+    alloc: Global,
+    version: Version,
+    monoid: bool,
+    tokens: &[&[u8]],
+) -> Result<Reader, LineFault>
+    ensures ok { IfOk result (λ next. said_by version (Some (free_way (is_wide version) monoid))
+        (texts tokens.now) ≡ Ok next) }
+    ensures err { IfErr result (IsLineFault
+        (said_by version (Some (free_way (is_wide version) monoid)) (texts tokens.now))) }
+{
+    let outline = outline_of(alloc, version.is_wide(), monoid, tokens)?;
+    Ok(relating(version, outline))
+}
+
+// The header of generators, by its name and the tokens behind it.
+fn generated_header(
+    alloc: Global,
+    version: Version,
+    name: &[u8],
+    tokens: &[&[u8]],
+) -> Result<Reader, LineFault>
+    ensures ok { IfOk result (λ next. said_by version (generators_named name.now)
+        (texts tokens.now) ≡ Ok next) }
+    ensures err { IfErr result (IsLineFault
+        (said_by version (generators_named name.now) (texts tokens.now))) }
+{
+    Ok(posing(version, header_of(alloc, name, tokens)?))
+}
+
 // The header, by its name and the tokens behind it.
 fn named_header(
     alloc: Global,
@@ -418,13 +451,11 @@ fn named_header(
     ensures err { IfErr result (IsLineFault (headed version name.now (texts tokens.now))) }
 {
     if is_word(b"monoid", name) {
-        let outline = outline_of(alloc, version.is_wide(), true, tokens)?;
-        Ok(relating(version, outline))
+        presented_header(alloc, version, true, tokens)
     } else if is_word(b"semigroup", name) {
-        let outline = outline_of(alloc, version.is_wide(), false, tokens)?;
-        Ok(relating(version, outline))
+        presented_header(alloc, version, false, tokens)
     } else {
-        Ok(posing(version, header_of(alloc, name, tokens)?))
+        generated_header(alloc, version, name, tokens)
     }
 }
 
