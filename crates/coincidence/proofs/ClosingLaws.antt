@@ -80,7 +80,7 @@ module _ (c : Congruence) (first now : Cosets) (from at : Option ℕ) (w : IsWho
   }
 
   -- entries were dropped
-  pub drawing_dropped : (new : Cosets) → new ≡ record now { pending = new.pending } → IsWhole c new → IsDrawing c first new from at
+  pub drawing_dropped : (new : Cosets) → new ≡ record now { pending = new.pending; seen = new.seen } → IsWhole c new → IsDrawing c first new from at
   drawing_dropped new is whole = subst (λ z. IsDrawing c first z from at) (sym is) (record {
     class = d.class;
     whole = subst (IsWhole c) is whole;

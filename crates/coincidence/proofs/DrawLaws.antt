@@ -160,19 +160,19 @@ joined_left old new x y at to lives hx hy shape on o =
 
 -- a definition renews
 pub defined_renewed : (k : ℕ) (g : Graph) (live : List Bool) (pending : List Pending) (n a : ℕ) → IsGraph k g → IsLiveGraph g live → IsOn live n → a < k → target g n a ≡ None
-    → IsRenewed g (with_edge (with_node k g) n a (length g)) live (live ++ true ∷ []) pending ((pending ++ NewNode (length g) ∷ []) ++ NewEdge n a ∷ [])
+    → IsRenewed g (with_edge (with_node k g) n a (length g)) live (live ++ true ∷ []) pending ((pending ++ NewEdge n a ∷ []) ++ NewNode (length g) ∷ [])
 defined_renewed k g live pending n a is lives on letter missing = record {
   edges = λ p b t e. elim (edged.back p b t e) [
     | inl o ↦ inr (sym (target_node k g p b) ∙ o)
-    | inr o ↦ inl (subst (λ z. IsAmong z ((pending ++ NewNode (length g) ∷ []) ++ NewEdge n a ∷ [])) (edge_is p b o.0 o.1) (among_last (NewEdge n a) (pending ++ NewNode (length g) ∷ [])))
+    | inr o ↦ inl (subst (λ z. IsAmong z ((pending ++ NewEdge n a ∷ []) ++ NewNode (length g) ∷ [])) (edge_is p b o.0 o.1) (among_before (NewEdge n a) (NewNode (length g)) (pending ++ NewEdge n a ∷ []) (among_last (NewEdge n a) pending)))
   ];
   nodes = λ p h. elim (cases_lt p (length live)) [
     | inl less ↦ inr (sym (get_or_append_left live (true ∷ []) false p less) ∙ h)
     | inr more ↦
         let last : p ≡ length g = omega (arith, more, on_within (live ++ true ∷ []) p h, length_push {X = Bool} live true, lives.shape) in
-        inl (subst (λ z. IsAmong (NewNode z) ((pending ++ NewNode (length g) ∷ []) ++ NewEdge n a ∷ [])) (sym last) (among_before (NewNode (length g)) (NewEdge n a) (pending ++ NewNode (length g) ∷ []) (among_last (NewNode (length g)) pending)))
+        inl (subst (λ z. IsAmong (NewNode z) ((pending ++ NewEdge n a ∷ []) ++ NewNode (length g) ∷ [])) (sym last) (among_last (NewNode (length g)) (pending ++ NewEdge n a ∷ [])))
   ];
-  pending = λ p h. among_before p (NewEdge n a) (pending ++ NewNode (length g) ∷ []) (among_before p (NewNode (length g)) pending h);
+  pending = λ p h. among_before p (NewNode (length g)) (pending ++ NewEdge n a ∷ []) (among_before p (NewEdge n a) pending h);
   kept = λ j b m _ _ e. edged.kept j b m (target_node k g j b ∙ e);
 }
   where
@@ -184,9 +184,9 @@ defined_renewed k g live pending n a is lives on letter missing = record {
 
 -- and keeps what is closed
 pub defined_closed : (k : ℕ) (g new : Graph) (live is : List Bool) (pending later : List Pending) (n a m : ℕ) → IsGraph k g → IsLiveGraph g live → IsOn live n → a < k → target g n a ≡ None
-    → m ≡ length g → new ≡ with_edge (with_node k g) n a m → is ≡ live ++ true ∷ [] → later ≡ (pending ++ NewNode (length g) ∷ []) ++ NewEdge n a ∷ []
+    → m ≡ length g → new ≡ with_edge (with_node k g) n a m → is ≡ live ++ true ∷ [] → later ≡ (pending ++ NewEdge n a ∷ []) ++ NewNode (length g) ∷ []
     → (pairs : List (Word × Word)) → IsClosedBut pairs g live pending → IsClosedBut pairs new is later
 defined_closed k g new live is pending later n a m graph lives on letter missing fresh new_is live_is later_is pairs closed =
     rw (new_is, fresh, live_is, later_is)
-    (closed_renewed pairs g (with_edge (with_node k g) n a (length g)) live (live ++ true ∷ []) pending ((pending ++ NewNode (length g) ∷ []) ++ NewEdge n a ∷ [])
+    (closed_renewed pairs g (with_edge (with_node k g) n a (length g)) live (live ++ true ∷ []) pending ((pending ++ NewEdge n a ∷ []) ++ NewNode (length g) ∷ [])
     (define_live k g live n a graph lives on letter missing) (defined_renewed k g live pending n a graph lives on letter missing) closed)

@@ -7,7 +7,7 @@ use Rattle.coincidence.specs.Links.{Links, IsSources}
 use Rattle.coincidence.specs.Pending.{IsClosedBut}
 use Rattle.std.proofs.Common.{inl, inr, length-set, get_or}
 use Rattle.std.proofs.lemmas.Bool.{cases_eq}
-use Rattle.std.proofs.lemmas.List.{get_or-set_same, get_or-set_other, length_push}
+use Rattle.std.proofs.lemmas.List.{get_or-set_same, get_or-set_other, get_or_append_left, length_push}
 use Rattle.theory.specs.Word.{Word}
 use Rattle.theory.specs.Graph.{path, SameEnd}
 use Rattle.theory.proofs.PartLaws.{given}
@@ -20,19 +20,24 @@ use Rattle.coincidence.specs.Cosets.{IsWhole, IsGathered}
 use Rattle.coincidence.specs.Joining.{IsJoined}
 use Rattle.coincidence.specs.Kept.{IsKept, IsPlaced, step_at}
 use Rattle.coincidence.specs.Marks.{KeepsNumbers}
-use Rattle.coincidence.specs.Table.{CosetTable, IsHeld, shown, bare}
+use Rattle.coincidence.specs.Merging.{IsReached}
+use Rattle.coincidence.specs.Seen.{HoldWhereSeen, IsSeen}
+use Rattle.coincidence.specs.Holding.{MeetAt}
+use Rattle.coincidence.specs.Table.{CosetTable, IsHeld, IsLive, shown, bare}
 use Rattle.coincidence.specs.declared.cosets.Cosets.{Cosets}
 use Rattle.coincidence.specs.declared.order.Order.{Order}
 use Rattle.coincidence.specs.declared.pending.Pending.{Pending}
 use Rattle.coincidence.specs.declared.pending.Pending.TheVariants.{NewNode, NewEdge}
-use Rattle.coincidence.proofs.DrawLaws.{IsLeft, defined_closed, joined_left}
+use Rattle.coincidence.proofs.CloseLaws.{edged_path}
+use Rattle.coincidence.proofs.DrawLaws.{IsLeft, defined_closed, joined_left, joined_split}
 use Rattle.coincidence.proofs.FoldLaws.{edged_with}
 use Rattle.coincidence.proofs.FollowsLaws.{path_more}
 use Rattle.coincidence.proofs.KeptLaws.{kept_lives, kept_more}
 use Rattle.coincidence.proofs.MarkLaws.{marks_pushed, no_mark}
 use Rattle.coincidence.proofs.PendingLaws.{closed_renewed, closed_root, renewed_edged}
+use Rattle.coincidence.proofs.SeenLaws.{seen_folded, seen_kept, seen_nothing}
 use Rattle.coincidence.proofs.StepLaws.{edged_live}
-use Rattle.coincidence.proofs.TableLaws.{define_edged, define_graph, define_live, on_inside, root_graph, root_live}
+use Rattle.coincidence.proofs.TableLaws.{define_edged, define_graph, define_live, on_inside, path_same, root_graph, root_live}
 
 -- each node has its sources, as edges tell
 abbrev pub HasSources : Links → Type 0
@@ -82,6 +87,12 @@ pub between : (P : CosetTable → CosetTable → Type 0) (c : Congruence) (faile
 between P c false t t' table e view h = subst (λ z. P z (shown c false t')) view h
 between P c true t t' table e view h = cc
 
+-- what is known to hold does
+pub known_holds : (c : Congruence) (t : Cosets) (failed : Bool) (table : CosetTable) → failed ≡ false → IsWhole c t → shown c failed t ≡ table → (node i : ℕ) → IsSeen t.seen node i → IsLive table node
+    → (p : Word × Word) → MeetAt table.graph node (get_or table.congruence.presentation.relations i p)
+known_holds c t failed table e w view node i h on p =
+    subst (λ (z : CosetTable). IsLive z node → MeetAt z.graph node (get_or z.congruence.presentation.relations i p)) (seen c t failed table e view) (λ here. w.seen node i p h (w.lives.reached node here)) on
+
 -- nodes in the order live
 pub kept_live : (k : ℕ) (g : Graph) (live marked : List Bool) (o : Order) → IsLiveGraph g live → IsKept k g marked o → (n : ℕ) → IsPlaced o n → IsOn live n
 kept_live k g live marked o lives is n p =
@@ -130,6 +141,9 @@ module _ (c : Congruence) (old new : Cosets) (x y : ℕ) (at to : Option ℕ) (w
         (λ n j e. o.order.lives (kept_live c.presentation.letters old.edges.graph old.live.items old.marked.items old.order w.lives w.order) n (j, e))
         (edges_stay old.edges.graph new.edges.graph old.live.items new.live.items left.ok.live left.numbers persist)
         (λ n on was. let v = own old.edges.graph new.edges.graph old.live.items new.live.items left.ok.live left.numbers persist n on in left.marks.kept v.0 v.0 n n v.1 was v.2 v.2);
+    seen = subst (HoldWhereSeen c.presentation.relations new.edges.graph) (sym o.seen)
+        (seen_folded c.presentation.relations old.edges.graph o.class new.edges.graph old.seen o.merging.folded
+        (λ n r. let s = joined_split old new x y at to o n (left.ok.live.lives n r) in (w.lives.reached n s.0, s.1)) w.seen);
   }
 
 -- the order of a table with one node more
@@ -180,6 +194,7 @@ ordered_whole c t new is w kept = subst (IsWhole c) (sym is) (record {
   marks = w.marks;
   closed = w.closed;
   order = kept;
+  seen = w.seen;
 })
 
 -- a mark more
@@ -196,6 +211,7 @@ marked_whole c t new node is marked on w = subst (IsWhole c) (sym is) (record {
   closed = w.closed;
   order = subst (λ m. IsKept c.presentation.letters t.edges.graph m t.order) (sym marked)
       (kept_marked c.presentation.letters t.edges.graph t.marked.items t.order node (omega (arith, on_inside t.edges.graph t.live.items node w.lives on, w.shape)) w.order);
+  seen = w.seen;
 })
 
 -- other entries, but for which all is closed too
@@ -208,6 +224,21 @@ pending_whole c t new is closed w = subst (IsWhole c) (sym is) (record {
   marks = w.marks;
   closed = closed;
   order = w.order;
+  seen = w.seen;
+})
+
+-- and more that was seen to hold
+pub read_whole : (c : Congruence) (t new : Cosets) → new ≡ record t { pending = new.pending; seen = new.seen } → IsClosedBut c.presentation.relations t.edges.graph t.live.items new.pending
+    → HoldWhereSeen c.presentation.relations t.edges.graph new.seen → IsWhole c t → IsWhole c new
+read_whole c t new is closed seen w = subst (IsWhole c) (sym is) (record {
+  congruence = w.congruence;
+  graph = w.graph;
+  lives = w.lives;
+  shape = w.shape;
+  marks = w.marks;
+  closed = closed;
+  order = w.order;
+  seen = seen;
 })
 
 -- an edge more, which is pending
@@ -252,11 +283,14 @@ module _ (c : Congruence) (t new : Cosets) (node letter to : ℕ) (w : IsWhole c
         (λ n j e. kept_live c.presentation.letters t.edges.graph t.live.items t.marked.items t.order w.lives w.order n (j, e))
         (λ n b m _ _ e. drawn_edge.kept n b m e)
         (λ n _ on. on));
+    seen = subst (λ (g : Graph). HoldWhereSeen c.presentation.relations g t.seen) (sym graph_is)
+        (seen_kept c.presentation.relations t.edges.graph drawn t.seen t.seen (edged_path t.edges.graph drawn node letter to drawn_edge)
+        (λ n i h r. (h, w.lives.reached n (lives.lives n r))) w.seen);
   })
 
 -- the root alone
-pub root_whole : (c : Congruence) (t : Cosets) → IsWellFormed c → t.edges.graph ≡ bare c → t.live.items ≡ true ∷ [] → t.marked.items ≡ false ∷ [] → t.pending ≡ NewNode 0 ∷ [] → IsKept c.presentation.letters (bare c) (false ∷ []) t.order → IsWhole c t
-root_whole c t is graph live marked pending kept = record {
+pub root_whole : (c : Congruence) (t : Cosets) → IsWellFormed c → t.edges.graph ≡ bare c → t.live.items ≡ true ∷ [] → t.marked.items ≡ false ∷ [] → t.pending ≡ NewNode 0 ∷ [] → IsKept c.presentation.letters (bare c) (false ∷ []) t.order → t.seen ≡ [] → IsWhole c t
+root_whole c t is graph live marked pending kept none = record {
   congruence = is;
   graph = rw graph (root_graph c.presentation.letters);
   lives = rw (graph, live) (root_live c.presentation.letters);
@@ -264,6 +298,7 @@ root_whole c t is graph live marked pending kept = record {
   marks = λ n on. absurd (no_mark n (subst (λ m. IsOn m n) marked on));
   closed = rw (graph, live, pending) (closed_root c.presentation.relations (bare c) (true ∷ []) only_root);
   order = rw (graph, marked) kept;
+  seen = seen_nothing c.presentation.relations t.edges.graph t.seen (ap length none);
 }
   where
     only_root : (n : ℕ) → IsOn (true ∷ []) n → n ≡ 0
@@ -278,10 +313,19 @@ module _ (c : Congruence) (t new : Cosets) (node letter : ℕ) (w : IsWhole c t)
   longer : length defined ≡ length t.edges.graph + 1
   longer = length-set (with_node c.presentation.letters t.edges.graph) node (set (get_or (with_node c.presentation.letters t.edges.graph) node []) letter (Some (length t.edges.graph))) ∙ length_push {X = List (Option ℕ)} t.edges.graph (replicate c.presentation.letters None)
 
+  inside : node < length t.edges.graph
+  inside = on_inside t.edges.graph t.live.items node w.lives on
+
+  was_reached : (n : ℕ) → IsReached defined n → n < length t.edges.graph → IsReached t.edges.graph n
+  was_reached n r old =
+      let is : IsOn (t.live.items ++ true ∷ []) n = (define_live c.presentation.letters t.edges.graph t.live.items node letter w.graph w.lives on less none).lives n r in
+      w.lives.reached n (sym (get_or_append_left t.live.items (true ∷ []) false n (omega (arith, old, w.lives.shape))) ∙ is)
+
   pub defined_whole : new.edges.graph ≡ defined → new.live.items ≡ t.live.items ++ true ∷ [] → new.marked.items ≡ t.marked.items ++ false ∷ []
-      → new.pending ≡ (t.pending ++ NewNode (length t.edges.graph) ∷ []) ++ NewEdge node letter ∷ []
-      → new.order.places.items ≡ t.order.places.items ++ None ∷ [] → new.order.steps.items ≡ t.order.steps.items → new.order.row ≡ t.order.row → new.order.letter ≡ t.order.letter → new.order.done ≡ t.order.done → IsWhole c new
-  defined_whole graph live marked pending places steps row at done = record {
+      → new.pending ≡ (t.pending ++ NewEdge node letter ∷ []) ++ NewNode (length t.edges.graph) ∷ []
+      → new.order.places.items ≡ t.order.places.items ++ None ∷ [] → new.order.steps.items ≡ t.order.steps.items → new.order.row ≡ t.order.row → new.order.letter ≡ t.order.letter → new.order.done ≡ t.order.done
+      → ((n i : ℕ) → IsSeen new.seen n i → IsSeen t.seen n i × (n < length t.edges.graph)) → IsWhole c new
+  defined_whole graph live marked pending places steps row at done cut = record {
     congruence = w.congruence;
     graph = subst (IsGraph c.presentation.letters) (sym graph) (define_graph c.presentation.letters t.edges.graph node letter w.graph (on_inside t.edges.graph t.live.items node w.lives on) less);
     lives = rw (graph, live) (define_live c.presentation.letters t.edges.graph t.live.items node letter w.graph w.lives on less none);
@@ -290,4 +334,8 @@ module _ (c : Congruence) (t new : Cosets) (node letter : ℕ) (w : IsWhole c t)
     closed = defined_closed c.presentation.letters t.edges.graph new.edges.graph t.live.items new.live.items t.pending new.pending node letter (length t.edges.graph) w.graph w.lives on less none refl graph live pending c.presentation.relations w.closed;
     order = subst (λ (g : Graph). IsKept c.presentation.letters g new.marked.items new.order) (sym graph)
         (kept_added c.presentation.letters t.edges.graph t.marked.items new.marked.items t.order new.order t.live.items node letter w.graph w.lives on less none places steps row at done marked w.order);
+    seen = subst (λ (g : Graph). HoldWhereSeen c.presentation.relations g new.seen) (sym graph)
+        (seen_kept c.presentation.relations t.edges.graph defined t.seen new.seen
+        (λ n m u e. edged_path (with_node c.presentation.letters t.edges.graph) defined node letter (length t.edges.graph) (define_edged c.presentation.letters t.edges.graph node letter w.graph inside less none) n m u (path_same t.edges.graph (with_node c.presentation.letters t.edges.graph) (λ p b. sym (target_node c.presentation.letters t.edges.graph p b)) n m u e))
+        (λ n i h r. let k = cut n i h in (k.0, was_reached n r k.1)) w.seen);
   }

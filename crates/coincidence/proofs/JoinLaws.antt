@@ -189,6 +189,7 @@ pub record IsJoining (old now : Cosets) (x y : ℕ) (at to : Option ℕ) (queue 
   pub fresh : (n a t : ℕ) → target now.edges.graph n a ≡ Some t → IsAmong (NewEdge n a) now.pending ⊎ (target old.edges.graph n a ≡ Some t)
   pub pending : Extends old.pending now.pending
   pub order : IsMended old.order now.order old.live.items now.live.items
+  pub seen : now.seen ≡ old.seen
 
 eq_refl : (n : ℕ) → nat_eq n n ≡ true
 eq_refl n = grind arith
@@ -250,6 +251,7 @@ module _ (c : Congruence) (old now : Cosets) (x y : ℕ) (at : Option ℕ) (w : 
     fresh = λ n a t e. inr e;
     pending = λ p h. h;
     order = mended_start old.order old.live.items;
+    seen = refl;
   })
     where
       class : List ℕ
@@ -439,8 +441,8 @@ module _ (old cur new : Cosets) (x y : ℕ) (at to to' : Option ℕ) (found : Li
           ]
 
   pub joining_step : IsAbsorbed cur.edges.graph new.edges.graph lost kept rest queued cur.pending new.pending → IsMarkMoved cur.marked.items new.marked.items lost kept → to' ≡ option_map (relabel lost kept) to
-      → new.live.items ≡ set cur.live.items lost false → new.replaced_by.items ≡ set found lost kept → IsMended old.order new.order old.live.items (set cur.live.items lost false) → IsJoining old new x y at to' queued
-  joining_step ab mark gone live_is found_is mended = record {
+      → new.live.items ≡ set cur.live.items lost false → new.replaced_by.items ≡ set found lost kept → new.seen ≡ cur.seen → IsMended old.order new.order old.live.items (set cur.live.items lost false) → IsJoining old new x y at to' queued
+  joining_step ab mark gone live_is found_is seen_is mended = record {
     class = map (relabel lost kept) j.class;
     classing = classing';
     alike = shape_trans old.edges.graph cur.edges.graph new.edges.graph j.alike ab.shape;
@@ -467,6 +469,7 @@ module _ (old cur new : Cosets) (x y : ℕ) (at to to' : Option ℕ) (found : Li
     fresh = λ n a p e. elim (ab.fresh n a p e) [ inl h ↦ inl h | inr h ↦ elim (j.fresh n a p h) [ inl k ↦ inl (ab.pending (NewEdge n a) k) | inr k ↦ inr k ] ];
     pending = λ p h. ab.pending p (j.pending p h);
     order = subst (λ z. IsMended old.order new.order old.live.items z) (sym live_is) mended;
+    seen = seen_is ∙ j.seen;
   }
     where
       own_target : (ab : IsAbsorbed cur.edges.graph new.edges.graph lost kept rest queued cur.pending new.pending) → (c a p : ℕ) → target new.edges.graph c a ≡ Some p → slice_index (map (relabel lost kept) j.class) p ≡ p
@@ -523,6 +526,7 @@ joining_end old now new x y at to queue is all j = subst (λ z. IsJoined old z x
   fresh = j.fresh;
   pending = j.pending;
   order = j.order;
+  seen = j.seen;
 })
 
 -- the greater of two nodes is lost, and the lesser kept

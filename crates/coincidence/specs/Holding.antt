@@ -1,10 +1,9 @@
--- Relations that hold where nodes are marked.
+-- Relations that hold at a node.
 use Rattle.std.specs.Prelude.{◌≡◌, ℕ, ◌<◌, ◌⊎◌, List, Some, slice_index_or}
 use Rattle.theory.specs.Word.{Word}
 use Rattle.theory.specs.Congruence.{EitherWay}
 use Rattle.theory.specs.Graph.{Graph, path}
 use Rattle.coincidence.specs.Reading.{IsAsked}
-use Rattle.coincidence.specs.Table.{CosetTable, IsMarked}
 use Rattle.coincidence.specs.declared.due.Due.{Due}
 use Rattle.coincidence.specs.declared.due.Due.TheVariants.{Nothing, Edge, Join}
 
@@ -34,7 +33,3 @@ HoldOnceDrawn pairs g node due place = (k : ℕ) (p : Word × Word) → k < plac
 abbrev pub HoldAt : List (Word × Word) → Graph → ℕ → Type 0
 HoldAt pairs g node = (r s : Word) → EitherWay pairs r s
     → (m : ℕ) × (path g node r ≡ Some m) × (path g node s ≡ Some m)
-
--- the relations hold at each marked node
-abbrev pub HoldWhereMarked : CosetTable → Type 0
-HoldWhereMarked t = (n : ℕ) → IsMarked t n → HoldAt t.congruence.presentation.relations t.graph n

@@ -67,3 +67,4 @@ pub record IsJoined (old new : Cosets) (x y : ℕ) (at to : Option ℕ) : Type 0
       → IsAmong (NewEdge n a) new.pending ⊎ (target old.edges.graph n a ≡ Some t)
   pub pending : Extends old.pending new.pending
   pub order : IsMended old.order new.order old.live.items new.live.items
+  pub seen : new.seen ≡ old.seen

@@ -20,3 +20,4 @@ pub mod Rings
 pub mod Replaced
 pub mod Uses
 pub mod Starts
+pub mod Seen

@@ -9,6 +9,7 @@ ghost use Rattle.coincidence.specs.Cosets.{IsGathered, IsWhole};
 ghost use Rattle.coincidence.specs.Live.{IsLiveGraph, IsOn};
 ghost use Rattle.coincidence.specs.Pending.{IsClosedBut};
 ghost use Rattle.coincidence.specs.Drawing.{IsDueOf};
+ghost use Rattle.coincidence.specs.Seen.{HoldWhereSeen};
 
 use crate::cosets::Cosets;
 use crate::due::Due;
@@ -16,14 +17,25 @@ use crate::edges::Edges;
 use crate::indexed::Indexed;
 use crate::pending::{Pending, Worklist};
 use crate::reads::{due_at, due_at_start, due_from, due_or_held, due_through};
+use crate::seen::Seen;
 use ports::NoMemory;
 use std::alloc::Global;
 
 // What the relations ask for at a node, or across an edge, that is pending.
-fn due_of(congruence: &Indexed, edges: &Edges, live: &Vec<bool>, entry: Pending) -> Due
-    requires { IsLiveGraph edges.now.graph live.now.items }
-    ensures { IsDueOf congruence.now.congruence.presentation.relations edges.now.graph
+fn due_of(
+    congruence: &Indexed,
+    edges: &Edges,
+    live: &Vec<bool>,
+    entry: Pending,
+    seen: &mut Seen,
+) -> Due
+    requires live { IsLiveGraph edges.now.graph live.now.items }
+    requires seen { HoldWhereSeen congruence.now.congruence.presentation.relations edges.now.graph
+        seen.old }
+    ensures due { IsDueOf congruence.now.congruence.presentation.relations edges.now.graph
         live.now.items entry result }
+    ensures seen { HoldWhereSeen congruence.now.congruence.presentation.relations edges.now.graph
+        seen.new }
 {
     match entry {
         Pending::NewNode(node) => {
@@ -33,7 +45,7 @@ fn due_of(congruence: &Indexed, edges: &Edges, live: &Vec<bool>, entry: Pending)
             if !live[node] {
                 return Due::Nothing;
             }
-            due_at_start(edges, node, congruence)
+            due_at_start(edges, node, congruence, seen)
         }
         Pending::NewEdge(node, letter) => {
             let Some(_) = edges.target(node, letter) else {
@@ -46,16 +58,26 @@ fn due_of(congruence: &Indexed, edges: &Edges, live: &Vec<bool>, entry: Pending)
 
 // What relations or pairs ask for, with nothing read but what is pending, and the pairs at the
 // root.
-fn due_next(congruence: &Indexed, edges: &Edges, live: &Vec<bool>, pending: &mut Worklist) -> Due
+fn due_next(
+    congruence: &Indexed,
+    edges: &Edges,
+    live: &Vec<bool>,
+    pending: &mut Worklist,
+    seen: &mut Seen,
+) -> Due
     requires live { IsLiveGraph edges.now.graph live.now.items }
+    requires seen { HoldWhereSeen congruence.now.congruence.presentation.relations edges.now.graph
+        seen.old }
     requires closed { IsClosedBut congruence.now.congruence.presentation.relations edges.now.graph
         live.now.items pending.old }
     ensures due { IsDueIn congruence.now.congruence edges.now.graph live.now.items None result }
     ensures closed { IsClosedBut congruence.now.congruence.presentation.relations edges.now.graph
         live.now.items pending.new }
+    ensures seen { HoldWhereSeen congruence.now.congruence.presentation.relations edges.now.graph
+        seen.new }
 {
     while let Some(entry) = pending.last() {
-        match due_of(congruence, edges, live, entry) {
+        match due_of(congruence, edges, live, entry, seen) {
             Due::Nothing => {
                 pending.drop_last();
             }
@@ -103,7 +125,8 @@ impl Cosets {
         requires at { ForSome at (IsOn self.old.live.items) }
         requires held { ForSome at (λ node. HoldBefore
             congruence.now.congruence.presentation.relations self.old.edges.graph node held.old) }
-        ensures same { self.new ≡ record self.old { pending = self.new.pending } }
+        ensures same { self.new
+            ≡ record self.old { pending = self.new.pending; seen = self.new.seen } }
         ensures whole { IsWhole congruence.now.congruence self.new }
         ensures due { IsDueIn congruence.now.congruence self.new.edges.graph self.new.live.items at
             result }
@@ -112,7 +135,13 @@ impl Cosets {
             held.new) }
     {
         match at {
-            None => due_next(congruence, &self.edges, &self.live, &mut self.pending),
+            None => due_next(
+                congruence,
+                &self.edges,
+                &self.live,
+                &mut self.pending,
+                &mut self.seen,
+            ),
             Some(node) => due_there(congruence, &self.edges, &self.live, node, held),
         }
     }

@@ -9,12 +9,14 @@ ghost use Rattle.coincidence.specs.Live.{IsOn};
 use crate::edges::Edges;
 use crate::order::Order;
 use crate::pending::{Pending, Worklist};
+use crate::seen::Seen;
 use ports::NoMemory;
 use std::alloc::Global;
 use words::Letter;
 
 /// The nodes of a coset table: their edges, which of them are live and which marked, their order as
-/// far as it is known, what is new and not read yet, and by which nodes lost ones were replaced.
+/// far as it is known, what is new and not read yet, by which nodes lost ones were replaced, and
+/// which relations were seen to hold where.
 #[derive(Drop)]
 pub struct Cosets {
     pub edges: Edges,
@@ -23,6 +25,7 @@ pub struct Cosets {
     pub order: Order,
     pub pending: Worklist,
     pub replaced_by: Vec<usize>,
+    pub seen: Seen,
 }
 
 impl Cosets {
@@ -55,6 +58,7 @@ impl Cosets {
             order,
             pending,
             replaced_by: Vec::new(alloc),
+            seen: Seen::new(alloc),
         })
     }
 
@@ -76,11 +80,12 @@ impl Cosets {
     {
         let _letters = self.edges.letters();
         let fresh = self.edges.nodes();
+        self.seen.cut(fresh);
         self.live.push(true)?;
         self.marked.push(false)?;
         self.order.add_node()?;
-        self.pending.push(Pending::NewNode(fresh))?;
         self.pending.push(Pending::NewEdge(node, letter))?;
+        self.pending.push(Pending::NewNode(fresh))?;
         self.edges.add_node()?;
         self.edges.set_edge(node, letter, fresh);
         Ok(fresh)

@@ -21,6 +21,7 @@ mod periods;
 mod reads;
 mod replaced;
 mod rings;
+mod seen;
 mod starts;
 mod tables;
 mod uses;

@@ -1,12 +1,13 @@
 // What relations and pairs ask for, read along edges and back along lists of sources.
-ghost use Rattle.std.specs.Prelude.{◌≡◌, ◌≢◌, ℕ, ◌-◌, ◌<◌, ◌≤◌, false, true, List, None, Some, length, slice_get, take, MatchOption};
+ghost use Rattle.std.specs.Prelude.{◌≡◌, ◌≢◌, ℕ, ◌-◌, ◌<◌, ◌≤◌, false, true, List, None, Some, length, slice_get, slice_index_or, take, MatchOption};
 ghost use Rattle.theory.specs.Word.{Word as Letters};
 ghost use Rattle.theory.specs.Graph.{path as path_of, target as target_of};
 ghost use Rattle.coincidence.specs.DueSpec.{IsDueFrom, IsDueAt};
 ghost use Rattle.coincidence.specs.Holding.{HoldBefore, HoldOnceDrawn, MeetAt};
-ghost use Rattle.coincidence.specs.Live.{IsLiveGraph, IsOn};
+ghost use Rattle.coincidence.specs.Merging.{IsReached};
 ghost use Rattle.coincidence.specs.Reading.{IsCut, IsDueBoth, IsDueBehind, IsDueAlong, IsDueThrough};
 ghost use Rattle.coincidence.specs.Pending.{IsAmong};
+ghost use Rattle.coincidence.specs.Seen.{HoldWhereSeen};
 ghost use Rattle.coincidence.specs.Starts.{AreStarts, IsDueByLetter, IsDueInList};
 ghost use Rattle.coincidence.specs.declared.due.Due.TheVariants.{Nothing};
 ghost use Rattle.coincidence.specs.Uses.{list_at, AreUses, ArePlaces, IsDueAtPlaces, IsDueInPowers, IsDueBefore, IsDueBeforeAny, IsDueInSides};
@@ -15,6 +16,7 @@ use crate::due::Due;
 use crate::edges::Edges;
 use crate::indexed::Indexed;
 use crate::rings::comes_round;
+use crate::seen::Seen;
 use crate::starts::Starts;
 use crate::uses::{Uses, other_side, side};
 use presentation::Pairs;
@@ -189,14 +191,43 @@ pub fn due_at(edges: &Edges, node: usize, pairs: &Pairs) -> Due
     due_from(edges, node, pairs, 0)
 }
 
+// What a pair asks for at the node, unless it was seen to hold there. It is seen to if it does.
+fn due_unless_seen(edges: &Edges, node: usize, pairs: &Pairs, number: usize, seen: &mut Seen) -> Due
+    requires number { number < length pairs.now }
+    requires node { IsReached edges.now.graph node }
+    requires seen { HoldWhereSeen pairs.now edges.now.graph seen.old }
+    ensures due { (p : Letters × Letters) → IsDueBoth edges.now.graph node
+        (slice_index_or pairs.now number p).0 (slice_index_or pairs.now number p).1 result }
+    ensures seen { HoldWhereSeen pairs.now edges.now.graph seen.new }
+{
+    if seen.has(node, number) {
+        return Due::Nothing;
+    }
+    match asked(edges, node, pairs.pair(number)) {
+        None => {
+            seen.note(node, number);
+            Due::Nothing
+        }
+        Some(due) => due,
+    }
+}
+
 // What the pairs of a list ask for at the node.
-fn due_in_list(edges: &Edges, node: usize, pairs: &Pairs, list: &[(usize, usize)]) -> Due
-    requires { (i p : ℕ) → IsAmong (i, p) list.now → i < length pairs.now }
-    ensures { IsDueInList edges.now.graph pairs.now node list.now result }
+fn due_in_list(
+    edges: &Edges,
+    node: usize,
+    pairs: &Pairs,
+    list: &[(usize, usize)],
+    seen: &mut Seen,
+) -> Due
+    requires within { (i p : ℕ) → IsAmong (i, p) list.now → i < length pairs.now }
+    requires node { IsReached edges.now.graph node }
+    requires seen { HoldWhereSeen pairs.now edges.now.graph seen.old }
+    ensures due { IsDueInList edges.now.graph pairs.now node list.now result }
+    ensures seen { HoldWhereSeen pairs.now edges.now.graph seen.new }
 {
     for k in 0..list.len() {
-        let pair = pairs.pair(list[k].0);
-        match due_both(edges, node, pair) {
+        match due_unless_seen(edges, node, pairs, list[k].0, seen) {
             Due::Nothing => {}
             due => return due,
         }
@@ -204,26 +235,41 @@ fn due_in_list(edges: &Edges, node: usize, pairs: &Pairs, list: &[(usize, usize)
     Due::Nothing
 }
 
+// Pairs, and their lists by the letters with which they begin.
+#[derive(Drop)]
+struct Begun<'a> {
+    pairs: &'a Pairs,
+    starts: &'a Starts,
+}
+
 // What pairs with the letter in front ask for at the node, if it leads on.
-fn due_by_letter(edges: &Edges, node: usize, pairs: &Pairs, starts: &Starts, letter: Letter) -> Due
-    requires { AreStarts pairs.now starts.now }
-    ensures { IsDueByLetter edges.now.graph pairs.now node starts.now letter result }
+fn due_by_letter(edges: &Edges, node: usize, begun: &Begun, letter: Letter, seen: &mut Seen) -> Due
+    requires starts { AreStarts begun.now.pairs.now begun.now.starts.now }
+    requires node { IsReached edges.now.graph node }
+    requires seen { HoldWhereSeen begun.now.pairs.now edges.now.graph seen.old }
+    ensures due { IsDueByLetter edges.now.graph begun.now.pairs.now node begun.now.starts.now
+        letter result }
+    ensures seen { HoldWhereSeen begun.now.pairs.now edges.now.graph seen.new }
 {
     match edges.target(node, letter) {
         None => Due::Nothing,
-        Some(_) => due_in_list(edges, node, pairs, starts.of(letter)),
+        Some(_) => due_in_list(edges, node, begun.pairs, begun.starts.of(letter), seen),
     }
 }
 
 // What pairs with some letter in front ask for at the node.
-fn due_by_letters(edges: &Edges, node: usize, pairs: &Pairs, starts: &Starts) -> Due
-    requires short { IsDueInList edges.now.graph pairs.now node (list_at starts.now 0) Nothing }
-    requires starts { AreStarts pairs.now starts.now }
-    ensures { IsDueAt edges.now.graph node pairs.now result }
+fn due_by_letters(edges: &Edges, node: usize, begun: &Begun, seen: &mut Seen) -> Due
+    requires short { IsDueInList edges.now.graph begun.now.pairs.now node
+        (list_at begun.now.starts.now 0) Nothing }
+    requires starts { AreStarts begun.now.pairs.now begun.now.starts.now }
+    requires node { IsReached edges.now.graph node }
+    requires seen { HoldWhereSeen begun.now.pairs.now edges.now.graph seen.old }
+    ensures due { IsDueAt edges.now.graph node begun.now.pairs.now result }
+    ensures seen { HoldWhereSeen begun.now.pairs.now edges.now.graph seen.new }
 {
     for number in 0..edges.letters() {
         let letter = Letter::new(number as u8);
-        match due_by_letter(edges, node, pairs, starts, letter) {
+        match due_by_letter(edges, node, begun, letter, seen) {
             Due::Nothing => {}
             due => return due,
         }
@@ -232,14 +278,20 @@ fn due_by_letters(edges: &Edges, node: usize, pairs: &Pairs, starts: &Starts) ->
 }
 
 /// What the relations ask for at the node. Only those are looked at that begin with a letter that
-/// leads on.
-pub fn due_at_start(edges: &Edges, node: usize, congruence: &Indexed) -> Due
-    ensures { IsDueAt edges.now.graph node congruence.now.congruence.presentation.relations result }
+/// leads on, and were not seen to hold there.
+pub fn due_at_start(edges: &Edges, node: usize, congruence: &Indexed, seen: &mut Seen) -> Due
+    requires node { IsReached edges.now.graph node }
+    requires seen { HoldWhereSeen congruence.now.congruence.presentation.relations edges.now.graph
+        seen.old }
+    ensures due { IsDueAt edges.now.graph node congruence.now.congruence.presentation.relations
+        result }
+    ensures seen { HoldWhereSeen congruence.now.congruence.presentation.relations edges.now.graph
+        seen.new }
 {
     let pairs = congruence.relations();
     let starts = congruence.starts();
-    match due_in_list(edges, node, pairs, starts.short()) {
-        Due::Nothing => due_by_letters(edges, node, pairs, starts),
+    match due_in_list(edges, node, pairs, starts.short(), seen) {
+        Due::Nothing => due_by_letters(edges, node, &Begun { pairs, starts }, seen),
         due => due,
     }
 }

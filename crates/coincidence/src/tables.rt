@@ -1,5 +1,5 @@
 // Coset tables.
-ghost use Rattle.std.specs.Prelude.{◌≡◌, ◌≢◌, ℕ, ◌<◌, ◌≤◌, ◌+◌, Bool, true, false, List, [], ◌∷◌, length, replicate, slice_set, IfOk, OnOk, OnErr, IsTrue, IsErr, Option, None, Some, MatchOption, ◌⊎◌};
+ghost use Rattle.std.specs.Prelude.{◌≡◌, ◌≢◌, ℕ, ◌<◌, ◌≤◌, ◌+◌, Bool, true, false, List, [], ◌∷◌, length, replicate, slice_index_or, slice_set, IfOk, OnOk, OnErr, IsTrue, IsErr, Option, None, Some, MatchOption, ◌⊎◌};
 ghost use Rattle.std.specs.Option.{ForSome};
 ghost use Rattle.theory.specs.Congruence.{IsRightSided};
 ghost use Rattle.theory.specs.Word.{Word as Letters};
@@ -8,11 +8,11 @@ ghost use Rattle.theory.specs.Graph.{target as target_of, path, SameEnd, PathsRe
 ghost use Rattle.word_graph.specs.Standard.{IsStandardGraph};
 ghost use Rattle.word_graph.specs.Walk.{IsFirstMissing};
 ghost use Rattle.coincidence.specs.Closing.{ClosedThere};
-ghost use Rattle.coincidence.specs.Holding.{HoldBefore, HoldWhereMarked};
+ghost use Rattle.coincidence.specs.Holding.{HoldBefore, MeetAt};
 ghost use Rattle.coincidence.specs.Links.{IsSources};
 ghost use Rattle.coincidence.specs.Marks.{AllMarked, IsFirstUnmarked, KeepsMarks, KeepsNumbers};
 ghost use Rattle.coincidence.specs.Merged.{MergedNodes};
-ghost use Rattle.coincidence.specs.Table.{CosetTable, IsTable, IsLive, IsDefined, IsDrawn, links_of};
+ghost use Rattle.coincidence.specs.Table.{CosetTable, IsTable, IsLive, IsDefined, IsDrawn, HoldWhereMarked, links_of};
 
 use crate::copies::word_graph;
 use crate::cosets::Cosets;
@@ -90,6 +90,19 @@ impl Table {
         ensures { result ≡ target_of self.now.graph node letter }
     {
         self.cosets.edges.target(node, letter)
+    }
+
+    /// Whether it is known that the relation of this number holds at the live node: both its sides
+    /// lead from it to one node. `false` tells nothing.
+    pub fn knows(&self, node: usize, relation: usize) -> bool
+        requires { IsLive self.now node }
+        ensures { result ≡ true → (p : Letters × Letters) → MeetAt self.now.graph node
+            (slice_index_or self.now.congruence.presentation.relations relation p) }
+    {
+        if self.failed {
+            return false;
+        }
+        self.cosets.seen.has(node, relation)
     }
 
     /// The first in the list of the nodes whose edge of the letter leads to the node. `None`

@@ -11,6 +11,7 @@ use Rattle.theory.specs.Hlt.{IsSide, IsTraced, IsExtension, IsInRow}
 use Rattle.theory.proofs.GraphLaws.{path_append, path_front}
 use Rattle.theory.proofs.FactsLaws.{prefix_last}
 use Rattle.theory.proofs.Related.{element_over, side_element}
+use Rattle.coincidence.specs.Holding.{MeetAt}
 use Rattle.coincidence.specs.Table.{CosetTable, IsTable, IsLive}
 use Rattle.coincidence.proofs.DueLaws.{split_last}
 use Rattle.coincidence.proofs.FollowsLaws.{path_more}
@@ -82,6 +83,13 @@ grown_found t node a m failed e = grown_none (IsNext a) NoDrawing t node failed
 -- the whole word is there
 pub grown_whole : (E : Word → Word → Word → Type 0) (t : CosetTable) (node m : ℕ) (w : Word) → t.failed ≡ false → path t.graph node w ≡ Some m → IsGrown (IsAlong w) E t t node
 grown_whole E t node m w failed e = grown_none (IsAlong w) E t node failed (λ x v hx h. prefix_there t.graph v (x ++ w) m h (path_append t.graph 0 node x w hx ∙ e))
+
+-- both sides of a pair are there
+pub grown_met : (E : Word → Word → Word → Type 0) (t : CosetTable) (node : ℕ) (pair : Word × Word) → t.failed ≡ false → MeetAt t.graph node pair → IsGrown (IsAlongBoth pair.0 pair.1) E t t node
+grown_met E t node pair failed met = grown_none (IsAlongBoth pair.0 pair.1) E t node failed (λ x v hx h. elim h [
+  | inl p ↦ prefix_there t.graph v (x ++ pair.0) met.0 p (path_append t.graph 0 node x pair.0 hx ∙ met.1)
+  | inr p ↦ prefix_there t.graph v (x ++ pair.1) met.0 p (path_append t.graph 0 node x pair.1 hx ∙ met.2)
+])
 
 -- a word of which nothing is traced
 pub grown_start : (t : CosetTable) (node : ℕ) → t.failed ≡ false → IsGrown (IsAlong []) NoDrawing t t node

@@ -16,7 +16,7 @@ use Rattle.theory.proofs.GraphLaws.{path_append, same_end_trans}
 use Rattle.theory.proofs.HltLaws.{hlt_row_grows, hlt_row_within, hlt_ends_more, hlt_ends_next, hlt_not_ended}
 use Rattle.theory.proofs.TableSteps.{RowGiven, hlt_row_between}
 use Rattle.coincidence.specs.Live.{IsOn}
-use Rattle.coincidence.specs.Holding.{HoldWhereMarked}
+use Rattle.coincidence.specs.Table.{HoldWhereMarked}
 use Rattle.coincidence.specs.Marks.{KeepsMarks}
 use Rattle.coincidence.specs.Table.{CosetTable, IsTable}
 use Rattle.coincidence.proofs.TableLaws.{on_inside}

@@ -4,7 +4,7 @@ ghost use Rattle.theory.specs.Congruence.{IsRightSided};
 ghost use Rattle.theory.specs.Facts.{AllDefined, ClosedAll};
 ghost use Rattle.theory.specs.Graph.{SameEnd, PathsRelate, Shows, IsGraph};
 ghost use Rattle.word_graph.specs.Standard.{IsStandardGraph};
-ghost use Rattle.coincidence.specs.Holding.{HoldWhereMarked};
+ghost use Rattle.coincidence.specs.Table.{HoldWhereMarked};
 ghost use Rattle.coincidence.specs.Marks.{KeepsMarks};
 ghost use Rattle.coincidence.specs.Table.{IsTable};
 ghost use Rattle.theory.specs.Hlt.{has_lookahead};

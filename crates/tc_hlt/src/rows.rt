@@ -1,5 +1,5 @@
 // Tracing words in a table, and the row of a node.
-ghost use Rattle.std.specs.Prelude.{◌≡◌, ◌⊎◌, ℕ, suc, ◌+◌, ◌-◌, ◌<◌, ◌≤◌, length, take, true, false, Some, IfOk, OnOk};
+ghost use Rattle.std.specs.Prelude.{◌≡◌, ◌⊎◌, ℕ, suc, ◌+◌, ◌-◌, ◌<◌, ◌≤◌, length, slice_index_or, take, true, false, Some, IfOk, OnOk};
 ghost use Rattle.theory.specs.Word.{Word as Letters, IsOver};
 ghost use Rattle.theory.specs.Graph.{target as target_of, path as path_of};
 ghost use Rattle.theory.specs.Hlt.{IsSide, IsTraced, IsExtension, IsInRow};
@@ -173,6 +173,33 @@ fn trace_both(table: &mut Table, node: usize, first: &Word, second: &Word) -> Re
     }
 }
 
+// As `trace_both`, of the relation of this number, unless it is known to hold at the node.
+fn trace_relation(
+    table: &mut Table,
+    node: usize,
+    pair: &(Word, Word),
+    number: usize,
+) -> Result<bool, NoMemory>
+    requires table { IsTable table.old }
+    requires failed { table.old.failed ≡ false }
+    requires node { IsLive table.old node }
+    requires number { pair.now
+        ≡ slice_index_or table.old.congruence.presentation.relations number pair.now }
+    requires first { IsOver table.old.congruence.presentation.letters pair.now.0 }
+    requires second { IsOver table.old.congruence.presentation.letters pair.now.1 }
+    ensures met { IfOk result (λ met. met ≡ true → MeetAt table.new.graph node pair.now) }
+    ensures grown { OnOk result (IsGrown (IsAlongBoth pair.now.0 pair.now.1)
+        (AreSides pair.now.0 pair.now.1) table.old table.new node) }
+    ensures congruence { table.new.congruence ≡ table.old.congruence }
+    ensures table { IsTable table.new }
+{
+    if table.knows(node, number) {
+        return Ok(true);
+    }
+    let met = trace_both(table, node, &pair.0, &pair.1)?;
+    Ok(met)
+}
+
 // How many of so many relations, the first ones, are known to hold, if that of the number does.
 fn held_with(held: usize, number: usize, count: usize, holds: bool) -> usize
     requires held { held ≤ number }
@@ -193,6 +220,7 @@ fn trace_sides(table: &mut Table, node: usize, pairs: &Pairs) -> Result<usize, N
     requires table { IsTable table.old }
     requires failed { table.old.failed ≡ false }
     requires node { IsLive table.old node }
+    requires relations { pairs.now ≡ table.old.congruence.presentation.relations }
     requires over { (side : Letters) → IsSide pairs.now side
         → IsOver table.old.congruence.presentation.letters side }
     ensures held { IfOk result (HoldBefore pairs.now table.new.graph node) }
@@ -204,7 +232,7 @@ fn trace_sides(table: &mut Table, node: usize, pairs: &Pairs) -> Result<usize, N
     let mut held = 0;
     for i in 0..pairs.len() {
         let pair = pairs.pair(i);
-        let met = trace_both(table, node, &pair.0, &pair.1)?;
+        let met = trace_relation(table, node, pair, i)?;
         held = held_with(held, i, pairs.len(), met);
     }
     Ok(held)

@@ -1,5 +1,9 @@
+use Rattle.coincidence.specs.Seen.{HoldWhereSeen}
 use Rattle.coincidence.proofs.StartLaws.{AreQuietTo}
 use Rattle.coincidence.proofs.reads.due_in_list.Given as goal
 
 abbrev pub invariant-loop-k : goal.invariant-loop-k
-invariant-loop-k l = AreQuietTo l.edges.graph l.pairs l.node l.list l.k
+invariant-loop-k l = record {
+  quiet : AreQuietTo l.edges.graph l.pairs l.node l.list l.k;
+  seen : HoldWhereSeen l.pairs l.edges.graph l.seen;
+}

@@ -15,6 +15,10 @@ trace_sides-requires-clause-over c =
     c.relations.ensures.relations ∙ ap (λ (p : Presentation). p.relations) (c.presentation-presentation.ensures.presentation ∙ ap (λ (k : Congruence). k.presentation) c.requires.congruence) in
     λ side is. sides_over p.is_monoid p.letters p.relations c.requires.table.congruence.relations side (subst (λ (rs : List (Word × Word)). IsSide rs side) relations is)
 
+pub trace_sides-requires-clause-relations : goal.trace_sides-requires-clause-relations
+trace_sides-requires-clause-relations c =
+    c.relations.ensures.relations ∙ ap (λ (p : Presentation). p.relations) (c.presentation-presentation.ensures.presentation ∙ ap (λ (k : Congruence). k.presentation) c.requires.congruence)
+
 pub returns-clause-grown : goal.returns-clause-grown
 returns-clause-grown c =
     let presented : c.presentation-presentation.result.now.presentation ≡ c.args.table.now.congruence.presentation =

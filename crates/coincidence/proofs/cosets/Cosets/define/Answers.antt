@@ -57,13 +57,15 @@ returns-clause-whole c = λ k w.
       order = c.add_node.new.self;
       pending = c.push-4.new.self;
       replaced_by = c.args.self.now.replaced_by;
+      seen = c.cut.new.self;
     } in
     let same : c.requires.whole.0.presentation.letters ≡ k.presentation.letters = width_is c.requires.whole.0.presentation.letters k.presentation.letters g c.requires.whole.1.graph w.graph in
     let less : c.args.letter < k.presentation.letters = omega (arith, same, c.requires.whole.2) in
     let graph : c.set_edge.new.self.graph ≡ with_edge (with_node k.presentation.letters g) c.args.node c.args.letter (length g) = c.set_edge.ensures
     ∙ ap (λ (z : Graph). with_edge z c.args.node c.args.letter c.nodes-fresh.result) (more c.letters-letters.result k.presentation.letters c.args.self.now.edges c.add_node-2.new.self.graph c.letters-letters.ensures w.graph c.in_ok-add_node-2.ensures.ok)
     ∙ ap (λ z. with_edge (with_node k.presentation.letters g) c.args.node c.args.letter z) c.nodes-fresh.ensures in
-    let pending : c.push-4.new.self ≡ (c.args.self.now.pending ++ NewNode (length g) ∷ []) ++ NewEdge c.args.node c.args.letter ∷ [] =
-    c.in_ok-push-4.ensures.items ∙ ap (λ (z : List Pending). z ++ NewEdge c.args.node c.args.letter ∷ []) (c.in_ok-push-3.ensures.items ∙ ap (λ n. c.args.self.now.pending ++ NewNode n ∷ []) c.nodes-fresh.ensures) in
+    let pending : c.push-4.new.self ≡ (c.args.self.now.pending ++ NewEdge c.args.node c.args.letter ∷ []) ++ NewNode (length g) ∷ [] =
+    c.in_ok-push-4.ensures.items ∙ ap (λ (z : List Pending). z ++ NewNode c.nodes-fresh.result ∷ []) c.in_ok-push-3.ensures.items ∙ ap (λ n. (c.args.self.now.pending ++ NewEdge c.args.node c.args.letter ∷ []) ++ NewNode n ∷ []) c.nodes-fresh.ensures in
     defined_whole k c.args.self.now new c.args.node c.args.letter w c.requires.node less c.requires.missing graph c.in_ok-push.ensures.items c.in_ok-push-2.ensures.items pending
     c.in_ok-add_node.ensures.places c.add_node.ensures.steps c.add_node.ensures.row c.add_node.ensures.letter c.add_node.ensures.done
+    (λ n i h. let was = c.cut.ensures n i h in (was.0, omega (arith, was.1, c.nodes-fresh.ensures)))

@@ -61,9 +61,10 @@ loop-s-preserved c =
       order = c.cut.new.self;
       pending = c.absorb.new.pending;
       replaced_by = with_item c.next_pair.new.replaced_by c.max-lost.result c.min-kept.result;
+      seen = c.loop-s.self.seen;
     } in
     joining_step c.args.self.now c.loop-s.self new c.args.x c.args.y c.args.at c.loop-s.to c.gone-to.result c.next_pair.new.replaced_by.items c.loop-s.queue.items c.next_pair.new.queue.items c.absorb.new.queue.items c.in-Some.s c.in-Some.t c.max-lost.result c.min-kept.result c.requires.whole.1.lives (c.requires.whole.1.lives.reached c.args.x c.requires.x) (c.requires.whole.1.lives.reached c.args.y c.requires.y) c.loop-s.invariant c.in-Some.ensures.some e.0 e.1
-    c.in_ok-absorb.ensures.ok c.move_mark.ensures c.gone-to.ensures refl refl
+    c.in_ok-absorb.ensures.ok c.move_mark.ensures c.gone-to.ensures refl refl refl
     (mended_cut c.args.self.now.order c.loop-s.self.order c.cut.new.self c.args.self.now.live.items c.loop-s.self.live.items c.max-lost.result c.loop-s.invariant.order c.cut.ensures.kept c.cut.ensures.places)
 
 pub cut-requires-clause-lost : goal.cut-requires-clause-lost

@@ -13,6 +13,7 @@ returns-clause-whole c = λ k is letters.
       order = c.in_ok-order.order;
       pending = c.push-3.new.self;
       replaced_by = c.new-3.result;
+      seen = c.new-4.result;
     } in
     root_whole k made is (ap (λ z. z.graph) c.in_ok-edges.ensures ∙ ap (λ n. replicate n None ∷ []) (sym letters)) (c.in_ok-push.ensures.items ∙ ap (λ z. z ++ true ∷ []) c.new-live.ensures.items)
-    (c.in_ok-push-2.ensures.items ∙ ap (λ z. z ++ false ∷ []) c.new-marked.ensures.items) (c.in_ok-push-3.ensures.items ∙ ap (λ z. z ++ NewNode 0 ∷ []) c.new-pending.ensures) (c.in_ok-order.ensures k.presentation.letters)
+    (c.in_ok-push-2.ensures.items ∙ ap (λ z. z ++ false ∷ []) c.new-marked.ensures.items) (c.in_ok-push-3.ensures.items ∙ ap (λ z. z ++ NewNode 0 ∷ []) c.new-pending.ensures) (c.in_ok-order.ensures k.presentation.letters) c.new-4.ensures

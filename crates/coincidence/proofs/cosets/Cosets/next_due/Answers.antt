@@ -3,7 +3,7 @@ use Rattle.word_graph.proofs.WalkLaws.{some_same}
 use Rattle.coincidence.specs.DueSpec.{IsDueIn}
 use Rattle.coincidence.specs.Holding.{HoldOnceDrawn}
 use Rattle.coincidence.specs.declared.cosets.Cosets.{Cosets}
-use Rattle.coincidence.proofs.HeldLaws.{pending_whole}
+use Rattle.coincidence.proofs.HeldLaws.{read_whole}
 use Rattle.coincidence.proofs.cosets.Cosets.next_due.Goals as goal
 
 pub returns-in-None-clause-due : goal.returns-in-None-clause-due
@@ -11,8 +11,8 @@ returns-in-None-clause-due c = subst (λ (at : Option ℕ). IsDueIn c.args.congr
 
 pub returns-in-None-clause-whole : goal.returns-in-None-clause-whole
 returns-in-None-clause-whole c =
-    let new : Cosets = record c.args.self.now { pending = c.due_next.new.pending } in
-    pending_whole c.args.congruence.now.congruence c.args.self.now new refl c.due_next.ensures.closed c.requires.whole
+    let new : Cosets = record c.args.self.now { pending = c.due_next.new.pending; seen = c.due_next.new.seen } in
+    read_whole c.args.congruence.now.congruence c.args.self.now new refl c.due_next.ensures.closed c.due_next.ensures.seen c.requires.whole
 
 pub returns-in-Some-clause-due : goal.returns-in-Some-clause-due
 returns-in-Some-clause-due c = subst (λ (at : Option ℕ). IsDueIn c.args.congruence.now.congruence c.args.self.now.edges.graph c.args.self.now.live.items at c.due_there.result) (sym c.in-Some.is) c.due_there.ensures.due

@@ -1,5 +1,5 @@
 use Rattle.std.proofs.Common.{refl, sym, ◌∙◌, subst}
-use Rattle.coincidence.specs.Holding.{HoldWhereMarked}
+use Rattle.coincidence.specs.Table.{HoldWhereMarked}
 use Rattle.coincidence.specs.declared.cosets.Cosets.{Cosets}
 use Rattle.coincidence.proofs.HeldLaws.{failed_held, pending_whole, seen, still_held}
 use Rattle.coincidence.proofs.tables.Table.gather_unmarked.Goals as goal

@@ -1,0 +1,84 @@
+-- Relations that were seen to hold at nodes.
+use Rattle.std.proofs.Common.{◌≡◌, ℕ, zero, suc, [], ◌∷◌, ◌++◌, ◌/◌, true, ◌*◌, ◌%◌, ◌^◌, ◌<◌, ◌≤◌, ◌⊎◌, List, refl, sym, ◌∙◌, ap, subst, arith, inl, inr, Some, length, get_or, set, take, slice_index, eqb, w64}
+use Rattle.std.proofs.lemmas.Bool.{cases_eq, cases_lt, eqb-true}
+use Rattle.std.proofs.lemmas.List.{get_or_read, get_or-take, get_or_past, get_or-set_same, get_or-set_other, length-take}
+use Rattle.std.proofs.lemmas.Nat.Bits.{bit_at-zero, bit_at_set_other, shr_and_one}
+use Rattle.std.specs.Int.{bit_at}
+use Rattle.std.specs.Prelude.{bit_and, bit_or}
+use Rattle.theory.specs.Word.{Word}
+use Rattle.theory.specs.Graph.{Graph, path}
+use Rattle.coincidence.specs.Holding.{MeetAt}
+use Rattle.coincidence.specs.Merging.{IsFolded, IsReached}
+use Rattle.coincidence.specs.Seen.{HoldWhereSeen, IsSeen}
+use Rattle.coincidence.proofs.MergeLaws.{folded_path}
+
+-- past the last number nothing was seen
+none_seen : (seen : List ℕ) (n i : ℕ) → length seen ≤ n → IsSeen seen n i → ⊥
+none_seen seen n i past h =
+    let none : bit_at (get_or seen n 0) i ≡ 0 = ap (λ z. bit_at z i) (get_or_past seen n 0 past) ∙ bit_at-zero i in
+    omega (arith, none, h.1)
+
+-- the bit that is tested
+pub bit_seen : (seen : List ℕ) (node relation word : ℕ) → relation < 64 → node < length seen → word ≡ get_or seen node word → eqb (bit_and (word / 2 ^ relation) 1) 1 ≡ true → IsSeen seen node relation
+bit_seen seen node relation word few less read is =
+    let at : word ≡ get_or seen node 0 = get_or_read seen node word less read 0 in
+    (few, ap (λ z. bit_at z relation) (sym at) ∙ sym (shr_and_one word relation) ∙ eqb-true (bit_and (word / 2 ^ relation) 1) 1 is)
+
+-- a number more, with no bit
+pub pushed_zero : (seen : List ℕ) (n : ℕ) → get_or (seen ++ 0 ∷ []) n 0 ≡ get_or seen n 0
+pushed_zero [] zero = refl
+pushed_zero [] (suc n) = refl
+pushed_zero (x ∷ seen) zero = refl
+pushed_zero (x ∷ seen) (suc n) = pushed_zero seen n
+
+-- of the nodes behind one nothing is kept
+pub seen_cut : (old new : List ℕ) (node : ℕ) → new ≡ take node old → (n i : ℕ) → IsSeen new n i → IsSeen old n i × (n < node)
+seen_cut old new node is n i h = elim (cases_lt n node) [
+  | inl less ↦ ((h.0, ap (λ z. bit_at z i) (sym (get_or-take node old n 0 less)) ∙ ap (λ z. bit_at (get_or z n 0) i) (sym is) ∙ h.1), less)
+  | inr past ↦ absurd (none_seen new n i (omega (arith, past, ap length is, length-take node old)) h)
+]
+
+-- one relation more
+pub seen_noted : (old made new : List ℕ) (node relation word : ℕ) → relation < 64 → node < length made → ((n : ℕ) → get_or made n 0 ≡ get_or old n 0) → word ≡ get_or made node 0
+    → new ≡ set made node (bit_or word (1 * 2 ^ relation % 2 ^ 64)) → (n i : ℕ) → IsSeen new n i → IsSeen old n i ⊎ ((n ≡ node) × (i ≡ relation))
+seen_noted old made new node relation word few less same word_is is n i h = elim (cases_eq n node) [
+  | inr other ↦ inl (h.0, ap (λ z. bit_at z i) (sym (ap (λ z. get_or z n 0) is ∙ get_or-set_other made node n (bit_or word (1 * 2 ^ relation % 2 ^ 64)) 0 other ∙ same n)) ∙ h.1)
+  | inl here ↦ elim (cases_eq i relation) [
+    | inl e ↦ inr (here, e)
+    | inr off ↦
+        let value = bit_or word (1 * 2 ^ relation % 2 ^ 64) in
+        let now : get_or new node 0 ≡ value = ap (λ z. get_or z node 0) is ∙ get_or-set_same made node value 0 less in
+        let before : word ≡ get_or old node 0 = word_is ∙ same node in
+        let stays : bit_at value i ≡ bit_at word i = bit_at_set_other w64 word relation few i off in
+        inl (h.0, ap (λ z. bit_at (get_or old z 0) i) here ∙ ap (λ z. bit_at z i) (sym before) ∙ sym stays ∙ ap (λ z. bit_at z i) (sym now) ∙ ap (λ z. bit_at (get_or new z 0) i) (sym here) ∙ h.1)
+  ]
+]
+
+module _ (pairs : List (Word × Word)) where
+  -- and it holds there
+  pub seen_more : (g : Graph) (old new : List ℕ) (node i : ℕ) (p : Word × Word) → i < length pairs → p ≡ get_or pairs i p → MeetAt g node p
+      → ((n k : ℕ) → IsSeen new n k → IsSeen old n k ⊎ ((n ≡ node) × (k ≡ i))) → HoldWhereSeen pairs g old → HoldWhereSeen pairs g new
+  seen_more g old new node i p less at meets noted hold n k d h r = elim (noted n k h) [
+    | inl was ↦ hold n k d was r
+    | inr is ↦ subst (λ z. MeetAt g z (get_or pairs k d)) (sym is.0) (subst (λ z. MeetAt g node (get_or pairs z d)) (sym is.1) (subst (MeetAt g node) (get_or_read pairs i p less at d) meets))
+  ]
+
+  -- where paths stay, what was seen holds still
+  pub seen_kept : (old new : Graph) (seen later : List ℕ) → ((n m : ℕ) (u : Word) → path old n u ≡ Some m → path new n u ≡ Some m)
+      → ((n i : ℕ) → IsSeen later n i → IsReached new n → IsSeen seen n i × IsReached old n) → HoldWhereSeen pairs old seen → HoldWhereSeen pairs new later
+  seen_kept old new seen later stays was hold n i d h r =
+      let before = was n i h r in
+      let met = hold n i d before.0 before.1 in
+      (met.0, stays n met.0 (get_or pairs i d).0 met.1, stays n met.0 (get_or pairs i d).1 met.2)
+
+  -- and where nodes became one
+  pub seen_folded : (old : Graph) (class : List ℕ) (new : Graph) (seen : List ℕ) → IsFolded old class new → ((n : ℕ) → IsReached new n → IsReached old n × (slice_index class n ≡ n))
+      → HoldWhereSeen pairs old seen → HoldWhereSeen pairs new seen
+  seen_folded old class new seen folded own hold n i d h r =
+      let o = own n r in
+      let met = hold n i d h o.0 in
+      let goes : (u : Word) → path old n u ≡ Some met.0 → path new n u ≡ Some (slice_index class met.0) = λ u e. subst (λ z. path new z u ≡ Some (slice_index class met.0)) o.1 (folded_path old class new folded n met.0 u e) in
+      (slice_index class met.0, goes (get_or pairs i d).0 met.1, goes (get_or pairs i d).1 met.2)
+
+  pub seen_nothing : (g : Graph) (seen : List ℕ) → length seen ≡ 0 → HoldWhereSeen pairs g seen
+  seen_nothing g seen none n i d h r = absurd (none_seen seen n i (omega (arith, none)) h)

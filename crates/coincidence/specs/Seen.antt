@@ -1,0 +1,16 @@
+-- Relations that were seen to hold at nodes.
+use Rattle.std.specs.Prelude.{◌≡◌, ℕ, ◌<◌, List, slice_index_or}
+use Rattle.std.specs.Int.{bit_at}
+use Rattle.theory.specs.Word.{Word}
+use Rattle.theory.specs.Graph.{Graph}
+use Rattle.coincidence.specs.Holding.{MeetAt}
+use Rattle.coincidence.specs.Merging.{IsReached}
+
+-- of the first relations, each was seen to hold at the node whose bit of the node's number is set
+abbrev pub IsSeen : List ℕ → ℕ → ℕ → Type 0
+IsSeen seen node i = (i < 64) × (bit_at (slice_index_or seen node 0) i ≡ 1)
+
+-- at nodes that are reached the pairs hold where they were seen to
+abbrev pub HoldWhereSeen : List (Word × Word) → Graph → List ℕ → Type 0
+HoldWhereSeen pairs g seen = (n i : ℕ) (p : Word × Word) → IsSeen seen n i → IsReached g n
+    → MeetAt g n (slice_index_or pairs i p)

@@ -1,0 +1,83 @@
+// Which relations were seen to hold at which nodes.
+ghost use Rattle.std.specs.Prelude.{◌≡◌, ◌<◌, ◌⊎◌, ℕ, [], true, length, slice_index_or, OnOk};
+ghost use Rattle.coincidence.specs.Seen.{IsSeen};
+
+use ports::NoMemory;
+use std::alloc::Global;
+use std::marker::Model;
+
+// It is kept of so many relations, the first ones, where they hold: as many as a number has bits.
+const RELATIONS_KEPT: usize = 64;
+
+// For each node the relations that were seen to hold there, as bits of one number. At nodes past
+// the last number none was seen to.
+#[derive(Drop)]
+pub struct Seen {
+    relations: Vec<u64>,
+}
+
+impl Model for Seen {
+    ghost use Rattle.std.specs.Prelude.{List, ℕ};
+
+    ghost Value = { List ℕ };
+
+    ghost view = { λ s. s.relations.items };
+}
+
+// There is a number for the node. Only want of memory refuses it.
+fn make_room(relations: &mut Vec<u64>, node: usize) -> Result<(), NoMemory>
+    ensures room { OnOk result (node < length relations.new.items) }
+    ensures same { (n : ℕ) → slice_index_or relations.new.items n 0
+        ≡ slice_index_or relations.old.items n 0 }
+{
+    while relations.len() <= node {
+        relations.push(0)?;
+    }
+    Ok(())
+}
+
+impl Seen {
+    /// No relation was seen to hold yet.
+    pub fn new(alloc: Global) -> Seen
+        ensures { result ≡ [] }
+    {
+        Seen {
+            relations: Vec::new(alloc),
+        }
+    }
+
+    /// Whether the relation was seen to hold at the node.
+    pub fn has(&self, node: usize, relation: usize) -> bool
+        ensures { result ≡ true → IsSeen self.now node relation }
+    {
+        if RELATIONS_KEPT <= relation {
+            return false;
+        }
+        if self.relations.len() <= node {
+            return false;
+        }
+        (self.relations[node] >> relation) & 1 == 1
+    }
+
+    /// The relation was seen to hold at the node. It is not kept where memory is wanting, nor of
+    /// more relations than the first ones.
+    pub fn note(&mut self, node: usize, relation: usize)
+        ensures { (n i : ℕ) → IsSeen self.new n i
+            → IsSeen self.old n i ⊎ ((n ≡ node) × (i ≡ relation)) }
+    {
+        if RELATIONS_KEPT <= relation {
+            return;
+        }
+        let Ok(()) = make_room(&mut self.relations, node) else {
+            return;
+        };
+        self.relations[node] |= 1 << relation;
+    }
+
+    /// At the node and all behind it none was seen to hold yet.
+    pub fn cut(&mut self, node: usize)
+        ensures { (n i : ℕ) → IsSeen self.new n i → IsSeen self.old n i × (n < node) }
+    {
+        self.relations.truncate(node);
+    }
+}
