@@ -1,15 +1,17 @@
 -- Relations that were seen to hold at nodes.
-use Rattle.std.proofs.Common.{◌≡◌, ℕ, zero, suc, [], ◌∷◌, ◌++◌, ◌/◌, true, ◌*◌, ◌%◌, ◌^◌, ◌<◌, ◌≤◌, ◌⊎◌, List, refl, sym, ◌∙◌, ap, subst, arith, inl, inr, Some, length, get_or, set, take, slice_index, eqb, w64}
+use Rattle.std.proofs.Common.{◌≡◌, ℕ, zero, suc, [], ◌∷◌, ◌++◌, ◌/◌, true, ◌*◌, ◌%◌, ◌^◌, ◌<◌, ◌≤◌, ◌⊎◌, List, refl, sym, ◌∙◌, ap, subst, arith, inl, inr, Some, length, get_or, set, take, slice_index, eqb, w64, Bool, false, Option, None, option_and_then}
 use Rattle.std.proofs.lemmas.Bool.{cases_eq, cases_lt, eqb-true}
 use Rattle.std.proofs.lemmas.List.{get_or_read, get_or-take, get_or_past, get_or-set_same, get_or-set_other, length-take}
 use Rattle.std.proofs.lemmas.Nat.Bits.{bit_at-zero, bit_at_set_other, shr_and_one}
 use Rattle.std.specs.Int.{bit_at}
 use Rattle.std.specs.Prelude.{bit_and, bit_or}
 use Rattle.theory.specs.Word.{Word}
-use Rattle.theory.specs.Graph.{Graph, path}
+use Rattle.theory.specs.Graph.{Graph, path, target}
 use Rattle.coincidence.specs.Holding.{MeetAt}
-use Rattle.coincidence.specs.Merging.{IsFolded, IsReached}
-use Rattle.coincidence.specs.Seen.{HoldWhereSeen, IsSeen}
+use Rattle.coincidence.specs.Merging.{EdgesReached, IsFolded, IsReached}
+use Rattle.coincidence.specs.Seen.{AreSidesOf, HoldWhereSeen, IsSeen}
+use Rattle.coincidence.specs.Uses.{other_of, side_of}
+use Rattle.word_graph.proofs.WalkLaws.{some_same}
 use Rattle.coincidence.proofs.MergeLaws.{folded_path}
 
 -- past the last number nothing was seen
@@ -82,3 +84,37 @@ module _ (pairs : List (Word × Word)) where
 
   pub seen_nothing : (g : Graph) (seen : List ℕ) → length seen ≡ 0 → HoldWhereSeen pairs g seen
   seen_nothing g seen none n i d h r = absurd (none_seen seen n i (omega (arith, none)) h)
+
+-- the sides of a pair, one or the other first
+module _ (pairs : List (Word × Word)) (i : ℕ) (one other : Word) where
+  pub sides_meet : (g : Graph) (node : ℕ) (p : Word × Word) → AreSidesOf pairs i one other → MeetAt g node (get_or pairs i p) → MeetAt g node (one, other)
+  sides_meet g node p of met = elim (of.1 p) [
+    | inl is ↦ (met.0, ap (path g node) is.0 ∙ met.1, ap (path g node) is.1 ∙ met.2)
+    | inr is ↦ (met.0, ap (path g node) is.0 ∙ met.2, ap (path g node) is.1 ∙ met.1)
+  ]
+
+  pub seen_sides : (g : Graph) (old new : List ℕ) (node : ℕ) → AreSidesOf pairs i one other → MeetAt g node (one, other)
+      → ((n k : ℕ) → IsSeen new n k → IsSeen old n k ⊎ ((n ≡ node) × (k ≡ i))) → HoldWhereSeen pairs g old → HoldWhereSeen pairs g new
+  seen_sides g old new node of met noted hold n k d h r = elim (noted n k h) [
+    | inl was ↦ hold n k d was r
+    | inr is ↦ subst (λ z. MeetAt g z (get_or pairs k d)) (sym is.0) (subst (λ z. MeetAt g node (get_or pairs z d)) (sym is.1) meets)
+  ]
+    where
+      meets : MeetAt g node (get_or pairs i d)
+      meets = elim (of.1 d) [
+        | inl is ↦ (met.0, ap (path g node) (sym is.0) ∙ met.1, ap (path g node) (sym is.1) ∙ met.2)
+        | inr is ↦ (met.0, ap (path g node) (sym is.1) ∙ met.2, ap (path g node) (sym is.0) ∙ met.1)
+      ]
+
+pub sides_of_pair : (second : Bool) (pairs : List (Word × Word)) (i : ℕ) (pair : Word × Word) (one other : Word) → i < length pairs → pair ≡ get_or pairs i pair → one ≡ side_of second pair → other ≡ other_of second pair → AreSidesOf pairs i one other
+sides_of_pair false pairs i pair one other less at o t = (less, λ p. let read = get_or_read pairs i pair less at p in inl (o ∙ ap (λ (z : Word × Word). z.0) read, t ∙ ap (λ (z : Word × Word). z.1) read))
+sides_of_pair true pairs i pair one other less at o t = (less, λ p. let read = get_or_read pairs i pair less at p in inr (o ∙ ap (λ (z : Word × Word). z.1) read, t ∙ ap (λ (z : Word × Word). z.0) read))
+
+-- a node from which a word leads to one that is reached is reached
+pub reached_behind : (g : Graph) (node n : ℕ) (front : Word) → EdgesReached g → IsReached g node → path g n front ≡ Some node → IsReached g n
+reached_behind g node n [] edges reached e = subst (IsReached g) (sym (some_same n node e)) reached
+reached_behind g node n (a ∷ front) edges reached e = go (target g n a) refl e
+  where
+    go : (t : Option ℕ) → target g n a ≡ t → option_and_then (λ next. path g next front) t ≡ Some node → IsReached g n
+    go None h e = cc
+    go (Some t) h e = edges n a t h

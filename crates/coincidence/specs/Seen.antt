@@ -1,5 +1,5 @@
 -- Relations that were seen to hold at nodes.
-use Rattle.std.specs.Prelude.{◌≡◌, ℕ, ◌<◌, List, slice_index_or}
+use Rattle.std.specs.Prelude.{◌≡◌, ◌⊎◌, ℕ, ◌<◌, List, length, slice_index_or}
 use Rattle.std.specs.Int.{bit_at}
 use Rattle.theory.specs.Word.{Word}
 use Rattle.theory.specs.Graph.{Graph}
@@ -14,3 +14,9 @@ IsSeen seen node i = (i < 64) × (bit_at (slice_index_or seen node 0) i ≡ 1)
 abbrev pub HoldWhereSeen : List (Word × Word) → Graph → List ℕ → Type 0
 HoldWhereSeen pairs g seen = (n i : ℕ) (p : Word × Word) → IsSeen seen n i → IsReached g n
     → MeetAt g n (slice_index_or pairs i p)
+
+-- the words are the sides of the pair of this number, one or the other first
+abbrev pub AreSidesOf : List (Word × Word) → ℕ → Word → Word → Type 0
+AreSidesOf pairs i one other = (i < length pairs) × ((p : Word × Word)
+    → ((one ≡ (slice_index_or pairs i p).0) × (other ≡ (slice_index_or pairs i p).1))
+    ⊎ ((one ≡ (slice_index_or pairs i p).1) × (other ≡ (slice_index_or pairs i p).0)))

@@ -51,7 +51,7 @@ fn due_of(
             let Some(_) = edges.target(node, letter) else {
                 return Due::Nothing;
             };
-            due_through(edges, node, letter, congruence)
+            due_through(edges, node, letter, congruence, seen)
         }
     }
 }

@@ -4,10 +4,10 @@ ghost use Rattle.theory.specs.Word.{Word as Letters};
 ghost use Rattle.theory.specs.Graph.{path as path_of, target as target_of};
 ghost use Rattle.coincidence.specs.DueSpec.{IsDueFrom, IsDueAt};
 ghost use Rattle.coincidence.specs.Holding.{HoldBefore, HoldOnceDrawn, MeetAt};
-ghost use Rattle.coincidence.specs.Merging.{IsReached};
+ghost use Rattle.coincidence.specs.Merging.{EdgesReached, IsReached};
 ghost use Rattle.coincidence.specs.Reading.{IsCut, IsDueBoth, IsDueBehind, IsDueAlong, IsDueThrough};
 ghost use Rattle.coincidence.specs.Pending.{IsAmong};
-ghost use Rattle.coincidence.specs.Seen.{HoldWhereSeen};
+ghost use Rattle.coincidence.specs.Seen.{AreSidesOf, HoldWhereSeen};
 ghost use Rattle.coincidence.specs.Starts.{AreStarts, IsDueByLetter, IsDueInList};
 ghost use Rattle.coincidence.specs.declared.due.Due.TheVariants.{Nothing};
 ghost use Rattle.coincidence.specs.Uses.{list_at, AreUses, ArePlaces, IsDueAtPlaces, IsDueInPowers, IsDueBefore, IsDueBeforeAny, IsDueInSides};
@@ -111,17 +111,6 @@ fn asked_beside(edges: &Edges, node: usize, first: &Word, one: usize, second: &W
     match due_to(edges, first_end, two, second) {
         Due::Nothing => Some(due_to(edges, second_end, one, first)),
         due => Some(due),
-    }
-}
-
-// As `asked_beside`; a pair that holds asks for nothing.
-fn due_beside(edges: &Edges, node: usize, first: &Word, one: usize, second: &Word) -> Due
-    requires { path_of edges.now.graph node (take (length first.now - 1) first.now) ≡ Some one }
-    ensures { IsDueBoth edges.now.graph node first.now second.now result }
-{
-    match asked_beside(edges, node, first, one, second) {
-        None => Due::Nothing,
-        Some(due) => due,
     }
 }
 
@@ -313,49 +302,83 @@ fn front_from(edges: &Edges, node: usize, side: &Word, place: usize) -> Option<u
     Some(at)
 }
 
+// One side of the pair of a number, and the other.
+#[derive(Drop)]
+struct OneSide<'a> {
+    pairs: &'a Pairs,
+    number: usize,
+    side: &'a Word,
+    other: &'a Word,
+}
+
 // A side of a pair that is read up to a place of it, where it has come to a node in the middle, and
 // the other side.
 #[derive(Drop)]
 struct Crossing<'a> {
+    pairs: &'a Pairs,
+    number: usize,
     side: &'a Word,
     place: usize,
     middle: usize,
     other: &'a Word,
 }
 
-// What a pair asks for at a node from which the one side leads to a place of it.
-fn due_beyond(edges: &Edges, node: usize, crossing: &Crossing) -> Due
+// What a pair asks for at a node from which the one side leads to a place of it, unless it was seen
+// to hold there. It is seen to if it does.
+fn due_beyond(edges: &Edges, node: usize, crossing: &Crossing, seen: &mut Seen) -> Due
     requires place { crossing.now.place < length crossing.now.side.now }
     requires middle { path_of edges.now.graph node
         (take crossing.now.place crossing.now.side.now) ≡ Some crossing.now.middle }
-    ensures { IsDueBoth edges.now.graph node crossing.now.side.now crossing.now.other.now result }
+    requires pair { AreSidesOf crossing.now.pairs.now crossing.now.number crossing.now.side.now
+        crossing.now.other.now }
+    requires node { IsReached edges.now.graph node }
+    requires seen { HoldWhereSeen crossing.now.pairs.now edges.now.graph seen.old }
+    ensures due { IsDueBoth edges.now.graph node crossing.now.side.now crossing.now.other.now
+        result }
+    ensures seen { HoldWhereSeen crossing.now.pairs.now edges.now.graph seen.new }
 {
-    match front_from(edges, crossing.middle, crossing.side, crossing.place) {
-        None => Due::Nothing,
-        Some(one) => due_beside(edges, node, crossing.side, one, crossing.other),
+    if seen.has(node, crossing.number) {
+        return Due::Nothing;
+    }
+    let Some(one) = front_from(edges, crossing.middle, crossing.side, crossing.place) else {
+        return Due::Nothing;
+    };
+    match asked_beside(edges, node, crossing.side, one, crossing.other) {
+        None => {
+            seen.note(node, crossing.number);
+            Due::Nothing
+        }
+        Some(due) => due,
     }
 }
 
 // What a pair asks for at the nodes from which the first letters of the one side, so many, lead to
 // this one, and on to a place of it.
-fn due_behind(edges: &Edges, node: usize, count: usize, crossing: &Crossing) -> Due
+fn due_behind(edges: &Edges, node: usize, count: usize, crossing: &Crossing, seen: &mut Seen) -> Due
     requires count { count ≤ crossing.now.place }
     requires place { crossing.now.place < length crossing.now.side.now }
     requires middle { (n : ℕ)
         → path_of edges.now.graph n (take count crossing.now.side.now) ≡ Some node
         → path_of edges.now.graph n (take crossing.now.place crossing.now.side.now)
         ≡ Some crossing.now.middle }
-    ensures { IsDueBehind edges.now.graph node (take count crossing.now.side.now)
+    requires pair { AreSidesOf crossing.now.pairs.now crossing.now.number crossing.now.side.now
+        crossing.now.other.now }
+    requires reached { (n : ℕ)
+        → path_of edges.now.graph n (take count crossing.now.side.now) ≡ Some node
+        → IsReached edges.now.graph n }
+    requires seen { HoldWhereSeen crossing.now.pairs.now edges.now.graph seen.old }
+    ensures due { IsDueBehind edges.now.graph node (take count crossing.now.side.now)
         crossing.now.side.now crossing.now.other.now result }
+    ensures seen { HoldWhereSeen crossing.now.pairs.now edges.now.graph seen.new }
 {
     if count == 0 {
-        return due_beyond(edges, node, crossing);
+        return due_beyond(edges, node, crossing, seen);
     }
     let _letters = edges.letters();
     let letter = crossing.side.letter(count - 1);
     let mut at = edges.first_source(node, letter);
     while let Some(source) = at {
-        match due_behind(edges, source, count - 1, crossing) {
+        match due_behind(edges, source, count - 1, crossing, seen) {
             Due::Nothing => {}
             due => return due,
         }
@@ -365,17 +388,26 @@ fn due_behind(edges: &Edges, node: usize, count: usize, crossing: &Crossing) -> 
 }
 
 // What a pair asks for where the one side is read across this node, with so many letters behind it.
-fn due_across(edges: &Edges, node: usize, side: &Word, place: usize, other: &Word) -> Due
-    requires { place < length side.now }
-    ensures { IsDueBehind edges.now.graph node (take place side.now) side.now other.now result }
+fn due_across(edges: &Edges, node: usize, one: &OneSide, place: usize, seen: &mut Seen) -> Due
+    requires place { place < length one.now.side.now }
+    requires pair { AreSidesOf one.now.pairs.now one.now.number one.now.side.now
+        one.now.other.now }
+    requires reached { EdgesReached edges.now.graph }
+    requires node { IsReached edges.now.graph node }
+    requires seen { HoldWhereSeen one.now.pairs.now edges.now.graph seen.old }
+    ensures due { IsDueBehind edges.now.graph node (take place one.now.side.now) one.now.side.now
+        one.now.other.now result }
+    ensures seen { HoldWhereSeen one.now.pairs.now edges.now.graph seen.new }
 {
     let crossing = Crossing {
-        side,
+        pairs: one.pairs,
+        number: one.number,
+        side: one.side,
         place,
         middle: node,
-        other,
+        other: one.other,
     };
-    due_behind(edges, node, place, &crossing)
+    due_behind(edges, node, place, &crossing, seen)
 }
 
 // Whether the side may be read across the edge of the letter from the node with its letter at the
@@ -399,15 +431,22 @@ fn may_cross(edges: &Edges, node: usize, letter: Letter, side: &Word, place: usi
 }
 
 // What a pair asks for where the one side is read across the edge of the letter from the node.
-fn due_along(edges: &Edges, node: usize, letter: Letter, side: &Word, other: &Word) -> Due
-    ensures { IsDueAlong edges.now.graph node letter side.now side.now other.now result }
+fn due_along(edges: &Edges, node: usize, letter: Letter, one: &OneSide, seen: &mut Seen) -> Due
+    requires pair { AreSidesOf one.now.pairs.now one.now.number one.now.side.now
+        one.now.other.now }
+    requires reached { EdgesReached edges.now.graph }
+    requires node { IsReached edges.now.graph node }
+    requires seen { HoldWhereSeen one.now.pairs.now edges.now.graph seen.old }
+    ensures due { IsDueAlong edges.now.graph node letter one.now.side.now one.now.side.now
+        one.now.other.now result }
+    ensures seen { HoldWhereSeen one.now.pairs.now edges.now.graph seen.new }
 {
-    if comes_round(edges, node, letter, side, other) {
+    if comes_round(edges, node, letter, one.side, one.other) {
         return Due::Nothing;
     }
-    for place in 0..side.len() {
-        if may_cross(edges, node, letter, side, place) {
-            match due_across(edges, node, side, place, other) {
+    for place in 0..one.side.len() {
+        if may_cross(edges, node, letter, one.side, place) {
+            match due_across(edges, node, one, place, seen) {
                 Due::Nothing => {}
                 due => return due,
             }
@@ -416,9 +455,11 @@ fn due_along(edges: &Edges, node: usize, letter: Letter, side: &Word, other: &Wo
     Due::Nothing
 }
 
-// The first sides of pairs, or the second ones, and where letters stand in them.
+// The first sides of pairs, or the second ones, where letters stand in them, and the edges along
+// which they are read.
 #[derive(Drop)]
 struct Sides<'a> {
+    edges: &'a Edges,
     pairs: &'a Pairs,
     second: bool,
     uses: &'a Uses,
@@ -426,21 +467,29 @@ struct Sides<'a> {
 
 // What pairs ask for at places of the letter, read from the node on.
 fn due_at_places(
-    edges: &Edges,
     node: usize,
     letter: Letter,
     sides: &Sides,
     places: &[(usize, usize)],
+    seen: &mut Seen,
 ) -> Due
-    requires { ArePlaces sides.now.second sides.now.pairs.now places.now }
-    ensures { IsDueAtPlaces sides.now.second edges.now.graph sides.now.pairs.now node letter
-        places.now result }
+    requires places { ArePlaces sides.now.second sides.now.pairs.now places.now }
+    requires reached { EdgesReached sides.now.edges.now.graph }
+    requires node { IsReached sides.now.edges.now.graph node }
+    requires seen { HoldWhereSeen sides.now.pairs.now sides.now.edges.now.graph seen.old }
+    ensures due { IsDueAtPlaces sides.now.second sides.now.edges.now.graph sides.now.pairs.now node
+        letter places.now result }
+    ensures seen { HoldWhereSeen sides.now.pairs.now sides.now.edges.now.graph seen.new }
 {
     for k in 0..places.len() {
         let pair = sides.pairs.pair(places[k].0);
-        let one = side(pair, sides.second);
-        let other = other_side(pair, sides.second);
-        match due_across(edges, node, one, places[k].1, other) {
+        let one = OneSide {
+            pairs: sides.pairs,
+            number: places[k].0,
+            side: side(pair, sides.second),
+            other: other_side(pair, sides.second),
+        };
+        match due_across(sides.edges, node, &one, places[k].1, seen) {
             Due::Nothing => {}
             due => return due,
         }
@@ -450,21 +499,29 @@ fn due_at_places(
 
 // What powers ask for where they are read across the edge of the letter from the node.
 fn due_in_powers(
-    edges: &Edges,
     node: usize,
     letter: Letter,
     sides: &Sides,
     places: &[(usize, usize)],
+    seen: &mut Seen,
 ) -> Due
-    requires { ArePlaces sides.now.second sides.now.pairs.now places.now }
-    ensures { IsDueInPowers sides.now.second edges.now.graph sides.now.pairs.now node letter
-        places.now result }
+    requires places { ArePlaces sides.now.second sides.now.pairs.now places.now }
+    requires reached { EdgesReached sides.now.edges.now.graph }
+    requires node { IsReached sides.now.edges.now.graph node }
+    requires seen { HoldWhereSeen sides.now.pairs.now sides.now.edges.now.graph seen.old }
+    ensures due { IsDueInPowers sides.now.second sides.now.edges.now.graph sides.now.pairs.now node
+        letter places.now result }
+    ensures seen { HoldWhereSeen sides.now.pairs.now sides.now.edges.now.graph seen.new }
 {
     for k in 0..places.len() {
         let pair = sides.pairs.pair(places[k].0);
-        let one = side(pair, sides.second);
-        let other = other_side(pair, sides.second);
-        match due_along(edges, node, letter, one, other) {
+        let one = OneSide {
+            pairs: sides.pairs,
+            number: places[k].0,
+            side: side(pair, sides.second),
+            other: other_side(pair, sides.second),
+        };
+        match due_along(sides.edges, node, letter, &one, seen) {
             Due::Nothing => {}
             due => return due,
         }
@@ -473,33 +530,41 @@ fn due_in_powers(
 }
 
 // What pairs ask for at places of the letter before another one, if both lead on.
-fn due_before(edges: &Edges, node: usize, letter: Letter, sides: &Sides, behind: Letter) -> Due
-    requires { AreUses sides.now.second sides.now.pairs.now sides.now.uses.now }
-    ensures { IsDueBefore sides.now.second edges.now.graph sides.now.pairs.now node letter
-        sides.now.uses.now behind result }
+fn due_before(node: usize, letter: Letter, sides: &Sides, behind: Letter, seen: &mut Seen) -> Due
+    requires uses { AreUses sides.now.second sides.now.pairs.now sides.now.uses.now }
+    requires reached { EdgesReached sides.now.edges.now.graph }
+    requires node { IsReached sides.now.edges.now.graph node }
+    requires seen { HoldWhereSeen sides.now.pairs.now sides.now.edges.now.graph seen.old }
+    ensures due { IsDueBefore sides.now.second sides.now.edges.now.graph sides.now.pairs.now node
+        letter sides.now.uses.now behind result }
+    ensures seen { HoldWhereSeen sides.now.pairs.now sides.now.edges.now.graph seen.new }
 {
     let places = sides.uses.ahead_of(letter, behind);
     if places.is_empty() {
         return Due::Nothing;
     }
-    let Some(next) = edges.target(node, letter) else {
+    let Some(next) = sides.edges.target(node, letter) else {
         return Due::Nothing;
     };
-    match edges.target(next, behind) {
+    match sides.edges.target(next, behind) {
         None => Due::Nothing,
-        Some(_) => due_at_places(edges, node, letter, sides, places),
+        Some(_) => due_at_places(node, letter, sides, places, seen),
     }
 }
 
 // What pairs ask for at places of the letter before any other one.
-fn due_before_any(edges: &Edges, node: usize, letter: Letter, sides: &Sides) -> Due
-    requires { AreUses sides.now.second sides.now.pairs.now sides.now.uses.now }
-    ensures { IsDueBeforeAny sides.now.second edges.now.graph sides.now.pairs.now node letter
-        sides.now.uses.now result }
+fn due_before_any(node: usize, letter: Letter, sides: &Sides, seen: &mut Seen) -> Due
+    requires uses { AreUses sides.now.second sides.now.pairs.now sides.now.uses.now }
+    requires reached { EdgesReached sides.now.edges.now.graph }
+    requires node { IsReached sides.now.edges.now.graph node }
+    requires seen { HoldWhereSeen sides.now.pairs.now sides.now.edges.now.graph seen.old }
+    ensures due { IsDueBeforeAny sides.now.second sides.now.edges.now.graph sides.now.pairs.now
+        node letter sides.now.uses.now result }
+    ensures seen { HoldWhereSeen sides.now.pairs.now sides.now.edges.now.graph seen.new }
 {
-    for number in 0..edges.letters() {
+    for number in 0..sides.edges.letters() {
         let behind = Letter::new(number as u8);
-        match due_before(edges, node, letter, sides, behind) {
+        match due_before(node, letter, sides, behind, seen) {
             Due::Nothing => {}
             due => return due,
         }
@@ -507,43 +572,74 @@ fn due_before_any(edges: &Edges, node: usize, letter: Letter, sides: &Sides) -> 
     Due::Nothing
 }
 
-// What the first sides of the relations ask for, or the second, where they are read across the edge
-// of the letter from the node. Only places are looked at behind which the next letter leads on.
-fn due_in_sides(
+// What the first sides of pairs ask for, or the second, where they are read across the edge of the
+// letter from the node. Only places are looked at behind which the next letter leads on.
+fn due_in_sides(node: usize, letter: Letter, sides: &Sides, seen: &mut Seen) -> Due
+    requires uses { AreUses sides.now.second sides.now.pairs.now sides.now.uses.now }
+    requires reached { EdgesReached sides.now.edges.now.graph }
+    requires node { IsReached sides.now.edges.now.graph node }
+    requires seen { HoldWhereSeen sides.now.pairs.now sides.now.edges.now.graph seen.old }
+    ensures due { IsDueInSides sides.now.second sides.now.edges.now.graph sides.now.pairs.now node
+        letter result }
+    ensures seen { HoldWhereSeen sides.now.pairs.now sides.now.edges.now.graph seen.new }
+{
+    match due_at_places(node, letter, sides, sides.uses.ends(letter), seen) {
+        Due::Nothing => {}
+        due => return due,
+    }
+    match due_in_powers(node, letter, sides, sides.uses.powers(letter), seen) {
+        Due::Nothing => {}
+        due => return due,
+    }
+    due_before_any(node, letter, sides, seen)
+}
+
+// What the first sides of the relations ask for, or the second, across the edge.
+fn due_in_relations(
+    edges: &Edges,
+    edge: (usize, Letter),
+    congruence: &Indexed,
+    second: bool,
+    seen: &mut Seen,
+) -> Due
+    requires reached { EdgesReached edges.now.graph }
+    requires node { IsReached edges.now.graph edge.0 }
+    requires seen { HoldWhereSeen congruence.now.congruence.presentation.relations edges.now.graph
+        seen.old }
+    ensures due { IsDueInSides second edges.now.graph
+        congruence.now.congruence.presentation.relations edge.0 edge.1 result }
+    ensures seen { HoldWhereSeen congruence.now.congruence.presentation.relations edges.now.graph
+        seen.new }
+{
+    let sides = Sides {
+        edges,
+        pairs: congruence.relations(),
+        second,
+        uses: congruence.uses(second),
+    };
+    due_in_sides(edge.0, edge.1, &sides, seen)
+}
+
+/// What the relations ask for where a side is read across the edge of the letter from the node.
+/// Where they were seen to hold they are not read.
+pub fn due_through(
     edges: &Edges,
     node: usize,
     letter: Letter,
     congruence: &Indexed,
-    second: bool,
+    seen: &mut Seen,
 ) -> Due
-    ensures { IsDueInSides second edges.now.graph
-        congruence.now.congruence.presentation.relations node letter result }
-{
-    let pairs = congruence.relations();
-    let uses = congruence.uses(second);
-    let sides = Sides {
-        pairs,
-        second,
-        uses,
-    };
-    match due_at_places(edges, node, letter, &sides, uses.ends(letter)) {
-        Due::Nothing => {}
-        due => return due,
-    }
-    match due_in_powers(edges, node, letter, &sides, uses.powers(letter)) {
-        Due::Nothing => {}
-        due => return due,
-    }
-    due_before_any(edges, node, letter, &sides)
-}
-
-/// What the relations ask for where a side is read across the edge of the letter from the node.
-pub fn due_through(edges: &Edges, node: usize, letter: Letter, congruence: &Indexed) -> Due
-    ensures { IsDueThrough edges.now.graph congruence.now.congruence.presentation.relations node
+    requires reached { EdgesReached edges.now.graph }
+    requires node { IsReached edges.now.graph node }
+    requires seen { HoldWhereSeen congruence.now.congruence.presentation.relations edges.now.graph
+        seen.old }
+    ensures due { IsDueThrough edges.now.graph congruence.now.congruence.presentation.relations node
         letter result }
+    ensures seen { HoldWhereSeen congruence.now.congruence.presentation.relations edges.now.graph
+        seen.new }
 {
-    match due_in_sides(edges, node, letter, congruence, false) {
-        Due::Nothing => due_in_sides(edges, node, letter, congruence, true),
+    match due_in_relations(edges, (node, letter), congruence, false, seen) {
+        Due::Nothing => due_in_relations(edges, (node, letter), congruence, true, seen),
         due => due,
     }
 }

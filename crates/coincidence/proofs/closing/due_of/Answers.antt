@@ -37,9 +37,12 @@ returns-in-Some-clause-due c =
     subst (λ (e : Pending). IsDueOf c.args.congruence.now.congruence.presentation.relations c.args.edges.now.graph c.args.live.now.items e c.due_through.result) (sym c.in-NewEdge.is)
     (due_of_edge c.args.congruence.now.congruence.presentation.relations c.args.edges.now.graph c.args.live.now.items c.in-NewEdge.node c.in-NewEdge.letter c.due_through.result
     c.requires.live
-    (λ e. let no : None ≡ Some c.in-Some.field-0 = sym e ∙ sym c.in-Some.ensures in cc) c.due_through.ensures)
+    (λ e. let no : None ≡ Some c.in-Some.field-0 = sym e ∙ sym c.in-Some.ensures in cc) c.due_through.ensures.due)
 
 pub due_at_start-requires-clause-node : goal.due_at_start-requires-clause-node
 due_at_start-requires-clause-node c =
     let less : c.in-NewNode.node < length c.args.live.now.items = omega (arith, c.if-len-node.false, c.len.ensures) in
     c.requires.live.reached c.in-NewNode.node (sym (get_or_read c.args.live.now.items c.in-NewNode.node c.index.result.now less c.index.ensures false) ∙ c.if-not-index.false)
+
+pub due_through-requires-clause-node : goal.due_through-requires-clause-node
+due_through-requires-clause-node c = c.requires.live.edges c.in-NewEdge.node c.in-NewEdge.letter c.in-Some.field-0 (sym c.target.ensures ∙ c.in-Some.is)

@@ -1,5 +1,9 @@
+use Rattle.coincidence.specs.Seen.{HoldWhereSeen}
 use Rattle.coincidence.proofs.ReadLaws.{IsQuietAlong}
 use Rattle.coincidence.proofs.reads.due_along.Given as goal
 
 abbrev pub invariant-loop-place : goal.invariant-loop-place
-invariant-loop-place l = IsQuietAlong l.edges.graph l.node l.letter l.side l.side l.other l.place
+invariant-loop-place l = record {
+  quiet : IsQuietAlong l.edges.graph l.node l.letter l.one.side.now l.one.side.now l.one.other.now l.place;
+  seen : HoldWhereSeen l.one.pairs.now l.edges.graph l.seen;
+}
