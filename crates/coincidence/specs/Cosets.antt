@@ -10,7 +10,7 @@ use Rattle.coincidence.specs.Seen.{HoldWhereSeen}
 use Rattle.coincidence.specs.declared.cosets.Cosets.{Cosets}
 
 -- the live cosets are those that are reached, only they are marked, the relations ask for nothing
--- but by what is pending, the order is that of the cosets, and relations hold where they were seen to
+-- but by what is pending, the order is that of the cosets, and what was seen to hold does
 pub record IsWhole (c : Congruence) (t : Cosets) : Type 0 where
   pub congruence : IsWellFormed c
   pub graph : IsGraph c.presentation.letters t.edges.graph
