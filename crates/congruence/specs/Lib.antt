@@ -1,10 +1,5 @@
 pub mod Added
 pub mod Engines
 pub mod Solution
-pub mod Indexes
 pub mod Verdicts
-pub mod Rewriting
 pub mod Classes
-pub mod ListedRules
-pub mod CayleyGraphs
-pub mod ElementLists

@@ -7,34 +7,23 @@ ghost use Rattle.theory.specs.Class.{IsLeast, IsNormal, IsRuleList};
 ghost use Rattle.theory.specs.Listing.{IsLast, IsNext, GoesOnOrEnds};
 ghost use Rattle.problem.specs.Problem.{SameClassOf, allows_rules, count_of, has_empty_word, is_presented};
 ghost use Rattle.race.specs.declared.engines.Progress.TheVariants.{Decided};
-ghost use Rattle.congruence.specs.CayleyGraphs.{AreTablesFor};
+ghost use Rattle.congruence_classes.specs.CayleyGraphs.{AreTablesFor};
+ghost use Rattle.congruence_classes.specs.ClassLists.{IsSolutionFor};
+ghost use Rattle.congruence_classes.specs.ElementLists.{element_list};
+ghost use Rattle.congruence_classes.specs.Indexes.{IsIndexWithin};
 ghost use Rattle.congruence.specs.Classes.{problem_of};
-ghost use Rattle.congruence.specs.ElementLists.{element_list};
 ghost use Rattle.congruence.specs.Engines.{HasDecided, IsTaskFor, said_of, task_of};
-ghost use Rattle.congruence.specs.Indexes.{IsIndexWithin};
-ghost use Rattle.congruence.specs.Solution.{IsSolutionFor};
 
-use crate::cosets::CosetClasses;
-use crate::element_classes::{ElementClasses, GeneratedProblem};
 use crate::engine::{Ended, Engine};
-use crate::listing::{equal_in, index_in, next_in, normal_in, rules_in};
-use crate::reduced_words::ReducedClasses;
+use congruence_classes::{
+    CosetClasses, ElementClasses, GeneratedProblem, Index, ReducedClasses, equal_in, index_in,
+    next_in, normal_in, rules_in,
+};
 use froidure_pin::CayleyTables;
 use ports::NoMemory;
 use reduced_automaton::Rules;
 use std::marker::Model;
 use words::Word;
-
-/// How many classes there are, up to a bound.
-#[derive(Clone, Copy, Debug, PartialEq, Eq)]
-pub enum Index {
-    /// So many.
-    Finite(usize),
-    /// Infinitely many.
-    Infinite,
-    /// Finitely many, and more than the bound.
-    Over,
-}
 
 /// How the classes are known: by the graph of the cosets, by the reduced words of rewriting rules,
 /// or by the tables of the elements, which the lanes hold.

@@ -2,17 +2,17 @@
 ghost use Rattle.std.specs.Prelude.{◌≡◌, ◌↔◌, false, IfOk, IsTrue};
 ghost use Rattle.problem.specs.Problem.{is_presented};
 ghost use Rattle.problem.specs.declared.kinds.Problem.{Problem};
-ghost use Rattle.congruence.specs.CayleyGraphs.{AreTablesFor};
+ghost use Rattle.congruence_classes.specs.CayleyGraphs.{AreTablesFor};
+ghost use Rattle.congruence_classes.specs.ClassLists.{IsStandardGraphFor, IsSolutionFor};
+ghost use Rattle.congruence_classes.specs.ElementLists.{element_list};
 ghost use Rattle.congruence.specs.Classes.{problem_of};
-ghost use Rattle.congruence.specs.ElementLists.{element_list};
-ghost use Rattle.congruence.specs.Solution.{IsStandardGraphFor, IsSolutionFor};
 ghost use Rattle.congruence.specs.Engines.{HasMoreElements, IsTaskFor, SearchesElements, said_of, task_of};
 
 use crate::answers::Classes;
-use crate::cosets::{CosetClasses, ordered_words};
-use crate::element_classes::{ElementClasses, GeneratedProblem};
-use crate::reduced_words::ReducedClasses;
 use cayley::PairsRacer;
+use congruence_classes::{
+    CosetClasses, ElementClasses, GeneratedProblem, ReducedClasses, ordered_words,
+};
 use elements::{BMat, MaxPlusTrunc, PPerm, Transf};
 use froidure_pin::CayleyTables;
 use knuth_bendix::Completion;

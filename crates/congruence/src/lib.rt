@@ -8,15 +8,10 @@
 #![tactic(auto)]
 
 mod answers;
-mod cosets;
-mod element_classes;
 mod engine;
 mod lanes;
-mod listing;
-mod reduced_words;
-mod reducers;
 mod solving;
 
-pub use answers::{Index, Solved};
+pub use answers::Solved;
 pub use engine::{Ended, Engine};
 pub use solving::{Verdict, solve};

@@ -4,7 +4,7 @@ use Rattle.theory.specs.Word.{Word}
 use Rattle.theory.specs.ShortLex.{◌≺◌}
 use Rattle.theory.specs.Class.{IsLeast, IsClassList}
 use Rattle.theory.proofs.Listings.{list_same}
-use Rattle.congruence.specs.CayleyGraphs.{IsNumbered, AreCayleyGraphs}
+use Rattle.congruence_classes.specs.CayleyGraphs.{IsNumbered, AreCayleyGraphs}
 
 abbrev pub AreAlike : (R S : Word → Word → Type 0) → Type 0
 AreAlike R S = (u v : Word) → R u v ↔ S u v

@@ -11,7 +11,7 @@ use Rattle.theory.specs.Word.{Word, IsOver}
 use Rattle.cayley.specs.Tables.{AreEdges, edge}
 use Rattle.problem.specs.declared.kinds.Problem.{Problem}
 use Rattle.problem.specs.Problem.{SameValueOf, letters_of, count_of}
-use Rattle.congruence.specs.CayleyGraphs.{AreTablesFor}
+use Rattle.congruence_classes.specs.CayleyGraphs.{AreTablesFor}
 use Rattle.report.specs.Lines.{cayley_line, numbers_text}
 use Rattle.report.proofs.Elements.{listed_least, value_over}
 use Rattle.report.proofs.ListingLemmas.{more_lines, line_begun}

@@ -20,7 +20,7 @@ use Rattle.froidure_pin.proofs.Starts.{at_in, start_ascending, ascending_between
 use Rattle.problem.specs.declared.kinds.Problem.{Problem}
 use Rattle.problem.specs.Problem.{HasOneShape, SameClassOf, SameValueOf, letters_of, pairs_of}
 use Rattle.problem.proofs.RelatedByValue.{related_by_value}
-use Rattle.congruence.specs.CayleyGraphs.{AreTablesFor}
+use Rattle.congruence_classes.specs.CayleyGraphs.{AreTablesFor}
 use Rattle.green.specs.Related.{AreRelated, IsIdempotentAt}
 use Rattle.green.proofs.GroupLaws.{classes_same}
 use Rattle.report.specs.Collected.{AreLinesOf, TextLines}

@@ -25,7 +25,7 @@ use Rattle.cayley.specs.Whole.{AreTablesOf}
 use Rattle.problem.specs.declared.kinds.Problem.{Problem}
 use Rattle.problem.specs.declared.kinds.Problem.TheVariants.{Presented, Transf, PPerm, BMat, MaxPlus}
 use Rattle.problem.specs.Problem.{HasOneShape, SameValueOf, no_matrix, no_truncated_matrix}
-use Rattle.congruence.specs.CayleyGraphs.{AreCayleyGraphs, AreTablesFor}
+use Rattle.congruence_classes.specs.CayleyGraphs.{AreCayleyGraphs, AreTablesFor}
 use Rattle.green.specs.Related.{AreOfLetters, AreRelated, DoAgree, DoCommute, IsIdempotentAt}
 use Rattle.green.specs.Told.{IsGreen}
 use Rattle.green.proofs.ToldLaws.{by_relation, tables_agree, tables_commute, told_at}

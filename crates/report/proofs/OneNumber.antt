@@ -10,7 +10,7 @@ use Rattle.theory.proofs.Listings.{list_unique}
 use Rattle.theory.proofs.Completeness.{normal_unique}
 use Rattle.theory.proofs.ClassLaws.{IsPartialEquivalence, shortlex_strict}
 use Rattle.froidure_pin.proofs.Starts.{start_ascending, ascending_between}
-use Rattle.congruence.specs.CayleyGraphs.{IsNumbered}
+use Rattle.congruence_classes.specs.CayleyGraphs.{IsNumbered}
 use Rattle.report.proofs.Elements.{list_start, listed_least}
 
 pub one_list : (R : Word → Word → Type 0) (xs ys : List Word) → IsClassList R xs → IsClassList R ys → xs ≡ ys

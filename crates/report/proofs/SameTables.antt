@@ -8,7 +8,7 @@ use Rattle.cayley.specs.Tables.{edge}
 use Rattle.problem.specs.declared.kinds.Problem.{Problem}
 use Rattle.problem.specs.Problem.{HasOneShape, SameValueOf, count_of, letters_of, pairs_of}
 use Rattle.problem.proofs.RelatedByValue.{related_by_value}
-use Rattle.congruence.specs.CayleyGraphs.{AreTablesFor, IsNumbered}
+use Rattle.congruence_classes.specs.CayleyGraphs.{AreTablesFor, IsNumbered}
 use Rattle.green.specs.Known.{AreNamesIn, KnownNames}
 use Rattle.green.specs.Naming.{AreNames}
 use Rattle.green.specs.Related.{AreRelated}

@@ -14,10 +14,10 @@ use Rattle.cayley.specs.Tables.{edge}
 use Rattle.problem.specs.declared.kinds.Problem.{Problem}
 use Rattle.problem.specs.Problem.{SameClassOf, SameValueOf, HasOneShape, IsWellPosed, count_of, is_presented, letters_of, pairs_of}
 use Rattle.problem.proofs.RelatedByValue.{related_by_value}
-use Rattle.congruence.specs.declared.answers.Index.{Index}
-use Rattle.congruence.specs.declared.answers.Index.TheVariants.{Finite, Infinite, Over}
-use Rattle.congruence.specs.CayleyGraphs.{AreTablesFor}
-use Rattle.congruence.specs.Indexes.{IsIndexWithin}
+use Rattle.congruence_classes.specs.declared.indexes.Index.{Index}
+use Rattle.congruence_classes.specs.declared.indexes.Index.TheVariants.{Finite, Infinite, Over}
+use Rattle.congruence_classes.specs.CayleyGraphs.{AreTablesFor}
+use Rattle.congruence_classes.specs.Indexes.{IsIndexWithin}
 use Rattle.query_lang.specs.declared.script.Query.{Query}
 use Rattle.query_lang.specs.declared.script.Query.TheVariants as query
 use Rattle.query_lang.specs.Query.{IsQueryOf, needs_generators, needs_no_pairs}

@@ -17,7 +17,7 @@ use Rattle.problem.specs.Problem.{OfProblem, SameClassOf, IsDecided, IsUndecided
 use Rattle.line_parts.specs.Tables.{rows_in}
 use Rattle.query_lang.specs.declared.script.Query.{Query}
 use Rattle.query_lang.specs.declared.script.Query.TheVariants.{Index, Equal, Normal, Classes, RuleList, ElementOf, Cayley, LowIndex, Meet, Join, Chain, Green, Idempotents}
-use Rattle.congruence.specs.CayleyGraphs.{AreCayleyGraphs}
+use Rattle.congruence_classes.specs.CayleyGraphs.{AreCayleyGraphs}
 use Rattle.report.specs.declared.awaited.Awaited.{Awaited}
 use Rattle.report.specs.declared.awaited.Awaited.TheVariants.{Nothing, Decision, Log}
 use Rattle.report.specs.Chains.{AreChainLines, ChainsAreLogged}

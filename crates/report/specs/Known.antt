@@ -7,7 +7,7 @@ use Rattle.theory.specs.declared.Relation.{Relation}
 use Rattle.theory.specs.declared.Relation.TheVariants.{H}
 use Rattle.query_lang.specs.declared.script.Query.{Query}
 use Rattle.query_lang.specs.declared.script.Query.TheVariants.{Green, Idempotents}
-use Rattle.congruence.specs.CayleyGraphs.{AreTablesFor}
+use Rattle.congruence_classes.specs.CayleyGraphs.{AreTablesFor}
 use Rattle.green.specs.Known.{AreNamesIn, HasNames, KeepsNames}
 use Rattle.report.specs.Texts.{AreTexts, JoinedTexts}
 use Rattle.report.specs.declared.known.KnownElements.{KnownElements}

@@ -2,7 +2,7 @@
 ghost use Rattle.std.specs.Prelude.{◌≡◌, ◌<◌, ◌++◌, ◌∷◌, [], length, slice_index_or, OnOk, IfOk, codes, false};
 ghost use Rattle.ports.specs.Writes.{WritesBytes};
 ghost use Rattle.cayley.specs.Tables.{edge};
-ghost use Rattle.congruence.specs.CayleyGraphs.{AreTablesFor};
+ghost use Rattle.congruence_classes.specs.CayleyGraphs.{AreTablesFor};
 ghost use Rattle.problem.specs.Problem.{count_of, letters_of};
 ghost use Rattle.report.specs.Answer.{cayley_lines};
 ghost use Rattle.report.specs.Gains.{bytes_of};

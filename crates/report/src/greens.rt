@@ -5,7 +5,7 @@ ghost use Rattle.theory.specs.Green.{AreClasses};
 ghost use Rattle.cayley.specs.Tables.{FitTogether};
 ghost use Rattle.green.specs.Known.{AreNamesIn, HasNames, KeepsNames};
 ghost use Rattle.green.specs.Related.{AreRelated, DoCommute};
-ghost use Rattle.congruence.specs.CayleyGraphs.{AreTablesFor};
+ghost use Rattle.congruence_classes.specs.CayleyGraphs.{AreTablesFor};
 ghost use Rattle.problem.specs.Problem.{HasOneShape, letters_of, pairs_of};
 ghost use Rattle.report.specs.Collected.{AreLinesOf, AreOfWords};
 ghost use Rattle.report.specs.Gains.{AreBytesOf, bytes_of};

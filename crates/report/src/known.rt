@@ -5,7 +5,7 @@ ghost use Rattle.theory.specs.Listing.{IsListOf};
 ghost use Rattle.theory.specs.declared.Relation.TheVariants.{H};
 ghost use Rattle.problem.specs.declared.kinds.Problem.{Problem as Posed};
 ghost use Rattle.problem.specs.Problem.{HasOneShape, pairs_of};
-ghost use Rattle.congruence.specs.CayleyGraphs.{AreTablesFor};
+ghost use Rattle.congruence_classes.specs.CayleyGraphs.{AreTablesFor};
 ghost use Rattle.green.specs.Known.{HasNames};
 ghost use Rattle.green.specs.Related.{IsIdempotentAt};
 ghost use Rattle.report.specs.Known.{AreKnownOf, KeepsKnown};

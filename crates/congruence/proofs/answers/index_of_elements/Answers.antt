@@ -1,7 +1,7 @@
 use Rattle.std.proofs.Common.{subst}
 use Rattle.problem.specs.declared.kinds.Problem.{Problem}
 use Rattle.problem.specs.Problem.{SameClassOf}
-use Rattle.congruence.specs.Indexes.{IsIndexWithin}
+use Rattle.congruence_classes.specs.Indexes.{IsIndexWithin}
 use Rattle.congruence.proofs.answers.index_of_elements.Goals as goal
 
 pub returns : goal.returns

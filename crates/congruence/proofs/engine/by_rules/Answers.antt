@@ -6,9 +6,9 @@ use Rattle.theory.specs.Completion.{CompletionEnds, Listed, Rule}
 use Rattle.theory.specs.Marked.{completed}
 use Rattle.knuth_bendix.specs.Runs.{CompletionRun}
 use Rattle.problem.specs.declared.kinds.Problem.{Problem}
+use Rattle.congruence_classes.specs.Rewriting.{AreRulesOf}
 use Rattle.congruence.specs.declared.engine.Engine.TheVariants.{Completion}
 use Rattle.congruence.specs.Engines.{IsTaskFor, task_of}
-use Rattle.congruence.specs.Rewriting.{AreRulesOf}
 use Rattle.congruence.proofs.engine.by_rules.Goals as goal
 
 -- the rules that completion ends with

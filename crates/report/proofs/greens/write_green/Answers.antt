@@ -1,7 +1,7 @@
 use Rattle.std.proofs.Common.{rules, ◌≡◌, IfSome, Option, Some, sym, subst}
 use Rattle.ports.proofs.WriteLemmas.{handed_on, refused}
 use Rattle.froidure_pin.specs.declared.tables.CayleyTables.{CayleyTables}
-use Rattle.congruence.specs.CayleyGraphs.{AreTablesFor}
+use Rattle.congruence_classes.specs.CayleyGraphs.{AreTablesFor}
 use Rattle.problem.specs.declared.kinds.Problem.{Problem}
 use Rattle.problem.specs.Problem.{letters_of}
 use Rattle.report.specs.Known.{AreKnownOf, AreTextsOf, HasGreen}

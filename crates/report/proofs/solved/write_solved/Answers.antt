@@ -7,7 +7,7 @@ use Rattle.froidure_pin.specs.declared.tables.CayleyTables.{CayleyTables}
 use Rattle.cayley.specs.Tables.{edge}
 use Rattle.problem.specs.declared.kinds.Problem.{Problem}
 use Rattle.problem.specs.Problem.{SameClassOf, count_of, letters_of}
-use Rattle.congruence.specs.CayleyGraphs.{AreTablesFor}
+use Rattle.congruence_classes.specs.CayleyGraphs.{AreTablesFor}
 use Rattle.query_lang.specs.declared.script.Query.{Query}
 use Rattle.query_lang.specs.declared.script.Query.TheVariants as query
 use Rattle.report.specs.Answer.{cayley_lines}

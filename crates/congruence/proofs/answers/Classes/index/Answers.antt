@@ -1,8 +1,8 @@
 use Rattle.std.proofs.Common.{ap, sym, subst, IfOk}
 use Rattle.problem.specs.declared.kinds.Problem.{Problem}
 use Rattle.problem.specs.Problem.{SameClassOf}
+use Rattle.congruence_classes.specs.Indexes.{IsIndexWithin}
 use Rattle.congruence.specs.Classes.{problem_of}
-use Rattle.congruence.specs.Indexes.{IsIndexWithin}
 use Rattle.congruence.proofs.answers.Classes.index.Goals as goal
 
 pub returns-in-Cosets-clause-index : goal.returns-in-Cosets-clause-index

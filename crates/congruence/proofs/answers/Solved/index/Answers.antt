@@ -1,7 +1,7 @@
 use Rattle.std.proofs.Common.{ap, subst, IfOk}
 use Rattle.problem.specs.declared.kinds.Problem.{Problem}
 use Rattle.problem.specs.Problem.{SameClassOf}
-use Rattle.congruence.specs.Indexes.{IsIndexWithin}
+use Rattle.congruence_classes.specs.Indexes.{IsIndexWithin}
 use Rattle.congruence.specs.Solution.{Solution}
 use Rattle.congruence.proofs.answers.Solved.index.Goals as goal
 

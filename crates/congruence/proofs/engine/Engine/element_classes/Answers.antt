@@ -1,7 +1,7 @@
 use Rattle.std.proofs.Common.{subst}
 use Rattle.congruence.specs.declared.engine.Engine.{Engine}
 use Rattle.congruence.specs.Engines.{IsTaskFor, task_of}
-use Rattle.congruence.proofs.ElementClasses.{transf_classes, pperm_classes, bmat_classes, mpt_classes}
+use Rattle.congruence.proofs.ElementTasks.{transf_classes, pperm_classes, bmat_classes, mpt_classes}
 use Rattle.congruence.proofs.engine.Engine.element_classes.Goals as goal
 
 pub new-requires : goal.new-requires

@@ -1,7 +1,7 @@
 use Rattle.std.proofs.Common.{subst}
 use Rattle.congruence.specs.declared.engine.Engine.{Engine}
 use Rattle.congruence.specs.Engines.{IsTaskFor, task_of}
-use Rattle.congruence.proofs.ElementClasses.{transf_tables, pperm_tables, bmat_tables, mpt_tables}
+use Rattle.congruence.proofs.ElementTasks.{transf_tables, pperm_tables, bmat_tables, mpt_tables}
 use Rattle.congruence.proofs.engine.Engine.tables.Goals as goal
 
 pub returns-in-Transf : goal.returns-in-Transf

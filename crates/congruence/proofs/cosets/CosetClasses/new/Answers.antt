@@ -1,8 +1,0 @@
-use Rattle.std.proofs.Common.{sym, subst}
-use Rattle.problem.specs.declared.kinds.Problem.{Problem}
-use Rattle.congruence.specs.Solution.{IsSolutionFor, coset_list}
-use Rattle.congruence.proofs.cosets.CosetClasses.new.Goals as goal
-
-pub invariant_of-result : goal.invariant_of-result
-invariant_of-result c =
-    subst (λ (p : Problem). IsSolutionFor p (coset_list c.in_ok-list.list)) (sym c.in_ok-copy.ensures) c.in_ok-list.ensures

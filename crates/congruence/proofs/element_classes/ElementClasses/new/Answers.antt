@@ -1,5 +1,0 @@
-use Rattle.congruence.proofs.ElementLists.{elements_solution}
-use Rattle.congruence.proofs.element_classes.ElementClasses.new.Goals as goal
-
-pub returns : goal.returns
-returns c = elements_solution c.args.problem.now c.args.tables.now c.args.classes.now c.placed.result.0.now c.placed.result.1.now c.requires c.placed.ensures

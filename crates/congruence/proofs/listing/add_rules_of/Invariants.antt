@@ -1,5 +1,0 @@
-use Rattle.congruence.specs.ListedRules.{AreRulesTo}
-use Rattle.congruence.proofs.listing.add_rules_of.Given as goal
-
-abbrev pub invariant-loop-number : goal.invariant-loop-number
-invariant-loop-number g l = AreRulesTo (g.L.ListedClasses.list l.classes) l.place l.number l.rules

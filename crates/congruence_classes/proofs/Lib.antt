@@ -1,0 +1,15 @@
+pub mod OrderedWords
+pub mod ClassListLaws
+pub mod ReversedWords
+pub mod AnswerLaws
+pub mod PlaceLaws
+pub mod GraphLaws
+pub mod RewrittenRules
+pub mod ReducerLaws
+pub mod RewrittenWords
+pub mod RewrittenCounts
+pub mod ListedRuleLists
+pub mod ListedRuleLaws
+pub mod ListedWords
+pub mod ElementTables
+pub mod ElementLists

@@ -1,0 +1,6 @@
+pub mod ClassLists
+pub mod Indexes
+pub mod Rewriting
+pub mod ListedRules
+pub mod CayleyGraphs
+pub mod ElementLists
