@@ -160,8 +160,8 @@ impl Solved {
         &self.lanes
     }
 
-    /// The number of classes, if it is at most the bound. Refused only where memory is wanting. What
-    /// is known stays the same; reduced words are found faster another time.
+    /// The number of classes, if it is at most the bound. Refused only where memory is wanting.
+    /// What is known stays the same; reduced words are found faster another time.
     pub fn index(&mut self, bound: usize) -> Result<Index, NoMemory>
         ensures kept { self.new ≡ self.old }
         ensures index { IfOk result (IsIndexWithin (SameClassOf self.old.problem) bound) }

@@ -112,8 +112,8 @@ impl Engine {
         }
     }
 
-    // The classes of the elements of the problem, which is given by generators, and which the engine
-    // has decided.
+    // The classes of the elements of the problem, which is given by generators, and which the
+    // engine has decided.
     pub(crate) fn element_classes(&self, alloc: Global, problem: &Problem) -> ElementClasses<'_>
         requires decided { said_of self.now ≡ Progress.Decided }
         requires generated { is_presented problem.now ≡ false }

@@ -77,9 +77,9 @@ fn workers_needed(budgets: &Budgets, workers: usize) -> usize
 /// Decides the problem by engines that race. For a congruence on a presentation these are coset
 /// enumeration by Felsch's strategy with the budget `defs` of definitions, and by that of
 /// Haselgrove, Leech and Trotter with the budget `rows` of rows, and completion with words of at
-/// most `length` letters (Felsch 1961; Knuth and Bendix 1970; Sims 1994, 2.5 and 5.2; libsemigroups,
-/// `ToddCoxeter`, `KnuthBendix`). With left pairs the cosets are those of the congruence read
-/// backwards. Where pairs are one-sided the alphabet has no marker, and what is completed is the
+/// most `length` letters (Felsch 1961; Knuth and Bendix 1970; Sims 1994, 2.5 and 5.2;
+/// libsemigroups, `ToddCoxeter`, `KnuthBendix`). With left pairs the cosets are those of the
+/// congruence read backwards. Where pairs are one-sided the alphabet has no marker, and what is completed is the
 /// presentation with the marker that stands for the congruence. For generators there is one engine,
 /// which lists at most `elements` elements and then finds their classes (Froidure and Pin 1997).
 /// The engines race over as many threads as there are workers, each turn behind the gate; with one

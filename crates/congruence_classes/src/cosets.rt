@@ -50,8 +50,8 @@ impl Model for CosetList {
 }
 
 /// The classes of a problem by the graph of its cosets (Sims 1994, chapter 5; libsemigroups,
-/// `ToddCoxeter`). With left pairs the graph reads words backwards. The empty word counts as a class
-/// of a monoid, and is no element of a semigroup.
+/// `ToddCoxeter`). With left pairs the graph reads words backwards. The empty word counts as a
+/// class of a monoid, and is no element of a semigroup.
 #[derive(Drop)]
 pub struct CosetClasses {
     alloc: Global,

@@ -20,8 +20,8 @@ use words::Word;
 
 /// The classes of a congruence by the rules of a completion: a word is the least of its class
 /// exactly where no rule applies to it, with the marker where pairs are one-sided (Sims 1994,
-/// chapter 2; libsemigroups, `KnuthBendix`). The empty word counts as a class of a monoid, and is no
-/// element of a semigroup.
+/// chapter 2; libsemigroups, `KnuthBendix`). The empty word counts as a class of a monoid, and is
+/// no element of a semigroup.
 #[derive(Drop)]
 pub struct ReducedClasses {
     alloc: Global,
