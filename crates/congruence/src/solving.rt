@@ -79,12 +79,12 @@ fn workers_needed(budgets: &Budgets, workers: usize) -> usize
 /// Haselgrove, Leech and Trotter with the budget `rows` of rows, and completion with words of at
 /// most `length` letters (Felsch 1961; Knuth and Bendix 1970; Sims 1994, 2.5 and 5.2;
 /// libsemigroups, `ToddCoxeter`, `KnuthBendix`). With left pairs the cosets are those of the
-/// congruence read backwards. Where pairs are one-sided the alphabet has no marker, and what is completed is the
-/// presentation with the marker that stands for the congruence. For generators there is one engine,
-/// which lists at most `elements` elements and then finds their classes (Froidure and Pin 1997).
-/// The engines race over as many threads as there are workers, each turn behind the gate; with one
-/// worker, and where fewer than two of these three budgets are above 0, they take turns on this
-/// thread, without the gate. The number of workers changes no answer.
+/// congruence read backwards. Where pairs are one-sided the alphabet has no marker, and what is
+/// completed is the presentation with the marker that stands for the congruence. For generators
+/// there is one engine, which lists at most `elements` elements and then finds their classes
+/// (Froidure and Pin 1997). The engines race over as many threads as there are workers, each turn
+/// behind the gate; with one worker, and where fewer than two of these three budgets are above 0,
+/// they take turns on this thread, without the gate. The number of workers changes no answer.
 /// `Undecided` exactly where no budget suffices; the lanes are kept as the race left them. Refused
 /// only where memory is wanting.
 pub fn solve<R: Threads + Sync, G: Gate + Sync>(
