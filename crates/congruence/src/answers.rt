@@ -21,7 +21,7 @@ use congruence_classes::{
 };
 use froidure_pin::CayleyTables;
 use ports::NoMemory;
-use reduced_automaton::Rules;
+use rewriting::Rules;
 use std::marker::Model;
 use words::Word;
 

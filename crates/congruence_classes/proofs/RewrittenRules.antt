@@ -15,7 +15,7 @@ use Rattle.theory.proofs.CompletedKinds.{completed_decides_kinds, completed_leas
 use Rattle.theory.proofs.KindLaws.{pairs_as_relations}
 use Rattle.theory.proofs.Related.{element_over}
 use Rattle.theory.proofs.SameClasses.{rule_list_same}
-use Rattle.reduced_automaton.specs.Rules.{AreOver}
+use Rattle.rewriting.specs.Rules.{AreOver}
 use Rattle.congruence_classes.specs.Rewriting.{AreRulesOf}
 
 -- Rules that are among others.

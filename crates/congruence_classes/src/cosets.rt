@@ -15,7 +15,7 @@ use crate::listing::{ListedClasses, equal_in, index_in, next_in, normal_in, rule
 use ports::NoMemory;
 use presentation::Kind;
 use problem::Problem;
-use reduced_automaton::Rules;
+use rewriting::Rules;
 use std::alloc::Global;
 use std::marker::Model;
 use word_graph::WordGraph;

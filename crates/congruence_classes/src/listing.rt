@@ -13,7 +13,7 @@ ghost use Rattle.congruence_classes.specs.ListedRules.{Falls, IsReducedList, IsR
 use crate::indexes::Index;
 use ports::NoMemory;
 use problem::Problem;
-use reduced_automaton::Rules;
+use rewriting::Rules;
 use std::alloc::Global;
 use words::{Letter, Word, shortlex};
 

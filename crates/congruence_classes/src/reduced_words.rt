@@ -13,7 +13,7 @@ use crate::indexes::Index;
 use crate::reducers::Reducer;
 use ports::NoMemory;
 use presentation::Congruence;
-use reduced_automaton::Rules;
+use rewriting::Rules;
 use std::alloc::Global;
 use std::marker::Model;
 use words::Word;

@@ -10,7 +10,8 @@ ghost use Rattle.congruence_classes.specs.Rewriting.{AreRulesOf, IsReducedIn, Is
 
 use ports::NoMemory;
 use presentation::{Congruence, Kind};
-use reduced_automaton::{Automaton, Frame, Framed, Rules};
+use reduced_automaton::{Automaton, Frame, Framed};
+use rewriting::Rules;
 use std::alloc::Global;
 use words::{Letter, Word};
 

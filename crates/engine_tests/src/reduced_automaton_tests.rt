@@ -2,7 +2,8 @@
 ghost use Rattle.std.specs.Prelude.{◌≡◌, ◌≤◌, length, IfOk};
 
 use crate::helpers::word;
-use reduced_automaton::{Automaton, Frame, Rules};
+use reduced_automaton::{Automaton, Frame};
+use rewriting::Rules;
 use std::alloc::Global;
 use std::test::Fail;
 use words::{Alphabet, Letter, shortlex};

@@ -17,7 +17,7 @@ use Rattle.theory.proofs.Words.{before_append_left, before_append_right}
 use Rattle.theory.proofs.Counting.{in_from_contains, contains_from_in, IsIn}
 use Rattle.theory.proofs.Related.{element_over}
 use Rattle.theory.proofs.CompletionLaws.{within_left}
-use Rattle.reduced_automaton.proofs.Standing.{listed_falls, listed_at}
+use Rattle.rewriting.proofs.Standing.{listed_falls, listed_at}
 use Rattle.knuth_bendix.specs.Links.{Linked, IsBelow, IsShort, NoLater, IsNoMore, IsCovered, IsLinkedUp}
 use Rattle.knuth_bendix.specs.Held.{Held, lefts, AreClear, AreAllClear, IsSound}
 use Rattle.knuth_bendix.specs.declared.lengths.Lengths.TheVariants.{UpTo}
@@ -28,8 +28,8 @@ use Rattle.knuth_bendix.specs.Runs.{growth, left_of, AreShortRelations}
 use Rattle.knuth_bendix.proofs.LinkLaws.{linked_refl, linked_trans, linked_symm, linked_pair, linked_weaker, linked_more, linked_context, linked_covered, no_later_down, below_down, short_down, covered_more, covered_trans, reduces_linked, no_later_before, no_later_trans, reduces_no_later}
 use Rattle.knuth_bendix.proofs.BoundedConfluence.{rules_from_links}
 use Rattle.knuth_bendix.proofs.RemainingLaws.{still_falls, still_start}
-use Rattle.reduced_automaton.specs.Rules.{stands_in}
-use Rattle.reduced_automaton.proofs.Standing.{factor_trans, stands_at, stands_when}
+use Rattle.rewriting.specs.Rules.{stands_in}
+use Rattle.rewriting.proofs.Standing.{factor_trans, stands_at, stands_when}
 use Rattle.knuth_bendix.proofs.ClearLists.{stands_in_itself, same_rule, clear_apart, clear_push, clear_filter, filter_in, in_filter}
 use Rattle.knuth_bendix.proofs.JoinedOverlaps.{KnownBy, joined_linked, joined_parts, overlap_cases, split_within}
 use Rattle.knuth_bendix.proofs.ListedRules.{rule_of_left, lefts_length, lefts_at, factor_applies}

@@ -1,5 +1,5 @@
 -- Overlaps of left sides, by the letters that they share and by the parts of their words.
-use Rattle.std.proofs.Common.{◌≡◌, ◌≢◌, ℕ, ◌+◌, ◌-◌, ◌<◌, ◌≤◌, List, [], ◌∷◌, ◌++◌, length, take, drop, refl, sym, ◌∙◌, ap, ap₂, subst, subst₂, arith, ◌⊎◌, inl, inr, append_assoc, append-nil, length-append, length-take, take-append-drop}
+use Rattle.std.proofs.Common.{◌≡◌, ◌≢◌, ℕ, ◌+◌, ◌-◌, ◌<◌, ◌≤◌, List, [], ◌∷◌, ◌++◌, length, take, drop, refl, sym, ◌∙◌, ap, subst, subst₂, arith, ◌⊎◌, inl, inr, append_assoc, append-nil, length-append, length-take, take-append-drop}
 use Rattle.std.proofs.lemmas.Bool.{cases_lt}
 use Rattle.std.proofs.lemmas.List.{take_at, drop_at, nil_from_length}
 use Rattle.std.proofs.lemmas.List.Elements.{Contains-get_or}
@@ -23,7 +23,7 @@ use Rattle.knuth_bendix.proofs.LinkLaws.{linked_refl, linked_trans, linked_symm,
 use Rattle.knuth_bendix.proofs.ClearLists.{same_rule}
 use Rattle.knuth_bendix.proofs.Endings.{spent_by_overlap}
 use Rattle.knuth_bendix.proofs.FallingRules.{falling_step, falling_reduces}
-use Rattle.reduced_automaton.proofs.Standing.{listed_at}
+use Rattle.rewriting.proofs.Standing.{listed_at}
 
 -- a word abc, within the lengths, whose parts ab and bc are the left sides of two rules, which lead from it to x and y
 pub record HasParts (lengths : Lengths) (p q : Word × Word) (x y : Word) : Type 0 where

@@ -16,8 +16,8 @@ use Rattle.chains.specs.Derivations.{Derived, all_of, pair_of, turned}
 use Rattle.chains.proofs.DerivationLaws.{leads_around, leads_once, leads_once_back, leads_there_and_back}
 use Rattle.chains.specs.declared.derivations.Fact.{Fact}
 use Rattle.chains.specs.declared.steps.ChainStep.{ChainStep}
-use Rattle.reduced_automaton.specs.Traces.{LeadBy, as_relations, step_of}
-use Rattle.reduced_automaton.specs.declared.traces.Applied.{Applied}
+use Rattle.rewriting.specs.Traces.{LeadBy, as_relations, step_of}
+use Rattle.rewriting.specs.declared.traces.Applied.{Applied}
 use Rattle.knuth_bendix.specs.declared.logs.Facts.{Facts}
 use Rattle.knuth_bendix.specs.Logs.{AreFor, AreLogged, Grows, IsFor, IsLogOf, IsLogged, KeepsLog, LogsHeld, LogsRule, Shows}
 use Rattle.knuth_bendix.specs.Overlaps.{critical_pair, overlaps_by, rule_at}

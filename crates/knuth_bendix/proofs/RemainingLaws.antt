@@ -8,8 +8,8 @@ use Rattle.theory.specs.Word.{Word, IsOver}
 use Rattle.theory.specs.Completion.{IsReduced, Listed}
 use Rattle.theory.proofs.Counting.{IsIn}
 use Rattle.theory.proofs.WithinDecides.{in_all_words}
-use Rattle.reduced_automaton.specs.Rules.{stands_in}
-use Rattle.reduced_automaton.proofs.Standing.{stands_at, stands_when}
+use Rattle.rewriting.specs.Rules.{stands_in}
+use Rattle.rewriting.proofs.Standing.{stands_at, stands_when}
 use Rattle.knuth_bendix.specs.Remaining.{words_up_to, is_free, still_reduced}
 
 -- a word is free exactly where no rule applies

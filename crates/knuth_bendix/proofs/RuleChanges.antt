@@ -12,8 +12,8 @@ use Rattle.theory.specs.Chain.{Chain}
 use Rattle.theory.specs.Completion.{IsReduced, Listed, Reduces, Within, transitive}
 use Rattle.theory.proofs.Words.{order_cases, shortlex_exact, shortlex_total}
 use Rattle.theory.proofs.CompletionLaws.{within_left}
-use Rattle.reduced_automaton.specs.Rules.{AreFalling}
-use Rattle.reduced_automaton.proofs.Standing.{listed_falls, listed_at}
+use Rattle.rewriting.specs.Rules.{AreFalling}
+use Rattle.rewriting.proofs.Standing.{listed_falls, listed_at}
 use Rattle.knuth_bendix.specs.Changes.{AddsRule, IsDone, Joins, Rewrites, SetsAside}
 use Rattle.knuth_bendix.specs.Held.{lefts}
 use Rattle.knuth_bendix.specs.Links.{LinkStep, Linked, NoLater, IsNoMore, IsCovered}

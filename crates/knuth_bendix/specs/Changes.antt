@@ -8,7 +8,7 @@ use Rattle.theory.specs.Completion.{IsReduced, Listed, Reduces, Within}
 use Rattle.theory.specs.ShortLex.{◌≺◌}
 use Rattle.knuth_bendix.specs.Links.{Linked, NoLater}
 use Rattle.knuth_bendix.specs.Held.{lefts}
-use Rattle.reduced_automaton.specs.Rules.{AreFalling, stands_in}
+use Rattle.rewriting.specs.Rules.{AreFalling, stands_in}
 use Rattle.knuth_bendix.specs.declared.lengths.Lengths.TheVariants.{UpTo}
 use Rattle.knuth_bendix.specs.Overlaps.{AreJoined, AreShort, Gains, rule_at}
 

@@ -8,7 +8,7 @@ use Rattle.chains.specs.Chains.{steps_of}
 use Rattle.chains.specs.Derivations.{Derived, all_of}
 use Rattle.chains.specs.declared.derivations.Fact.{Fact}
 use Rattle.chains.specs.declared.steps.ChainStep.{ChainStep}
-use Rattle.reduced_automaton.specs.declared.traces.Applied.{Applied}
+use Rattle.rewriting.specs.declared.traces.Applied.{Applied}
 
 -- steps over what is logged lead from u to v, if something is
 abbrev pub Shows : Option Derived → Word → List ChainStep → Word → Type 0

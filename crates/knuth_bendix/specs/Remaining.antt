@@ -2,7 +2,7 @@
 use Rattle.std.specs.Prelude.{ℕ, zero, suc, Bool, not, List, [], ◌∷◌, ◌++◌, map, count_by}
 use Rattle.std.specs.List.{list_any}
 use Rattle.theory.specs.Word.{Word}
-use Rattle.reduced_automaton.specs.Rules.{stands_in}
+use Rattle.rewriting.specs.Rules.{stands_in}
 
 -- each of the first k letters in front of each word
 abbrev pub with_first_letter : ℕ → List Word → List Word

@@ -1,5 +1,5 @@
 // Completion, an equation at a time.
-ghost use Rattle.std.specs.Prelude.{◌≡◌, ◌≢◌, ◌≤◌, ◌<◌, ◌⊎◌, ◌↔◌, All, [], cond, length, true, false, None, is_some, IfOk, OnOk, IsTrue, MatchBool, MatchOption, MatchResult};
+ghost use Rattle.std.specs.Prelude.{◌≡◌, ◌≤◌, ◌<◌, ◌⊎◌, ◌↔◌, All, [], cond, length, true, false, None, is_some, IfOk, IsTrue, MatchBool, MatchOption, MatchResult};
 ghost use Rattle.theory.specs.Word.{Word as Letters};
 ghost use Rattle.theory.specs.Chain.{Related};
 ghost use Rattle.chains.specs.Chains.{IsStraight};
@@ -20,7 +20,7 @@ use chains::ChainStep;
 use ports::NoMemory;
 use presentation::{Pairs, Presentation};
 use race::{Progress, Racer};
-use reduced_automaton::{KeptRules, Rules};
+use rewriting::{KeptRules, Rules};
 use std::alloc::Global;
 use std::marker::Model;
 use std::mem;

@@ -8,7 +8,7 @@ use crate::lengths::Lengths;
 use crate::logs::Log;
 use crate::overlaps::join_overlaps;
 use ports::NoMemory;
-use reduced_automaton::KeptRules;
+use rewriting::KeptRules;
 use std::alloc::Global;
 
 // Whether each overlap of two rules in a word of such a length leads to one word.

@@ -1,18 +1,18 @@
 // How the rules and equations of a completion follow from the relations.
-ghost use Rattle.std.specs.Prelude.{◌≡◌, ℕ, ◌<◌, ◌≤◌, [], None, Some, is_some, length, slice_get, Contains, IfOk, OnOk, IsTrue};
+ghost use Rattle.std.specs.Prelude.{◌≡◌, ◌<◌, ◌≤◌, [], None, Some, is_some, length, slice_get, Contains, IfOk, OnOk, IsTrue};
 ghost use Rattle.theory.specs.Word.{Word as Letters};
 ghost use Rattle.theory.specs.PlacedStep.{LeadTo, read_sides};
 ghost use Rattle.theory.specs.Completion.{IsReduced, Listed, Reduces};
-ghost use Rattle.reduced_automaton.specs.Traces.{LeadBy};
+ghost use Rattle.rewriting.specs.Traces.{LeadBy};
 ghost use Rattle.chains.specs.Chains.{IsStraight, steps_of};
 ghost use Rattle.chains.specs.Derivations.{Derived, all_of};
-ghost use Rattle.knuth_bendix.specs.Logs.{AreFor, AreLogged, Grows, IsFor, IsLogged, Shows};
+ghost use Rattle.knuth_bendix.specs.Logs.{AreLogged, Grows, IsFor, IsLogged, Shows};
 ghost use Rattle.knuth_bendix.specs.Overlaps.{critical_pair, overlaps_by};
 
 use chains::{ChainStep, Derivations, Fact, around, turn_back};
 use ports::NoMemory;
 use presentation::Presentation;
-use reduced_automaton::{Applied, KeptRules};
+use rewriting::{Applied, KeptRules};
 use std::alloc::Global;
 use std::collections::HashMap;
 use std::marker::Model;

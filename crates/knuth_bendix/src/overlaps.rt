@@ -9,7 +9,7 @@ use crate::lengths::Lengths;
 use crate::logs::Log;
 use chains::ChainStep;
 use ports::NoMemory;
-use reduced_automaton::KeptRules;
+use rewriting::KeptRules;
 use std::alloc::Global;
 use words::{Letter, Word};
 

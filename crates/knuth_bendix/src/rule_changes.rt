@@ -12,7 +12,7 @@ use crate::logs::Log;
 use crate::overlaps::join_all;
 use chains::ChainStep;
 use ports::NoMemory;
-use reduced_automaton::{KeptRules, has_factor};
+use rewriting::{KeptRules, has_factor};
 use std::alloc::Global;
 use std::cmp::Ordering;
 use words::{Word, shortlex};

@@ -18,8 +18,8 @@ use Rattle.reduced_automaton.specs.Automaton.{Allows, AreDepths, IsReader, IsRed
 use Rattle.reduced_automaton.proofs.PathLaws.{goes_as, goes_behind, goes_path}
 use Rattle.reduced_automaton.proofs.DepthLaws.{goes_shorter, option_cases}
 use Rattle.reduced_automaton.proofs.NextPaths.{IsPassed, end_here, last_here, last_nil, least_behind, least_is, least_nil, next_as_long, next_behind, next_here, passed_last, passed_more, passed_next, passed_start, passed_word, without_ends}
-use Rattle.reduced_automaton.proofs.LetterLaws.{over_more}
-use Rattle.reduced_automaton.proofs.Ranks.{rank, rank_below}
+use Rattle.rewriting.proofs.LetterLaws.{over_more}
+use Rattle.rewriting.proofs.Ranks.{rank, rank_below}
 
 -- What holds alike has the same next.
 module _ {A : Type 0} (P Q : A → Type 0) (Less : A → A → Type 0) (same : (x : A) → P x ↔ Q x) where

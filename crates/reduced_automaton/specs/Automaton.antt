@@ -4,6 +4,8 @@ use Rattle.theory.specs.Word.{Word, IsOver}
 use Rattle.theory.specs.Completion.{IsReduced, Listed}
 use Rattle.theory.specs.Graph.{Graph, IsGraph, target}
 use Rattle.word_graph.specs.Gaps.{count_none}
+use Rattle.rewriting.specs.States.{HasEnd, IsLongest}
+use Rattle.rewriting.specs.Tables.{IsTableOf, Moves, edges}
 use Rattle.reduced_automaton.specs.Paths.{GoesOn, HasPath, all_paths}
 
 -- words over so many letters, rules for them, the states by which they are read, and the graph of
@@ -18,6 +20,11 @@ pub record Reading : Type 0 where
 pub record IsReducedWord (a : Reading) (u : Word) : Type 0 where
   pub over : IsOver a.letters u
   pub reduced : IsReduced (Listed a.rules) u
+
+-- where u leads: nowhere if a left side stands at its end, and else to the longest state that does
+abbrev pub Leads : List (Word × Word) → List Word → Word → Option ℕ → Type 0
+Leads rules states u None = HasEnd rules u
+Leads rules states u (Some place) = (HasEnd rules u → ⊥) × IsLongest states u place
 
 -- each reduced word has a path from the root of the graph, and no other word
 pub record IsReader (k : ℕ) (rules : List (Word × Word)) (g : Graph) : Type 0 where
@@ -34,6 +41,13 @@ pub record AreDepths (k : ℕ) (g : Graph) (depths : List (Option ℕ)) : Type 0
   pub count : length depths ≡ length g
   pub depth : (node n : ℕ) → node < length g
       → GoesOn (all_paths k g) node n ↔ Allows (slice_index_or depths node None) n
+
+-- what an automaton holds
+pub record IsAutomaton (k : ℕ) (rules : List (Word × Word)) (m : Moves)
+    (most : List (Option ℕ)) : Type 0 where
+  pub table : IsTableOf k rules m
+  pub reader : IsReader k rules (edges m)
+  pub depths : AreDepths k (edges m) most
 
 -- the edge of the letter a leads from the node to one whose depth allows n letters more
 pub record LeadsBy (g : Graph) (depths : List (Option ℕ)) (node n a : ℕ) : Type 0 where

@@ -1,14 +1,4 @@
-pub mod Rules
 pub mod Frames
 pub mod Framings
 pub mod Paths
 pub mod Automaton
-pub mod States
-pub mod Tries
-pub mod Links
-pub mod Tables
-pub mod Reductions
-pub mod Newer
-pub mod Lookups
-pub mod Parts
-pub mod Traces

@@ -3,23 +3,21 @@ ghost use Rattle.std.specs.Prelude.{◌≡◌, ◌<◌, ◌≤◌, ◌↔◌, fa
 ghost use Rattle.std.specs.Option.{option_copied};
 ghost use Rattle.theory.specs.Word.{IsOver};
 ghost use Rattle.theory.specs.ShortLex.{◌≺◌};
-ghost use Rattle.theory.specs.Completion.{IsReduced, Listed};
+ghost use Rattle.theory.specs.Completion.{IsReduced, Listed, Reduces};
 ghost use Rattle.theory.specs.Listing.{IsLast, IsNext, AreFinite, AreInfinite, GoesOnOrEnds};
-ghost use Rattle.reduced_automaton.specs.Rules.{AreOver};
-ghost use Rattle.reduced_automaton.specs.Automaton.{IsReducedWord};
+ghost use Rattle.rewriting.specs.Rules.{AreOver};
+ghost use Rattle.rewriting.specs.Tables.{IsStateList};
+ghost use Rattle.rewriting.specs.Tries.{Reads, longer};
+ghost use Rattle.reduced_automaton.specs.Automaton.{IsReducedWord, Leads};
 ghost use Rattle.reduced_automaton.specs.Frames.{IsFramed};
 ghost use Rattle.reduced_automaton.specs.Framings.{IsFraming};
-ghost use Rattle.reduced_automaton.specs.States.{Leads};
-ghost use Rattle.reduced_automaton.specs.Tables.{IsStateList};
-ghost use Rattle.reduced_automaton.specs.Tries.{Reads, longer};
 
 use crate::depths::depths_of;
 use crate::frames::Frame;
 use crate::framings::Framing;
 use crate::readers::next_path;
-use crate::rule_lists::Rules;
-use crate::table::{Table, move_by};
 use ports::NoMemory;
+use rewriting::{IndexAutomaton, Rules};
 use std::alloc::Global;
 use std::marker::Model;
 use words::{Letter, Word};
@@ -28,17 +26,17 @@ use words::{Letter, Word};
 /// applies (Sims 1994, 3.5; libsemigroups, the Gilman graph of `KnuthBendix`).
 #[derive(Drop)]
 pub struct Automaton {
-    pub(crate) alloc: Global,
+    alloc: Global,
     letters: usize,
     rules: Rules,
-    table: Table,
+    table: IndexAutomaton,
     depths: Vec<Option<usize>>,
 }
 
 impl Model for Automaton {
-    ghost use Rattle.reduced_automaton.specs.Automaton.{Reading};
-    ghost use Rattle.reduced_automaton.specs.Tables.{IsAutomaton, edges};
-    ghost use Rattle.reduced_automaton.specs.Tries.{words_of};
+    ghost use Rattle.reduced_automaton.specs.Automaton.{IsAutomaton, Reading};
+    ghost use Rattle.rewriting.specs.Tables.{edges};
+    ghost use Rattle.rewriting.specs.Tries.{words_of};
 
     ghost Value = { Reading };
 
@@ -63,7 +61,8 @@ impl Automaton {
     {
         let _count = rules.len();
         let rules = rules.copy(alloc)?;
-        let table = Table::of(alloc, letters, &rules)?;
+        let table = IndexAutomaton::of(alloc, letters, &rules)?;
+        let _letters = table.letters();
         let depths = depths_of(alloc, &table)?;
         Ok(Automaton {
             alloc,
@@ -86,7 +85,7 @@ impl Automaton {
 
     // The longest state at the end of the state and the letter, and the rule whose left side stands
     // there.
-    pub(crate) fn read(&self, state: usize, letter: Letter) -> (usize, Option<usize>)
+    fn read(&self, state: usize, letter: Letter) -> (usize, Option<usize>)
         requires { state < length self.now.states }
         ensures { Reads self.now.rules self.now.states
             (longer self.now.states state letter) result.0 result.1 }
@@ -102,8 +101,11 @@ impl Automaton {
         ensures { Leads self.now.rules self.now.states
             (longer self.now.states state letter) result }
     {
-        let read = self.read(state, letter);
-        move_by(read.1, Some(read.0))
+        let (next, end) = self.read(state, letter);
+        match end {
+            None => Some(next),
+            Some(_) => None,
+        }
     }
 
     /// The rules.
@@ -111,6 +113,16 @@ impl Automaton {
         ensures { result.now ≡ self.now.rules }
     {
         &self.rules
+    }
+
+    /// A word to which the rules lead from the word, and to which none applies. The word is read
+    /// once, letter by letter, and where a left side ends, reading goes on where it began with the
+    /// right side. Refused only where memory is wanting.
+    pub fn reduce(&self, word: &Word) -> Result<Word, NoMemory>
+        ensures reached { IfOk result (λ w. Reduces (Listed self.now.rules) word.now w) }
+        ensures reduced { IfOk result (λ w. IsReduced (Listed self.now.rules) w) }
+    {
+        self.table.reduce(self.alloc, &self.rules, word)
     }
 
     /// Whether no rule applies to the word, which is over the letters. It takes no memory.

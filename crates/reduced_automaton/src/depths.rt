@@ -1,11 +1,11 @@
 // How far words lead from the nodes of a graph.
 ghost use Rattle.std.specs.Prelude.{◌≡◌, ◌+◌, ◌<◌, ◌↔◌, ℕ, length, replicate, IfOk, IsTrue};
 ghost use Rattle.theory.specs.Graph.{IsGraph};
-ghost use Rattle.reduced_automaton.specs.Tables.{edges};
+ghost use Rattle.rewriting.specs.Tables.{edges};
 ghost use Rattle.reduced_automaton.specs.Automaton.{Allows, AreDepths, AreSettled, AreSettledTo, IsChange, LeadsBy, LeadsOn};
 
-use crate::table::Table;
 use ports::NoMemory;
+use rewriting::IndexAutomaton;
 use std::alloc::Global;
 use words::Letter;
 
@@ -21,7 +21,7 @@ pub fn allows(depth: Option<usize>, count: usize) -> bool
 
 // Whether the edge of the letter leads to a node from which so many letters can follow.
 fn leads_by(
-    graph: &Table,
+    graph: &IndexAutomaton,
     depths: &[Option<usize>],
     node: usize,
     letter: Letter,
@@ -38,7 +38,7 @@ fn leads_by(
 }
 
 // Whether an edge leads from the node to one from which so many letters can follow.
-fn leads_on(graph: &Table, depths: &[Option<usize>], node: usize, count: usize) -> bool
+fn leads_on(graph: &IndexAutomaton, depths: &[Option<usize>], node: usize, count: usize) -> bool
     requires { length depths.now ≡ length (edges graph.now) }
     ensures { IsTrue result ↔ LeadsOn (edges graph.now) depths.now node count }
 {
@@ -59,7 +59,12 @@ fn no_numbers(alloc: Global, count: usize) -> Result<Vec<Option<usize>>, NoMemor
 
 // A node without a depth gets the number of the round, where it has no edge on to a node from which
 // as many letters can follow. Whether it got one.
-fn settle(graph: &Table, depths: &mut Vec<Option<usize>>, node: usize, round: usize) -> bool
+fn settle(
+    graph: &IndexAutomaton,
+    depths: &mut Vec<Option<usize>>,
+    node: usize,
+    round: usize,
+) -> bool
     requires node { node < length depths.old.items }
     requires count { length depths.old.items ≡ length (edges graph.now) }
     ensures settled { (k : ℕ) → IsGraph k (edges graph.now)
@@ -79,7 +84,7 @@ fn settle(graph: &Table, depths: &mut Vec<Option<usize>>, node: usize, round: us
 }
 
 // A round: each node in turn. Whether any got a depth.
-fn settle_all(graph: &Table, depths: &mut Vec<Option<usize>>, round: usize) -> bool
+fn settle_all(graph: &IndexAutomaton, depths: &mut Vec<Option<usize>>, round: usize) -> bool
     requires { length depths.old.items ≡ length (edges graph.now) }
     ensures settled { (k : ℕ) → IsGraph k (edges graph.now)
         → AreSettled k (edges graph.now) round depths.old.items
@@ -98,7 +103,7 @@ fn settle_all(graph: &Table, depths: &mut Vec<Option<usize>>, round: usize) -> b
 
 /// The greatest length of a path from each node, in letters; `None` where there are paths of every
 /// length. Refused only where memory is wanting.
-pub fn depths_of(alloc: Global, graph: &Table) -> Result<Vec<Option<usize>>, NoMemory>
+pub fn depths_of(alloc: Global, graph: &IndexAutomaton) -> Result<Vec<Option<usize>>, NoMemory>
     ensures { IfOk result (λ depths. (k : ℕ) → IsGraph k (edges graph.now)
         → AreDepths k (edges graph.now) depths.items) }
 {

@@ -6,14 +6,14 @@ ghost use Rattle.theory.specs.ShortLex.{◌≺◌};
 ghost use Rattle.theory.specs.Listing.{IsLast, IsNext};
 ghost use Rattle.reduced_automaton.specs.Framings.{IsFraming, IsLeastFrom, IsNextLength, IsPathIn, IsUnder, frame_paths};
 ghost use Rattle.reduced_automaton.specs.Paths.{GoesFar, IsLastOfLength, IsNextOfLength};
-ghost use Rattle.reduced_automaton.specs.Tables.{edges};
+ghost use Rattle.rewriting.specs.Tables.{edges};
 
 use crate::frames::Frame;
 use crate::marks::{ends_of, layer_behind, leading, limit_of};
 use crate::paths::FramePaths;
 use crate::readers::{least_word, next_as_long};
-use crate::table::Table;
 use ports::NoMemory;
+use rewriting::IndexAutomaton;
 use std::alloc::Global;
 use words::Word;
 
@@ -40,7 +40,7 @@ fn is_under(limit: Option<usize>, count: usize) -> bool
 
 impl Framing {
     /// What is found once for the frame. Refused only where memory is wanting.
-    pub fn of(alloc: Global, graph: &Table, frame: &Frame) -> Result<Framing, NoMemory>
+    pub fn of(alloc: Global, graph: &IndexAutomaton, frame: &Frame) -> Result<Framing, NoMemory>
         requires { frame.now.letters ≤ graph.now.letters }
         ensures { IfOk result (IsFraming graph.now.letters (edges graph.now) frame.now) }
     {
@@ -68,7 +68,7 @@ impl Framing {
     fn grow(
         &mut self,
         alloc: Global,
-        graph: &Table,
+        graph: &IndexAutomaton,
         frame: &Frame,
         count: usize,
     ) -> Result<(), NoMemory>
@@ -89,7 +89,7 @@ impl Framing {
     fn next_of_length(
         &mut self,
         alloc: Global,
-        graph: &Table,
+        graph: &IndexAutomaton,
         frame: &Frame,
         start: usize,
         word: &Word,
@@ -113,7 +113,7 @@ impl Framing {
     fn next_length(
         &mut self,
         alloc: Global,
-        graph: &Table,
+        graph: &IndexAutomaton,
         frame: &Frame,
         start: usize,
         from: usize,
@@ -146,7 +146,7 @@ impl Framing {
     fn least_from(
         &mut self,
         alloc: Global,
-        graph: &Table,
+        graph: &IndexAutomaton,
         frame: &Frame,
         start: usize,
         from: usize,
@@ -170,7 +170,7 @@ impl Framing {
     pub fn next_after(
         &mut self,
         alloc: Global,
-        graph: &Table,
+        graph: &IndexAutomaton,
         frame: &Frame,
         after: Option<&Word>,
     ) -> Result<Option<Word>, NoMemory>

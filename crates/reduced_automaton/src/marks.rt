@@ -3,17 +3,23 @@ ghost use Rattle.std.specs.Prelude.{◌≡◌, ◌<◌, ◌≤◌, ◌↔◌, �
 ghost use Rattle.theory.specs.Graph.{target as target_of};
 ghost use Rattle.reduced_automaton.specs.Framings.{AreMarks, IsGrown, IsLimit, IsMarked, IsSpread, LeadsTo, count_marked, frame_paths};
 ghost use Rattle.reduced_automaton.specs.Paths.{GoesFar, GoesOn, narrowed};
-ghost use Rattle.reduced_automaton.specs.Tables.{edges};
+ghost use Rattle.rewriting.specs.Tables.{edges};
 
 use crate::frames::Frame;
 use crate::paths::target_within;
-use crate::table::Table;
 use ports::NoMemory;
+use rewriting::IndexAutomaton;
 use std::alloc::Global;
 use words::Letter;
 
 // Whether the edge of one of the first letters, so many, leads to a marked node.
-fn leads_by(graph: &Table, letters: usize, marks: &[bool], node: usize, letter: Letter) -> bool
+fn leads_by(
+    graph: &IndexAutomaton,
+    letters: usize,
+    marks: &[bool],
+    node: usize,
+    letter: Letter,
+) -> bool
     requires { length marks.now ≡ length (edges graph.now) }
     ensures { IsTrue result ↔ ((next : ℕ)
         × (target_of (narrowed letters (edges graph.now)) node letter ≡ Some next)
@@ -27,7 +33,7 @@ fn leads_by(graph: &Table, letters: usize, marks: &[bool], node: usize, letter: 
 }
 
 // Whether an edge of one of the first letters leads to a marked node.
-fn leads_to(graph: &Table, letters: usize, marks: &[bool], node: usize) -> bool
+fn leads_to(graph: &IndexAutomaton, letters: usize, marks: &[bool], node: usize) -> bool
     requires few { letters ≤ graph.now.letters }
     requires count { length marks.now ≡ length (edges graph.now) }
     ensures { IsTrue result ↔ LeadsTo (narrowed letters (edges graph.now)) marks.now node }
@@ -42,7 +48,7 @@ fn leads_to(graph: &Table, letters: usize, marks: &[bool], node: usize) -> bool
 }
 
 /// The first layer: the nodes from which the suffix can be read.
-pub fn ends_of(alloc: Global, graph: &Table, frame: &Frame) -> Result<Vec<bool>, NoMemory>
+pub fn ends_of(alloc: Global, graph: &IndexAutomaton, frame: &Frame) -> Result<Vec<bool>, NoMemory>
     ensures { IfOk result (λ ends.
         AreMarks (λ node. GoesOn (frame_paths (edges graph.now) frame.now) node 0)
         (length (edges graph.now)) ends.items) }
@@ -57,7 +63,7 @@ pub fn ends_of(alloc: Global, graph: &Table, frame: &Frame) -> Result<Vec<bool>,
 /// The next layer: the nodes from which an edge of one of the first letters leads to a marked one.
 pub fn layer_behind(
     alloc: Global,
-    graph: &Table,
+    graph: &IndexAutomaton,
     letters: usize,
     marks: &[bool],
 ) -> Result<Vec<bool>, NoMemory>
@@ -77,7 +83,7 @@ pub fn layer_behind(
 // The ends, and the nodes from which an edge of one of the first letters leads to a marked one.
 fn grown(
     alloc: Global,
-    graph: &Table,
+    graph: &IndexAutomaton,
     letters: usize,
     ends: &[bool],
     marks: &[bool],
@@ -126,7 +132,7 @@ pub struct Origins {
 /// The nodes from which some word leads to one of these ends.
 pub fn leading(
     alloc: Global,
-    graph: &Table,
+    graph: &IndexAutomaton,
     frame: &Frame,
     ends: &[bool],
 ) -> Result<Origins, NoMemory>
@@ -157,7 +163,7 @@ pub fn leading(
 /// does.
 pub fn limit_of(
     alloc: Global,
-    graph: &Table,
+    graph: &IndexAutomaton,
     frame: &Frame,
     marks: Vec<bool>,
     start: usize,

@@ -4,11 +4,11 @@ ghost use Rattle.theory.specs.Graph.{target as target_of};
 ghost use Rattle.reduced_automaton.specs.Automaton.{Allows, AreDepths};
 ghost use Rattle.reduced_automaton.specs.Framings.{AreLayers, frame_paths};
 ghost use Rattle.reduced_automaton.specs.Paths.{narrowed};
-ghost use Rattle.reduced_automaton.specs.Tables.{edges};
+ghost use Rattle.rewriting.specs.Tables.{edges};
 
 use crate::depths::allows;
 use crate::frames::Frame;
-use crate::table::Table;
+use rewriting::IndexAutomaton;
 use std::marker::Model;
 use words::Letter;
 
@@ -47,14 +47,14 @@ pub trait KnownPaths {
 /// All paths of a table, by the greatest length of one from each node.
 #[derive(Drop)]
 pub struct AllPaths<'a> {
-    graph: &'a Table,
+    graph: &'a IndexAutomaton,
     depths: &'a [Option<usize>],
 }
 
 impl<'a> Model for AllPaths<'a> {
     ghost use Rattle.std.specs.Prelude.{ℕ, List, Option};
     ghost use Rattle.reduced_automaton.specs.Automaton.{AreDepths};
-    ghost use Rattle.reduced_automaton.specs.Tables.{Moves, edges};
+    ghost use Rattle.rewriting.specs.Tables.{Moves, edges};
 
     ghost Value = { Moves × List (Option ℕ) };
 
@@ -65,7 +65,7 @@ impl<'a> Model for AllPaths<'a> {
 
 impl<'a> AllPaths<'a> {
     /// The paths of this table by these lengths.
-    pub fn new(graph: &'a Table, depths: &'a [Option<usize>]) -> AllPaths<'a>
+    pub fn new(graph: &'a IndexAutomaton, depths: &'a [Option<usize>]) -> AllPaths<'a>
         requires { AreDepths graph.now.letters (edges graph.now) depths.now }
         ensures { result ≡ (graph.now, depths.now) }
     {
@@ -76,7 +76,7 @@ impl<'a> AllPaths<'a> {
 impl<'a> KnownPaths for AllPaths<'a> {
     ghost use Rattle.std.specs.Prelude.{None};
     ghost use Rattle.reduced_automaton.specs.Paths.{all_paths};
-    ghost use Rattle.reduced_automaton.specs.Tables.{edges};
+    ghost use Rattle.rewriting.specs.Tables.{edges};
 
     ghost paths = { λ s. all_paths s.0.letters (edges s.0) };
 
@@ -99,7 +99,12 @@ impl<'a> KnownPaths for AllPaths<'a> {
 
 /// The node to which the edge of the letter leads. `None` exactly where there is no such edge, or
 /// the letter is none of the first `letters`.
-pub fn target_within(graph: &Table, letters: usize, node: usize, letter: Letter) -> Option<usize>
+pub fn target_within(
+    graph: &IndexAutomaton,
+    letters: usize,
+    node: usize,
+    letter: Letter,
+) -> Option<usize>
     ensures { result ≡ target_of (narrowed letters (edges graph.now)) node letter }
 {
     if letters <= letter.number() {
@@ -111,7 +116,7 @@ pub fn target_within(graph: &Table, letters: usize, node: usize, letter: Letter)
 /// The paths of a frame, by the layers that have been found.
 #[derive(Drop)]
 pub struct FramePaths<'a> {
-    graph: &'a Table,
+    graph: &'a IndexAutomaton,
     frame: &'a Frame,
     layers: &'a [Vec<bool>],
 }
@@ -119,7 +124,7 @@ pub struct FramePaths<'a> {
 impl<'a> Model for FramePaths<'a> {
     ghost use Rattle.std.specs.Prelude.{◌≤◌, Bool, List, map};
     ghost use Rattle.reduced_automaton.specs.Framings.{AreLayers, frame_paths};
-    ghost use Rattle.reduced_automaton.specs.Tables.{Moves, edges};
+    ghost use Rattle.rewriting.specs.Tables.{Moves, edges};
     ghost use Rattle.reduced_automaton.specs.declared.frames.Frame.{Frame};
 
     ghost Value = { Moves × Frame × List (List Bool) };
@@ -133,7 +138,11 @@ impl<'a> Model for FramePaths<'a> {
 
 impl<'a> FramePaths<'a> {
     /// The paths of this frame by these layers.
-    pub fn new(graph: &'a Table, frame: &'a Frame, layers: &'a [Vec<bool>]) -> FramePaths<'a>
+    pub fn new(
+        graph: &'a IndexAutomaton,
+        frame: &'a Frame,
+        layers: &'a [Vec<bool>],
+    ) -> FramePaths<'a>
         requires few { frame.now.letters ≤ graph.now.letters }
         requires layers { AreLayers (frame_paths (edges graph.now) frame.now)
             (map (λ v. v.items) layers.now) }
@@ -150,7 +159,7 @@ impl<'a> FramePaths<'a> {
 impl<'a> KnownPaths for FramePaths<'a> {
     ghost use Rattle.std.specs.Prelude.{◌-◌, length, Some};
     ghost use Rattle.reduced_automaton.specs.Framings.{frame_paths};
-    ghost use Rattle.reduced_automaton.specs.Tables.{edges};
+    ghost use Rattle.rewriting.specs.Tables.{edges};
 
     ghost paths = { λ s. frame_paths (edges s.0) s.1 };
 

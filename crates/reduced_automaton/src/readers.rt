@@ -5,14 +5,13 @@ ghost use Rattle.theory.specs.Graph.{target as target_of};
 ghost use Rattle.theory.specs.Word.{Word as Letters};
 ghost use Rattle.theory.specs.ShortLex.{◌≺◌};
 ghost use Rattle.theory.specs.Listing.{IsLast, IsNext};
-ghost use Rattle.reduced_automaton.specs.Tables.{edges};
+ghost use Rattle.rewriting.specs.Tables.{edges};
 ghost use Rattle.reduced_automaton.specs.Automaton.{Allows, AreDepths};
 ghost use Rattle.reduced_automaton.specs.Paths.{AreNodesAlong, GoesOn, HasPath, IsLastOfLength, IsLeastEdge, IsLeastPath, IsNextOfLength, IsRise, IsWithoutEdge, all_paths};
 
 use crate::paths::{AllPaths, KnownPaths};
-use crate::rewriting::word_of;
-use crate::table::Table;
 use ports::NoMemory;
+use rewriting::IndexAutomaton;
 use std::alloc::Global;
 use words::{Letter, Word};
 
@@ -140,7 +139,9 @@ fn prefix(alloc: Global, word: &Word, count: usize) -> Result<Word, NoMemory>
     requires { count ≤ length word.now }
     ensures { IfOk result (λ u. u ≡ take count word.now) }
 {
-    word_of(alloc, &word.letters()[..count])
+    let mut first = Word::with_capacity(alloc, count)?;
+    first.append(&word.letters()[..count])?;
+    Ok(first)
 }
 
 /// The least word as long as the word, and greater, that leads from the root to an end; `None`
@@ -187,7 +188,7 @@ pub fn least_word<P: KnownPaths>(
 /// least at all; `None` exactly where there is none. Refused only where memory is wanting.
 pub fn next_path(
     alloc: Global,
-    graph: &Table,
+    graph: &IndexAutomaton,
     depths: &[Option<usize>],
     after: Option<&Word>,
 ) -> Result<Option<Word>, NoMemory>

@@ -4,7 +4,7 @@ use Rattle.std.specs.List.Sorted.{IsPermutation}
 use Rattle.std.proofs.lemmas.List.Elements.{All-append, All-filter, All-push}
 use Rattle.std.proofs.lemmas.List.Sorted.{All-permutation}
 use Rattle.theory.specs.Word.{Word}
-use Rattle.reduced_automaton.specs.Rules.{stands_in}
+use Rattle.rewriting.specs.Rules.{stands_in}
 use Rattle.knuth_bendix.specs.Logs.{AreLogged, IsLogged}
 use Rattle.knuth_bendix.proofs.LogLaws.{all_still_logged, keeps_after}
 use Rattle.knuth_bendix.proofs.RuleChanges.{adds_rule}

@@ -1,7 +1,7 @@
 use Rattle.std.proofs.Common.{◌≡◌, ◌+◌, ◌≤◌, ℕ, List, Option, None, length, replicate, sym, ◌∙◌, ap, subst, arith}
 use Rattle.std.proofs.lemmas.List.{length-replicate}
 use Rattle.word_graph.specs.Gaps.{count_none}
-use Rattle.reduced_automaton.specs.Tables.{edges}
+use Rattle.rewriting.specs.Tables.{edges}
 use Rattle.reduced_automaton.specs.Automaton.{AreSettled}
 use Rattle.reduced_automaton.proofs.DepthLaws.{rounds_start, rounds_end, none_all}
 use Rattle.reduced_automaton.proofs.depths.depths_of.Goals as goal

@@ -1,7 +1,7 @@
 use Rattle.std.proofs.Common.{◌≡◌, ℕ, ◌+◌, ◌≤◌, length}
 use Rattle.theory.specs.Graph.{IsGraph}
 use Rattle.word_graph.specs.Gaps.{count_none}
-use Rattle.reduced_automaton.specs.Tables.{edges}
+use Rattle.rewriting.specs.Tables.{edges}
 use Rattle.reduced_automaton.specs.Automaton.{AreSettled}
 use Rattle.reduced_automaton.proofs.depths.depths_of.Given as goal
 

@@ -1,7 +1,7 @@
 use Rattle.std.proofs.Common.{subst, arith, inl, inr}
 use Rattle.std.proofs.lemmas.Bool.{cases_lt}
 use Rattle.word_graph.proofs.EdgeLaws.{target_in}
-use Rattle.reduced_automaton.specs.Tables.{edges}
+use Rattle.rewriting.specs.Tables.{edges}
 use Rattle.reduced_automaton.specs.Automaton.{LeadsBy}
 use Rattle.reduced_automaton.proofs.PathLaws.{not_then}
 use Rattle.reduced_automaton.proofs.depths.leads_on.Goals as goal

@@ -1,5 +1,5 @@
 use Rattle.std.proofs.Common.{arith, ◌∙◌, subst, Bool}
-use Rattle.reduced_automaton.specs.Tables.{edges}
+use Rattle.rewriting.specs.Tables.{edges}
 use Rattle.reduced_automaton.specs.Automaton.{IsChange}
 use Rattle.reduced_automaton.proofs.DepthLaws.{change_more, change_same, round_end}
 use Rattle.reduced_automaton.proofs.depths.settle_all.Goals as goal

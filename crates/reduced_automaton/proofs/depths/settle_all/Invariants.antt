@@ -1,6 +1,6 @@
 use Rattle.std.proofs.Common.{◌≡◌, ℕ, length}
 use Rattle.theory.specs.Graph.{IsGraph}
-use Rattle.reduced_automaton.specs.Tables.{edges}
+use Rattle.rewriting.specs.Tables.{edges}
 use Rattle.reduced_automaton.specs.Automaton.{AreSettled, AreSettledTo, IsChange}
 use Rattle.reduced_automaton.proofs.depths.settle_all.Given as goal
 

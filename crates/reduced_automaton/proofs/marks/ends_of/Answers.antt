@@ -1,6 +1,6 @@
 use Rattle.std.proofs.Common.{Bool, List, length, sym, ◌∙◌, ap, subst, arith}
 use Rattle.std.specs.Option.{is_some}
-use Rattle.reduced_automaton.specs.Tables.{edges}
+use Rattle.rewriting.specs.Tables.{edges}
 use Rattle.reduced_automaton.specs.Paths.{GoesOn}
 use Rattle.reduced_automaton.specs.Framings.{AreMarks, frame_paths}
 use Rattle.reduced_automaton.proofs.MarkLaws.{ends_are, marks_end, marks_push, marks_start}

@@ -1,4 +1,4 @@
-use Rattle.reduced_automaton.specs.Tables.{edges}
+use Rattle.rewriting.specs.Tables.{edges}
 use Rattle.reduced_automaton.specs.Paths.{GoesOn}
 use Rattle.reduced_automaton.specs.Framings.{AreMarks, frame_paths}
 use Rattle.reduced_automaton.proofs.marks.ends_of.Given as goal

@@ -1,4 +1,4 @@
-use Rattle.reduced_automaton.specs.Tables.{edges}
+use Rattle.rewriting.specs.Tables.{edges}
 use Rattle.reduced_automaton.specs.Paths.{narrowed}
 use Rattle.reduced_automaton.specs.Framings.{AreMarks, IsGrown}
 use Rattle.reduced_automaton.proofs.marks.grown.Given as goal

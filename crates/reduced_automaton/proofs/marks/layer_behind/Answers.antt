@@ -1,5 +1,5 @@
 use Rattle.std.proofs.Common.{Bool, List, length, sym, subst, arith}
-use Rattle.reduced_automaton.specs.Tables.{edges}
+use Rattle.rewriting.specs.Tables.{edges}
 use Rattle.reduced_automaton.specs.Paths.{narrowed}
 use Rattle.reduced_automaton.specs.Framings.{AreMarks, LeadsTo}
 use Rattle.reduced_automaton.proofs.MarkLaws.{marks_end, marks_push, marks_start}

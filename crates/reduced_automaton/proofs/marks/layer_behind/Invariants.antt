@@ -1,4 +1,4 @@
-use Rattle.reduced_automaton.specs.Tables.{edges}
+use Rattle.rewriting.specs.Tables.{edges}
 use Rattle.reduced_automaton.specs.Paths.{narrowed}
 use Rattle.reduced_automaton.specs.Framings.{AreMarks, LeadsTo}
 use Rattle.reduced_automaton.proofs.marks.layer_behind.Given as goal

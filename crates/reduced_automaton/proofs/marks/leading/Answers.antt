@@ -1,7 +1,7 @@
 use Rattle.std.proofs.Common.{◌≡◌, ◌↔◌, ◌<◌, Bool, List, length, true, sym, ap, subst, arith}
 use Rattle.reduced_automaton.specs.Paths.{AreIn, GoesFar}
 use Rattle.reduced_automaton.specs.Framings.{AreMarks, IsGrown, count_marked, frame_paths}
-use Rattle.reduced_automaton.specs.Tables.{edges}
+use Rattle.rewriting.specs.Tables.{edges}
 use Rattle.reduced_automaton.proofs.MarkLaws.{AreGrowing, count_most, count_within, ends_in, frame_graph, growing_end, growing_less, growing_more, growing_spread, growing_start, growing_within, marks_end, narrowed_count}
 use Rattle.reduced_automaton.proofs.marks.leading.Goals as goal
 use Rattle.reduced_automaton.proofs.marks.leading.Goals.{After-drop-marks-in-loop-growing}

@@ -1,5 +1,5 @@
 use Rattle.std.proofs.Common.{◌+◌, ◌-◌, length, if◌then◌else◌}
-use Rattle.reduced_automaton.specs.Tables.{edges}
+use Rattle.rewriting.specs.Tables.{edges}
 use Rattle.reduced_automaton.specs.Framings.{count_marked, frame_paths}
 use Rattle.reduced_automaton.proofs.MarkLaws.{AreGrowing}
 use Rattle.reduced_automaton.proofs.marks.leading.Given as goal

@@ -1,5 +1,5 @@
 use Rattle.std.proofs.Common.{sym, arith}
-use Rattle.reduced_automaton.specs.Tables.{edges}
+use Rattle.rewriting.specs.Tables.{edges}
 use Rattle.reduced_automaton.proofs.MarkLaws.{narrowed_next}
 use Rattle.reduced_automaton.proofs.marks.leads_by.Goals as goal
 

@@ -1,7 +1,7 @@
 use Rattle.std.proofs.Common.{◌≡◌, ◌∙◌, None, Some, ap, sym, arith, inl, inr}
 use Rattle.std.proofs.lemmas.Bool.{cases_lt}
 use Rattle.theory.specs.Graph.{target}
-use Rattle.reduced_automaton.specs.Tables.{edges}
+use Rattle.rewriting.specs.Tables.{edges}
 use Rattle.reduced_automaton.specs.Paths.{narrowed}
 use Rattle.reduced_automaton.proofs.PathLaws.{not_then}
 use Rattle.reduced_automaton.proofs.MarkLaws.{narrowed_past}

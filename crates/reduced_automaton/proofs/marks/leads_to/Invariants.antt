@@ -1,6 +1,6 @@
 use Rattle.std.proofs.Common.{◌≡◌, ℕ, ◌<◌, Some}
 use Rattle.theory.specs.Graph.{target}
-use Rattle.reduced_automaton.specs.Tables.{edges}
+use Rattle.rewriting.specs.Tables.{edges}
 use Rattle.reduced_automaton.specs.Paths.{narrowed}
 use Rattle.reduced_automaton.specs.Framings.{IsMarked}
 use Rattle.reduced_automaton.proofs.marks.leads_to.Given as goal

@@ -2,7 +2,7 @@ use Rattle.std.proofs.Common.{◌≡◌, ◌<◌, length, get_or, false, sym, �
 use Rattle.std.proofs.lemmas.List.{get_or_read}
 use Rattle.reduced_automaton.specs.Paths.{AreIn, GoesFar}
 use Rattle.reduced_automaton.specs.Framings.{count_marked, frame_paths}
-use Rattle.reduced_automaton.specs.Tables.{edges}
+use Rattle.rewriting.specs.Tables.{edges}
 use Rattle.reduced_automaton.proofs.MarkLaws.{far_endless, far_limit, far_start, far_step, frame_graph, layer_in, marked_not, marks_end, narrowed_count, not_fewer}
 use Rattle.reduced_automaton.proofs.marks.limit_of.Goals as goal
 

@@ -1,4 +1,4 @@
-use Rattle.reduced_automaton.specs.Tables.{edges}
+use Rattle.rewriting.specs.Tables.{edges}
 use Rattle.reduced_automaton.specs.Framings.{count_marked, frame_paths}
 use Rattle.reduced_automaton.proofs.MarkLaws.{AreFar}
 use Rattle.reduced_automaton.proofs.marks.limit_of.Given as goal

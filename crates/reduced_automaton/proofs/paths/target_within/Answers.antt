@@ -1,5 +1,5 @@
 use Rattle.std.proofs.Common.{sym, ◌∙◌, arith}
-use Rattle.reduced_automaton.specs.Tables.{edges}
+use Rattle.rewriting.specs.Tables.{edges}
 use Rattle.reduced_automaton.proofs.MarkLaws.{narrowed_in, narrowed_past}
 use Rattle.reduced_automaton.proofs.paths.target_within.Goals as goal
 

@@ -2,7 +2,7 @@ use Rattle.std.proofs.Common.{◌≡◌, ◌+◌, ℕ, List, Option, length, Som
 use Rattle.theory.specs.ShortLex.{◌≺◌}
 use Rattle.theory.specs.Listing.{IsLast, IsNext}
 use Rattle.reduced_automaton.specs.Paths.{GoesOn, HasPath, IsLeastPath, all_paths}
-use Rattle.reduced_automaton.specs.Tables.{Moves, edges}
+use Rattle.rewriting.specs.Tables.{Moves, edges}
 use Rattle.reduced_automaton.proofs.PathLaws.{none_of, not_then, some_as}
 use Rattle.reduced_automaton.proofs.NextPaths.{next_as_long}
 use Rattle.reduced_automaton.proofs.ReadingLaws.{last_without, next_longer}

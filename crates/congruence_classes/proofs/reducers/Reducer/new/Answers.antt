@@ -1,6 +1,6 @@
 use Rattle.std.proofs.Common.{◌≡◌, suc, true, false, ◌+◌, ◌∙◌, sym, ap, subst, arith}
 use Rattle.theory.specs.Congruence.{Presentation, is_two_sided}
-use Rattle.reduced_automaton.specs.Rules.{AreOver}
+use Rattle.rewriting.specs.Rules.{AreOver}
 use Rattle.congruence_classes.proofs.RewrittenRules.{letters_marked, letters_plain, sides_over}
 use Rattle.congruence_classes.proofs.reducers.Reducer.new.Goals as goal
 

@@ -6,7 +6,7 @@ use Rattle.theory.specs.ShortLex.{◌≺◌}
 use Rattle.theory.specs.Congruence.{Presentation, of_presentation}
 use Rattle.theory.specs.Class.{IsRuleList, SameClass}
 use Rattle.theory.specs.Completion.{Listed, Rule}
-use Rattle.reduced_automaton.specs.Rules.{AreFalling}
+use Rattle.rewriting.specs.Rules.{AreFalling}
 use Rattle.knuth_bendix.specs.Runs.{CompletionRun}
 use Rattle.knuth_bendix.proofs.SortedRules.{decided_run, sorted_by_lefts, sorted_rule_list, sorted_rules}
 use Rattle.knuth_bendix.proofs.completions.Completion.rules.Goals as goal

@@ -3,7 +3,7 @@ use Rattle.std.proofs.lemmas.List.{take_all}
 use Rattle.std.proofs.lemmas.Option.{slice_get-get_or}
 use Rattle.chains.specs.Derivations.{all_of}
 use Rattle.chains.specs.declared.steps.ChainStep.{ChainStep}
-use Rattle.reduced_automaton.specs.declared.traces.Applied.{Applied}
+use Rattle.rewriting.specs.declared.traces.Applied.{Applied}
 use Rattle.knuth_bendix.specs.Logs.{AreFor}
 use Rattle.knuth_bendix.proofs.LogLaws.{applied_within, for_leads, for_more, take_next}
 use Rattle.knuth_bendix.proofs.logs.Facts.steps_of.Goals as goal

@@ -2,7 +2,7 @@ use Rattle.std.proofs.Common.{◌≤◌, sym, subst, arith}
 use Rattle.std.specs.Result.{IfOk}
 use Rattle.reduced_automaton.specs.Automaton.{Reading}
 use Rattle.reduced_automaton.specs.Framings.{IsFraming}
-use Rattle.reduced_automaton.specs.Tables.{edges}
+use Rattle.rewriting.specs.Tables.{edges}
 use Rattle.reduced_automaton.proofs.automata.Automaton.framing.Goals as goal
 
 pub of-requires : goal.of-requires

@@ -5,8 +5,8 @@ use Rattle.std.proofs.lemmas.List.{get_or_read}
 use Rattle.theory.specs.ShortLex.{◌≺◌}
 use Rattle.theory.specs.Listing.{AreFinite, AreInfinite}
 use Rattle.reduced_automaton.specs.Automaton.{IsReducedWord, Reading}
-use Rattle.reduced_automaton.specs.Tables.{edges}
-use Rattle.reduced_automaton.specs.Tries.{words_of}
+use Rattle.rewriting.specs.Tables.{edges}
+use Rattle.rewriting.specs.Tries.{words_of}
 use Rattle.reduced_automaton.proofs.DepthLaws.{none_is}
 use Rattle.reduced_automaton.proofs.ReadingLaws.{finite_from, infinite_from, infinite_depth}
 use Rattle.reduced_automaton.proofs.automata.Automaton.is_infinite.Goals as goal

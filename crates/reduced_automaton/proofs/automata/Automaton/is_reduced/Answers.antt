@@ -4,8 +4,8 @@ use Rattle.theory.specs.Word.{IsOver}
 use Rattle.theory.specs.Graph.{path}
 use Rattle.theory.specs.Completion.{IsReduced, Listed}
 use Rattle.reduced_automaton.specs.Automaton.{Reading}
-use Rattle.reduced_automaton.specs.Tables.{edges}
-use Rattle.reduced_automaton.specs.Tries.{words_of}
+use Rattle.rewriting.specs.Tables.{edges}
+use Rattle.rewriting.specs.Tries.{words_of}
 use Rattle.reduced_automaton.proofs.ReadingLaws.{reduced_is}
 use Rattle.reduced_automaton.proofs.automata.Automaton.is_reduced.Goals as goal
 

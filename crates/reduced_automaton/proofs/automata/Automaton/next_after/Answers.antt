@@ -6,8 +6,8 @@ use Rattle.theory.specs.ShortLex.{◌≺◌}
 use Rattle.theory.specs.Listing.{GoesOnOrEnds, IsLast, IsNext}
 use Rattle.reduced_automaton.specs.Automaton.{AreDepths, IsReducedWord, Reading}
 use Rattle.reduced_automaton.specs.Paths.{HasPath, all_paths}
-use Rattle.reduced_automaton.specs.Tables.{edges}
-use Rattle.reduced_automaton.specs.Tries.{words_of}
+use Rattle.rewriting.specs.Tables.{edges}
+use Rattle.rewriting.specs.Tries.{words_of}
 use Rattle.reduced_automaton.proofs.ReadingLaws.{goes_on, next_reduced}
 use Rattle.reduced_automaton.proofs.automata.Automaton.next_after.Goals as goal
 

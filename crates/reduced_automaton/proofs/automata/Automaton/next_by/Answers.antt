@@ -6,7 +6,7 @@ use Rattle.theory.specs.Graph.{Graph}
 use Rattle.theory.specs.Listing.{IsLast, IsNext}
 use Rattle.reduced_automaton.specs.Automaton.{IsReader, Reading}
 use Rattle.reduced_automaton.specs.Framings.{IsFraming, IsPathIn}
-use Rattle.reduced_automaton.specs.Tables.{edges}
+use Rattle.rewriting.specs.Tables.{edges}
 use Rattle.reduced_automaton.proofs.FrameLaws.{framed_answer, framed_goes_on}
 use Rattle.reduced_automaton.proofs.automata.Automaton.next_by.Goals as goal
 

@@ -1,7 +1,7 @@
 use Rattle.std.proofs.Common.{◌<◌, length, sym, subst, arith}
 use Rattle.reduced_automaton.specs.Automaton.{Reading}
-use Rattle.reduced_automaton.specs.Tries.{Reads, longer, words_of}
-use Rattle.reduced_automaton.proofs.TrieLaws.{words_count}
+use Rattle.rewriting.specs.Tries.{Reads, longer, words_of}
+use Rattle.rewriting.proofs.TrieLaws.{words_count}
 use Rattle.reduced_automaton.proofs.automata.Automaton.read.Goals as goal
 
 pub read-requires : goal.read-requires

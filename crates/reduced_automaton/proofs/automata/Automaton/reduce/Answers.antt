@@ -1,25 +1,19 @@
-use Rattle.std.proofs.Common.{List, sym, ◌∙◌, subst, arith}
-use Rattle.std.proofs.lemmas.List.{nil_from_length}
-use Rattle.std.proofs.lemmas.Result.{IfOk-weaker}
-use Rattle.theory.specs.Word.{Word}
+use Rattle.std.proofs.Common.{sym, subst}
+use Rattle.std.specs.Result.{IfOk}
 use Rattle.theory.specs.Completion.{IsReduced, Listed, Reduces}
-use Rattle.reduced_automaton.specs.Rules.{AreFalling}
-use Rattle.reduced_automaton.proofs.StateLaws.{empty_longest}
-use Rattle.reduced_automaton.proofs.ReductionLaws.{reducing_start, reducing_end}
+use Rattle.rewriting.specs.Tables.{IsTableOf}
+use Rattle.reduced_automaton.specs.Automaton.{Reading}
 use Rattle.reduced_automaton.proofs.automata.Automaton.reduce.Goals as goal
 
-pub loop-letter-init : goal.loop-letter-init
-loop-letter-init c =
-    let falling : AreFalling c.args.self.now.rules = subst (λ (rs : List (Word × Word)). AreFalling rs) c.rules.ensures c.len-count.ensures.falling in
-    reducing_start c.args.self.now.rules falling c.args.self.now.states (empty_longest c.args.self.now.rules falling c.args.self.now.states c.states-states.ensures.states.are) c.args.word.now
-    c.in_ok-reduction.reduction.done.items c.in_ok-reduction.reduction.rest.items c.in_ok-reduction.reduction.states.items c.in_ok-reduction.ensures.done c.in_ok-reduction.ensures.rest c.in_ok-reduction.ensures.states
+pub reduce-requires : goal.reduce-requires
+reduce-requires c = subst (λ k. IsTableOf k c.self.inside.rules c.self.inside.table) (sym c.self.invariant.table.letters) c.self.invariant.table
 
 pub returns-clause-reached : goal.returns-clause-reached
 returns-clause-reached c =
-    let ended = reducing_end c.args.self.now.rules c.args.self.now.states c.args.word.now
-    c.loop-letter.reduction.done.items c.loop-letter.reduction.rest.items c.loop-letter.reduction.states.items c.loop-letter.invariant (nil_from_length c.loop-letter.reduction.rest.items (omega (arith, c.in_default.ensures.cases.0, c.loop-letter.reduction.rest.ok))) in
-    IfOk-weaker c.word_of.result _ _ (λ w e. subst (λ u. Reduces (Listed c.args.self.now.rules) c.args.word.now u) (sym (e ∙ c.as_slice.ensures.value)) ended) c.word_of.ensures
+    let P : Reading → Type 0 = λ r. IfOk c.reduce.result (λ w. Reduces (Listed r.rules) c.args.word.now w) in
+    subst P c.self.view_is c.reduce.ensures.reached
 
 pub returns-clause-reduced : goal.returns-clause-reduced
 returns-clause-reduced c =
-    IfOk-weaker c.word_of.result _ _ (λ w e. subst (λ u. IsReduced (Listed c.args.self.now.rules) u) (sym (e ∙ c.as_slice.ensures.value)) c.loop-letter.invariant.reduced) c.word_of.ensures
+    let P : Reading → Type 0 = λ r. IfOk c.reduce.result (λ w. IsReduced (Listed r.rules) w) in
+    subst P c.self.view_is c.reduce.ensures.reduced

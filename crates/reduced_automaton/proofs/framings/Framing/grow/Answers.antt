@@ -1,6 +1,6 @@
 use Rattle.std.proofs.Common.{◌≡◌, ◌-◌, length, get_or, refl, ◌∙◌, ap, subst, arith}
 use Rattle.theory.specs.Graph.{IsGraph}
-use Rattle.reduced_automaton.specs.Tables.{edges}
+use Rattle.rewriting.specs.Tables.{edges}
 use Rattle.reduced_automaton.proofs.FrameLaws.{framing_push}
 use Rattle.reduced_automaton.proofs.framings.Framing.grow.Goals as goal
 

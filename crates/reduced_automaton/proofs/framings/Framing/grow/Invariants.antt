@@ -1,6 +1,6 @@
 use Rattle.std.proofs.Common.{◌+◌, ◌-◌, length}
 use Rattle.reduced_automaton.specs.Framings.{IsFraming}
-use Rattle.reduced_automaton.specs.Tables.{edges}
+use Rattle.rewriting.specs.Tables.{edges}
 use Rattle.reduced_automaton.proofs.framings.Framing.grow.Given as goal
 
 abbrev pub invariant-loop-alloc : goal.invariant-loop-alloc

@@ -3,7 +3,7 @@ use Rattle.std.proofs.lemmas.Result.{IfOk-weaker}
 use Rattle.theory.specs.ShortLex.{◌≺◌}
 use Rattle.reduced_automaton.specs.Paths.{HasPath}
 use Rattle.reduced_automaton.specs.Framings.{IsPathIn, frame_paths}
-use Rattle.reduced_automaton.specs.Tables.{edges}
+use Rattle.rewriting.specs.Tables.{edges}
 use Rattle.reduced_automaton.proofs.PathLaws.{none_of, some_as}
 use Rattle.reduced_automaton.proofs.NextPaths.{IsPassed, next_as_long, passed_start, passed_word}
 use Rattle.reduced_automaton.proofs.ReadingLaws.{next_same}

@@ -3,7 +3,7 @@ use Rattle.std.proofs.lemmas.List.{get_or_read}
 use Rattle.theory.specs.Graph.{IsGraph}
 use Rattle.reduced_automaton.specs.Paths.{GoesOn}
 use Rattle.reduced_automaton.specs.Framings.{AreMarks, frame_paths}
-use Rattle.reduced_automaton.specs.Tables.{edges}
+use Rattle.rewriting.specs.Tables.{edges}
 use Rattle.reduced_automaton.proofs.PathLaws.{not_then}
 use Rattle.reduced_automaton.proofs.FrameLaws.{no_longer, none_more, paths_of, spread_ends, start_inside}
 use Rattle.reduced_automaton.proofs.MarkLaws.{layer_at, marked_not}

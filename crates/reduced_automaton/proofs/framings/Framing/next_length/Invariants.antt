@@ -1,7 +1,7 @@
 use Rattle.std.proofs.Common.{◌≡◌, ◌+◌, ◌<◌, ◌≤◌, ℕ}
 use Rattle.reduced_automaton.specs.Paths.{GoesOn}
 use Rattle.reduced_automaton.specs.Framings.{IsFraming, frame_paths}
-use Rattle.reduced_automaton.specs.Tables.{edges}
+use Rattle.rewriting.specs.Tables.{edges}
 use Rattle.reduced_automaton.proofs.framings.Framing.next_length.Given as goal
 
 abbrev pub invariant-loop-more : goal.invariant-loop-more

@@ -1,6 +1,6 @@
 use Rattle.std.proofs.Common.{subst}
 use Rattle.reduced_automaton.specs.Framings.{IsUnder, frame_paths}
-use Rattle.reduced_automaton.specs.Tables.{edges}
+use Rattle.rewriting.specs.Tables.{edges}
 use Rattle.reduced_automaton.proofs.PathLaws.{not_then}
 use Rattle.reduced_automaton.proofs.FrameLaws.{none_as_long}
 use Rattle.reduced_automaton.proofs.framings.Framing.next_of_length.Goals as goal

@@ -3,7 +3,7 @@ use Rattle.std.proofs.lemmas.Option.{same_Some}
 use Rattle.theory.specs.Graph.{IsGraph}
 use Rattle.reduced_automaton.specs.Framings.{IsLimit, frame_paths}
 use Rattle.reduced_automaton.specs.declared.framings.Framing.{Framing}
-use Rattle.reduced_automaton.specs.Tables.{edges}
+use Rattle.rewriting.specs.Tables.{edges}
 use Rattle.reduced_automaton.proofs.FrameLaws.{framing_made, none_then, start_inside}
 use Rattle.reduced_automaton.proofs.MarkLaws.{narrowed_count}
 use Rattle.reduced_automaton.proofs.framings.Framing.of.Goals as goal

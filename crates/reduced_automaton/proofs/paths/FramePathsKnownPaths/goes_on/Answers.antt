@@ -2,7 +2,7 @@ use Rattle.std.proofs.Common.{◌≡◌, ◌≤◌, ◌-◌, ℕ, Bool, Global, 
 use Rattle.std.proofs.lemmas.List.{length-map}
 use Rattle.reduced_automaton.specs.Paths.{GoesOn}
 use Rattle.reduced_automaton.specs.Framings.{AreLayers, AreMarks, frame_paths}
-use Rattle.reduced_automaton.specs.Tables.{Moves, edges}
+use Rattle.rewriting.specs.Tables.{Moves, edges}
 use Rattle.reduced_automaton.specs.declared.frames.Frame.{Frame}
 use Rattle.reduced_automaton.proofs.MarkLaws.{layer_at}
 use Rattle.reduced_automaton.proofs.paths.FramePathsKnownPaths.goes_on.Goals as goal

@@ -1,7 +1,7 @@
 use Rattle.std.proofs.Common.{Bool, List, subst, arith}
 use Rattle.theory.specs.Graph.{IsGraph}
 use Rattle.reduced_automaton.specs.Paths.{narrowed}
-use Rattle.reduced_automaton.specs.Tables.{Moves, edges}
+use Rattle.rewriting.specs.Tables.{Moves, edges}
 use Rattle.reduced_automaton.specs.declared.frames.Frame.{Frame}
 use Rattle.reduced_automaton.proofs.MarkLaws.{narrowed_graph}
 use Rattle.reduced_automaton.proofs.paths.FramePathsKnownPaths.letters.Goals as goal

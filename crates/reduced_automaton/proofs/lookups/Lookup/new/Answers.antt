@@ -1,7 +1,0 @@
-use Rattle.std.proofs.Common.{refl, []}
-use Rattle.reduced_automaton.proofs.NewerLaws.{no_newer}
-use Rattle.reduced_automaton.proofs.LookupLaws.{empty_lookup}
-use Rattle.reduced_automaton.proofs.lookups.Lookup.new.Goals as goal
-
-pub returns : goal.returns
-returns c = empty_lookup _ refl c.new.ensures.items refl (no_newer [] 0 c.none.result refl c.none.ensures.depth c.none.ensures.before c.none.ensures.latest)

@@ -1,6 +1,0 @@
-use Rattle.std.proofs.Common.{◌≡◌, map, take}
-use Rattle.reduced_automaton.specs.Parts.{through}
-use Rattle.reduced_automaton.proofs.parts.places_after.Given as goal
-
-abbrev pub invariant-loop-place : goal.invariant-loop-place
-invariant-loop-place l = l.after.items ≡ map (through l.moved) (take l.place-index l.places)

@@ -1,0 +1,41 @@
+-- The letters of words and of rules.
+use Rattle.std.proofs.Common.{◌≡◌, ℕ, ◌+◌, ◌<◌, ◌≤◌, List, [], ◌∷◌, length, take, get_or, slice_get, Some, sym, subst, arith}
+use Rattle.std.proofs.lemmas.List.{take_more}
+use Rattle.std.proofs.lemmas.Option.{get_or_from_slice_get}
+use Rattle.std.proofs.lemmas.List.Elements.{All-nil, All-cons, All-push}
+use Rattle.theory.specs.Word.{Word, IsOver}
+use Rattle.theory.proofs.Words.{over_append}
+use Rattle.rewriting.specs.Rules.{AreOver}
+pub use Rattle.rewriting.specs.Reductions.{letters_in, letters_in_rules, letters_for}
+
+pub over_more : (k m : ℕ) (u : Word) → k ≤ m → IsOver k u → IsOver m u
+over_more k m [] h over = tt
+over_more k m (a ∷ u) h over = let less = over.0 in (omega (arith, less), over_more k m u h over.1)
+
+pub over_itself : (k : ℕ) (u : Word) → letters_in u ≤ k → IsOver k u
+over_itself k [] h = tt
+over_itself k (a ∷ u) h = (omega arith, over_itself k u (omega arith))
+
+-- one letter more
+pub letter_over : (k new : ℕ) (u : Word) (place a : ℕ) → IsOver k (take place u) → place < length u → slice_get u place ≡ Some a → k ≤ new → a + 1 ≤ new
+    → IsOver new (take (place + 1) u)
+letter_over k new u place a over within at more above =
+    subst (λ w. IsOver new w) (sym (take_more u place 0 within))
+    (over_append new (take place u) (get_or u place 0 ∷ []) (over_more k new (take place u) more over) (omega (arith, above, get_or_from_slice_get u place a 0 at), tt))
+
+-- one rule more
+pub rule_over : (k m new : ℕ) (rules : List (Word × Word)) (place : ℕ) (rule : Word × Word) → AreOver k (take place rules) → place < length rules → rule ≡ get_or rules place rule
+    → k ≤ m → IsOver m rule.0 → m ≤ new → IsOver new rule.1 → AreOver new (take (place + 1) rules)
+rule_over k m new rules place rule over within read first left second right =
+    subst (λ rs. AreOver new rs) (sym (take_more rules place rule within))
+    (All-push (λ (r : Word × Word). IsOver new r.0 × IsOver new r.1) (take place rules) (get_or rules place rule)
+    (λ i d h. let old = over i d h in (over_more k new _ (omega (arith, first, second)) old.0, over_more k new _ (omega (arith, first, second)) old.1))
+    (subst (λ (r : Word × Word). IsOver new r.0 × IsOver new r.1) read (over_more m new rule.0 second left, right)))
+
+rules_over : (k : ℕ) (rules : List (Word × Word)) → letters_in_rules rules ≤ k → AreOver k rules
+rules_over k [] h = All-nil (λ (r : Word × Word). IsOver k r.0 × IsOver k r.1)
+rules_over k (r ∷ rs) h =
+    All-cons (λ (r : Word × Word). IsOver k r.0 × IsOver k r.1) r rs (over_itself k r.0 (omega arith), over_itself k r.1 (omega arith)) (rules_over k rs (omega arith))
+
+pub over_for : (rules : List (Word × Word)) (word : Word) → AreOver (letters_for rules word) rules
+over_for rules word = rules_over (letters_for rules word) rules (omega arith)

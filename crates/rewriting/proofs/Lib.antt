@@ -1,0 +1,15 @@
+pub mod Ranks
+pub mod Standing
+pub mod LetterLaws
+pub mod StateLaws
+pub mod StateLists
+pub mod Searches
+pub mod TrieLaws
+pub mod LevelLaws
+pub mod LinkLaws
+pub mod TableLaws
+pub mod ReductionLaws
+pub mod NewerLaws
+pub mod LookupLaws
+pub mod PartLaws
+pub mod TraceLaws

@@ -1,0 +1,10 @@
+pub mod Rules
+pub mod States
+pub mod Tries
+pub mod Links
+pub mod Tables
+pub mod Reductions
+pub mod Newer
+pub mod Lookups
+pub mod Parts
+pub mod Traces

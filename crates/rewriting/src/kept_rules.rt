@@ -1,0 +1,204 @@
+// Rules that change, and that are found by a table.
+ghost use Rattle.std.specs.Prelude.{◌≡◌, ◌<◌, [], ◌∷◌, ◌++◌, length, map, not, slice_index_or, slice_set, IfOk};
+ghost use Rattle.std.specs.List.{filter, range_with_len};
+ghost use Rattle.theory.specs.ShortLex.{◌≺◌};
+ghost use Rattle.theory.specs.Completion.{IsReduced, Listed, Reduces};
+ghost use Rattle.rewriting.specs.Rules.{AreFalling, stands_in};
+ghost use Rattle.rewriting.specs.Traces.{LeadBy};
+
+use crate::factors::word_of;
+use crate::index_automaton::IndexAutomaton;
+use crate::lookups::Lookup;
+use crate::newer::Newer;
+use crate::parts::{part, places_after};
+use crate::reductions::unread;
+use crate::rule_lists::Rules;
+use crate::traces::{Applied, note};
+use ports::NoMemory;
+use std::alloc::Global;
+use std::marker::Model;
+use words::Word;
+
+// With more newer rules than this the table is made anew. More of them slow each rule that is
+// added; fewer cost more tables.
+const NEWER_AT_MOST: usize = 32;
+
+// A table with many states is dear: so many of them are worth one newer rule more.
+const STATES_FOR_ONE_MORE: usize = 256;
+
+/// A list of rewriting rules that changes often. Words are reduced by the
+/// [`IndexAutomaton`](crate::IndexAutomaton) of the rules that were there some time ago, and the
+/// newer rules are found by the last letters of their left sides.
+#[derive(Drop)]
+pub struct KeptRules {
+    rules: Rules,
+    lookup: Lookup,
+}
+
+impl Model for KeptRules {
+    ghost use Rattle.std.specs.Prelude.{List};
+    ghost use Rattle.theory.specs.Word.{Word as Letters};
+    ghost use Rattle.rewriting.specs.Lookups.{IsLookup};
+
+    ghost Value = { List (Letters × Letters) };
+
+    ghost view = { λ k. k.rules };
+
+    ghost invariant = { λ k. IsLookup k.rules k.lookup };
+}
+
+// The first places, so many.
+fn all_places(alloc: Global, count: usize) -> Result<Vec<Option<usize>>, NoMemory>
+    ensures { IfOk result (λ places. places.items ≡ map Some (range_with_len 0 count)) }
+{
+    let mut places = Vec::new(alloc);
+    for place in 0..count {
+        places.push(Some(place))?;
+    }
+    Ok(places)
+}
+
+impl KeptRules {
+    /// The list without rules. It takes no memory.
+    pub fn new(alloc: Global) -> KeptRules
+        ensures { result ≡ [] }
+    {
+        KeptRules {
+            rules: Rules::new(alloc),
+            lookup: Lookup::new(alloc),
+        }
+    }
+
+    /// How many rules there are. What holds of every list of rules is told here: left sides are
+    /// greater than right sides.
+    pub fn len(&self) -> usize
+        ensures len { result ≡ length self.now }
+        ensures falling { AreFalling self.now }
+    {
+        self.rules.len()
+    }
+
+    /// The rule at a place, from 0: its left side, and its right side. That left sides are greater
+    /// than right sides is told here too.
+    pub fn rule(&self, place: usize) -> &(Word, Word)
+        requires { place < length self.now }
+        ensures rule { result.now ≡ slice_index_or self.now place result.now }
+        ensures falling { AreFalling self.now }
+    {
+        self.rules.rule(place)
+    }
+
+    /// The rules in memory of their own. Refused only where memory is wanting.
+    pub fn copy(&self, alloc: Global) -> Result<Rules, NoMemory>
+        ensures { IfOk result (λ r. r ≡ self.now) }
+    {
+        self.rules.copy(alloc)
+    }
+
+    /// Gives the rule at a place another right side, which is less than its left side.
+    pub fn set_right(&mut self, place: usize, right: Word)
+        requires within { place < length self.old }
+        requires falls { right ≺ (slice_index_or self.old place ([], [])).0 }
+        ensures { self.new ≡ slice_set self.old place
+            ((slice_index_or self.old place ([], [])).0, right) }
+    {
+        self.rules.set_right(place, right);
+    }
+
+    /// Makes the table anew, of all rules. The list stays as it is. Refused only where memory is
+    /// wanting.
+    pub fn rebuild(&mut self) -> Result<(), NoMemory>
+        ensures { self.new ≡ self.old }
+    {
+        let alloc = self.rules.alloc;
+        let count = self.rules.len();
+        let table = IndexAutomaton::of(alloc, self.rules.letters(), &self.rules)?;
+        self.lookup = Lookup {
+            table: Some(table),
+            places: all_places(alloc, count)?,
+            first: count,
+            newer: Newer::none(alloc),
+        };
+        Ok(())
+    }
+
+    /// Takes out the rules in whose left sides that of a new rule stands, and puts the new rule at
+    /// the end. Its left side is greater than its right side. What was taken out is given back, in
+    /// order. Refused only where memory is wanting.
+    pub fn add(self, left: Word, right: Word) -> Result<(KeptRules, Vec<(Word, Word)>), NoMemory>
+        requires { right ≺ left }
+        ensures kept { IfOk result (λ r.
+            r.0 ≡ filter (λ q. not (stands_in left q.0)) self ++ (left, right) ∷ []) }
+        ensures gone { IfOk result (λ r. r.1.items ≡ filter (λ q. stands_in left q.0) self) }
+    {
+        let KeptRules { rules, lookup } = self;
+        let alloc = rules.alloc;
+        let parts = part(alloc, rules.into_vec(), &left, lookup.first)?;
+        let places = places_after(alloc, lookup.places.as_slice(), parts.moved.as_slice())?;
+        let mut rules = Rules::from_vec(alloc, parts.kept);
+        rules.push(left, right)?;
+        let newer = Newer::of(alloc, &rules, parts.first)?;
+        let lookup = Lookup {
+            table: lookup.table,
+            places,
+            first: parts.first,
+            newer,
+        };
+        let kept = KeptRules { rules, lookup }.renewed()?;
+        Ok((kept, parts.gone))
+    }
+
+    // How many rules may be newer before the table is made anew.
+    fn newer_at_most(&self) -> usize {
+        NEWER_AT_MOST + self.lookup.states() / STATES_FOR_ONE_MORE
+    }
+
+    // The same rules, with a new table if many are newer.
+    fn renewed(self) -> Result<KeptRules, NoMemory>
+        ensures { IfOk result (λ r. r ≡ self) }
+    {
+        let mut kept = self;
+        if kept.newer_at_most() < kept.rules.len() - kept.lookup.first {
+            kept.rebuild()?;
+        }
+        Ok(kept)
+    }
+
+    /// A word to which the rules lead from the word, and to which none applies. Refused only where
+    /// memory is wanting.
+    pub fn reduce(&self, word: &Word) -> Result<Word, NoMemory>
+        ensures reached { IfOk result (λ w. Reduces (Listed self.now) word.now w) }
+        ensures reduced { IfOk result (λ w. IsReduced (Listed self.now) w) }
+    {
+        let _count = self.rules.len();
+        let alloc = self.rules.alloc;
+        let mut reduction = unread(alloc, word)?;
+        while let Some(letter) = reduction.rest.pop() {
+            let _applied = self
+                .lookup
+                .read_letter(&self.rules, word, &mut reduction, letter)?;
+        }
+        word_of(alloc, reduction.done.as_slice())
+    }
+
+    /// The word to which the rules lead from the word, none of which applies to it, and the rules that
+    /// were applied, one after another. Refused only where memory is wanting.
+    pub fn reduce_traced(&self, word: &Word) -> Result<(Word, Vec<Applied>), NoMemory>
+        ensures reached { IfOk result (λ r. Reduces (Listed self.now) word.now r.0) }
+        ensures reduced { IfOk result (λ r. IsReduced (Listed self.now) r.0) }
+        ensures traced { IfOk result (λ r. LeadBy self.now word.now r.1.items r.0) }
+    {
+        let _count = self.rules.len();
+        let alloc = self.rules.alloc;
+        let mut trace = Vec::new(alloc);
+        let mut reduction = unread(alloc, word)?;
+        while let Some(letter) = reduction.rest.pop() {
+            let applied = self
+                .lookup
+                .read_letter(&self.rules, word, &mut reduction, letter)?;
+            note(&mut trace, applied)?;
+        }
+        let reduced = word_of(alloc, reduction.done.as_slice())?;
+        Ok((reduced, trace))
+    }
+}
