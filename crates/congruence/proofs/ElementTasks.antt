@@ -16,7 +16,7 @@ use Rattle.problem.specs.declared.kinds.Problem.TheVariants as problem
 use Rattle.problem.specs.Problem.{IsWellPosed, no_matrix, no_truncated_matrix}
 use Rattle.cayley.specs.Run.{PairsTask}
 use Rattle.cayley.specs.Whole.{AreTablesOf, AreClassesOf}
-use Rattle.congruence_classes.specs.CayleyGraphs.{AreTablesFor}
+use Rattle.element_tables.specs.CayleyGraphs.{AreTablesFor}
 use Rattle.congruence_classes.specs.ElementLists.{AreClassesFor}
 use Rattle.congruence_classes.proofs.ElementTables.{classes_in, graphs}
 use Rattle.congruence.specs.Engines.{Search, Transformations, PartialPermutations, BooleanMatrices, TruncatedMatrices, IsTaskFor}

@@ -7,7 +7,7 @@ ghost use Rattle.theory.specs.Class.{IsLeast, IsNormal, IsRuleList};
 ghost use Rattle.theory.specs.Listing.{IsLast, IsNext, GoesOnOrEnds};
 ghost use Rattle.problem.specs.Problem.{SameClassOf, allows_rules, count_of, has_empty_word, is_presented};
 ghost use Rattle.race.specs.declared.engines.Progress.TheVariants.{Decided};
-ghost use Rattle.congruence_classes.specs.CayleyGraphs.{AreTablesFor};
+ghost use Rattle.element_tables.specs.CayleyGraphs.{AreTablesFor};
 ghost use Rattle.congruence_classes.specs.ClassLists.{IsSolutionFor};
 ghost use Rattle.congruence_classes.specs.ElementLists.{element_list};
 ghost use Rattle.congruence_classes.specs.Indexes.{IsIndexWithin};

@@ -2,7 +2,7 @@
 ghost use Rattle.std.specs.Prelude.{◌≡◌, ◌↔◌, false, IfOk, IsTrue};
 ghost use Rattle.problem.specs.Problem.{is_presented};
 ghost use Rattle.problem.specs.declared.kinds.Problem.{Problem};
-ghost use Rattle.congruence_classes.specs.CayleyGraphs.{AreTablesFor};
+ghost use Rattle.element_tables.specs.CayleyGraphs.{AreTablesFor};
 ghost use Rattle.congruence_classes.specs.ClassLists.{IsStandardGraphFor, IsSolutionFor};
 ghost use Rattle.congruence_classes.specs.ElementLists.{element_list};
 ghost use Rattle.congruence.specs.Classes.{problem_of};

@@ -11,7 +11,7 @@ use Rattle.elements.proofs.Semigroups.{semigroup_of}
 use Rattle.froidure_pin.specs.declared.tables.CayleyTables.{CayleyTables}
 use Rattle.cayley.specs.Tables.{edge, number_in, word_at}
 use Rattle.cayley.specs.Whole.{AreTablesOf, AreClassesOf}
-use Rattle.congruence_classes.specs.CayleyGraphs.{AreCayleyGraphs}
+use Rattle.element_tables.specs.CayleyGraphs.{AreCayleyGraphs}
 use Rattle.congruence_classes.specs.ElementLists.{AreClassesIn}
 use Rattle.congruence_classes.proofs.ListedWords.{listed_ascend, listed_at}
 

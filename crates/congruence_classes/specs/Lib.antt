@@ -2,5 +2,4 @@ pub mod ClassLists
 pub mod Indexes
 pub mod Rewriting
 pub mod ListedRules
-pub mod CayleyGraphs
 pub mod ElementLists

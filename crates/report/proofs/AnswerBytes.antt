@@ -7,11 +7,12 @@ use Rattle.ports.proofs.WriteLemmas.{answered, faulted}
 use Rattle.problem.specs.declared.budgets.Budgets.{Budgets}
 use Rattle.problem.specs.declared.kinds.Problem.{Problem}
 use Rattle.query_lang.specs.declared.script.Query.{Query}
+use Rattle.report_lines.specs.LineBytes.{AreBytesOf}
 use Rattle.report.specs.declared.answers.Answered.{Answered}
 use Rattle.report.specs.declared.answers.Answered.TheVariants.{Defined}
 use Rattle.report.specs.declared.awaited.Awaited.{Awaited}
 use Rattle.report.specs.Answer.{AreLines, ComesAbout, FailsToCome, IsAnswer, awaited_by, line_without}
-use Rattle.report.specs.Gains.{AreAnswerBytes, AreBytesOf, is_undecided}
+use Rattle.report.specs.Gains.{AreAnswerBytes, is_undecided}
 use Rattle.report.proofs.AnswerLemmas.{one_line}
 
 -- what a query waits for comes about, by its name

@@ -6,8 +6,8 @@ use Rattle.ports.specs.Writes.{Writes, WritesBytes}
 use Rattle.ports.proofs.WriteLemmas.{meant_bytes}
 use Rattle.problem.specs.declared.kinds.Problem.{Problem}
 use Rattle.query_lang.specs.declared.script.Query.{Query}
+use Rattle.report_lines.specs.LineBytes.{AreBytesOf, bytes_of}
 use Rattle.report.specs.Answer.{AreLines}
-use Rattle.report.specs.Gains.{AreBytesOf, bytes_of}
 
 -- the bytes of lines of a query, which is what was matched
 pub writes_lines : {K : Type 0} (sink : Ghosts K) (p : Problem) (bound : ℕ) (q r : Query) (lines : List (List ℕ)) → q ≡ r → AreLines p bound r lines → (bytes : List ℕ) (old new : K) (result : Result (Unit {0}) WriteFault)

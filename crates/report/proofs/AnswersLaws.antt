@@ -9,6 +9,7 @@ use Rattle.ports.proofs.WriteLemmas.{no_bytes, answered, faulted, writes_then}
 use Rattle.problem.specs.declared.budgets.Budgets.{Budgets}
 use Rattle.problem.specs.declared.kinds.Problem.{Problem}
 use Rattle.query_lang.specs.declared.script.Query.{Query}
+use Rattle.report_lines.specs.LineBytes.{bytes_of}
 use Rattle.report.specs.declared.answers.Answered.{Answered}
 use Rattle.report.specs.declared.state.State.{State}
 use Rattle.report.specs.Kept.{KeepsSettings}
@@ -69,7 +70,7 @@ module _ (bounds : Bounds) (problem : Problem) where
     here = record { lines = h.lines; undecided = gains.is_undecided told }
 
     whole : bytes ≡ flat_map answer_bytes (here ∷ [])
-    whole = h.are_bytes ∙ sym (append-nil (gains.bytes_of h.lines))
+    whole = h.are_bytes ∙ sym (append-nil (bytes_of h.lines))
 
     -- one answer
     answer_lines : AreAllLines bounds problem (q ∷ []) bytes (gains.is_undecided told)

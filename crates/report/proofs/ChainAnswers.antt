@@ -29,10 +29,10 @@ use Rattle.problem.specs.declared.kinds.Problem.TheVariants.{Presented}
 use Rattle.problem.specs.Problem.{IsWellPosed}
 use Rattle.query_lang.specs.declared.script.Query.TheVariants as query
 use Rattle.query_lang.specs.Query.{IsQueryOf}
+use Rattle.report_lines.specs.LineBytes.{bytes_of}
+use Rattle.report_lines.specs.Lines.{chain_lines, end_line, no_chain_line, steps_line, word_line}
 use Rattle.report.specs.Answer.{AreLines}
 use Rattle.report.specs.Chains.{ChainsAreLogged, IsChain, IsLogOf, Tells, with_its_pairs}
-use Rattle.report.specs.Gains.{bytes_of}
-use Rattle.report.specs.Lines.{chain_lines, end_line, no_chain_line, steps_line, word_line}
 
 -- the words of steps whose words are all different are a chain
 pub straight_words : (p : Presentation) (u v : Word) (steps : List ChainStep) (words : List Word) → IsStraight p u steps v → chains.IsChain p u steps words

@@ -1,13 +1,13 @@
 -- What answers need of elements.
-use Rattle.std.specs.Prelude.{◌≡◌, ◌≢◌, Result, Ok, Err, IfOk}
+use Rattle.std.specs.Prelude.{◌≡◌, ◌≢◌}
 use Rattle.std.proofs.Common.{sym}
 use Rattle.query_lang.specs.declared.script.Query.{Query}
 use Rattle.query_lang.specs.declared.script.Query.TheVariants.{Index, Equal, Normal, Classes, RuleList, ElementOf, Cayley, LowIndex, Meet, Join, Chain, Green, Idempotents}
+use Rattle.report_lines.specs.declared.known.KnownElements.{KnownElements}
 use Rattle.report.specs.Answer.{awaited_by}
-use Rattle.report.specs.Known.{HasElements}
+use Rattle.report.specs.Kept.{HasElements}
 use Rattle.report.specs.declared.awaited.Awaited.{Awaited}
 use Rattle.report.specs.declared.awaited.Awaited.TheVariants.{Decision}
-use Rattle.report.specs.declared.known.KnownElements.{KnownElements}
 
 -- a query that waits for no decision needs nothing of them
 pub needs_none : (query : Query) (awaited : Awaited) → awaited_by query ≡ awaited → awaited ≢ Decision → (known : KnownElements) → HasElements query known
@@ -24,8 +24,3 @@ needs_none (Join s t) awaited e d known = tt
 needs_none (Chain u v) awaited e d known = tt
 needs_none (Green relation) awaited e d known = absurd (d (sym e))
 needs_none Idempotents awaited e d known = absurd (d (sym e))
-
--- what holds of each value holds of the one of a result
-pub of_each : {T E : Type 0} (r : Result T E) (P : T → Type 0) → ((v : T) → P v) → IfOk r P
-of_each (Ok v) P h = h v
-of_each (Err e) P h = tt

@@ -16,17 +16,17 @@ use Rattle.problem.specs.Problem.{SameClassOf, SameValueOf, HasOneShape, IsWellP
 use Rattle.problem.proofs.RelatedByValue.{related_by_value}
 use Rattle.congruence_classes.specs.declared.indexes.Index.{Index}
 use Rattle.congruence_classes.specs.declared.indexes.Index.TheVariants.{Finite, Infinite, Over}
-use Rattle.congruence_classes.specs.CayleyGraphs.{AreTablesFor}
+use Rattle.element_tables.specs.CayleyGraphs.{AreTablesFor}
 use Rattle.congruence_classes.specs.Indexes.{IsIndexWithin}
 use Rattle.query_lang.specs.declared.script.Query.{Query}
 use Rattle.query_lang.specs.declared.script.Query.TheVariants as query
 use Rattle.query_lang.specs.Query.{IsQueryOf, needs_generators, needs_no_pairs}
-use Rattle.report.specs.Answer.{AreLines, cayley_lines}
-use Rattle.report.specs.Gains.{AreBytesOf}
-use Rattle.report.specs.Pages.{ArePageLines}
-use Rattle.report.specs.Lines.{count_line, over_line, infinite_line, equal_line, normal_line, page_lines, rule_line, word_line, end_line}
-use Rattle.report.proofs.Alike.{graphs_alike}
-use Rattle.report.proofs.Elements.{class_over, rules_over, one_shape}
+use Rattle.element_tables.proofs.Alike.{graphs_alike}
+use Rattle.element_tables.proofs.Elements.{class_over, rules_over, one_shape}
+use Rattle.report_lines.specs.Lines.{cayley_lines, count_line, over_line, infinite_line, equal_line, normal_line, page_lines, rule_line, word_line, end_line}
+use Rattle.report_lines.specs.LineBytes.{AreBytesOf}
+use Rattle.report_lines.specs.Pages.{ArePageLines}
+use Rattle.report.specs.Answer.{AreLines}
 
 -- s is what was solved, and p the problem that is asked about
 module _ (p s : Problem) (solved : s ≡ p) where

@@ -12,8 +12,8 @@ use Rattle.problem.specs.Problem.{letters_of}
 use Rattle.query_lang.specs.declared.script.Query.{Query}
 use Rattle.query_lang.specs.declared.script.Query.TheVariants.{Meet, Join}
 use Rattle.query_lang.specs.Query.{IsQueryOf}
+use Rattle.report_lines.specs.LineBytes.{AreBytesOf}
 use Rattle.report.specs.Answer.{AreLines, IsTableAnswer}
-use Rattle.report.specs.Gains.{AreBytesOf}
 use Rattle.report.proofs.AnswerLemmas.{one_line}
 
 -- the line of a table of a relation

@@ -1,21 +1,16 @@
 -- A query has one answer.
-use Rattle.std.proofs.Common.{◌≡◌, ℕ, zero, suc, ◌+◌, ◌<◌, ◌≤◌, Bool, true, false, inl, inr, List, [], ◌∷◌, ◌++◌, length, get_or, map, Option, None, option_map, refl, sym, ap, ap₂, subst, ◌∙◌, arith}
-use Rattle.std.specs.Prelude.{◌≢◌, ◌↔◌, codes, decimal}
-use Rattle.std.specs.List.{flat_map, range_with_len}
-use Rattle.std.proofs.lemmas.List.Concat.{flat_map_single}
-use Rattle.theory.specs.Listing.{IsStrictOrder}
+use Rattle.std.proofs.Common.{◌≡◌, ℕ, Bool, true, false, inl, inr, List, [], ◌∷◌, ◌++◌, length, map, None, refl, sym, ap, subst, ◌∙◌, arith}
+use Rattle.std.specs.Prelude.{◌≢◌, ◌↔◌}
 use Rattle.theory.specs.Word.{Word}
 use Rattle.theory.specs.ShortLex.{◌≺◌}
 use Rattle.theory.specs.Class.{IsLeast, HasIndex, IsInfinite, IsReducedRule, RuleBefore}
 use Rattle.theory.specs.Graph.{Graph, SameEnd}
 use Rattle.theory.specs.Lattice as lattice
-use Rattle.theory.specs.LowIndex.{graph_of, TableLess}
-use Rattle.theory.specs.Value.{IsProduct, SameValue, SameElement, HasAtMostValues, HasMoreValues}
-use Rattle.theory.specs.declared.Kind.{Kind}
-use Rattle.theory.proofs.Chains.{joined_congruence}
-use Rattle.theory.proofs.Listings.{list_unique, page_unique, start_no_longer}
+use Rattle.theory.specs.LowIndex.{graph_of}
+use Rattle.theory.specs.Value.{IsProduct, HasAtMostValues, HasMoreValues}
+use Rattle.theory.proofs.Listings.{list_unique, start_no_longer}
 use Rattle.theory.proofs.Completeness.{normal_unique}
-use Rattle.theory.proofs.ClassLaws.{IsPartialEquivalence, same_class_equivalence, shortlex_strict, rule_order}
+use Rattle.theory.proofs.ClassLaws.{IsPartialEquivalence, shortlex_strict, rule_order}
 use Rattle.theory.proofs.StandardLaws.{standard_unique}
 use Rattle.theory.proofs.ValueLaws.{values_bound}
 use Rattle.elements.specs.Generators.{value_by}
@@ -27,30 +22,19 @@ use Rattle.problem.specs.declared.budgets.Budgets.{Budgets}
 use Rattle.problem.specs.declared.kinds.Problem.{Problem}
 use Rattle.problem.specs.declared.kinds.Problem.TheVariants as problem
 use Rattle.problem.specs.Problem.{SameClassOf, IsDecided, IsUndecided, letters_of, count_of, no_matrix, no_truncated_matrix}
-use Rattle.congruence_classes.specs.CayleyGraphs.{AreCayleyGraphs}
-use Rattle.line_parts.specs.Tables.{rows_in}
+use Rattle.element_tables.specs.CayleyGraphs.{AreCayleyGraphs}
 use Rattle.query_lang.specs.declared.script.Query.{Query}
 use Rattle.query_lang.specs.declared.script.Query.TheVariants.{Index, Equal, Normal, Classes, RuleList, ElementOf, Cayley, LowIndex, Meet, Join, Chain, Green, Idempotents}
-use Rattle.report.specs.Lines.{index_line, end_line, normal_line, no_chain_line, page_lines, word_line, rule_line, table_line, numbers_text, cayley_line, meet_line, join_line}
-use Rattle.report.specs.Pages.{ArePageLines}
+use Rattle.element_tables.proofs.ClassEquivalence.{problem_equivalence}
+use Rattle.element_tables.proofs.OneNumber.{one_list}
+use Rattle.report_lines.specs.Lines.{index_line, end_line, normal_line, no_chain_line, word_line, rule_line, meet_line, join_line, cayley_lines}
+use Rattle.report_lines.proofs.OneGraph.{graphs_same}
+use Rattle.report_lines.proofs.OneGreen.{one_green, one_idempotents}
+use Rattle.report_lines.proofs.OnePage.{one_page, one_table_page}
 use Rattle.report.specs.declared.awaited.Awaited.{Awaited}
 use Rattle.report.specs.declared.awaited.Awaited.TheVariants.{Nothing, Decision, Log}
 use Rattle.report.specs.Chains.{AreChainLines}
-use Rattle.report.specs.Answer.{cayley_lines, AreLines, AreTableLines, ComesAbout, FailsToCome, IsListed, IsTableAnswer, IsAnswer, awaited_by}
-use Rattle.report.proofs.OneGreen.{one_green, one_idempotents}
-use Rattle.report.proofs.OneNumber.{one_list, one_number}
-use Rattle.report.proofs.TablePages.{listed_order}
-
-joined_same : {A : Type 0} (f g : ℕ → List A) (from n : ℕ) → ((i : ℕ) → from ≤ i → i < from + n → f i ≡ g i) → flat_map f (range_with_len from n) ≡ flat_map g (range_with_len from n)
-joined_same f g from zero h = refl
-joined_same f g from (suc n) h = ap₂ ◌++◌ (h from (omega arith) (omega arith)) (joined_same f g (from + 1) n (λ i low high. h i (omega arith) (omega arith)))
-
-lines_same : {A : Type 0} (f g : ℕ → A) (n : ℕ) → ((i : ℕ) → i < n → f i ≡ g i) → map f (range_with_len 0 n) ≡ map g (range_with_len 0 n)
-lines_same f g n h =
-    sym (flat_map_single f (range_with_len 0 n)) ∙ joined_same (λ i. f i ∷ []) (λ i. g i ∷ []) 0 n (λ i _ high. ap (λ x. x ∷ []) (h i (omega arith))) ∙ flat_map_single g (range_with_len 0 n)
-
-numbers_same : (f g : ℕ → ℕ) (k : ℕ) → ((a : ℕ) → a < k → f a ≡ g a) → numbers_text k f ≡ numbers_text k g
-numbers_same f g k h = joined_same (λ a. codes " " ++ decimal (f a)) (λ a. codes " " ++ decimal (g a)) 0 k (λ a _ high. ap (λ n. codes " " ++ decimal n) (h a (omega arith)))
+use Rattle.report.specs.Answer.{AreLines, ComesAbout, FailsToCome, IsTableAnswer, IsAnswer, awaited_by}
 
 module _ (R : Word → Word → Type 0) (known : IsPartialEquivalence R) where
   one_index : (m n : ℕ) → HasIndex R m → HasIndex R n → m ≡ n
@@ -62,41 +46,10 @@ module _ (R : Word → Word → Type 0) (known : IsPartialEquivalence R) where
       let more = g n in
       omega (arith, start_no_longer (IsLeast R) ◌≺◌ (shortlex_strict (IsLeast R)) None h.0 more.0 h.1 more.1, h.2, more.2)
 
-  graphs_same : (letters : List ℕ) (k : ℕ) (words : List Word) (right left right' left' : ℕ → ℕ → ℕ) → AreCayleyGraphs R k words right left → AreCayleyGraphs R k words right' left'
-      → cayley_lines letters k words right left ≡ cayley_lines letters k words right' left'
-  graphs_same letters k words right left right' left' g h =
-      lines_same (λ i. cayley_line letters k i (get_or words i []) (right i) (left i)) (λ i. cayley_line letters k i (get_or words i []) (right' i) (left' i)) (length words) row
-    where
-      row : (i : ℕ) → i < length words → cayley_line letters k i (get_or words i []) (right i) (left i) ≡ cayley_line letters k i (get_or words i []) (right' i) (left' i)
-      row i within =
-          let on_right : numbers_text k (right i) ≡ numbers_text k (right' i) = numbers_same (right i) (right' i) k (λ a below. one_number R known words g.listed (right i a) (right' i a) (get_or words i [] ++ a ∷ []) (g.on_right i a within below) (h.on_right i a within below)) in
-          let on_left : numbers_text k (left i) ≡ numbers_text k (left' i) = numbers_same (left i) (left' i) k (λ a below. one_number R known words g.listed (left i a) (left' i a) (a ∷ get_or words i []) (g.on_left i a within below) (h.on_left i a within below)) in
-          rw (on_right, on_left) refl
-
 module _ {V : Type 0} {product : V → V → V} {equal : V → V → Bool} (generators : List V) (unused : V) where
   values_not_both : {HasShape : V → Type 0} → IsProduct HasShape product equal → (n : ℕ)
       → HasAtMostValues (length generators) equal (value_by product generators unused) n → HasMoreValues (length generators) equal (value_by product generators unused) n → ⊥
   values_not_both {HasShape} laws n few more = let less = values_bound HasShape product equal laws (length generators) (value_by product generators unused) n n few more in omega arith
-
-  -- chains join as an equivalence, whatever the pairs are
-  element_equivalence : {HasShape : V → Type 0} → IsProduct HasShape product equal → (kind : Kind) (pairs : List (Word × Word))
-      → IsPartialEquivalence (SameElement (length generators) equal (value_by product generators unused) kind pairs)
-  element_equivalence laws kind pairs =
-      let value_of : Word → V = value_by product generators unused in
-      let chains =
-      joined_congruence (SameValue (length generators) equal value_of) kind pairs
-      (λ u v h. record { left = h.right; right = h.left; related = laws.symmetric (value_of u) (value_of v) h.related }) in
-      record {
-        symmetric = λ u v h. record { left = h.right; right = h.left; related = chains.symmetric u v h.related };
-        transitive = λ u v w h g. record { left = h.left; right = g.right; related = chains.transitive u v w h.related g.related };
-      }
-
-pub problem_equivalence : (p : Problem) → IsPartialEquivalence (SameClassOf p)
-problem_equivalence (problem.Presented p) = same_class_equivalence p.congruence
-problem_equivalence (problem.Transf p) = element_equivalence p.generators [] (composed_products (0, 0)) p.kind p.pairs
-problem_equivalence (problem.PPerm p) = element_equivalence p.generators [] (partial_products (0, 0)) p.kind p.pairs
-problem_equivalence (problem.BMat p) = element_equivalence p.generators no_matrix (boolean_products (0, 0)) p.kind p.pairs
-problem_equivalence (problem.MaxPlus p) = element_equivalence p.generators no_truncated_matrix (truncated_products (0, 0)) p.kind p.pairs
 
 not_both : (p : Problem) (budgets : Budgets) → IsDecided p budgets → IsUndecided p budgets → ⊥
 not_both (problem.Presented p) budgets ends never = never ends
@@ -104,22 +57,6 @@ not_both (problem.Transf p) budgets few more = values_not_both p.generators [] (
 not_both (problem.PPerm p) budgets few more = values_not_both p.generators [] (partial_products (0, 0)) budgets.elements few more
 not_both (problem.BMat p) budgets few more = values_not_both p.generators no_matrix (boolean_products (0, 0)) budgets.elements few more
 not_both (problem.MaxPlus p) budgets few more = values_not_both p.generators no_truncated_matrix (truncated_products (0, 0)) budgets.elements few more
-
--- a cursor has one page of each size
-one_page : {A : Type 0} (P : A → Type 0) (Less : A → A → Type 0) → IsStrictOrder P Less → (line : A → List ℕ) (after : Option A) (count : ℕ) (lines others : List (List ℕ))
-    → ArePageLines P Less line after count lines → ArePageLines P Less line after count others → lines ≡ others
-one_page P Less order line after count lines others h g =
-    let same = page_unique P Less order after count h.items g.items h.more g.more h.is_page g.is_page in
-    h.are_lines ∙ ap₂ (page_lines line) same.0 same.1 ∙ sym g.are_lines
-
-one_table_page : (p : Problem) (two_sided : Bool) (classes count : ℕ) (after : Option Graph) (lines others : List (List ℕ)) → AreTableLines p two_sided classes count after lines → AreTableLines p two_sided classes count after others → lines ≡ others
-one_table_page (problem.Presented p) two_sided classes count after lines others h g =
-    let relations = p.congruence.presentation in
-    one_page (IsListed two_sided relations classes) TableLess (listed_order two_sided relations classes) table_line (option_map rows_in after) count lines others h g
-one_table_page (problem.Transf p) two_sided classes count after lines others h g = absurd h
-one_table_page (problem.PPerm p) two_sided classes count after lines others h g = absurd h
-one_table_page (problem.BMat p) two_sided classes count after lines others h g = absurd h
-one_table_page (problem.MaxPlus p) two_sided classes count after lines others h g = absurd h
 
 -- a relation has one standard table
 one_table_line : (line : Graph → List ℕ) (k : ℕ) (V : Word → Word → Type 0) (lines others : List (List ℕ)) → IsTableAnswer line k V lines → IsTableAnswer line k V others → lines ≡ others

@@ -1,48 +1,25 @@
 -- What a query asks, over relatedness, least words, the class list and the bound alone (Froidure
 -- and Pin 1997; libsemigroups: Congruence).
-use Rattle.std.specs.Prelude.{◌≡◌, ℕ, Bool, true, false, ◌⊎◌, List, [], ◌∷◌, ◌++◌, length, map, slice_index_or, Option, option_map}
-use Rattle.std.specs.List.{range_with_len}
+use Rattle.std.specs.Prelude.{◌≡◌, ℕ, Bool, true, false, ◌⊎◌, List, [], ◌∷◌, ◌++◌, length, map}
 use Rattle.theory.specs.Word.{Word}
 use Rattle.theory.specs.ShortLex.{◌≺◌}
 use Rattle.theory.specs.Graph.{Graph}
 use Rattle.theory.specs.Lattice as lattice
-use Rattle.theory.specs.Congruence.{Presentation}
-use Rattle.theory.specs.LowIndex.{IsLowIndex, Rows, TableLess}
-use Rattle.theory.specs.TwoSidedTable.{IsTwoSidedLowIndex}
 use Rattle.theory.specs.Class.{IsLeast, IsNormal, HasIndex, IsInfinite, IsRuleList}
 use Rattle.lattice.specs.Tables.{IsTableOf}
 use Rattle.problem.specs.declared.budgets.Budgets.{Budgets}
 use Rattle.problem.specs.declared.kinds.Problem.{Problem}
-use Rattle.problem.specs.Problem.{OfProblem, SameClassOf, IsDecided, IsUndecided, letters_of, count_of, value_text}
-use Rattle.line_parts.specs.Tables.{rows_in}
+use Rattle.problem.specs.Problem.{SameClassOf, IsDecided, IsUndecided, letters_of, count_of, value_text}
 use Rattle.query_lang.specs.declared.script.Query.{Query}
 use Rattle.query_lang.specs.declared.script.Query.TheVariants.{Index, Equal, Normal, Classes, RuleList, ElementOf, Cayley, LowIndex, Meet, Join, Chain, Green, Idempotents}
-use Rattle.congruence_classes.specs.CayleyGraphs.{AreCayleyGraphs}
+use Rattle.element_tables.specs.CayleyGraphs.{AreCayleyGraphs}
+use Rattle.report_lines.specs.Lines.{undecided_line, unlogged_line, index_line, infinite_line, equal_line, element_line, end_line, normal_line, word_line, rule_line, cayley_lines, meet_line, join_line}
+use Rattle.report_lines.specs.Pages.{ArePageLines}
+use Rattle.report_lines.specs.TableLines.{AreTableLines}
+use Rattle.report_lines.specs.Greens.{AreGreenLines, AreIdempotentLines}
 use Rattle.report.specs.declared.awaited.Awaited.{Awaited}
 use Rattle.report.specs.declared.awaited.Awaited.TheVariants.{Nothing, Decision, Log}
 use Rattle.report.specs.Chains.{AreChainLines, ChainsAreLogged}
-use Rattle.report.specs.Lines.{undecided_line, unlogged_line, index_line, infinite_line, equal_line, element_line, end_line, normal_line, word_line, rule_line, table_line, cayley_line, meet_line, join_line}
-use Rattle.report.specs.Pages.{ArePageLines}
-use Rattle.report.specs.Greens.{AreGreenLines, AreIdempotentLines}
-
--- the lines of all rows of the Cayley graphs
-abbrev pub cayley_lines : List ℕ → ℕ → List Word → (ℕ → ℕ → ℕ) → (ℕ → ℕ → ℕ) → List (List ℕ)
-cayley_lines letters k words right left =
-    map (λ i. cayley_line letters k i (slice_index_or words i []) (right i) (left i))
-    (range_with_len 0 (length words))
-
--- a table of low index, or one that is two-sided too
-abbrev pub IsListed : (two_sided : Bool) → Presentation → ℕ → Rows → Type 0
-IsListed false p classes = IsLowIndex p classes
-IsListed true p classes = IsTwoSidedLowIndex p classes
-
--- the lines of a page of tables of at most so many classes, where relations are given
-abbrev pub AreTableLines : Problem → (two_sided : Bool) → ℕ → ℕ → Option Graph → List (List ℕ)
-    → Type 0
-AreTableLines problem two_sided classes count after = OfProblem
-    (λ p. ArePageLines (IsListed two_sided p.congruence.presentation classes) TableLess table_line
-    (option_map rows_in after) count)
-    (λ _ _ _ _. ⊥) problem
 
 -- the line of the standard table over k letters whose equal paths are a relation
 pub record IsTableAnswer (line : Graph → List ℕ) (k : ℕ) (V : Word → Word → Type 0)

@@ -6,10 +6,10 @@ use Rattle.ports.specs.declared.fault.WriteFault.{WriteFault}
 use Rattle.ports.specs.Writes.{WritesOrBegins}
 use Rattle.problem.specs.declared.kinds.Problem.{Problem}
 use Rattle.query_lang.specs.declared.script.Query.{Query}
+use Rattle.report_lines.specs.LineBytes.{bytes_of}
 use Rattle.report.specs.declared.bounds.Bounds.{Bounds}
 use Rattle.report.specs.declared.state.State.{State}
 use Rattle.report.specs.Answer.{IsAnswer}
-use Rattle.report.specs.Gains.{bytes_of}
 
 -- an answer: its lines, and whether the query is left undecided
 pub record Answer : Type 0 where

@@ -10,7 +10,7 @@ use Rattle.race.specs.declared.engines.Progress.TheVariants.{Decided, Spent}
 use Rattle.knuth_bendix.specs.Runs.{CompletionRun}
 use Rattle.problem.specs.declared.kinds.Problem.{Problem}
 use Rattle.problem.specs.Problem.{OfProblem, SameClassOf}
-use Rattle.report.specs.Lines.{chain_lines, no_chain_line}
+use Rattle.report_lines.specs.Lines.{chain_lines, no_chain_line}
 
 -- the relations, and the pairs behind them
 abbrev pub with_its_pairs : Congruence → Presentation

@@ -1,22 +1,12 @@
 -- The bytes that a sink gains with an answer.
-use Rattle.std.specs.Prelude.{◌≡◌, ℕ, Bool, true, false, List}
-use Rattle.std.specs.List.{flat_map}
+use Rattle.std.specs.Prelude.{ℕ, Bool, true, false, List}
 use Rattle.problem.specs.declared.budgets.Budgets.{Budgets}
 use Rattle.problem.specs.declared.kinds.Problem.{Problem}
 use Rattle.query_lang.specs.declared.script.Query.{Query}
+use Rattle.report_lines.specs.LineBytes.{AreBytesOf}
 use Rattle.report.specs.declared.answers.Answered.{Answered}
 use Rattle.report.specs.declared.answers.Answered.TheVariants.{Defined, Undecided}
 use Rattle.report.specs.Answer.{IsAnswer}
-
--- the bytes of lines
-abbrev pub bytes_of : List (List ℕ) → List ℕ
-bytes_of lines = flat_map (λ line. line) lines
-
--- the bytes of some such lines
-pub record AreBytesOf (AreSuch : List (List ℕ) → Type 0) (bytes : List ℕ) : Type 0 where
-  pub lines : List (List ℕ)
-  pub are_such : AreSuch lines
-  pub are_bytes : bytes ≡ bytes_of lines
 
 abbrev pub is_undecided : Answered → Bool
 is_undecided Defined = false

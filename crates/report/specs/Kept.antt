@@ -1,11 +1,16 @@
 -- What a state keeps of a problem.
 use Rattle.std.specs.Prelude.{◌≡◌, IfSome, IsSome, Some}
 use Rattle.problem.specs.declared.kinds.Problem.{Problem}
+use Rattle.theory.specs.declared.Relation.TheVariants.{H}
+use Rattle.query_lang.specs.declared.script.Query.{Query}
+use Rattle.query_lang.specs.declared.script.Query.TheVariants.{Green, Idempotents}
+use Rattle.green.specs.Known.{HasNames}
 use Rattle.congruence.specs.Verdicts.{IsVerdictOf}
+use Rattle.report_lines.specs.declared.known.KnownElements.{KnownElements}
+use Rattle.report_lines.specs.Known.{AreKnownOf, HasGreen, KeepsKnown}
 use Rattle.report.specs.Chains.{IsLogOf}
 use Rattle.report.specs.declared.awaited.Awaited.{Awaited}
 use Rattle.report.specs.declared.awaited.Awaited.TheVariants.{Nothing, Decision, Log}
-use Rattle.report.specs.Known.{AreKnownOf, KeepsKnown}
 use Rattle.report.specs.declared.state.State.{State}
 
 -- the verdict is of the problem, and so are the completion, which logs and is at its end, and what
@@ -32,3 +37,9 @@ abbrev pub HasFound : Awaited → State → Type 0
 HasFound Nothing state = Unit {0}
 HasFound Decision state = IsSome state.verdict
 HasFound Log state = IsSome state.completion
+
+-- what the answer of a query needs of elements is known
+abbrev pub HasElements : Query → KnownElements → Type 0
+HasElements (Green relation) known = HasGreen relation known
+HasElements Idempotents known = HasNames H known.names
+HasElements query known = Unit {0}

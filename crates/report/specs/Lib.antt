@@ -1,12 +1,5 @@
-pub mod Lines
-pub mod Pages
-pub mod Blocks
-pub mod Texts
-pub mod Greens
 pub mod Chains
 pub mod Answer
 pub mod Gains
-pub mod Known
 pub mod Kept
-pub mod Collected
 pub mod Answers

@@ -7,8 +7,7 @@ ghost use Rattle.query_lang.specs.Query.{IsQueryOf};
 ghost use Rattle.report.specs.Answer.{awaited_by};
 ghost use Rattle.report.specs.Chains.{IsLogOf};
 ghost use Rattle.report.specs.Gains.{AreAnswerBytes};
-ghost use Rattle.report.specs.Kept.{HasFound, KeepsFound, KeepsOf, KeepsSettings};
-ghost use Rattle.report.specs.Known.{HasElements};
+ghost use Rattle.report.specs.Kept.{HasElements, HasFound, KeepsFound, KeepsOf, KeepsSettings};
 
 use crate::awaited::{Awaited, awaited_by};
 use crate::logged::write_logged;

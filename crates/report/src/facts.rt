@@ -4,8 +4,8 @@ ghost use Rattle.theory.specs.Word.{Word};
 ghost use Rattle.problem.specs.declared.budgets.Budgets.{Budgets};
 ghost use Rattle.problem.specs.declared.kinds.Problem.{Problem};
 ghost use Rattle.query_lang.specs.declared.script.Query.{Query};
+ghost use Rattle.report_lines.specs.Lines.{no_chain_line};
 ghost use Rattle.report.specs.Answer.{IsAnswer, awaited_by};
-ghost use Rattle.report.specs.Lines.{no_chain_line};
 
 use crate::awaited::Awaited;
 

@@ -3,23 +3,13 @@
 
 mod answers;
 mod awaited;
-mod blocks;
 mod bounds;
-mod class_lines;
 mod completing;
 mod facts;
-mod graphs;
-mod greens;
-mod known;
-mod line;
-mod listings;
 mod logged;
 mod script_answers;
-mod single;
 mod solved;
 mod state;
-mod tables;
-mod texts;
 mod told;
 
 pub use awaited::Awaited;

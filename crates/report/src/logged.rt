@@ -5,15 +5,13 @@ ghost use Rattle.theory.specs.Word.{IsElement, IsOver, Word as Letters};
 ghost use Rattle.chains.specs.Chains.{IsStraight};
 ghost use Rattle.problem.specs.Problem.{IsPosable, IsSolvable};
 ghost use Rattle.query_lang.specs.Query.{IsQueryOf};
+ghost use Rattle.report_lines.specs.LineBytes.{AreBytesOf, bytes_of};
+ghost use Rattle.report_lines.specs.Lines.{chain_lines};
 ghost use Rattle.report.specs.Answer.{AreLines, awaited_by};
 ghost use Rattle.report.specs.Chains.{IsChain, LogsFor, with_its_pairs};
-ghost use Rattle.report.specs.Gains.{AreBytesOf, bytes_of};
-ghost use Rattle.report.specs.Lines.{chain_lines};
 
 use crate::awaited::Awaited;
 use crate::completing::with_its_pairs;
-use crate::line::Line;
-use crate::listings::write_words;
 use chains::{ChainStep, words_of};
 use knuth_bendix::Completion;
 use ports::{NoMemory, Sink, WriteFault, write_all};
@@ -21,6 +19,7 @@ use presentation::Congruence;
 use problem::Problem;
 use query_lang::Query;
 use race::Progress;
+use report_lines::{Line, write_words};
 use std::alloc::Global;
 use words::{Alphabet, Word};
 

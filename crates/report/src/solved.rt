@@ -6,23 +6,23 @@ ghost use Rattle.theory.specs.Class.{IsLeast};
 ghost use Rattle.theory.specs.ShortLex.{◌≺◌};
 ghost use Rattle.problem.specs.Problem.{SameClassOf, count_of, letters_of};
 ghost use Rattle.query_lang.specs.Query.{IsQueryOf};
+ghost use Rattle.report_lines.specs.LineBytes.{AreBytesOf};
+ghost use Rattle.report_lines.specs.Known.{AreKnownOf, KeepsKnown};
+ghost use Rattle.report_lines.specs.Lines.{word_line};
+ghost use Rattle.report_lines.specs.Pages.{ArePageLines};
 ghost use Rattle.report.specs.Answer.{AreLines, awaited_by};
-ghost use Rattle.report.specs.Gains.{AreBytesOf};
-ghost use Rattle.report.specs.Known.{AreKnownOf, HasElements, KeepsKnown};
-ghost use Rattle.report.specs.Lines.{word_line};
-ghost use Rattle.report.specs.Pages.{ArePageLines};
+ghost use Rattle.report.specs.Kept.{HasElements};
 
 use crate::awaited::Awaited;
-use crate::graphs::write_cayley;
-use crate::greens::{write_green, write_idempotents};
-use crate::known::KnownElements;
-use crate::listings::{write_end, write_rules, write_word};
-use crate::single::{write_count, write_equal, write_infinite, write_normal_form, write_over};
 use congruence::Solved;
 use congruence_classes::Index;
 use ports::{NoMemory, Sink, WriteFault};
 use problem::Problem;
 use query_lang::Query;
+use report_lines::{
+    KnownElements, write_cayley, write_count, write_end, write_equal, write_green,
+    write_idempotents, write_infinite, write_normal_form, write_over, write_rules, write_word,
+};
 use std::alloc::Global;
 use words::{Alphabet, Word};
 

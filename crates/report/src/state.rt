@@ -7,11 +7,11 @@ ghost use Rattle.report.specs.Kept.{KeepsFound, KeepsOf, KeepsSettings};
 
 use crate::bounds::Bounds;
 use crate::completing::logged_completion;
-use crate::known::KnownElements;
 use congruence::{Verdict, solve};
 use knuth_bendix::Completion;
 use ports::{Gate, NoMemory};
 use problem::{Budgets, Problem};
+use report_lines::KnownElements;
 use std::alloc::Global;
 use std::mem::replace;
 use std::thread::Threads;

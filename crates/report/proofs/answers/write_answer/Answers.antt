@@ -3,14 +3,16 @@ use Rattle.ports.specs.Writes.{Writes}
 use Rattle.ports.proofs.WriteLemmas.{handed_on, refused}
 use Rattle.problem.specs.declared.budgets.Budgets.{Budgets}
 use Rattle.problem.specs.declared.kinds.Problem.{Problem}
+use Rattle.report_lines.specs.LineBytes.{AreBytesOf}
+use Rattle.report_lines.proofs.ResultLaws.{of_each}
 use Rattle.report.specs.declared.answers.Answered.{Answered}
 use Rattle.report.specs.declared.answers.Answered.TheVariants.{Defined}
 use Rattle.report.specs.declared.awaited.Awaited.TheVariants.{Nothing, Log}
 use Rattle.report.specs.Answer.{AreLines, ComesAbout, awaited_by}
-use Rattle.report.specs.Gains.{AreAnswerBytes, AreBytesOf}
-use Rattle.report.specs.Known.{HasElements}
+use Rattle.report.specs.Gains.{AreAnswerBytes}
+use Rattle.report.specs.Kept.{HasElements}
 use Rattle.report.proofs.AnswerBytes.{comes_about, defined_begun, defined_told}
-use Rattle.report.proofs.NeedLaws.{needs_none, of_each}
+use Rattle.report.proofs.NeedLaws.{needs_none}
 use Rattle.report.proofs.answers.write_answer.Goals as goal
 
 pub returns-in_err-write_told-in-Nothing-clause-written : goal.returns-in_err-write_told-in-Nothing-clause-written

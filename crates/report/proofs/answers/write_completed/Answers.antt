@@ -2,10 +2,10 @@ use Rattle.std.proofs.Common.{ℕ, true≢false, refl, sym, ◌∙◌, subst, Ma
 use Rattle.ports.proofs.WriteLemmas.{handed_on}
 use Rattle.problem.specs.declared.budgets.Budgets.{Budgets}
 use Rattle.problem.specs.declared.kinds.Problem.{Problem}
+use Rattle.report_lines.specs.Lines.{unlogged_line}
 use Rattle.report.specs.declared.answers.Answered.TheVariants as answered
 use Rattle.report.specs.declared.awaited.Awaited.TheVariants.{Log}
 use Rattle.report.specs.Chains.{IsLogOf}
-use Rattle.report.specs.Lines.{unlogged_line}
 use Rattle.report.proofs.AnswerBytes.{comes_about, defined_begun, defined_told, left_undecided, line_begun, line_told}
 use Rattle.report.proofs.ChainAnswers.{logged_comes, logged_fails}
 use Rattle.report.proofs.answers.write_completed.Goals as goal

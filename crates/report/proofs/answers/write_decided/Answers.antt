@@ -5,8 +5,8 @@ use Rattle.problem.specs.declared.kinds.Problem.{Problem}
 use Rattle.congruence.specs.declared.solving.Verdict.{Verdict}
 use Rattle.congruence.specs.declared.solving.Verdict.TheVariants.{Known, Undecided}
 use Rattle.congruence.specs.Verdicts.{IsVerdictOf}
+use Rattle.report_lines.specs.Lines.{undecided_line}
 use Rattle.report.specs.declared.answers.Answered.TheVariants as answered
-use Rattle.report.specs.Lines.{undecided_line}
 use Rattle.report.specs.declared.awaited.Awaited.TheVariants.{Decision}
 use Rattle.report.proofs.AnswerBytes.{comes_about, defined_told, defined_begun, left_undecided, line_told, line_begun}
 use Rattle.report.proofs.answers.write_decided.Goals as goal

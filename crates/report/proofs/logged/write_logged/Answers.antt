@@ -9,10 +9,10 @@ use Rattle.problem.specs.declared.kinds.Problem.TheVariants.{Presented}
 use Rattle.problem.specs.Problem.{IsWellPosed, letters_of}
 use Rattle.query_lang.specs.declared.script.Query.TheVariants as query
 use Rattle.query_lang.specs.Query.{IsQueryOf}
+use Rattle.report_lines.specs.LineBytes.{bytes_of}
+use Rattle.report_lines.specs.Lines.{chain_lines, no_chain_line}
 use Rattle.report.specs.Answer.{AreLines}
 use Rattle.report.specs.Chains.{LogsFor, with_its_pairs}
-use Rattle.report.specs.Gains.{bytes_of}
-use Rattle.report.specs.Lines.{chain_lines, no_chain_line}
 use Rattle.report.proofs.AnswerLemmas.{one_line, writes_lines}
 use Rattle.report.proofs.ChainAnswers.{chain_printed, chain_told, none_told}
 use Rattle.report.proofs.logged.write_logged.Goals as goal

@@ -10,11 +10,11 @@ use Rattle.theory.proofs.ClassLaws.{shortlex_strict}
 use Rattle.problem.specs.declared.kinds.Problem.{Problem}
 use Rattle.problem.specs.Problem.{SameClassOf}
 use Rattle.congruence.specs.Solution.{Solution}
-use Rattle.report.specs.Gains.{AreBytesOf}
-use Rattle.report.specs.Lines.{word_line}
-use Rattle.report.specs.Pages.{ArePageLines}
-use Rattle.report.proofs.Elements.{class_over}
-use Rattle.report.proofs.PageLemmas.{Found, next_found, none_found, more_begun, page_ended, page_full, page_begun, word_begun}
+use Rattle.element_tables.proofs.Elements.{class_over}
+use Rattle.report_lines.specs.LineBytes.{AreBytesOf}
+use Rattle.report_lines.specs.Lines.{word_line}
+use Rattle.report_lines.specs.Pages.{ArePageLines}
+use Rattle.report_lines.proofs.PageLemmas.{Found, next_found, none_found, more_begun, page_ended, page_full, page_begun, word_begun}
 use Rattle.report.proofs.solved.write_classes.Goals as goal
 
 -- what is known of the same solution

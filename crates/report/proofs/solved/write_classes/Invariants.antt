@@ -3,8 +3,8 @@ use Rattle.std.specs.Option.{option_copied}
 use Rattle.theory.specs.ShortLex.{◌≺◌}
 use Rattle.theory.specs.Class.{IsLeast}
 use Rattle.problem.specs.Problem.{SameClassOf}
-use Rattle.report.specs.Lines.{word_line}
-use Rattle.report.proofs.PageLemmas.{IsBegun}
+use Rattle.report_lines.specs.Lines.{word_line}
+use Rattle.report_lines.proofs.PageLemmas.{IsBegun}
 use Rattle.report.proofs.solved.write_classes.Given as goal
 
 abbrev pub invariant-loop : goal.invariant-loop

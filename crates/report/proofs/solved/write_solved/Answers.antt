@@ -7,13 +7,12 @@ use Rattle.froidure_pin.specs.declared.tables.CayleyTables.{CayleyTables}
 use Rattle.cayley.specs.Tables.{edge}
 use Rattle.problem.specs.declared.kinds.Problem.{Problem}
 use Rattle.problem.specs.Problem.{SameClassOf, count_of, letters_of}
-use Rattle.congruence_classes.specs.CayleyGraphs.{AreTablesFor}
+use Rattle.element_tables.specs.CayleyGraphs.{AreTablesFor}
 use Rattle.query_lang.specs.declared.script.Query.{Query}
 use Rattle.query_lang.specs.declared.script.Query.TheVariants as query
-use Rattle.report.specs.Answer.{cayley_lines}
-use Rattle.report.specs.Lines.{count_line, over_line, infinite_line, equal_line, normal_line, rule_line, end_line}
-use Rattle.report.specs.Gains.{bytes_of}
-use Rattle.report.specs.Known.{HasElements}
+use Rattle.report_lines.specs.Lines.{count_line, over_line, infinite_line, equal_line, normal_line, rule_line, cayley_lines, end_line}
+use Rattle.report_lines.specs.LineBytes.{bytes_of}
+use Rattle.report.specs.Kept.{HasElements}
 use Rattle.report.proofs.AnswerLemmas.{writes_lines, one_line}
 use Rattle.report.proofs.SolvedLemmas.{solved_count, solved_infinite, solved_over, solved_equal, normal_over, solved_normal, solved_rules, solved_rules_over, solved_page, solved_cayley, solved_shape, solved_unpaired}
 use Rattle.report.proofs.TableAnswers.{lines_told}

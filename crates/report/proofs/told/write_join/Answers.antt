@@ -1,5 +1,5 @@
 use Rattle.theory.specs.Lattice.{Join}
-use Rattle.report.specs.Lines.{join_line}
+use Rattle.report_lines.specs.Lines.{join_line}
 use Rattle.report.proofs.TableAnswers.{table_told}
 use Rattle.report.proofs.told.write_join.Goals as goal
 

@@ -1,5 +1,5 @@
 use Rattle.theory.specs.Lattice.{Meet}
-use Rattle.report.specs.Lines.{meet_line}
+use Rattle.report_lines.specs.Lines.{meet_line}
 use Rattle.report.proofs.TableAnswers.{table_told}
 use Rattle.report.proofs.told.write_meet.Goals as goal
 

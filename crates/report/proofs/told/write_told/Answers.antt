@@ -5,8 +5,8 @@ use Rattle.ports.proofs.WriteLemmas.{handed_on, refused}
 use Rattle.problem.specs.declared.kinds.Problem.{Problem}
 use Rattle.problem.specs.Problem.{letters_of, value_text}
 use Rattle.query_lang.specs.declared.script.Query.TheVariants as query
-use Rattle.report.specs.Answer.{AreTableLines}
-use Rattle.report.specs.Lines.{element_line, graph_line, page_lines}
+use Rattle.report_lines.specs.TableLines.{AreTableLines}
+use Rattle.report_lines.specs.Lines.{element_line, graph_line, page_lines}
 use Rattle.report.proofs.AnswerLemmas.{one_line, writes_lines}
 use Rattle.report.proofs.TableAnswers.{join_tables, lines_told, meet_tables}
 use Rattle.report.proofs.told.write_told.Goals as goal

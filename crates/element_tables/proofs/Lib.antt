@@ -1,0 +1,4 @@
+pub mod Elements
+pub mod Alike
+pub mod OneNumber
+pub mod ClassEquivalence

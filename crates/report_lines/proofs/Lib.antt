@@ -1,0 +1,13 @@
+pub mod ResultLaws
+pub mod ListingLemmas
+pub mod GraphLemmas
+pub mod OneGreen
+pub mod OneGraph
+pub mod PageLemmas
+pub mod TablePages
+pub mod OnePage
+pub mod GreenTables
+pub mod GreenLists
+pub mod TextLaws
+pub mod SameTables
+pub mod LineLaws

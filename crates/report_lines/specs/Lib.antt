@@ -1,0 +1,9 @@
+pub mod Lines
+pub mod LineBytes
+pub mod Pages
+pub mod TableLines
+pub mod Blocks
+pub mod Texts
+pub mod Collected
+pub mod Greens
+pub mod Known
