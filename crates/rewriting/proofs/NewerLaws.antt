@@ -1,5 +1,5 @@
 -- Newer rules by the last letters of their left sides.
-use Rattle.std.proofs.Common.{◌≡◌, ◌≢◌, ℕ, ◌+◌, ◌-◌, ◌*◌, ◌%◌, ◌<◌, ◌≤◌, List, [], ◌∷◌, ◌++◌, ◌⊎◌, length, take, drop, set, get_or, refl, sym, ◌∙◌, ap, subst, subst₂, arith, inl, inr, Option, Some, None, length-append}
+use Rattle.std.proofs.Common.{◌≡◌, ◌≢◌, ℕ, ◌+◌, ◌-◌, ◌*◌, ◌%◌, ◌<◌, ◌≤◌, List, [], ◌∷◌, ◌++◌, ◌⊎◌, length, take, drop, set, get_or, lit<, refl, sym, ◌∙◌, ap, subst, subst₂, arith, inl, inr, Option, Some, None, length-append}
 use Rattle.std.proofs.Math.ListN.{replicate}
 use Rattle.std.proofs.Math.Seq.{drop-append-add}
 use Rattle.std.proofs.lemmas.Bool.{cases_eq, cases_lt}
@@ -33,6 +33,11 @@ module _ (keys : ℕ → ℕ) (count : ℕ) where
 latest_same : (f g : ℕ → ℕ) → ((n : ℕ) → f n ≡ g n) → (count key : ℕ) (o : Option ℕ) → IsLatest f count key o → IsLatest g count key o
 latest_same f g same count key None l = λ n within e. l n within (same n ∙ e)
 latest_same f g same count key (Some m) l = (l.0, sym (same m) ∙ l.1, λ n above within e. l.2 n above within (same n ∙ e))
+
+-- the same keys below the count
+latest_below : (f g : ℕ → ℕ) (count : ℕ) → ((n : ℕ) → n < count → f n ≡ g n) → (key : ℕ) (o : Option ℕ) → IsLatest f count key o → IsLatest g count key o
+latest_below f g count same key None l = λ n within e. l n within (same n within ∙ e)
+latest_below f g count same key (Some m) l = (l.0, sym (same m l.0) ∙ l.1, λ n above within e. l.2 n above within (same n within ∙ e))
 
 -- no rule yet
 pub newer_start : (rules : List (Word × Word)) (first : ℕ) (newer : Newer) → newer.before.items ≡ [] → ((key : ℕ) → key < 256 → get_or newer.latest.items key None ≡ None)
@@ -125,6 +130,58 @@ module _ (rules : List (Word × Word)) (first count : ℕ) (old new : Newer) (to
 pub key_few : (k : ℕ) (u : Word) → k < 256 → key_from k u < 256
 key_few k [] h = h
 key_few k (a ∷ u) h = key_few ((k * 7 + a) % 256) u (omega arith)
+
+-- one rule more at the end of all
+module _ (rules : List (Word × Word)) (first : ℕ) (old new : Newer) (last : Word × Word) (are : AreNewer rules first old) (room : length old.latest.items ≡ 256)
+    (long : old.depth ≤ length last.0) (depth : new.depth ≡ old.depth)
+    (before : new.before.items ≡ old.before.items ++ get_or old.latest.items (end_key old.depth last.0) None ∷ [])
+    (latest : new.latest.items ≡ set old.latest.items (end_key old.depth last.0) (Some (length old.before.items))) where
+  abbrev with_last : List (Word × Word)
+  with_last = rules ++ last ∷ []
+
+  abbrev count : ℕ
+  count = length old.before.items
+
+  more : length with_last ≡ length rules + 1
+  more = length-append rules (last ∷ [])
+
+  grown : length new.before.items ≡ count + 1
+  grown = ap length before ∙ length-append old.before.items (get_or old.latest.items (end_key old.depth last.0) None ∷ [])
+
+  same_left : (place : ℕ) → place < length rules → left_at rules place ≡ left_at with_last place
+  same_left place h = ap (λ (r : Word × Word). r.0) (sym (get_or_append_left rules (last ∷ []) ([], []) place h))
+
+  last_left : left_at with_last (length rules) ≡ last.0
+  last_left = ap (λ (r : Word × Word). r.0) (get_or_push rules last ([], []) (length rules) refl)
+
+  alike : (n : ℕ) → n < count → newer_key rules first old.depth n ≡ newer_key with_last first old.depth n
+  alike n h = ap (end_key old.depth) (same_left (first + n) (omega (arith, h, are.count)))
+
+  others : AreNewerTo with_last first count old
+  others = record {
+    all = refl;
+    latest = λ key h.
+        latest_below (newer_key rules first old.depth) (newer_key with_last first old.depth) count alike key (get_or old.latest.items key None) (are.to.latest key h);
+    before = λ number h.
+        subst (λ k. IsLatest (newer_key with_last first old.depth) number k (get_or old.before.items number None)) (alike number h)
+        (latest_below (newer_key rules first old.depth) (newer_key with_last first old.depth) number (λ n below. alike n (omega (arith, below, h)))
+        (newer_key rules first old.depth number) (get_or old.before.items number None) (are.to.before number h));
+  }
+
+  pub newer_with_last : AreNewer with_last first new
+  newer_with_last = record {
+    count = omega (arith, are.count, more, grown);
+    some = subst (λ d. 0 < d) (sym depth) are.some;
+    long = λ place from within. subst (λ d. d ≤ length (left_at with_last place)) (sym depth) (elim (cases_lt place (length rules)) [
+      | inl h ↦ subst (λ (w : Word). old.depth ≤ length w) (same_left place h) (are.long place from h)
+      | inr h ↦
+          let here : length rules ≡ place = omega (arith, h, within, more) in
+          subst (λ i. old.depth ≤ length (left_at with_last i)) here (subst (λ (w : Word). old.depth ≤ length w) (sym last_left) long)
+    ]);
+    to = subst (λ n. AreNewerTo with_last first n new) (sym grown)
+        (newer_pushed with_last first count old new others depth room (end_key old.depth last.0) (key_few 0 (drop (length last.0 - old.depth) last.0) (let z : 0 < 256 = lit< tt in z))
+        (ap (λ i. end_key old.depth (left_at with_last i)) are.count ∙ ap (end_key old.depth) last_left) before latest);
+  }
 
 -- the key of letters and a letter
 key_push : (k : ℕ) (u : Word) (a : ℕ) → key_from k (u ++ a ∷ []) ≡ (key_from k u * 7 + a) % 256

@@ -1,5 +1,5 @@
 -- What stays true when rules are taken out, and one is put at the end.
-use Rattle.std.proofs.Common.{◌≡◌, ℕ, zero, suc, ◌+◌, ◌<◌, ◌≤◌, ◌⊎◌, Bool, true, false, not, cond, List, [], ◌∷◌, ◌++◌, map, length, get_or, refl, sym, ◌∙◌, ap, subst, arith, inl, inr, Option, Some, None, IsTrue, ◌↔◌, append-nil, length-append}
+use Rattle.std.proofs.Common.{◌≡◌, ℕ, zero, suc, ◌+◌, ◌<◌, ◌≤◌, ◌⊎◌, Bool, true, false, not, cond, List, [], ◌∷◌, ◌++◌, map, length, get_or, refl, sym, ◌∙◌, ap, subst, subst₂, arith, inl, inr, Option, Some, None, IsTrue, ◌↔◌, append-nil, length-append}
 use Rattle.std.specs.List.{filter}
 use Rattle.std.proofs.lemmas.Bool.{cases_Bool, cases_lt}
 use Rattle.std.proofs.lemmas.List.{get_or-map, get_or_append_left, get_or_push, length-map}
@@ -269,6 +269,44 @@ module _ (rules kept : List (Word × Word)) (lookup new : Lookup) (rule : Word �
                 (by.0, by.1, by.2 ∙ sym (old_left kept rule place within ∙ there.1))
             | inr l ↦ let far = are.behind old.0 place old.2 l in absurd (omega (arith, far, h))
           ]
+
+-- where a left side stands in no other, no rule goes
+pub none_goes : (left : Word) (rules : List (Word × Word)) → ((place : ℕ) → place < length rules → stands_in left (left_at rules place) ≡ false)
+    → (filter (λ q. not (stands_in left q.0)) rules ≡ rules) × (filter (λ q. stands_in left q.0) rules ≡ [])
+none_goes left [] none = (refl, refl)
+none_goes left (r ∷ rs) none =
+    let first : stands_in left r.0 ≡ false = none 0 (omega arith) in
+    let rest = none_goes left rs (λ place h. none (suc place) (omega (arith, h))) in
+    (rw first (ap (λ (qs : List (Word × Word)). r ∷ qs) rest.0), rw first rest.1)
+
+-- a new rule behind all others
+module _ (rules : List (Word × Word)) (lookup new : Lookup) (rule : Word × Word) (is : IsLookup rules lookup) (first : new.first ≡ lookup.first) (table : moves_of new ≡ moves_of lookup)
+    (places : new.places.items ≡ lookup.places.items) (newer : AreNewer (rules ++ rule ∷ []) new.first new.newer) where
+  longer_by : length (rules ++ rule ∷ []) ≡ length rules + 1
+  longer_by = length-append rules (rule ∷ [])
+
+  stays_placed : (l : Word) (p : Option ℕ) → IsPlaced rules lookup.first l p → IsPlaced (rules ++ rule ∷ []) lookup.first l p
+  stays_placed l (Some place) by = (omega (arith, by.0, longer_by), old_left rules rule place by.0 ∙ by.1)
+  stays_placed l None by =
+      (by.0, by.1, omega (arith, by.2, longer_by), subst (λ w. IsFactor w l) (sym (old_left rules rule by.0 by.2)) by.3)
+
+  pub behind_lookup : IsLookup (rules ++ rule ∷ []) new
+  behind_lookup = record {
+    letters = is.letters;
+    tabled = is.tabled;
+    falling = is.falling;
+    table = subst (λ m. IsTableOf is.letters is.tabled m) (sym table) is.table;
+    few = omega (arith, first, is.few, longer_by);
+    known = λ place h.
+        let by = is.known place (omega (arith, h, first)) in
+        (by.0, by.1, by.2 ∙ sym (old_left rules rule place (omega (arith, h, first, is.few))));
+    count = ap length places ∙ is.count;
+    placed = λ number h.
+        subst₂ (λ (n : ℕ) (p : Option ℕ). IsPlaced (rules ++ rule ∷ []) n (left_at is.tabled number) p) (sym first)
+        (sym (ap (λ (ps : List (Option ℕ)). get_or ps number None) places))
+        (stays_placed (left_at is.tabled number) (get_or lookup.places.items number None) (is.placed number h));
+    newer = newer;
+  }
 
 -- one rule more
 pub parts_step : (left : Word) (rules : List (Word × Word)) (rule : Word × Word) (first : ℕ) (old new : Parts) → AreParts left rules first old

@@ -1,12 +1,13 @@
 // Rules that change, and that are found by a table.
-ghost use Rattle.std.specs.Prelude.{◌≡◌, ◌<◌, [], ◌∷◌, ◌++◌, length, map, not, slice_index_or, slice_set, IfOk};
+ghost use Rattle.std.specs.Prelude.{◌≡◌, ℕ, ◌<◌, false, [], ◌∷◌, ◌++◌, length, map, not, slice_index_or, slice_set, IfOk};
 ghost use Rattle.std.specs.List.{filter, range_with_len};
 ghost use Rattle.theory.specs.ShortLex.{◌≺◌};
 ghost use Rattle.theory.specs.Completion.{IsReduced, Listed, Reduces};
 ghost use Rattle.rewriting.specs.Rules.{AreFalling, stands_in};
+ghost use Rattle.rewriting.specs.Tries.{left_at};
 ghost use Rattle.rewriting.specs.Traces.{LeadBy};
 
-use crate::factors::word_of;
+use crate::factors::{has_factor, word_of};
 use crate::index_automaton::IndexAutomaton;
 use crate::lookups::Lookup;
 use crate::newer::Newer;
@@ -122,10 +123,40 @@ impl KeptRules {
         Ok(())
     }
 
-    /// Takes out the rules in whose left sides that of a new rule stands, and puts the new rule at
-    /// the end. Its left side is greater than its right side. What was taken out is given back, in
-    /// order. Refused only where memory is wanting.
-    pub fn add(self, left: Word, right: Word) -> Result<(KeptRules, Vec<(Word, Word)>), NoMemory>
+    // Whether the word stands in a left side.
+    fn has_in_left(&self, word: &Word) -> bool
+        ensures { result ≡ false → (place : ℕ) → place < length self.now
+            → stands_in word.now (left_at self.now place) ≡ false }
+    {
+        for place in 0..self.rules.len() {
+            if has_factor(&self.rules.rule(place).0, word) {
+                return true;
+            }
+        }
+        false
+    }
+
+    // The rules with one more, whose left side stands in no other.
+    fn with(self, left: Word, right: Word) -> Result<KeptRules, NoMemory>
+        requires { right ≺ left }
+        ensures { IfOk result (λ r. r ≡ self ++ (left, right) ∷ []) }
+    {
+        let KeptRules { mut rules, lookup } = self;
+        let alloc = rules.alloc;
+        rules.push(left, right)?;
+        let newer = lookup.newer.with_last(alloc, &rules, lookup.first)?;
+        let lookup = Lookup {
+            table: lookup.table,
+            places: lookup.places,
+            first: lookup.first,
+            newer,
+        };
+        KeptRules { rules, lookup }.renewed()
+    }
+
+    // The rules in whose left sides that of a new rule does not stand, with the new rule behind
+    // them, and those that are taken out.
+    fn parted(self, left: Word, right: Word) -> Result<(KeptRules, Vec<(Word, Word)>), NoMemory>
         requires { right ≺ left }
         ensures kept { IfOk result (λ r.
             r.0 ≡ filter (λ q. not (stands_in left q.0)) self ++ (left, right) ∷ []) }
@@ -146,6 +177,23 @@ impl KeptRules {
         };
         let kept = KeptRules { rules, lookup }.renewed()?;
         Ok((kept, parts.gone))
+    }
+
+    /// Takes out the rules in whose left sides that of a new rule stands, and puts the new rule at
+    /// the end. Its left side is greater than its right side. What was taken out is given back, in
+    /// order. Refused only where memory is wanting.
+    pub fn add(self, left: Word, right: Word) -> Result<(KeptRules, Vec<(Word, Word)>), NoMemory>
+        requires { right ≺ left }
+        ensures kept { IfOk result (λ r.
+            r.0 ≡ filter (λ q. not (stands_in left q.0)) self ++ (left, right) ∷ []) }
+        ensures gone { IfOk result (λ r. r.1.items ≡ filter (λ q. stands_in left q.0) self) }
+    {
+        if self.has_in_left(&left) {
+            return self.parted(left, right);
+        }
+        let alloc = self.rules.alloc;
+        let kept = self.with(left, right)?;
+        Ok((kept, Vec::new(alloc)))
     }
 
     // How many rules may be newer before the table is made anew.

@@ -1,5 +1,6 @@
 // Newer rules, which are found by the last letters of their left sides.
-ghost use Rattle.std.specs.Prelude.{◌≡◌, ℕ, ◌+◌, ◌*◌, ◌%◌, ◌<◌, ◌≤◌, [], ◌∷◌, ◌++◌, length, slice_index_or, slice_set, None, Some, IfOk, OnOk};
+ghost use Rattle.std.specs.Prelude.{◌≡◌, ℕ, ◌+◌, ◌*◌, ◌%◌, ◌<◌, ◌≤◌, List, [], ◌∷◌, ◌++◌, length, slice_index_or, slice_set, None, Some, IfOk, OnOk, IsTrue};
+ghost use Rattle.theory.specs.Word.{Word as Letters};
 ghost use Rattle.rewriting.specs.Tries.{left_at};
 ghost use Rattle.rewriting.specs.Newer.{AreNewer, end_key, key_from};
 
@@ -102,6 +103,30 @@ impl Newer {
         for place in first..rules.len() {
             newer.push(rules.rule(place).0.letters())?;
         }
+        Ok(newer)
+    }
+
+    // Whether a rule with this left side can be put at the end.
+    fn takes(&self, left: &[Letter]) -> bool
+        ensures { IsTrue result → (self.now.depth ≤ length left.now)
+            × (length self.now.latest.items ≡ 256) }
+    {
+        self.latest.len() == KEYS && self.depth <= left.len()
+    }
+
+    /// These rules with the last one of the list, where they are all others behind the first ones,
+    /// so many. Refused only where memory is wanting.
+    pub fn with_last(self, alloc: Global, rules: &Rules, first: usize) -> Result<Newer, NoMemory>
+        requires { (others : List (Letters × Letters)) × (last : Letters × Letters)
+            × (rules.now ≡ others ++ last ∷ []) × AreNewer others first self }
+        ensures { IfOk result (AreNewer rules.now first) }
+    {
+        let left = rules.rule(rules.len() - 1).0.letters();
+        if !self.takes(left) {
+            return Newer::of(alloc, rules, first);
+        }
+        let mut newer = self;
+        newer.push(left)?;
         Ok(newer)
     }
 
