@@ -1,5 +1,5 @@
 // Overlaps of left sides, and the pairs of words to which they lead.
-ghost use Rattle.std.specs.Prelude.{◌≡◌, ℕ, ◌+◌, ◌-◌, ◌*◌, ◌<◌, ◌≤◌, [], ◌∷◌, ◌++◌, length, IfOk, OnOk, IsTrue, ◌↔◌};
+ghost use Rattle.std.specs.Prelude.{◌≡◌, ℕ, ◌+◌, ◌-◌, ◌*◌, ◌<◌, ◌≤◌, false, [], ◌∷◌, ◌++◌, length, IfOk, OnOk, IsTrue, ◌↔◌};
 ghost use Rattle.std.specs.List.Sorted.{IsPermutation};
 ghost use Rattle.knuth_bendix.specs.Overlaps.{AreJoined, AreShort, Gains, HasLength, IsJoinedBy, IsOverlap, ReducesTo, critical_pair, overlaps_by, rule_at};
 ghost use Rattle.knuth_bendix.specs.Logs.{AreLogged, Grows, KeepsLog, LogsHeld, Shows};
@@ -23,6 +23,24 @@ fn overlap(first: &Word, second: &Word, shared: usize) -> bool
     let start = first.len() - shared;
     first.letter(start) == second.letter(0)
         && first.letters()[start..] == second.letters()[..shared]
+}
+
+// Whether the words can share letters, as an overlap does: the first letter of the second stands in
+// the first, behind its first letter.
+fn may_overlap(first: &Word, second: &Word) -> bool
+    ensures { result ≡ false → (shared : ℕ) → 0 < shared → shared < length first.now
+        → overlaps_by first.now second.now shared → ⊥ }
+{
+    if second.is_empty() {
+        return false;
+    }
+    let begin = second.letter(0);
+    for place in 1..first.len() {
+        if first.letter(place) == begin {
+            return true;
+        }
+    }
+    false
 }
 
 // How many letters left sides of these lengths may share, some and not all, in words of such
@@ -187,6 +205,9 @@ pub fn join_overlaps(
         (rule_at rules.now first) (rule_at rules.now second)) }
     ensures logged { OnOk result (KeepsLog log.old log.new rules.now equations.new) }
 {
+    if !may_overlap(&rules.rule(first).0, &rules.rule(second).0) {
+        return Ok(());
+    }
     let (fewest, end) = shared_by(
         lengths,
         rules.rule(first).0.len(),

@@ -2,7 +2,7 @@ use Rattle.std.proofs.Common.{refl, ◌≡◌, ◌+◌, ◌-◌, ◌<◌, get_or
 use Rattle.chains.specs.Derivations.{Derived}
 use Rattle.knuth_bendix.specs.Logs.{KeepsLog}
 use Rattle.knuth_bendix.proofs.LogLaws.{keeps_after, keeps_none}
-use Rattle.knuth_bendix.proofs.OverlapSteps.{IsJoinedTo, gains_more, joined_elsewhere, joined_end, joined_start, joined_there, shared_read}
+use Rattle.knuth_bendix.proofs.OverlapSteps.{IsJoinedTo, gains_more, gains_none, joined_elsewhere, joined_end, joined_start, joined_there, shared_read}
 use Rattle.rewriting.proofs.Standing.{rule_read}
 use Rattle.theory.specs.Word.{Word}
 use Rattle.knuth_bendix.specs.Overlaps.{overlaps_by, rule_at}
@@ -16,8 +16,8 @@ left_size rules place n rule within read size = size ∙ ap (λ (r : Word × Wor
 
 pub loop-shared-init : goal.loop-shared-init
 loop-shared-init c =
-    let m = left_size c.args.rules.now c.args.first c.len.result c.rule.result.now c.requires.first c.rule.ensures.rule c.len.ensures in
-    let n = left_size c.args.rules.now c.args.second c.len-2.result c.rule-2.result.now c.requires.second c.rule-2.ensures.rule c.len-2.ensures in
+    let m = left_size c.args.rules.now c.args.first c.len.result c.rule-3.result.now c.requires.first c.rule-3.ensures.rule c.len.ensures in
+    let n = left_size c.args.rules.now c.args.second c.len-2.result c.rule-4.result.now c.requires.second c.rule-4.ensures.rule c.len-2.ensures in
     let within = shared_read c.args.lengths c.args.rules.now c.args.first c.args.second c.shared_by-fewest.result.0 c.shared_by-fewest.result.1 c.len.result c.len-2.result
     m n c.shared_by-fewest.ensures.within in
     record {
@@ -29,8 +29,8 @@ loop-shared-init c =
 pub loop-shared-preserved : goal.loop-shared-preserved
 loop-shared-preserved c =
     let Joined : List (Word × Word) → Type 0 = λ es. IsJoinedTo c.args.lengths c.args.rules.now c.args.equations.now es c.args.first c.args.second (c.loop-shared.shared + 1) in
-    let m = left_size c.args.rules.now c.args.first c.len.result c.rule.result.now c.requires.first c.rule.ensures.rule c.len.ensures in
-    let n = left_size c.args.rules.now c.args.second c.len-2.result c.rule-2.result.now c.requires.second c.rule-2.ensures.rule c.len-2.ensures in
+    let m = left_size c.args.rules.now c.args.first c.len.result c.rule-3.result.now c.requires.first c.rule-3.ensures.rule c.len.ensures in
+    let n = left_size c.args.rules.now c.args.second c.len-2.result c.rule-4.result.now c.requires.second c.rule-4.ensures.rule c.len-2.ensures in
     let within = shared_read c.args.lengths c.args.rules.now c.args.first c.args.second c.shared_by-fewest.result.0 c.shared_by-fewest.result.1 c.len.result c.len-2.result
     m n c.shared_by-fewest.ensures.within in
     let first = rule_read c.args.rules.now c.args.rules.now c.args.first c.rule-in-loop-shared.result.now refl c.requires.first c.rule-in-loop-shared.ensures.rule in
@@ -75,10 +75,24 @@ returns-clause-gains c =
 
 pub returns-clause-joined : goal.returns-clause-joined
 returns-clause-joined c =
-    let m = left_size c.args.rules.now c.args.first c.len.result c.rule.result.now c.requires.first c.rule.ensures.rule c.len.ensures in
-    let n = left_size c.args.rules.now c.args.second c.len-2.result c.rule-2.result.now c.requires.second c.rule-2.ensures.rule c.len-2.ensures in
+    let m = left_size c.args.rules.now c.args.first c.len.result c.rule-3.result.now c.requires.first c.rule-3.ensures.rule c.len.ensures in
+    let n = left_size c.args.rules.now c.args.second c.len-2.result c.rule-4.result.now c.requires.second c.rule-4.ensures.rule c.len-2.ensures in
     joined_end c.args.lengths c.args.rules.now c.args.equations.now c.loop-shared.equations c.args.first c.args.second c.shared_by-fewest.result.0 c.shared_by-fewest.result.1
     c.loop-shared.shared
     (shared_read c.args.lengths c.args.rules.now c.args.first c.args.second c.shared_by-fewest.result.0 c.shared_by-fewest.result.1 c.len.result c.len-2.result m n
     c.shared_by-fewest.ensures.within)
     c.loop-shared-test.false c.loop-shared.invariant.joined
+
+pub returns-then-not-may_overlap-clause-gains : goal.returns-then-not-may_overlap-clause-gains
+returns-then-not-may_overlap-clause-gains c = gains_none c.args.lengths c.args.rules.now c.args.equations.now (length (rule_at c.args.rules.now c.args.first).0)
+
+pub returns-then-not-may_overlap-clause-joined : goal.returns-then-not-may_overlap-clause-joined
+returns-then-not-may_overlap-clause-joined c = λ shared o.
+    let first = rule_read c.args.rules.now c.args.rules.now c.args.first c.rule.result.now refl c.requires.first c.rule.ensures.rule in
+    let second = rule_read c.args.rules.now c.args.rules.now c.args.second c.rule-2.result.now refl c.requires.second c.rule-2.ensures.rule in
+    absurd
+    (c.may_overlap.ensures c.if-not-may_overlap.true shared o.some (subst (λ (r : Word × Word). shared < length r.0) (sym first) o.first)
+    (subst₂ (λ (p q : Word × Word). overlaps_by p.0 q.0 shared) (sym first) (sym second) o.overlaps))
+
+pub returns-then-not-may_overlap-clause-logged : goal.returns-then-not-may_overlap-clause-logged
+returns-then-not-may_overlap-clause-logged c = keeps_none c.args.log.now c.args.rules.now c.args.equations.now c.requires.held

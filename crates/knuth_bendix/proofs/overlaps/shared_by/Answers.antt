@@ -1,1 +1,0 @@
-use Rattle.knuth_bendix.proofs.overlaps.shared_by.Goals as goal
