@@ -1,5 +1,5 @@
 -- What the steps of the reader make of what the lines said before.
-use Rattle.std.proofs.Common.{◌≡◌, ℕ, ◌==◌, ◌≤◌, ◌&&◌, Bool, true, false, List, [], ◌∷◌, ◌++◌, length, Some, Result, Ok, Err, IfOk, OnOk, Bor, ◌-◌, map, not, true≢false, take, drop, get_or, codes, refl, sym, ap, ap₂, ◌∙◌, subst, arith, Option, None}
+use Rattle.std.proofs.Common.{◌≡◌, ℕ, ◌==◌, ◌≤◌, ◌&&◌, Bool, true, false, List, [], ◌∷◌, ◌++◌, length, Some, Result, Ok, Err, IfOk, OnOk, Bor, ◌-◌, map, not, true≢false, take, drop, get_or, codes, refl, sym, ap, ap₂, ◌∙◌, subst, arith, Option}
 use Rattle.std.proofs.lemmas.List.{take_all}
 use Rattle.std.specs.Cmp.Lexicographic.{same_text}
 use Rattle.presentation.specs.Presented.{Posed}

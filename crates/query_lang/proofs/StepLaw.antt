@@ -9,7 +9,7 @@ use Rattle.line_parts.specs.declared.version.Version.TheVariants.{One}
 use Rattle.line_parts.specs.Fields.{field_of}
 use Rattle.line_parts.specs.Token.{Line, Token, is_kept, is_word}
 use Rattle.query_lang.specs.Forms.{Way, form_named}
-use Rattle.query_lang.specs.Grammar.{HeaderReads, IsOfForm, LineReads, Partial, Said, Nothing, OfVersion, Begun, Step, is_generator_line, lacks_generator, section_reached, with_added}
+use Rattle.query_lang.specs.Grammar.{HeaderReads, LineReads, Partial, Said, Nothing, OfVersion, Begun, Step, is_generator_line, section_reached, with_added}
 use Rattle.query_lang.specs.Grammar as grammar
 use Rattle.query_lang.specs.Header.{Start, header_named}
 use Rattle.query_lang.specs.LineCauses.{cause_in, cause_of_line, causes_after, first_of, header_causes, line_causes}

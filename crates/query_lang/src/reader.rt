@@ -49,7 +49,7 @@ pub struct Reader {
 }
 
 impl Model for Reader {
-    ghost use Rattle.std.specs.Prelude.{◌≡◌, ◌==◌, ℕ, [], false, length};
+    ghost use Rattle.std.specs.Prelude.{◌≡◌, ◌==◌, [], false, length};
     ghost use Rattle.problem.specs.Problem.{pairs_of};
     ghost use Rattle.problem.specs.declared.kinds.Problem.TheVariants as problem;
     ghost use Rattle.query_lang.specs.Grammar.{Partial, begin_with, is_empty};
