@@ -1,5 +1,5 @@
 -- What lines of relations, pairs and inverses add, by the words and letters that are read.
-use Rattle.std.proofs.Common.{◌≡◌, ℕ, ◌==◌, Bool, true, false, if◌then◌else◌, List, [], ◌∷◌, length, Option, Some, None, Result, Ok, Err, IfOk, IfErr, IsErrAnd, refl, sym, ap, ◌∙◌}
+use Rattle.std.proofs.Common.{◌≡◌, ◌≢◌, ◌<◌, ◌≤◌, ◌+◌, ℕ, ◌==◌, Bool, true, false, if◌then◌else◌, List, [], ◌∷◌, length, Option, Some, None, Result, Ok, Err, IfOk, IfErr, IsErrAnd, Bor, refl, sym, ap, ◌∙◌, subst}
 use Rattle.theory.specs.Word.{Word}
 use Rattle.theory.specs.declared.Kind.{Kind}
 use Rattle.presentation.specs.Presented.{Posed}
@@ -13,13 +13,14 @@ use Rattle.line_parts.specs.declared.version.Version.{Version}
 use Rattle.line_parts.specs.Faults.{IsLineFault}
 use Rattle.line_parts.specs.LineWords.{both_elements, element_of, two_tokens}
 use Rattle.line_parts.specs.Outcome.{and_then}
+use Rattle.line_parts.specs.Texts.{texts}
 use Rattle.line_parts.specs.Token.{Token}
 use Rattle.query_lang.specs.declared.form.Form.TheVariants.{Relation, OfRole, Pair}
 use Rattle.query_lang.specs.declared.role.Role.TheVariants.{Identity, Zero, Inverse}
 use Rattle.query_lang.specs.Outline.{related}
 use Rattle.query_lang.specs.Pairing.{most_pairs}
 use Rattle.query_lang.specs.Relations.{add_relations, most_relations}
-use Rattle.query_lang.specs.Roles.{both_letters, count_for, count_for_both, is_too_many, letter_for, letter_in}
+use Rattle.query_lang.specs.Roles.{AreInverses, both_letters, count_for, count_for_both, is_too_many, letter_for, letter_in}
 use Rattle.query_lang.specs.Values.{added_of, mixes_kinds}
 use Rattle.query_lang.proofs.QueryLemmas.{carried, same_fault, two_in}
 
@@ -37,12 +38,37 @@ relation_in version o tokens s t h few =
     ap (added_of version (Presented o) Relation) (two_are tokens s t h)
     ∙ rw few (two_in (λ v. (v.0, v.1.0) ∷ []) (element_of version o.alphabet o.congruence.presentation.is_monoid s) (element_of version o.alphabet o.congruence.presentation.is_monoid t))
 
+pub relation_missing : (version : Version) (o : Posed) (tokens : List Token) (c : Cause) → two_tokens tokens ≡ Err c → added_of version (Presented o) Relation tokens ≡ Err c
+relation_missing version o [] c h = let same : cause.WrongNumberOfWords ≡ c = cc in ap (λ c. Err c) same
+relation_missing version o (s ∷ []) c h = let same : cause.WrongNumberOfWords ≡ c = cc in ap (λ c. Err c) same
+relation_missing version o (s ∷ t ∷ []) c h = absurd (cc)
+relation_missing version o (s ∷ t ∷ u ∷ tokens) c h = let same : cause.WrongNumberOfWords ≡ c = cc in ap (λ c. Err c) same
+
+pub relation_over : (version : Version) (o : Posed) (tokens : List Token) (s t : Token) → two_tokens tokens ≡ Ok (s, t) → length o.congruence.presentation.relations ≡ most_relations → added_of version (Presented o) Relation tokens ≡ Err cause.TooManyRelations
+relation_over version o tokens s t h full =
+    let many : (length o.congruence.presentation.relations == most_relations) ≡ true = subst (λ n. (n == most_relations) ≡ true) (sym full) refl in
+    ap (added_of version (Presented o) Relation) (two_are tokens s t h) ∙ rw many refl
+
 -- a pair
 pub pair_in : (version : Version) (p : Problem) (kind : Kind) (tokens : List Token) (s t : Token) → two_tokens tokens ≡ Ok (s, t) → (length (pairs_of p) == most_pairs) ≡ false → mixes_kinds p (Pair kind) ≡ false
     → added_of version p (Pair kind) tokens ≡ and_then (λ p. Ok p) (both_elements version (letters_of p) (has_empty_word p) s t)
 pair_in version p kind tokens s t h few same =
     ap (added_of version p (Pair kind)) (two_are tokens s t h)
     ∙ rw (few, same) (two_in (λ v. (v.0, v.1.0)) (element_of version (letters_of p) (has_empty_word p) s) (element_of version (letters_of p) (has_empty_word p) t))
+
+pub pair_missing : (version : Version) (p : Problem) (kind : Kind) (tokens : List Token) (c : Cause) → two_tokens tokens ≡ Err c → added_of version p (Pair kind) tokens ≡ Err c
+pair_missing version p kind [] c h = let same : cause.WrongNumberOfWords ≡ c = cc in ap (λ c. Err c) same
+pair_missing version p kind (s ∷ []) c h = let same : cause.WrongNumberOfWords ≡ c = cc in ap (λ c. Err c) same
+pair_missing version p kind (s ∷ t ∷ []) c h = absurd (cc)
+pair_missing version p kind (s ∷ t ∷ u ∷ tokens) c h = let same : cause.WrongNumberOfWords ≡ c = cc in ap (λ c. Err c) same
+
+pub pair_over : (version : Version) (p : Problem) (kind : Kind) (tokens : List Token) (s t : Token) → two_tokens tokens ≡ Ok (s, t) → length (pairs_of p) ≡ most_pairs → added_of version p (Pair kind) tokens ≡ Err cause.TooManyPairs
+pair_over version p kind tokens s t h full =
+    let many : (length (pairs_of p) == most_pairs) ≡ true = subst (λ n. (n == most_pairs) ≡ true) (sym full) refl in
+    ap (added_of version p (Pair kind)) (two_are tokens s t h) ∙ rw many refl
+
+pub pair_mixed : (version : Version) (p : Problem) (kind : Kind) (tokens : List Token) (s t : Token) → two_tokens tokens ≡ Ok (s, t) → (length (pairs_of p) == most_pairs) ≡ false → mixes_kinds p (Pair kind) ≡ true → added_of version p (Pair kind) tokens ≡ Err cause.MixedKinds
+pair_mixed version p kind tokens s t h few mixed = ap (added_of version p (Pair kind)) (two_are tokens s t h) ∙ rw (few, mixed) refl
 
 -- what is made of what two words or letters give
 pub made_ok : {A B : Type 0} (f : A → B) (r : Result A (Option Cause)) (outcome : Result A Cause) (added : Result B Cause) → added ≡ and_then (λ s. Ok (f s)) outcome → IfOk r (λ s. outcome ≡ Ok s) → IfOk r (λ s. added ≡ Ok (f s))
@@ -110,6 +136,12 @@ inverse_in version o tokens s t monoid h =
     ap (added_of version (Presented o) (OfRole Inverse)) (two_are tokens s t h)
     ∙ rw monoid (few_two (λ v. inverse_relations v.0 v.1.0 None) (is_too_many o (count_for_both s t)) (letter_in version o.alphabet s) (letter_in version o.alphabet t))
 
+pub inverse_missing : (version : Version) (o : Posed) (tokens : List Token) (c : Cause) → o.congruence.presentation.is_monoid ≡ true → two_tokens tokens ≡ Err c → added_of version (Presented o) (OfRole Inverse) tokens ≡ Err c
+inverse_missing version o [] c monoid h = rw monoid (let same : cause.WrongNumberOfWords ≡ c = cc in ap (λ c. Err c) same)
+inverse_missing version o (s ∷ []) c monoid h = rw monoid (let same : cause.WrongNumberOfWords ≡ c = cc in ap (λ c. Err c) same)
+inverse_missing version o (s ∷ t ∷ []) c monoid h = absurd (cc)
+inverse_missing version o (s ∷ t ∷ u ∷ tokens) c monoid h = rw monoid (let same : cause.WrongNumberOfWords ≡ c = cc in ap (λ c. Err c) same)
+
 -- in a semigroup
 inverse_by_in : (version : Version) (o : Posed) (tokens : List Token) (s t u : Token) → o.congruence.presentation.is_monoid ≡ false → tokens ≡ s ∷ t ∷ u ∷ []
     → added_of version (Presented o) (OfRole Inverse) tokens
@@ -129,3 +161,14 @@ inverse_by_letter version o tokens s t u x y semigroup e h r k =
     inverse_by_in version o tokens s t u semigroup e
     ∙ ap (and_then (λ (p : ℕ × ℕ). and_then (λ e. Ok (inverse_relations p.0 p.1 (Some e))) (letter_in version o.alphabet u))) h
     ∙ ap (and_then (λ e. Ok (inverse_relations x y (Some e)))) (sym k)
+
+pub inverse_by_missing : (version : Version) (o : Posed) (tokens : List (Bor (List ℕ))) → o.congruence.presentation.is_monoid ≡ false → length tokens ≢ 3 → added_of version (Presented o) (OfRole Inverse) (texts tokens) ≡ Err cause.WrongNumberOfWords
+inverse_by_missing version o [] semigroup h = rw semigroup refl
+inverse_by_missing version o (s ∷ []) semigroup h = rw semigroup refl
+inverse_by_missing version o (s ∷ t ∷ []) semigroup h = rw semigroup refl
+inverse_by_missing version o (s ∷ t ∷ u ∷ []) semigroup h = absurd (h refl)
+inverse_by_missing version o (s ∷ t ∷ u ∷ v ∷ tokens) semigroup h = rw semigroup refl
+
+-- the letters that are read may be made inverse
+pub inverse_fit : (o : Posed) (x y e : ℕ) → x < length o.alphabet → y < length o.alphabet → e < length o.alphabet → length o.congruence.presentation.relations + length (inverse_relations x y (Some e)) ≤ most_relations → AreInverses o x y (Some e)
+inverse_fit o x y e left right unit few = record { left = left; right = right; unit = unit; some = λ none. absurd (cc); few = few }

@@ -1,11 +1,11 @@
 -- What comes of generator lines: one generator more, or the cause.
-use Rattle.std.proofs.Common.{◌≡◌, ℕ, ◌==◌, ◌≤◌, Bool, true, false, if◌then◌else◌, List, [], ◌∷◌, map, codes, Option, Some, None, Result, Ok, Err, is_none, refl, sym, ap, ◌∙◌, arith, true≢false}
+use Rattle.std.proofs.Common.{◌≡◌, ℕ, ◌==◌, ◌≤◌, Bool, true, false, if◌then◌else◌, List, [], ◌∷◌, map, codes, Option, Some, None, Result, Ok, Err, is_none, refl, sym, ap, ◌∙◌, subst, arith, true≢false}
 use Rattle.std.specs.Option.{ok_or}
 use Rattle.std.specs.List.{list_any}
 use Rattle.std.proofs.lemmas.Bool.{le-ltb}
 use Rattle.elements.specs.declared.field.Field.{Field}
 use Rattle.problem.specs.Posed.{PosedOf}
-use Rattle.problem.specs.Problem.{is_presented, letters_of}
+use Rattle.problem.specs.Problem.{is_presented, letters_of, pairs_of}
 use Rattle.problem.specs.declared.kinds.Problem.{Problem}
 use Rattle.problem.specs.declared.kinds.Problem.TheVariants as problem
 use Rattle.line_parts.specs.declared.cause.Cause.{Cause}
@@ -20,6 +20,7 @@ use Rattle.query_lang.specs.Draft.{DraftOf, new_letter_of, with_one}
 use Rattle.query_lang.specs.Generators.{generator_more, one_more}
 use Rattle.query_lang.specs.Grammar.{LineReads, Partial, begin_with, section_reached}
 use Rattle.query_lang.specs.Grammar as grammar
+use Rattle.query_lang.specs.Header.{Start}
 use Rattle.query_lang.specs.Reading.{AreGenerators, with_generator}
 use Rattle.query_lang.specs.LineCauses.{when, first_of, cause_in, entries_cause, is_taken, generator_causes, line_causes}
 use Rattle.query_lang.proofs.FormLemmas.{same-cause}
@@ -95,3 +96,23 @@ kind_is of inj wide d name fields = by (new_letter_of wide d.posed.letters name)
     by (Err c) r = refl
     by (Ok x) (Err c) = refl
     by (Ok x) (Ok g) = refl
+
+-- generators without pairs stay so
+
+kept_so : {V : Type 0} (inj : PosedOf V → Problem) (p : PosedOf V) (x : ℕ) (r : Result V Cause) (q : Problem) → ((g : V) → AreGenerators (inj (one_more p x g))) → and_then (λ g. Ok (inj (one_more p x g))) r ≡ Ok q → AreGenerators q
+kept_so inj p x (Ok g) q are h = let same : inj (one_more p x g) ≡ q = cc in subst AreGenerators same (are g)
+kept_so inj p x (Err c) q are h = absurd (cc)
+
+more_stay : (sizes : ℕ × ℕ) (p : Problem) (x : ℕ) (fields : List Field) (q : Problem) → pairs_of p ≡ [] → generator_more sizes p x fields ≡ Ok q → AreGenerators q
+more_stay sizes (problem.Presented o) x fields q e h = absurd (cc)
+more_stay sizes (problem.Transf g) x fields q e h = kept_so (λ p. problem.Transf p) g x (transformation_of sizes fields) q (λ _. (refl, e)) h
+more_stay sizes (problem.PPerm g) x fields q e h = kept_so (λ p. problem.PPerm p) g x (partial_permutation_of sizes fields) q (λ _. (refl, e)) h
+more_stay sizes (problem.BMat g) x fields q e h = kept_so (λ p. problem.BMat p) g x (boolean_matrix_of sizes fields) q (λ _. (refl, e)) h
+more_stay sizes (problem.MaxPlus g) x fields q e h = kept_so (λ p. problem.MaxPlus p) g x (truncated_matrix_of sizes fields) q (λ _. (refl, e)) h
+
+pub generators_stay : (wide : Bool) (s : Start) (name : Token) (fields : List Field) (q : Problem) → AreGenerators s.1 → with_generator wide s name fields ≡ Ok q → AreGenerators q
+generators_stay wide s name fields q are h = by (new_letter_of wide (letters_of s.1) name) h
+  where
+    by : (l : Result ℕ Cause) → and_then (λ x. generator_more s.0 s.1 x fields) l ≡ Ok q → AreGenerators q
+    by (Ok x) h = more_stay s.0 s.1 x fields q are.1 h
+    by (Err c) h = absurd (cc)

@@ -1,25 +1,33 @@
 -- What comes of headers and version lines: what they say, or the cause.
-use Rattle.std.proofs.Common.{◌≡◌, ℕ, Bool, true, false, not, if◌then◌else◌, is_none, option_and_then, List, [], ◌∷◌, codes, Option, Some, None, Result, Ok, Err, refl, sym, ap, ap₂, ◌∙◌, subst, arith, inl, inr, Contains}
+use Rattle.std.proofs.Common.{◌≡◌, ℕ, Bool, true, false, not, if◌then◌else◌, is_none, option_and_then, List, [], ◌∷◌, codes, Option, Some, None, Result, Ok, Err, IfErr, IfOk, IsErrAnd, refl, sym, ap, ap₂, ◌∙◌, subst, arith, inl, inr, Contains}
 use Rattle.std.specs.Option.{ok_or}
 use Rattle.std.proofs.lemmas.List.Elements.{All-contains}
-use Rattle.words.specs.Alphabet.{IsAlphabetOf, IsLetterByte, marker}
+use Rattle.presentation.specs.Presented.{Posed}
+use Rattle.problem.specs.declared.kinds.Problem.TheVariants.{Presented, Transf, PPerm, BMat, MaxPlus}
+use Rattle.words.specs.Alphabet.{IsAlphabetFault, IsAlphabetOf, IsLetterByte, alphabet_fault, marker}
+use Rattle.words.specs.declared.fault.AlphabetFault.{AlphabetFault}
+use Rattle.words.specs.declared.fault.AlphabetFault.TheVariants as letter_fault
 use Rattle.line_parts.specs.declared.cause.Cause.{Cause}
 use Rattle.line_parts.specs.declared.cause.Cause.TheVariants as cause
 use Rattle.line_parts.specs.declared.version.Version.{Version}
 use Rattle.line_parts.specs.Versions.{is_wide, version_numbered, version_of}
-use Rattle.line_parts.specs.Faults.{IsLineFault}
+use Rattle.line_parts.specs.Faults.{IsLineFault, fault_of_alphabet}
+use Rattle.line_parts.specs.LineWords.{one_token, two_tokens}
 use Rattle.line_parts.specs.Outcome.{and_then}
-use Rattle.line_parts.specs.Token.{Line, Token, is_kept, is_word, number_of}
+use Rattle.line_parts.specs.Token.{Line, Token, is_kept, is_word, number_of, number_within}
+use Rattle.line_parts.proofs.FaultLemmas.{handed_on}
 use Rattle.query_lang.specs.Faults.{IsFaultFor}
-use Rattle.query_lang.specs.Forms.{Place, Way}
-use Rattle.query_lang.specs.Header.{Start, free_way, generators_named, given_by, header_named, no_letters, started}
+use Rattle.query_lang.specs.Forms.{ANumber, AllGiven, Place, Way}
+use Rattle.query_lang.specs.Header.{Start, free_way, generators_named, given_by, header_named, no_generators, no_letters, one_size, started, two_sizes}
 use Rattle.query_lang.specs.Grammar.{HeaderReads, Nothing, OfVersion, Partial, Step, begin_with}
 use Rattle.query_lang.specs.Grammar as grammar
-use Rattle.query_lang.specs.Reading.{headed}
+use Rattle.query_lang.specs.Outline.{alphabet_of, unless_fault}
+use Rattle.query_lang.specs.Reading.{headed, said_by}
+use Rattle.query_lang.specs.Relations.{free_over}
 use Rattle.query_lang.specs.Values.{as_many, values_of}
 use Rattle.query_lang.specs.LineCauses.{when, first_of, cause_in, first_line_causes, header_causes, start_causes, token_causes, version_causes}
 use Rattle.query_lang.proofs.FormLemmas.{in_fault, same-cause}
-use Rattle.query_lang.proofs.QueryLemmas.{values_cause}
+use Rattle.query_lang.proofs.QueryLemmas.{carried, one_in, same_fault, values_cause}
 use Rattle.query_lang.proofs.TotalLaw.{header-read}
 
 -- the marker is none of the letters of a text
@@ -39,6 +47,134 @@ semigroup_named wide t h k = rw (h, k) refl
 
 pub kind_named : (wide : Bool) (t : Token) → is_word (codes "monoid") t ≡ false → is_word (codes "semigroup") t ≡ false → header_named wide t ≡ generators_named t
 kind_named wide t h k = rw (h, k) refl
+
+pub trans_named : (t : Token) → is_word (codes "trans") t ≡ true → generators_named t ≡ Some (one_size 64 (Transf no_generators))
+trans_named t h = rw h refl
+
+pub pperm_named : (t : Token) → is_word (codes "trans") t ≡ false → is_word (codes "pperm") t ≡ true → generators_named t ≡ Some (one_size 64 (PPerm no_generators))
+pperm_named t h k = rw (h, k) refl
+
+pub bmat_named : (t : Token) → is_word (codes "trans") t ≡ false → is_word (codes "pperm") t ≡ false → is_word (codes "bmat") t ≡ true → generators_named t ≡ Some (one_size 16 (BMat no_generators))
+bmat_named t h k l = rw (h, k, l) refl
+
+pub mpt_named : (t : Token) → is_word (codes "trans") t ≡ false → is_word (codes "pperm") t ≡ false → is_word (codes "bmat") t ≡ false → is_word (codes "mpt") t ≡ true → generators_named t ≡ Some (two_sizes (MaxPlus no_generators))
+mpt_named t h k l m = rw (h, k, l, m) refl
+
+pub none_named : (t : Token) → is_word (codes "trans") t ≡ false → is_word (codes "pperm") t ≡ false → is_word (codes "bmat") t ≡ false → is_word (codes "mpt") t ≡ false → generators_named t ≡ None
+none_named t h k l m = rw (h, k, l, m) refl
+
+-- what a header of this name says, by what its tokens give, or why it is refused
+
+pub start_told : (named : Option (Way Start)) (w : Way Start) (tokens : List Token) (vs : AllGiven w.places) (s : Start) → named ≡ Some w → given_by w.places tokens ≡ Ok vs → s ≡ w.makes vs → started named tokens ≡ Ok s
+start_told named w tokens vs s e h k = ap (λ named. started named tokens) e ∙ ap (and_then (λ vs. Ok (w.makes vs))) h ∙ ap (λ s. Ok s) (sym k)
+
+pub start_refused : (named : Option (Way Start)) (w : Way Start) (tokens : List Token) (c : Cause) → named ≡ Some w → given_by w.places tokens ≡ Err c → started named tokens ≡ Err c
+start_refused named w tokens c e h = ap (λ named. started named tokens) e ∙ ap (and_then (λ vs. Ok (w.makes vs))) h
+
+-- the numbers of a header
+
+size_in : (greatest : ℕ) (tokens : List Token) (t : Token) → one_token tokens ≡ Ok t → given_by (ANumber 1 greatest ∷ []) tokens ≡ and_then (λ n. Ok (n, tt)) (ok_or (number_within 1 greatest t) cause.BadNumber)
+size_in greatest [] t h = absurd (cc)
+size_in greatest (s ∷ u ∷ tokens) t h = absurd (cc)
+size_in greatest (s ∷ []) t h = let same : s ≡ t = cc in ap (λ t. and_then (λ n. Ok (n, tt)) (ok_or (number_within 1 greatest t) cause.BadNumber)) same
+
+pub size_made : (greatest : ℕ) (tokens : List Token) (t : Token) (r : Result ℕ Cause) → one_token tokens ≡ Ok t → r ≡ ok_or (number_within 1 greatest t) cause.BadNumber → IfOk r (λ n. given_by (ANumber 1 greatest ∷ []) tokens ≡ Ok (n, tt))
+size_made greatest tokens t (Err c) h e = tt
+size_made greatest tokens t (Ok n) h e = size_in greatest tokens t h ∙ ap (and_then (λ n. Ok (n, tt))) (sym e)
+
+pub size_refused : (greatest : ℕ) (tokens : List Token) (t : Token) (r : Result ℕ Cause) → one_token tokens ≡ Ok t → r ≡ ok_or (number_within 1 greatest t) cause.BadNumber → IfErr r (λ c. given_by (ANumber 1 greatest ∷ []) tokens ≡ Err c)
+size_refused greatest tokens t (Ok n) h e = tt
+size_refused greatest tokens t (Err c) h e = size_in greatest tokens t h ∙ ap (and_then (λ n. Ok (n, tt))) (sym e)
+
+pub size_missing : (greatest : ℕ) (tokens : List Token) (c : Cause) → one_token tokens ≡ Err c → given_by (ANumber 1 greatest ∷ []) tokens ≡ Err c
+size_missing greatest [] c h = let same : cause.WrongNumberOfWords ≡ c = cc in ap (λ c. Err c) same
+size_missing greatest (s ∷ u ∷ tokens) c h = let same : cause.WrongNumberOfWords ≡ c = cc in ap (λ c. Err c) same
+size_missing greatest (s ∷ []) c h = absurd (cc)
+
+-- of both numbers, by what the tokens are
+abbrev both_sizes : Result ℕ Cause → Result ℕ Cause → Result (ℕ × (ℕ × Unit {0})) Cause
+both_sizes u v = and_then (λ n. and_then (λ m. Ok (n, (m, tt))) v) u
+
+sizes_in : (tokens : List Token) (s t : Token) → two_tokens tokens ≡ Ok (s, t) → given_by (ANumber 1 16 ∷ ANumber 0 65535 ∷ []) tokens ≡ both_sizes (ok_or (number_within 1 16 s) cause.BadNumber) (ok_or (number_within 0 65535 t) cause.BadNumber)
+sizes_in [] s t h = absurd (cc)
+sizes_in (x ∷ []) s t h = absurd (cc)
+sizes_in (x ∷ y ∷ z ∷ tokens) s t h = absurd (cc)
+sizes_in (x ∷ y ∷ []) s t h =
+    let both : ◌≡◌ {A = Token × Token} (x, y) (s, t) = cc in
+    by (ok_or (number_within 1 16 x) cause.BadNumber) (ok_or (number_within 0 65535 y) cause.BadNumber)
+    ∙ ap (λ (p : Token × Token). both_sizes (ok_or (number_within 1 16 p.0) cause.BadNumber) (ok_or (number_within 0 65535 p.1) cause.BadNumber)) both
+  where
+    by : (u v : Result ℕ Cause) → and_then (λ n. and_then (λ ms. Ok (n, ms)) (and_then (λ m. Ok (m, tt)) v)) u ≡ both_sizes u v
+    by (Err c) v = refl
+    by (Ok n) (Err c) = refl
+    by (Ok n) (Ok m) = refl
+
+pub sizes_given : (tokens : List Token) (s t : Token) (u v : Result ℕ Cause) → two_tokens tokens ≡ Ok (s, t) → u ≡ ok_or (number_within 1 16 s) cause.BadNumber → v ≡ ok_or (number_within 0 65535 t) cause.BadNumber
+    → given_by (ANumber 1 16 ∷ ANumber 0 65535 ∷ []) tokens ≡ and_then (λ n. and_then (λ m. Ok (n, (m, tt))) v) u
+sizes_given tokens s t u v h e f = sizes_in tokens s t h ∙ ap₂ both_sizes (sym e) (sym f)
+
+pub sizes_missing : (tokens : List Token) (c : Cause) → two_tokens tokens ≡ Err c → given_by (ANumber 1 16 ∷ ANumber 0 65535 ∷ []) tokens ≡ Err c
+sizes_missing [] c h = let same : cause.WrongNumberOfWords ≡ c = cc in ap (λ c. Err c) same
+sizes_missing (s ∷ []) c h = let same : cause.WrongNumberOfWords ≡ c = cc in ap (λ c. Err c) same
+sizes_missing (s ∷ t ∷ []) c h = absurd (cc)
+sizes_missing (s ∷ t ∷ u ∷ tokens) c h = let same : cause.WrongNumberOfWords ≡ c = cc in ap (λ c. Err c) same
+
+-- the letters of a header
+
+abbrev free_start : (monoid : Bool) → List ℕ → Start
+free_start monoid letters = ((0, 0), Presented (free_over monoid letters))
+
+abbrev free_said : Posed → Result Start Cause
+free_said o = Ok ((0, 0), Presented o)
+
+letters_in : (wide monoid : Bool) (tokens : List Token) (t : Token) → one_token tokens ≡ Ok t → started (Some (free_way wide monoid)) tokens ≡ and_then (λ letters. Ok (free_start monoid letters)) (alphabet_of wide t)
+letters_in wide monoid [] t h = absurd (cc)
+letters_in wide monoid (s ∷ u ∷ tokens) t h = absurd (cc)
+letters_in wide monoid (s ∷ []) t h =
+    let same : s ≡ t = cc in
+    one_in (λ v. free_start monoid v.0) (alphabet_of wide s) ∙ ap (λ t. and_then (λ letters. Ok (free_start monoid letters)) (alphabet_of wide t)) same
+
+-- what they give
+pub letters_told : (wide monoid : Bool) (tokens : List Token) (t : Token) (letters : List ℕ) (o : Posed) → one_token tokens ≡ Ok t → letters ≡ t → alphabet_fault wide t ≡ None → o ≡ free_over monoid letters → started (Some (free_way wide monoid)) tokens ≡ Ok ((0, 0), Presented o)
+letters_told wide monoid tokens t letters o h e f g =
+    letters_in wide monoid tokens t h
+    ∙ ap (λ fault. and_then (λ letters. Ok (free_start monoid letters)) (unless_fault fault t)) f
+    ∙ ap (λ letters. free_said (free_over monoid letters)) (sym e)
+    ∙ ap free_said (sym g)
+
+-- why they are refused
+alphabet_refused : (wide : Bool) (t : Token) (fault : AlphabetFault) → IsAlphabetFault (alphabet_fault wide t) fault → IsLineFault (alphabet_of wide t) (fault_of_alphabet fault)
+alphabet_refused wide t letter_fault.NoMemory h = tt
+alphabet_refused wide t letter_fault.Empty h = ap (λ fault. unless_fault fault t) h
+alphabet_refused wide t (letter_fault.NotALetter place) h = ap (λ fault. unless_fault fault t) h
+alphabet_refused wide t (letter_fault.Repeated place) h = ap (λ fault. unless_fault fault t) h
+
+pub letters_refused : {B : Type 0} (wide monoid : Bool) (tokens : List Token) (t : Token) (r : Result B (Option Cause)) (fault : AlphabetFault) → IsErrAnd r (λ e. e ≡ fault_of_alphabet fault) → one_token tokens ≡ Ok t → IsAlphabetFault (alphabet_fault wide t) fault
+    → IfErr r (IsLineFault (started (Some (free_way wide monoid)) tokens))
+letters_refused wide monoid tokens t r fault h e k =
+    handed_on r (fault_of_alphabet fault) (started (Some (free_way wide monoid)) tokens) h
+    (same_fault _ _ (fault_of_alphabet fault) (letters_in wide monoid tokens t e) (carried (free_start monoid) (alphabet_of wide t) (fault_of_alphabet fault) (alphabet_refused wide t fault k)))
+
+-- or that they are not one token
+pub letters_missing : (wide monoid : Bool) (tokens : List Token) (c : Cause) → one_token tokens ≡ Err c → started (Some (free_way wide monoid)) tokens ≡ Err c
+letters_missing wide monoid [] c h = let same : cause.WrongNumberOfWords ≡ c = cc in ap (λ c. Err c) same
+letters_missing wide monoid (s ∷ u ∷ tokens) c h = let same : cause.WrongNumberOfWords ≡ c = cc in ap (λ c. Err c) same
+letters_missing wide monoid (s ∷ []) c h = absurd (cc)
+
+-- what a header of a monoid or a semigroup says, or why it is refused
+
+pub letters_said : (version : Version) (wide monoid : Bool) (tokens : List Token) (o : Posed) (p : Partial) → wide ≡ is_wide version → started (Some (free_way wide monoid)) tokens ≡ Ok ((0, 0), Presented o) → p ≡ begin_with version (0, 0) (Presented o)
+    → said_by version (Some (free_way (is_wide version) monoid)) tokens ≡ Ok p
+letters_said version wide monoid tokens o p e h k =
+    ap (λ wide. said_by version (Some (free_way wide monoid)) tokens) (sym e)
+    ∙ ap (and_then (λ (s : Start). Ok (begin_with version s.0 s.1))) h
+    ∙ ap (λ (p : Partial). Ok p) (sym k)
+
+pub said_refused : {B : Type 0} (version : Version) (wide monoid : Bool) (tokens : List Token) (r : Result B (Option Cause)) (fault : Option Cause) → IsErrAnd r (λ e. e ≡ fault) → wide ≡ is_wide version → IsLineFault (started (Some (free_way wide monoid)) tokens) fault
+    → IfErr r (IsLineFault (said_by version (Some (free_way (is_wide version) monoid)) tokens))
+said_refused version wide monoid tokens r fault h e k =
+    handed_on r fault (said_by version (Some (free_way (is_wide version) monoid)) tokens) h
+    (subst (λ wide. IsLineFault (said_by version (Some (free_way wide monoid)) tokens) fault) e (carried (λ (s : Start). begin_with version s.0 s.1) (started (Some (free_way wide monoid)) tokens) fault k))
 
 -- what the tokens of a header give in their places
 given_cause : (places : List Place) (tokens : List Token) → cause_in (given_by places tokens) ≡ first_of (when cause.WrongNumberOfWords (not (as_many places tokens)) ∷ token_causes no_letters tokens places tokens)

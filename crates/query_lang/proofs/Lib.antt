@@ -1,5 +1,6 @@
 pub mod DraftLemmas
 pub mod QueryLemmas
+pub mod AskedLemmas
 pub mod AddedLemmas
 pub mod ReadLemmas
 pub mod PairingLemmas

@@ -1,5 +1,5 @@
 -- Problems with one pair more.
-use Rattle.std.proofs.Common.{◌≡◌, ◌≢◌, ◌==◌, ◌≤◌, false, List, [], ◌∷◌, ◌++◌, length, length-append, refl, sym, ap, ◌∙◌, subst, arith, ne_eqb, Contains}
+use Rattle.std.proofs.Common.{◌≡◌, ◌≢◌, ◌==◌, ◌≤◌, false, List, [], ◌∷◌, ◌++◌, length, length-append, refl, sym, ap, ◌∙◌, subst, arith, ne_eqb, Contains, true≢false}
 use Rattle.theory.specs.declared.Kind.{Kind}
 use Rattle.theory.specs.Word.{Word}
 use Rattle.words.specs.Alphabet.{marker}
@@ -29,6 +29,21 @@ letters_stay (Transf g) kind s = (refl, refl)
 letters_stay (PPerm g) kind s = (refl, refl)
 letters_stay (BMat g) kind s = (refl, refl)
 letters_stay (MaxPlus g) kind s = (refl, refl)
+
+-- generators without pairs may get some
+pub unpaired_fits : (p : Problem) → is_presented p ≡ false → pairs_of p ≡ [] → IsPairable p
+unpaired_fits p generated unpaired = record {
+  few_relations = no_relations p generated;
+  few_pairs = subst (λ (ps : List (Word × Word)). length ps ≤ most_pairs) (sym unpaired) (omega arith);
+  unmarked = λ presented. absurd (true≢false (sym presented ∙ generated));
+}
+  where
+    no_relations : (p : Problem) → is_presented p ≡ false → length (relations_of p) ≤ most_relations
+    no_relations (Presented o) h = absurd (true≢false h)
+    no_relations (Transf g) h = omega arith
+    no_relations (PPerm g) h = omega arith
+    no_relations (BMat g) h = omega arith
+    no_relations (MaxPlus g) h = omega arith
 
 -- one pair more, where there are not the most
 pub pair_fits : (p : Problem) (kind : Kind) (s : Word × Word) → IsPairable p → length (pairs_of p) ≢ most_pairs → IsPairable (with_pair p kind s)

@@ -1,14 +1,11 @@
 -- Forms by their names, and queries by the table of forms.
-use Rattle.std.proofs.Common.{◌≡◌, ℕ, suc, ◌<◌, ◌≤◌, Bool, true, false, not, ◌&&◌, ◌==◌, if◌then◌else◌, List, [], ◌∷◌, length, drop, get_or, drop-cons, Option, Some, None, Result, Ok, Err, Bor, codes, refl, sym, ap, ◌∙◌, subst, arith, true≢false}
+use Rattle.std.proofs.Common.{◌≡◌, ◌≢◌, ℕ, suc, ◌<◌, ◌≤◌, Bool, true, false, ◌&&◌, if◌then◌else◌, List, [], ◌∷◌, length, drop, get_or, drop-cons, Option, Some, None, Result, Ok, Err, Bor, codes, refl, sym, ap, ◌∙◌, subst, arith, true≢false}
 use Rattle.std.specs.Option.{ok_or}
-use Rattle.std.proofs.lemmas.Bool.{eqb-true}
 use Rattle.std.proofs.lemmas.List.{drop_all}
 use Rattle.theory.specs.Graph.{Graph}
-use Rattle.problem.specs.declared.kinds.Problem.{Problem}
-use Rattle.problem.specs.Problem.{allows_rules, pairs_of}
 use Rattle.std.specs.Result.{IsErrAnd, IfErr}
 use Rattle.line_parts.specs.declared.cause.Cause.{Cause}
-use Rattle.line_parts.specs.declared.cause.Cause.TheVariants.{BadNumber}
+use Rattle.line_parts.specs.declared.cause.Cause.TheVariants.{AfterExpected, BadNumber, WrongNumberOfWords}
 use Rattle.line_parts.specs.declared.version.Version.{Version}
 use Rattle.line_parts.specs.Faults.{IsLineFault}
 use Rattle.line_parts.specs.Outcome.{and_then}
@@ -19,10 +16,10 @@ use Rattle.line_parts.proofs.FaultLemmas.{handed_on}
 use Rattle.query_lang.specs.declared.form.Form.{Form}
 use Rattle.query_lang.specs.declared.form.QueryForm.TheVariants as asks
 use Rattle.query_lang.specs.declared.script.Query.{Query}
-use Rattle.query_lang.specs.Forms.{Place, ACongruenceTable, AllGiven, Way, way, Scripts, AllScripts, OfRelations, OfGenerators, Pairs, AnyPairs, TwoSidedPairs, NoPairs, are_scripts, form_among, has_form, name_of, row_of}
+use Rattle.query_lang.specs.declared.script.Query.TheVariants.{Classes, LowIndex}
+use Rattle.query_lang.specs.Forms.{Place, ACongruenceTable, AllGiven, Way, way, form_among, has_form, name_of, row_of}
 use Rattle.query_lang.specs.LineCauses.{cause_in, first_of, token_causes}
-use Rattle.query_lang.specs.Query.{are_none, are_of_generators, are_of_relations, are_two_sided}
-use Rattle.query_lang.specs.Values.{Scope, as_many, bars, limits_of, made_in, value_of, values_of, way_for}
+use Rattle.query_lang.specs.Values.{Scope, as_many, limits_of, made_in, value_of, values_of, way_for}
 
 -- forms by their names
 
@@ -98,13 +95,17 @@ pub carried : {A B : Type 0} (f : A → B) (r : Result A Cause) (fault : Option 
 carried f r None h = tt
 carried f r (Some c) h = ap (and_then (λ x. Ok (f x))) h
 
+pub one_in : {A B : Type 0} (makes : A × Unit {0} → B) (u : Result A Cause) → and_then (λ vs. Ok (makes vs)) (and_then (λ x. Ok (x, tt)) u) ≡ and_then (λ x. Ok (makes (x, tt))) u
+one_in makes (Err c) = refl
+one_in makes (Ok x) = refl
+
 pub two_in : {A B : Type 0} (makes : A × (A × Unit {0}) → B) (u v : Result A Cause)
     → and_then (λ vs. Ok (makes vs)) (and_then (λ x. and_then (λ xs. Ok (x, xs)) (and_then (λ y. Ok (y, tt)) v)) u) ≡ and_then (λ (p : A × A). Ok (makes (p.0, (p.1, tt)))) (and_then (λ x. and_then (λ y. Ok (x, y)) v) u)
 two_in makes (Err c) v = refl
 two_in makes (Ok x) (Err c) = refl
 two_in makes (Ok x) (Ok y) = refl
 
-tables_in : (s : Scope) (makes : AllGiven (ACongruenceTable ∷ ACongruenceTable ∷ []) → Query) (tokens : List Token)
+pub tables_in : (s : Scope) (makes : AllGiven (ACongruenceTable ∷ ACongruenceTable ∷ []) → Query) (tokens : List Token)
     → made_in s (way (ACongruenceTable ∷ ACongruenceTable ∷ []) makes ∷ []) tokens ≡ and_then (λ (p : Graph × Graph). Ok (makes (p.0, (p.1, tt)))) (two_tables s.allow_empty (length s.letters) s.relations tokens)
 tables_in s makes [] = refl
 tables_in s makes (t ∷ []) = refl
@@ -140,6 +141,21 @@ four_texts (t ∷ []) a b c d h = absurd (omega arith)
 four_texts (t ∷ u ∷ []) a b c d h = absurd (omega arith)
 four_texts (t ∷ u ∷ v ∷ []) a b c d h = absurd (omega arith)
 four_texts (t ∷ u ∷ v ∷ w ∷ x ∷ tokens) a b c d h = absurd (omega arith)
+
+-- the count of a page, where no word is behind it
+pub count_in : (s : Scope) (tokens : List (Bor (List ℕ))) (a : Bor (List ℕ)) → length tokens ≡ 1
+    → made_in s (row_of asks.Classes).ways (texts tokens) ≡ and_then (λ n. Ok (Classes n None)) (ok_or (number_within 0 1000000 (get_or tokens 0 a).now) BadNumber)
+count_in s (t ∷ []) a h = one_in (λ v. Classes v.0 None) (ok_or (number_within 0 1000000 t.now) BadNumber)
+count_in s [] a h = absurd (omega arith)
+count_in s (t ∷ u ∷ tokens) a h = absurd (omega arith)
+
+-- a page with another number of tokens
+pub page_missing : (s : Scope) (tokens : List (Bor (List ℕ))) → length tokens ≢ 1 → length tokens ≢ 3 → made_in s (row_of asks.Classes).ways (texts tokens) ≡ Err WrongNumberOfWords
+page_missing s [] h k = refl
+page_missing s (t ∷ []) h k = absurd (h refl)
+page_missing s (t ∷ u ∷ []) h k = refl
+page_missing s (t ∷ u ∷ v ∷ []) h k = absurd (k refl)
+page_missing s (t ∷ u ∷ v ∷ w ∷ tokens) h k = refl
 
 -- the limits of a search
 
@@ -183,33 +199,55 @@ limits_refused s two_sided [] a b c n h = absurd (omega arith)
 limits_refused s two_sided (t ∷ []) a b c n h = absurd (omega arith)
 limits_refused s two_sided (t ∷ u ∷ v ∷ tokens) a b c n h = absurd (omega arith)
 
--- where a query may be asked
+limits_known : (s : Scope) (two_sided : Bool) (t u : Token) (n m : ℕ) → number_within 1 16 t ≡ Some n → number_within 0 1000000 u ≡ Some m → made_in s (row_of (asks.LowIndex two_sided)).ways (t ∷ u ∷ []) ≡ Ok (LowIndex two_sided n m None)
+limits_known s two_sided t u n m h k = rw (h, k) refl
 
-pub none_generated : (scripts : Scripts) (b : Bool) → are_scripts scripts b ≡ true → b ≡ true → are_of_generators scripts ≡ false
-none_generated AllScripts b h e = refl
-none_generated OfRelations b h e = refl
-none_generated OfGenerators true h e = absurd (true≢false (sym h))
-none_generated OfGenerators false h e = absurd (true≢false (sym e))
+-- a search with its limits alone
+pub limits_made : (s : Scope) (two_sided : Bool) (tokens : List (Bor (List ℕ))) (a b : Bor (List ℕ)) (n m : ℕ) → length tokens ≡ 2 → limits_of (get_or tokens 0 a).now (get_or tokens 1 b).now ≡ Ok (n, m)
+    → made_in s (row_of (asks.LowIndex two_sided)).ways (texts tokens) ≡ Ok (LowIndex two_sided n m None)
+limits_made s two_sided (t ∷ u ∷ []) a b n m e h =
+    let both = limits_are (number_within 1 16 t.now) (number_within 0 1000000 u.now) n m h in
+    limits_known s two_sided t.now u.now n m both.0 both.1
+limits_made s two_sided [] a b n m e h = absurd (omega arith)
+limits_made s two_sided (t ∷ []) a b n m e h = absurd (omega arith)
+limits_made s two_sided (t ∷ u ∷ v ∷ tokens) a b n m e h = absurd (omega arith)
 
-pub relations_given : (scripts : Scripts) (b : Bool) → are_scripts scripts b ≡ true → are_of_relations scripts ≡ true → b ≡ true
-relations_given AllScripts b h e = absurd (true≢false (sym e))
-relations_given OfRelations b h e = h
-relations_given OfGenerators b h e = absurd (true≢false (sym e))
+-- a search with another number of tokens
+pub search_missing : (s : Scope) (two_sided : Bool) (tokens : List (Bor (List ℕ))) → length tokens ≢ 2 → length tokens ≢ 4 → made_in s (row_of (asks.LowIndex two_sided)).ways (texts tokens) ≡ Err WrongNumberOfWords
+search_missing s two_sided [] h k = refl
+search_missing s two_sided (t ∷ []) h k = refl
+search_missing s two_sided (t ∷ u ∷ []) h k = absurd (h refl)
+search_missing s two_sided (t ∷ u ∷ v ∷ []) h k = refl
+search_missing s two_sided (t ∷ u ∷ v ∷ w ∷ []) h k = absurd (k refl)
+search_missing s two_sided (t ∷ u ∷ v ∷ w ∷ x ∷ tokens) h k = refl
 
-allowed : (b : Bool) → not b ≡ false → b ≡ true
-allowed true h = refl
-allowed false h = absurd (true≢false h)
+-- a search behind a table: its limits, the word before the table, and the table
 
-pub rules_allowed : (p : Problem) (pairs : Pairs) → bars p pairs ≡ false → are_two_sided pairs ≡ true → allows_rules p ≡ true
-rules_allowed p AnyPairs h e = absurd (true≢false (sym e))
-rules_allowed p TwoSidedPairs h e = allowed (allows_rules p) h
-rules_allowed p NoPairs h e = absurd (true≢false (sym e))
+after_faulty : (s : Scope) (two_sided : Bool) (t u after token : Token) (o p : Option ℕ) (c : Cause) → number_within 1 16 t ≡ o → number_within 0 1000000 u ≡ p
+    → ◌≡◌ {A = Result (ℕ × ℕ) Cause} (and_then (λ n. and_then (λ m. Ok (n, m)) (ok_or p BadNumber)) (ok_or o BadNumber)) (Err c) → made_in s (row_of (asks.LowIndex two_sided)).ways (t ∷ u ∷ after ∷ token ∷ []) ≡ Err c
+after_faulty s two_sided t u after token None p c h k e = rw h (let same : BadNumber ≡ c = cc in ap (λ c. Err c) same)
+after_faulty s two_sided t u after token (Some n) None c h k e = rw (h, k) (let same : BadNumber ≡ c = cc in ap (λ c. Err c) same)
+after_faulty s two_sided t u after token (Some n) (Some m) c h k e = absurd (cc)
 
-no_pairs : {A : Type 0} (xs : List A) → not (length xs == 0) ≡ false → xs ≡ []
-no_pairs [] h = refl
-no_pairs (x ∷ xs) h = let none : length (x ∷ xs) ≡ 0 = eqb-true (length (x ∷ xs)) 0 (allowed (length (x ∷ xs) == 0) h) in absurd (omega arith)
+pub after_refused : (s : Scope) (two_sided : Bool) (classes count after token : Token) (c : Cause) → limits_of classes count ≡ Err c → made_in s (row_of (asks.LowIndex two_sided)).ways (classes ∷ count ∷ after ∷ token ∷ []) ≡ Err c
+after_refused s two_sided classes count after token c h = after_faulty s two_sided classes count after token (number_within 1 16 classes) (number_within 0 1000000 count) c refl refl h
 
-pub without_pairs : (p : Problem) (pairs : Pairs) → bars p pairs ≡ false → are_none pairs ≡ true → pairs_of p ≡ []
-without_pairs p AnyPairs h e = absurd (true≢false (sym e))
-without_pairs p TwoSidedPairs h e = absurd (true≢false (sym e))
-without_pairs p NoPairs h e = no_pairs (pairs_of p) h
+expected : (s : Scope) (two_sided : Bool) (classes count after token : Token) (n m : ℕ) → number_within 1 16 classes ≡ Some n → number_within 0 1000000 count ≡ Some m → is_word (codes "after") after ≡ false
+    → made_in s (row_of (asks.LowIndex two_sided)).ways (classes ∷ count ∷ after ∷ token ∷ []) ≡ Err AfterExpected
+expected s two_sided classes count after token n m h k a = rw (h, k, a) refl
+
+pub after_expected : (s : Scope) (two_sided : Bool) (classes count after token : Token) (n m : ℕ) → limits_of classes count ≡ Ok (n, m) → is_word (codes "after") after ≡ false
+    → made_in s (row_of (asks.LowIndex two_sided)).ways (classes ∷ count ∷ after ∷ token ∷ []) ≡ Err AfterExpected
+after_expected s two_sided classes count after token n m h a =
+    let both = limits_are (number_within 1 16 classes) (number_within 0 1000000 count) n m h in
+    expected s two_sided classes count after token n m both.0 both.1 a
+
+table_known : (s : Scope) (two_sided : Bool) (classes count after token : Token) (n m : ℕ) (g : Graph) → number_within 1 16 classes ≡ Some n → number_within 0 1000000 count ≡ Some m → is_word (codes "after") after ≡ true
+    → low_table_of s.allow_empty (length s.letters) n token ≡ Ok g → made_in s (row_of (asks.LowIndex two_sided)).ways (classes ∷ count ∷ after ∷ token ∷ []) ≡ Ok (LowIndex two_sided n m (Some g))
+table_known s two_sided classes count after token n m g h k a e = rw (h, k, a, e) refl
+
+pub table_made : (s : Scope) (two_sided : Bool) (classes count after token : Token) (n m k : ℕ) (g : Graph) → limits_of classes count ≡ Ok (n, m) → is_word (codes "after") after ≡ true → k ≡ length s.letters
+    → low_table_of s.allow_empty k n token ≡ Ok g → made_in s (row_of (asks.LowIndex two_sided)).ways (classes ∷ count ∷ after ∷ token ∷ []) ≡ Ok (LowIndex two_sided n m (Some g))
+table_made s two_sided classes count after token n m k g h a e p =
+    let both = limits_are (number_within 1 16 classes) (number_within 0 1000000 count) n m h in
+    table_known s two_sided classes count after token n m g both.0 both.1 a (ap (λ k. low_table_of s.allow_empty k n token) (sym e) ∙ p)

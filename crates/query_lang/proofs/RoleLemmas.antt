@@ -1,5 +1,5 @@
 -- Letters that lines give a role, and how many relations they get.
-use Rattle.std.proofs.Common.{◌≡◌, ◌≢◌, ℕ, ◌+◌, ◌*◌, ◌-◌, ◌==◌, ◌≤◌, Bool, true, false, if◌then◌else◌, List, [], ◌∷◌, length, get_or, Option, Some, None, is_none, Result, Ok, refl, sym, ap, ◌∙◌, subst, arith}
+use Rattle.std.proofs.Common.{◌≡◌, ◌≢◌, ℕ, ◌+◌, ◌*◌, ◌-◌, ◌==◌, ◌≤◌, Bool, true, false, if◌then◌else◌, List, [], ◌∷◌, length, length-append, get_or, Option, Some, None, is_none, Result, Ok, refl, sym, ap, ◌∙◌, subst, arith}
 use Rattle.std.proofs.lemmas.Bool.{eqb-true, ltb-false}
 use Rattle.std.proofs.lemmas.List.Quantifiers.{position-Some}
 use Rattle.std.specs.Cmp.Lexicographic.{same_text, other_text}
@@ -7,7 +7,7 @@ use Rattle.std.specs.Option.{ok_or}
 use Rattle.theory.specs.Word.{Word}
 use Rattle.words.specs.Alphabet.{is_letter, place_of}
 use Rattle.words.proofs.TextLaws.{place_below}
-use Rattle.presentation.specs.Presented.{Posed}
+use Rattle.presentation.specs.Presented.{Posed, Presented, with_more}
 use Rattle.presentation.specs.Added.{both_products, products_with}
 use Rattle.presentation.proofs.AddedLemmas.{both_count, both_count_same, products_count}
 use Rattle.line_parts.specs.declared.cause.Cause.{Cause}
@@ -16,7 +16,7 @@ use Rattle.line_parts.specs.declared.version.Version.{Version}
 use Rattle.line_parts.specs.Outcome.{and_then}
 use Rattle.line_parts.specs.Token.{Token, is_word, letter_of}
 use Rattle.line_parts.specs.Versions.{is_wide}
-use Rattle.query_lang.specs.Relations.{most_relations}
+use Rattle.query_lang.specs.Relations.{IsOutline, most_relations, outlined}
 use Rattle.query_lang.specs.Roles.{count_for, count_for_both, is_too_many, letter_in}
 
 one_byte : (wide : Bool) (t : Token) (b : ℕ) → letter_of wide t ≡ Some b → t ≡ b ∷ []
@@ -87,3 +87,9 @@ pub few_inverse : (version : Version) (o : Posed) (s t : Token) (x y : ℕ) (w :
 few_inverse version o s t x y w few h k =
     subst (λ n. length o.congruence.presentation.relations + n ≤ most_relations) (sym (both_counted version o.alphabet s t x y w h k))
     (ltb-false most_relations (length o.congruence.presentation.relations + count_for_both s t) few)
+
+-- an outline with more relations is one, where they are not too many
+pub more_outlined : (p next : Presented) (o : Posed) (more : List (Word × Word)) → IsOutline (outlined p) → outlined p ≡ o → next ≡ with_more p more → length o.congruence.presentation.relations + length more ≤ most_relations → IsOutline (outlined next)
+more_outlined p next o more is view e few =
+    let room : length p.presentation.relations + length more ≤ most_relations = subst (λ (o : Posed). length o.congruence.presentation.relations + length more ≤ most_relations) (sym view) few in
+    subst (λ next. IsOutline (outlined next)) (sym e) (record { few = omega (arith, length-append p.presentation.relations more, room); unmarked = is.unmarked })

@@ -1,5 +1,5 @@
 // Generators that lines give, one after another.
-ghost use Rattle.std.specs.Prelude.{◌≡◌, ℕ, ◌==◌, false, [], IfOk, IfErr, OnOk, Ok, length, map};
+ghost use Rattle.std.specs.Prelude.{◌≡◌, ◌==◌, false, [], IfOk, IfErr, Ok, length, map};
 ghost use Rattle.problem.specs.Problem.{letters_of};
 ghost use Rattle.line_parts.specs.Faults.{IsLineFault};
 ghost use Rattle.line_parts.specs.Fields.{field_of};
@@ -7,7 +7,7 @@ ghost use Rattle.line_parts.specs.Texts.{texts};
 ghost use Rattle.query_lang.specs.Draft.{new_letter_of, start_of, with_one};
 ghost use Rattle.query_lang.specs.Header.{no_generators};
 ghost use Rattle.query_lang.specs.Pairing.{IsPairable};
-ghost use Rattle.query_lang.specs.Reading.{AreGenerators, with_generator};
+ghost use Rattle.query_lang.specs.Reading.{with_generator};
 
 use elements::{BMat, Field, MaxPlusTrunc, PPerm, Transf};
 use line_parts::{Cause, Generator, LineFault, fields_of, letter_of};
@@ -76,7 +76,6 @@ impl<E: Generator> Listed<E> {
         ensures ok { IfOk result (λ next. with_one E.generator_of wide self name.now fields.now
             ≡ Ok next.posed) }
         ensures sizes { IfOk result (λ next. next.sizes ≡ self.sizes) }
-        ensures unpaired { IfOk result (λ next. next.posed.pairs ≡ []) }
         ensures err { IfErr result (IsLineFault
             (with_one E.generator_of wide self name.now fields.now)) }
     {
@@ -216,7 +215,6 @@ impl Draft {
         ensures ok { IfOk result (λ next. with_generator wide self name.now fields.now
             ≡ Ok next.1) }
         ensures sizes { IfOk result (λ next. next.0 ≡ self.0) }
-        ensures generators { IfOk result (λ next. AreGenerators next.1) }
         ensures err { IfErr result (IsLineFault (with_generator wide self name.now fields.now)) }
     {
         match self.listed {
@@ -251,7 +249,6 @@ impl Draft {
         ensures ok { IfOk result (λ next. with_generator wide self name.now
             (map field_of (texts entries.now)) ≡ Ok next.1) }
         ensures sizes { IfOk result (λ next. next.0 ≡ self.0) }
-        ensures generators { IfOk result (λ next. AreGenerators next.1) }
         ensures err { IfErr result (IsLineFault
             (with_generator wide self name.now (map field_of (texts entries.now)))) }
     {

@@ -9,7 +9,7 @@ ghost use Rattle.query_lang.specs.Reading.{AreGenerators};
 
 use crate::draft::Draft;
 use crate::outline::Outline;
-use line_parts::{Cause, LineFault, is_word, number_within};
+use line_parts::{Cause, LineFault, is_word, number_within, one_token, two_tokens};
 use problem::Problem;
 use std::alloc::Global;
 use words::{Alphabet, AlphabetFault};
@@ -21,10 +21,8 @@ fn size_of(greatest: u32, tokens: &[&[u8]]) -> Result<u32, Cause>
     ensures err { IfErr result (λ cause. given_by (ANumber 1 greatest ∷ []) (texts tokens.now)
         ≡ Err cause) }
 {
-    match tokens {
-        [size] => number_within(1, greatest, size).ok_or(Cause::BadNumber),
-        _ => Err(Cause::WrongNumberOfWords),
-    }
+    let size = one_token(tokens)?;
+    number_within(1, greatest, size).ok_or(Cause::BadNumber)
 }
 
 // The dimension and the bound of a header, by the tokens behind its name.
@@ -34,14 +32,10 @@ fn sizes_of(tokens: &[&[u8]]) -> Result<(u32, u32), Cause>
     ensures err { IfErr result (λ cause. given_by (ANumber 1 16 ∷ ANumber 0 65535 ∷ [])
         (texts tokens.now) ≡ Err cause) }
 {
-    match tokens {
-        [dimension, bound] => {
-            let dimension = number_within(1, 16, dimension).ok_or(Cause::BadNumber)?;
-            let bound = number_within(0, 65535, bound).ok_or(Cause::BadNumber)?;
-            Ok((dimension, bound))
-        }
-        _ => Err(Cause::WrongNumberOfWords),
-    }
+    let (first, second) = two_tokens(tokens)?;
+    let dimension = number_within(1, 16, first).ok_or(Cause::BadNumber)?;
+    let bound = number_within(0, 65535, second).ok_or(Cause::BadNumber)?;
+    Ok((dimension, bound))
 }
 
 // The alphabet of these letters, of both cases where they are wide.
@@ -73,13 +67,9 @@ pub fn outline_of(
     ensures err { IfErr result (IsLineFault
         (started (Some (free_way wide monoid)) (texts tokens.now))) }
 {
-    match tokens {
-        [letters] => {
-            let alphabet = alphabet_of(alloc, wide, letters)?;
-            Ok(Outline::new(alloc, alphabet, monoid))
-        }
-        _ => Err(LineFault::refused(Cause::WrongNumberOfWords)),
-    }
+    let letters = one_token(tokens)?;
+    let alphabet = alphabet_of(alloc, wide, letters)?;
+    Ok(Outline::new(alloc, alphabet, monoid))
 }
 
 /// What the header of generators gives, by its name and the tokens behind it: no generator yet.

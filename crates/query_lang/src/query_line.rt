@@ -9,7 +9,7 @@ ghost use Rattle.line_parts.specs.Texts.{texts};
 ghost use Rattle.line_parts.specs.Token.{number_within};
 ghost use Rattle.query_lang.specs.declared.form.QueryForm.TheVariants as asks;
 ghost use Rattle.query_lang.specs.Forms.{row_of};
-ghost use Rattle.query_lang.specs.Query.{AreLimits, IsQueryOver, form_of};
+ghost use Rattle.query_lang.specs.Query.{AreLimits, IsQueryOver};
 ghost use Rattle.query_lang.specs.Values.{bars_query, limits_of, made_in, scope, takes};
 
 use crate::form::QueryForm;
@@ -20,7 +20,6 @@ use line_parts::{
 };
 use problem::Problem;
 use std::alloc::Global;
-use word_graph::WordGraph;
 use words::{Alphabet, Word};
 
 impl QueryForm {
@@ -86,7 +85,6 @@ fn page_after(
         (row_of asks.Classes).ways (count.now ∷ after.now ∷ token.now ∷ []) ≡ Ok query) }
     ensures over { (relations : List (Letters × Letters)) → IfOk result
         (IsQueryOver allow_empty (length alphabet.now) relations) }
-    ensures form { IfOk result (λ query. form_of query ≡ asks.Classes) }
     ensures err { (relations : List (Letters × Letters)) → IfErr result
         (IsLineFault (made_in (scope version alphabet.now allow_empty relations)
         (row_of asks.Classes).ways (count.now ∷ after.now ∷ token.now ∷ []))) }
@@ -115,7 +113,6 @@ fn page_of(
         (row_of asks.Classes).ways (texts tokens.now) ≡ Ok query) }
     ensures over { (relations : List (Letters × Letters)) → IfOk result
         (IsQueryOver allow_empty (length alphabet.now) relations) }
-    ensures form { IfOk result (λ query. form_of query ≡ asks.Classes) }
     ensures err { (relations : List (Letters × Letters)) → IfErr result
         (IsLineFault (made_in (scope version alphabet.now allow_empty relations)
         (row_of asks.Classes).ways (texts tokens.now))) }
@@ -159,7 +156,6 @@ fn search_after(
         (classes.now ∷ count.now ∷ after.now ∷ token.now ∷ []) ≡ Ok query) }
     ensures over { (relations : List (Letters × Letters)) → IfOk result
         (IsQueryOver is_monoid (length alphabet.now) relations) }
-    ensures form { IfOk result (λ query. form_of query ≡ asks.LowIndex two_sided) }
     ensures err { (version : VersionOf) (relations : List (Letters × Letters)) → IfErr result
         (IsLineFault (made_in (scope version alphabet.now is_monoid relations)
         (row_of (asks.LowIndex two_sided)).ways
@@ -191,7 +187,6 @@ fn search_of(
         (row_of (asks.LowIndex two_sided)).ways (texts tokens.now) ≡ Ok query) }
     ensures over { (relations : List (Letters × Letters)) → IfOk result
         (IsQueryOver is_monoid (length alphabet.now) relations) }
-    ensures form { IfOk result (λ query. form_of query ≡ asks.LowIndex two_sided) }
     ensures err { (version : VersionOf) (relations : List (Letters × Letters)) → IfErr result
         (IsLineFault (made_in (scope version alphabet.now is_monoid relations)
         (row_of (asks.LowIndex two_sided)).ways (texts tokens.now))) }
@@ -230,7 +225,6 @@ pub fn query_of(
         made_in (scope version alphabet.now allow_empty relations.now) (row_of form).ways
         (texts tokens.now) ≡ Ok query) }
     ensures over { IfOk result (IsQueryOver allow_empty (length alphabet.now) relations.now) }
-    ensures form { IfOk result (λ query. form_of query ≡ form) }
     ensures err { IfErr result (IsLineFault
         (made_in (scope version alphabet.now allow_empty relations.now) (row_of form).ways
         (texts tokens.now))) }

@@ -142,7 +142,7 @@ impl Script {
         let allow_empty = self.problem.has_empty_word();
         let relations = relations_of(&self.problem);
         let alphabet = self.problem.alphabet();
-        let query = query_of(
+        query_of(
             alloc,
             version,
             alphabet,
@@ -150,8 +150,7 @@ impl Script {
             relations,
             form,
             tokens,
-        )?;
-        Ok(query)
+        )
     }
 
     // The query behind the others.

@@ -7,5 +7,5 @@ pub invariant_of-result : goal.invariant_of-result
 invariant_of-result g c =
     let draft = c.self.inside in
     generator_added g.E.Values.shape (g.E.Generator.shape_for draft.sizes) draft.letters.items draft.generators.items c.args.wide c.args.name.now c.in_ok-letter.letter c.in_ok-generator.generator c.self.invariant
-    (c.in_ok-letter.ensures ∙ ap (λ ls. new_letter_of c.args.wide ls c.args.name.now) c.deref.ensures.value) c.in_ok-generator.ensures.shape
+    (◌∙◌ {b = new_letter_of c.args.wide c.deref.result.now c.args.name.now} c.in_ok-letter.ensures (ap (λ ls. new_letter_of c.args.wide ls c.args.name.now) c.deref.ensures.value)) c.in_ok-generator.ensures.shape
     c.push.new.self.items c.push-2.new.self.items c.in_ok-push.ensures.items c.in_ok-push-2.ensures.items

@@ -1,7 +1,7 @@
-use Rattle.std.proofs.Common.{ℕ, List, [], Bor, None, Ok, sym, ap, ◌∙◌, arith}
+use Rattle.std.proofs.Common.{ℕ, List, [], Bor, Some, None, Ok, sym, ap, ◌∙◌, arith, rules}
 use Rattle.presentation.specs.Added.{inverse_relations}
 use Rattle.line_parts.specs.Outcome.{and_then}
-use Rattle.query_lang.proofs.AddedLemmas.{cause_handed, inverse_by_letter, inverse_by_refused, inverse_in}
+use Rattle.query_lang.proofs.AddedLemmas.{cause_handed, inverse_by_letter, inverse_by_missing, inverse_by_refused, inverse_fit, inverse_in, inverse_missing}
 use Rattle.query_lang.proofs.QueryLemmas.{three_texts}
 use Rattle.query_lang.proofs.outline.Outline.inverse_letters.Goals as goal
 
@@ -44,3 +44,18 @@ returns-then-is_monoid-clause-fit c = record {
   some = λ _. sym (c.is_monoid.ensures ∙ ap (λ o. o.congruence.presentation.is_monoid) c.self.view_is) ∙ c.if-is_monoid.true;
   few = c.in_ok-x.ensures.few None;
 }
+
+pub returns-in_err-first-clause-err : goal.returns-in_err-first-clause-err
+returns-in_err-first-clause-err c =
+    let monoid = sym (c.is_monoid.ensures ∙ ap (λ o. o.congruence.presentation.is_monoid) c.self.view_is) ∙ c.if-is_monoid.true in
+    cause_handed _ _ _ c.from_residual.ensures.1 (inverse_missing c.args.version c.args.self.now _ _ monoid c.in_err-first.ensures.err)
+
+pub returns-in_ok-e-in-len3-clause-fit : goal.returns-in_ok-e-in-len3-clause-fit
+returns-in_ok-e-in-len3-clause-fit c =
+    let both = c.in_ok-x-in-len3.ensures in
+    inverse_fit c.args.self.now _ _ _ both.left both.right c.in_ok-e-in-len3.ensures.within (both.few (Some _))
+
+pub returns-in_default-clause-err : goal.returns-in_default-clause-err
+returns-in_default-clause-err c =
+    let semigroup = sym (c.is_monoid.ensures ∙ ap (λ o. o.congruence.presentation.is_monoid) c.self.view_is) ∙ c.if-is_monoid.false in
+    inverse_by_missing c.args.version c.args.self.now c.args.tokens.now semigroup (search rules)

@@ -7,7 +7,7 @@ use Rattle.query_lang.specs.Grammar.{LineReads, begin_with}
 use Rattle.query_lang.specs.LineCauses.{first_of, generator_causes}
 use Rattle.query_lang.specs.Reading.{with_generator}
 use Rattle.query_lang.proofs.FormLemmas.{in_fault}
-use Rattle.query_lang.proofs.GeneratorLemmas.{generator_cause, generator_reads}
+use Rattle.query_lang.proofs.GeneratorLemmas.{generator_cause, generator_reads, generators_stay}
 use Rattle.query_lang.proofs.FormLemmas.{fault_handed}
 use Rattle.query_lang.proofs.reader.Reader.add_generator.Goals as goal
 
@@ -32,3 +32,6 @@ returns-clause-ok c =
     ap (λ wide. with_generator wide d c.args.name.now (map field_of (texts c.args.entries.now))) (sym c.is_wide.ensures) ∙ c.in_ok-with_generator.ensures.ok in
     subst₂ (λ p q. LineReads p (c.args.name.now ∷ codes "=" ∷ texts c.args.entries.now) q) (sym said) (ap (λ s. begin_with v s next.1) (sym c.in_ok-with_generator.ensures.sizes) ∙ sym c.posing.ensures)
     (generator_reads v d.0 d.1 next.1 c.args.name.now (texts c.args.entries.now) c.into_draft-draft.ensures.generators made)
+
+pub posing-requires : goal.posing-requires
+posing-requires c = generators_stay _ c.into_draft-draft.result c.args.name.now (map field_of (texts c.args.entries.now)) _ c.into_draft-draft.ensures.generators c.in_ok-with_generator.ensures.ok

@@ -1,26 +1,52 @@
-use Rattle.std.proofs.Common.{◌≡◌, true, false, List, [], length, sym, ap, ◌∙◌, subst, subst₂}
-use Rattle.problem.specs.Problem.{allows_rules, has_empty_word, is_presented, letters_of, pairs_of}
+use Rattle.std.proofs.Common.{◌≡◌, true, false, Ok, IfErr, IfOk, sym, ap, ◌∙◌, subst}
+use Rattle.problem.specs.Problem.{is_presented}
+use Rattle.line_parts.specs.Faults.{IsLineFault}
+use Rattle.line_parts.specs.Texts.{texts}
+use Rattle.query_lang.specs.declared.form.Form.TheVariants.{Asks}
 use Rattle.query_lang.specs.Asked.{ScriptOf}
 use Rattle.query_lang.specs.Forms.{has_query, row_of}
-use Rattle.query_lang.specs.Query.{IsQueryOf, IsQueryOver, form_of, needs_generators, needs_no_pairs, needs_relations, needs_two_sided}
-use Rattle.query_lang.specs.Relations.{relations_of}
-use Rattle.query_lang.specs.Values.{bars_query}
-use Rattle.theory.specs.Word.{Word}
-use Rattle.query_lang.proofs.QueryLemmas.{none_generated, relations_given, rules_allowed, without_pairs}
+use Rattle.query_lang.specs.Query.{IsQueryOf}
+use Rattle.query_lang.specs.Values.{added_of, bars_query, made_in, scope, takes}
+use Rattle.query_lang.proofs.AskedLemmas.{IsScopeOf, asked_barred, asked_made, asked_own, asked_unfit}
 use Rattle.query_lang.proofs.script.Script.query.Goals as goal
+
+-- the query is read over what the problem gives
+over : (c : goal.After-query_of) → IsScopeOf c.self.inside.problem c.alphabet-alphabet.result.now c.has_empty_word-allow_empty.result c.relations_of-relations.result.now
+over c = record { letters_are = c.alphabet-alphabet.ensures.letters; empty_is = c.has_empty_word-allow_empty.ensures; relations_are = c.relations_of-relations.ensures }
+
+fits : (c : goal.After-query_of) → takes c.args.form (texts c.args.tokens.now) ≡ true
+fits c = sym c.takes.ensures ∙ c.if-not-takes.false
+
+free : (c : goal.After-query_of) → bars_query c.self.inside.problem c.args.form ≡ false
+free c = sym c.is_barred.ensures ∙ c.if-is_barred.false
+
+added : (c : goal.After-query_of)
+    → made_in (scope c.args.version c.alphabet-alphabet.result.now c.has_empty_word-allow_empty.result c.relations_of-relations.result.now) (row_of c.args.form).ways (texts c.args.tokens.now) ≡ added_of c.args.version c.args.self.now.problem (Asks c.args.form) (texts c.args.tokens.now)
+added c =
+    asked_made c.args.version c.self.inside.problem _ _ _ c.args.form (texts c.args.tokens.now) (over c) (fits c) (free c)
+    ∙ ap (λ (s : ScriptOf). added_of c.args.version s.problem (Asks c.args.form) (texts c.args.tokens.now)) c.self.view_is
+
+pub returns-then-not-takes-clause-err : goal.returns-then-not-takes-clause-err
+returns-then-not-takes-clause-err c =
+    subst (IsLineFault (added_of c.args.version c.args.self.now.problem (Asks c.args.form) (texts c.args.tokens.now))) (sym c.refused.ensures)
+    (asked_unfit c.args.version c.args.self.now.problem c.args.form (texts c.args.tokens.now) (sym c.takes.ensures ∙ c.if-not-takes.true))
+
+pub returns-then-is_barred-clause-err : goal.returns-then-is_barred-clause-err
+returns-then-is_barred-clause-err c =
+    subst (IsLineFault (added_of c.args.version c.args.self.now.problem (Asks c.args.form) (texts c.args.tokens.now))) (sym c.refused-then-is_barred.ensures)
+    (asked_barred c.args.version c.args.self.now.problem c.args.form (texts c.args.tokens.now) (sym c.takes.ensures ∙ c.if-not-takes.false)
+    (ap (λ (s : ScriptOf). bars_query s.problem c.args.form) (sym c.self.view_is) ∙ sym c.is_barred.ensures ∙ c.if-is_barred.true))
+
+pub query_of-requires : goal.query_of-requires
+query_of-requires c = sym c.takes.ensures ∙ c.if-not-takes.false
+
+pub returns-clause-ok : goal.returns-clause-ok
+returns-clause-ok c = subst (λ added. IfOk c.query_of.result (λ query. added ≡ Ok query)) (added c) c.query_of.ensures.ok
 
 pub returns-clause-own : goal.returns-clause-own
 returns-clause-own c =
-    let p = c.self.inside.problem in
-    let query = c.in_ok-query.query in
-    let form : form_of query ≡ c.args.form = c.in_ok-query.ensures.form in
-    let kind : has_query (is_presented p) (form_of query) ≡ true = ap (has_query (is_presented p)) form ∙ ap (λ (s : ScriptOf). has_query (is_presented s.problem) c.args.form) c.self.view_is ∙ c.requires in
-    let open_to : bars_query p (form_of query) ≡ false = ap (bars_query p) form ∙ sym c.is_barred.ensures ∙ c.if-is_barred.false in
-    let there : is_presented p ≡ true → needs_generators query ≡ false = λ presented. none_generated (row_of (form_of query)).scripts (is_presented p) kind presented in
-    let presented : needs_relations query ≡ true → is_presented p ≡ true = λ needs. relations_given (row_of (form_of query)).scripts (is_presented p) kind needs in
-    let allowed : needs_two_sided query ≡ true → allows_rules p ≡ true = λ needs. rules_allowed p (row_of (form_of query)).pairs open_to needs in
-    let unpaired : needs_no_pairs query ≡ true → pairs_of p ≡ [] = λ needs. without_pairs p (row_of (form_of query)).pairs open_to needs in
-    let over : IsQueryOver (has_empty_word p) (length (letters_of p)) (relations_of p) query =
-    subst (λ (relations : List (Word × Word)). IsQueryOver (has_empty_word p) (length (letters_of p)) relations query) c.relations_of-relations.ensures
-    (subst₂ (λ empty letters. IsQueryOver empty (length letters) c.relations_of-relations.result.now query) c.has_empty_word-allow_empty.ensures c.alphabet-alphabet.ensures.letters c.in_ok-query.ensures.over) in
-    subst (λ (s : ScriptOf). IsQueryOf s.problem query) c.self.view_is (record { there = there; presented = presented; allowed = allowed; unpaired = unpaired; over = over })
+    subst (λ (s : ScriptOf). IfOk c.query_of.result (IsQueryOf s.problem)) c.self.view_is
+    (asked_own c.args.version c.self.inside.problem _ _ _ c.args.form (texts c.args.tokens.now) c.query_of.result (over c) (ap (λ (s : ScriptOf). has_query (is_presented s.problem) c.args.form) c.self.view_is ∙ c.requires) (free c) c.query_of.ensures.ok c.query_of.ensures.over)
+
+pub returns-clause-err : goal.returns-clause-err
+returns-clause-err c = subst (λ added. IfErr c.query_of.result (IsLineFault added)) (added c) c.query_of.ensures.err
