@@ -1,10 +1,11 @@
 // Generators that lines give, one after another.
-ghost use Rattle.std.specs.Prelude.{◌≡◌, ◌==◌, false, [], IfOk, IfErr, Ok, length, map};
+ghost use Rattle.std.specs.Prelude.{◌≡◌, ℕ, ◌==◌, Bool, false, List, [], IfOk, IfErr, Ok, length, map};
 ghost use Rattle.problem.specs.Problem.{letters_of};
 ghost use Rattle.line_parts.specs.Faults.{IsLineFault};
 ghost use Rattle.line_parts.specs.Fields.{field_of};
 ghost use Rattle.line_parts.specs.Texts.{texts};
 ghost use Rattle.query_lang.specs.Draft.{new_letter_of, start_of, with_one};
+ghost use Rattle.query_lang.specs.Generators.{one_more};
 ghost use Rattle.query_lang.specs.Header.{no_generators};
 ghost use Rattle.query_lang.specs.Pairing.{IsPairable};
 ghost use Rattle.query_lang.specs.Reading.{with_generator};
@@ -65,6 +66,50 @@ impl<E: Generator> Listed<E> {
         }
     }
 
+    // The letter and the generator that a line with this name and these entries gives.
+    fn generator_of(
+        &self,
+        alloc: Global,
+        wide: bool,
+        name: &[u8],
+        fields: &[Field],
+    ) -> Result<(u8, E), LineFault>
+        ensures letter { IfOk result (λ given.
+            new_letter_of wide self.now.posed.letters name.now ≡ Ok given.0) }
+        ensures generator { IfOk result (λ given.
+            E.generator_of self.now.sizes fields.now ≡ Ok given.1) }
+        ensures shape { IfOk result (λ given. E.shape given.1 ≡ E.shape_for self.now.sizes) }
+        ensures err { IfErr result (IsLineFault
+            (with_one E.generator_of wide self.now name.now fields.now)) }
+    {
+        let letter = new_letter_of(wide, &self.letters, name)?;
+        let generator = E::generator(alloc, self.sizes, fields)?;
+        Ok((letter, generator))
+    }
+
+    // One generator more, of the others' shape, with a letter that is not there yet.
+    fn pushed(self, letter: u8, generator: E) -> Result<Listed<E>, NoMemory>
+        requires letter { (wide : Bool) × (name : List ℕ)
+            × (new_letter_of wide self.posed.letters name ≡ Ok letter) }
+        requires shape { E.shape generator ≡ E.shape_for self.sizes }
+        ensures sizes { IfOk result (λ next. next.sizes ≡ self.sizes) }
+        ensures posed { IfOk result (λ next.
+            next.posed ≡ one_more self.posed letter generator) }
+    {
+        let Listed {
+            sizes,
+            mut letters,
+            mut generators,
+        } = self;
+        letters.push(letter)?;
+        generators.push(generator)?;
+        Ok(Listed {
+            sizes,
+            letters,
+            generators,
+        })
+    }
+
     // The generator with this name and these entries behind the others.
     fn with_generator(
         self,
@@ -79,20 +124,8 @@ impl<E: Generator> Listed<E> {
         ensures err { IfErr result (IsLineFault
             (with_one E.generator_of wide self name.now fields.now)) }
     {
-        let Listed {
-            sizes,
-            mut letters,
-            mut generators,
-        } = self;
-        let letter = new_letter_of(wide, &letters, name)?;
-        let generator = E::generator(alloc, sizes, fields)?;
-        letters.push(letter)?;
-        generators.push(generator)?;
-        Ok(Listed {
-            sizes,
-            letters,
-            generators,
-        })
+        let (letter, generator) = self.generator_of(alloc, wide, name, fields)?;
+        Ok(self.pushed(letter, generator)?)
     }
 
     // The generators by their letters, which are an alphabet, since each was new.
