@@ -1,7 +1,7 @@
 // The last test: whether overlaps lead to one word.
-ghost use Rattle.std.specs.Prelude.{ℕ, ◌<◌, [], length, IfOk, MatchBool};
+ghost use Rattle.std.specs.Prelude.{◌≡◌, ℕ, ◌+◌, ◌-◌, ◌<◌, ◌≤◌, false, [], length, IfOk, MatchBool};
 ghost use Rattle.theory.specs.Word.{Word as Letters};
-ghost use Rattle.knuth_bendix.specs.Overlaps.{AreJoined, IsSplit, rule_at};
+ghost use Rattle.knuth_bendix.specs.Overlaps.{AreJoined, HasLength, IsSplit, rule_at};
 
 use crate::equations::Equations;
 use crate::lengths::Lengths;
@@ -39,19 +39,50 @@ fn pair_is_joined(
     Ok(equations.is_empty())
 }
 
-// Whether each overlap of a rule with any, in a word of such a length, leads to one word.
+// How many letters the longest left side has.
+fn longest_left(rules: &KeptRules) -> usize
+    ensures { (place : ℕ) → place < length rules.now
+        → length (rule_at rules.now place).0 ≤ result }
+{
+    let mut longest = 0;
+    for place in 0..rules.len() {
+        longest = longest.max(rules.rule(place).0.len());
+    }
+    longest
+}
+
+// Whether an overlap of a left side of so many letters with one that is no longer than the longest
+// may stand in a word of such a length.
+fn may_stand_in(lengths: Lengths, first: usize, longest: usize) -> bool
+    ensures { result ≡ false → (second shared : ℕ) → second ≤ longest → 0 < shared
+        → shared < second → HasLength lengths (first + (second - shared)) → ⊥ }
+{
+    match lengths {
+        Lengths::UpTo(_) => true,
+        Lengths::Beyond(length) => longest > length.saturating_sub(first).saturating_add(1),
+    }
+}
+
+// Whether each overlap of a rule with any, in a word of such a length, leads to one word. No left
+// side has more letters than the longest.
 fn row_is_joined(
     alloc: Global,
     rules: &KeptRules,
     first: usize,
+    longest: usize,
     lengths: Lengths,
 ) -> Result<bool, NoMemory>
-    requires { first < length rules.now }
+    requires first { first < length rules.now }
+    requires longest { (place : ℕ) → place < length rules.now
+        → length (rule_at rules.now place).0 ≤ longest }
     ensures { IfOk result (λ joined. MatchBool joined
         ((second : ℕ) → second < length rules.now
         → AreJoined lengths rules.now [] (rule_at rules.now first) (rule_at rules.now second))
         ((u : Letters) × (v : Letters) × IsSplit lengths rules.now u v)) }
 {
+    if !may_stand_in(lengths, rules.rule(first).0.len(), longest) {
+        return Ok(true);
+    }
     for second in 0..rules.len() {
         if !pair_is_joined(alloc, rules, first, second, lengths)? {
             return Ok(false);
@@ -68,8 +99,9 @@ pub fn are_joined(alloc: Global, rules: &KeptRules, lengths: Lengths) -> Result<
         → AreJoined lengths rules.now [] (rule_at rules.now first) (rule_at rules.now second))
         ((u : Letters) × (v : Letters) × IsSplit lengths rules.now u v)) }
 {
+    let longest = longest_left(rules);
     for first in 0..rules.len() {
-        if !row_is_joined(alloc, rules, first, lengths)? {
+        if !row_is_joined(alloc, rules, first, longest, lengths)? {
             return Ok(false);
         }
     }
