@@ -22,6 +22,17 @@ pub record EnumerationRun : Type 0 where
   pub graph : Graph
   pub said : Progress
 
+-- the same, of a coset table
+abbrev pub run_of : CosetTable → ℕ → ℕ → Bool → Progress → EnumerationRun
+run_of t budget made begun said = record {
+  congruence = t.congruence;
+  budget = budget;
+  made = made;
+  begun = begun;
+  graph = t.graph;
+  said = said;
+}
+
 -- the paths of the graph relate what the facts do at a stage of the strategy, with the words that
 -- have been defined, or had their row, by then
 pub record IsAt (Stage : List Word → Type 0) (Facts : List Word → Word → Word → Type 0)
@@ -42,12 +53,11 @@ answer_of goes_on made budget = cond goes_on (cond (nat_lt made budget) More Spe
 
 -- what the last turn gave is true: Ends is the condition, Found what is known where it has decided,
 -- Stage what a turn leaves, and Due what a further one goes on from
-pub record IsTold (Ends Found Stage Due : Type 0) (budget made : ℕ) (begun : Bool)
-    (said : Progress) : Type 0 where
-  pub decided : said ≡ Decided → Ends
-  pub found : said ≡ Decided → Found
-  pub spent : said ≡ Spent → Ends → ⊥
-  pub stage : said ≢ NoMemory → begun ≡ true → Stage
-  pub within : said ≢ NoMemory → made ≤ budget
-  pub due : said ≡ More → Due
-  pub ended : said ≢ More → begun ≡ true
+pub record IsTold (Ends Found Stage Due : Type 0) (run : EnumerationRun) : Type 0 where
+  pub decided : run.said ≡ Decided → Ends
+  pub found : run.said ≡ Decided → Found
+  pub spent : run.said ≡ Spent → Ends → ⊥
+  pub stage : run.said ≢ NoMemory → run.begun ≡ true → Stage
+  pub within : run.said ≢ NoMemory → run.made ≤ run.budget
+  pub due : run.said ≡ More → Due
+  pub ended : run.said ≢ More → run.begun ≡ true

@@ -15,7 +15,7 @@ use Rattle.word_graph.specs.Edges.{with_edge, with_node}
 use Rattle.word_graph.specs.Walk.{IsFirstMissing}
 use Rattle.coincidence.specs.Table.{CosetTable, IsTable, IsDefined}
 use Rattle.coincidence.proofs.TableLaws.{on_inside}
-use Rattle.coset_enumeration.specs.Enumeration.{IsFresh, IsTold, answer_of}
+use Rattle.coset_enumeration.specs.Enumeration.{IsFresh, IsTold, answer_of, run_of}
 use Rattle.coset_enumeration.proofs.TurnLaws.{told_done, told_more}
 use Rattle.tc_felsch.specs.Stage.{IsAtStage, IsDue, Stands, IsRun}
 use Rattle.tc_felsch.proofs.StageLaws.{start_facts, next_facts}
@@ -79,7 +79,7 @@ pub same_defined : (k : ℕ) (g h : Graph) → PathsRelate h (SameEnd g) → All
 same_defined k g h same all w over = (same w w).1 (all w over)
 
 -- a turn of an enumeration that goes on
-module _ (old new : CosetTable) (budget made made' : ℕ) (begun : Bool) (next next' : Option (ℕ × ℕ)) (run : IsRun old budget made begun next More)
+module _ (old new : CosetTable) (budget made made' : ℕ) (begun : Bool) (next next' : Option (ℕ × ℕ)) (run : IsRun old next (run_of old budget made begun More))
     (start_is : next ≡ None → old.graph ≡ replicate old.congruence.presentation.letters None ∷ [] → IsAtStage new.congruence 0 new.graph)
     (stage_is : IsSome next → (i : ℕ) → IsAtStage old.congruence i old.graph → IsAtStage new.congruence (suc i) new.graph)
     (nodes : length new.graph ≡ length old.graph + cond (is_some next) 1 0)
@@ -124,14 +124,14 @@ module _ (old new : CosetTable) (budget made made' : ℕ) (begun : Bool) (next n
 
   pub run_after : (said : Progress)
       → MatchOption next' (AllDefined new.congruence.presentation.letters (SameEnd new.graph)) (λ p. IsFirstMissing new.congruence.presentation.letters new.graph p.0 p.1)
-      → said ≡ answer_of (is_some next') made' budget → IsRun new budget made' true next' said
+      → said ≡ answer_of (is_some next') made' budget → IsRun new next' (run_of new budget made' true said)
   run_after said found e = record { table = table; nodes = λ n. nodes_after; told = told next' found e }
     where
       told : (next' : Option (ℕ × ℕ))
           → MatchOption next' (AllDefined new.congruence.presentation.letters (SameEnd new.graph)) (λ p. IsFirstMissing new.congruence.presentation.letters new.graph p.0 p.1)
           → said ≡ answer_of (is_some next') made' budget
-          → IsTold (FelschEnds new.congruence budget) (AllDefined new.congruence.presentation.letters (SameEnd new.graph)) (IsAtStage new.congruence made' new.graph) (Stands new budget made' next' true) budget made' true said
-      told None all e = told_done budget made' said stage_after within_after e (ends_at new.congruence budget made' new.graph stage_after within_after all) all
-      told (Some p) first e = told_more budget made' said stage_after within_after e
+          → IsTold (FelschEnds new.congruence budget) (AllDefined new.congruence.presentation.letters (SameEnd new.graph)) (IsAtStage new.congruence made' new.graph) (Stands new budget made' next' true) (run_of new budget made' true said)
+      told None all e = told_done (run_of new budget made' true said) refl stage_after within_after e (ends_at new.congruence budget made' new.graph stage_after within_after all) all
+      told (Some p) first e = told_more (run_of new budget made' true said) refl stage_after within_after e
           (λ less. record { within = less; node = p.0; letter = p.1; is = refl; first = first })
           (λ same. fails_at new.congruence budget made' p.0 p.1 new.graph stage_after same first)

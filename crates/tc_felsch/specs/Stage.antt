@@ -6,7 +6,6 @@ use Rattle.theory.specs.Graph.{Graph, SameEnd}
 use Rattle.theory.specs.Felsch.{FelschFacts, FelschStage, FelschEnds}
 use Rattle.word_graph.specs.Walk.{IsFirstMissing}
 use Rattle.coincidence.specs.Table.{CosetTable, IsTable}
-use Rattle.race.specs.declared.engines.Progress.{Progress}
 use Rattle.race.specs.declared.engines.Progress.TheVariants.{NoMemory}
 use Rattle.coset_enumeration.specs.Enumeration.{EnumerationRun, IsAt, IsFresh, IsTold}
 
@@ -34,11 +33,9 @@ Stands t budget made next true = IsDue t budget made next
 
 -- what the last turn left; by IsTable the live nodes of the graph are those that are reached, and
 -- only they have edges
-pub record IsRun (t : CosetTable) (budget made : ℕ) (begun : Bool) (next : Option (ℕ × ℕ))
-    (said : Progress) : Type 0 where
+pub record IsRun (t : CosetTable) (next : Option (ℕ × ℕ)) (run : EnumerationRun) : Type 0 where
   pub table : IsTable t
-  pub nodes : said ≢ NoMemory → length t.graph ≤ suc made
-  pub told : IsTold (FelschEnds t.congruence budget)
+  pub nodes : run.said ≢ NoMemory → length t.graph ≤ suc run.made
+  pub told : IsTold (FelschEnds t.congruence run.budget)
       (AllDefined t.congruence.presentation.letters (SameEnd t.graph))
-      (IsAtStage t.congruence made t.graph) (Stands t budget made next begun)
-      budget made begun said
+      (IsAtStage t.congruence run.made t.graph) (Stands t run.budget run.made next run.begun) run

@@ -31,21 +31,15 @@ pub struct Felsch {
 }
 
 impl Model for Felsch {
-    ghost use Rattle.coset_enumeration.specs.Enumeration.{EnumerationRun};
+    ghost use Rattle.coset_enumeration.specs.Enumeration.{EnumerationRun, run_of};
     ghost use Rattle.tc_felsch.specs.Stage.{IsRun};
 
     ghost Value = { EnumerationRun };
 
-    ghost view = { λ f. record {
-      congruence = f.table.congruence;
-      budget = f.budget;
-      made = f.made;
-      begun = f.begun;
-      graph = f.table.graph;
-      said = f.said;
-    } };
+    ghost view = { λ f. run_of f.table f.budget f.made f.begun f.said };
 
-    ghost invariant = { λ f. IsRun f.table f.budget f.made f.begun f.next f.said };
+    ghost invariant = { λ f. IsRun f.table f.next
+        (run_of f.table f.budget f.made f.begun f.said) };
 }
 
 // Makes the definition that is due, if there is one.

@@ -1,7 +1,8 @@
 -- What a turn leaves.
 use Rattle.std.proofs.Common.{◌≡◌, ◌↔◌, ◌⊎◌, IsTrue, length, ℕ, ◌+◌, ◌≤◌, refl, sym, ◌∙◌, ap, arith, inl, inr, Option, Some, None, subst, Bool, true, false, cond, nat_lt, min, Result, Ok, Err}
 use Rattle.std.specs.Result.{IfOk, OnOk}
-use Rattle.std.specs.Option.{is_some, unwrap_or, MatchOption}
+use Rattle.std.specs.Bool.{then_some}
+use Rattle.std.specs.Option.{is_some, unwrap_or, MatchOption, IfSome}
 use Rattle.std.proofs.lemmas.Bool.{cases_lt}
 use Rattle.race.specs.declared.engines.Progress.{Progress}
 use Rattle.race.specs.declared.engines.Progress.TheVariants.{More}
@@ -12,7 +13,7 @@ use Rattle.theory.specs.Hlt.{HltFacts, HltEnds, AllMet, HasEnded, has_lookahead}
 use Rattle.theory.proofs.HltLaws.{hlt_ended_defined, hlt_stage_length}
 use Rattle.coincidence.specs.Marks.{AllMarked, IsFirstUnmarked}
 use Rattle.coincidence.specs.Table.{CosetTable, IsTable}
-use Rattle.coset_enumeration.specs.Enumeration.{IsTold, answer_of}
+use Rattle.coset_enumeration.specs.Enumeration.{IsTold, answer_of, run_of}
 use Rattle.coset_enumeration.proofs.TurnLaws.{lt_true, lt_false, told_done, told_more}
 use Rattle.tc_hlt.specs.Stage.{IsAtStage, IsAtEnd, HasRows, IsReady, IsWhole, Stands, IsTurn, TellsNext, IsRun}
 use Rattle.tc_hlt.proofs.RowLaws.{met_same, ready_ends}
@@ -60,15 +61,15 @@ rows_counted made budget made' within count = elim (cases_lt made budget) [
 -- a turn of an enumeration that goes on
 module _ (new : CosetTable) (c : Congruence) (budget made : ℕ) (table : IsTable new) (same : c ≡ new.congruence) (rows : HasRows new made) (within : made ≤ budget) where
   pub run_after : (next : Option ℕ) (said : Progress)
-      → TellsNext new made next → said ≡ answer_of (is_some next) made budget → IsRun new c budget made true (unwrap_or next 0) said
+      → TellsNext new made next → said ≡ answer_of (is_some next) made budget → IsRun new c (unwrap_or next 0) (run_of new budget made true said)
   run_after next said found e = record { table = table; congruence = same; told = told next found e }
     where
       told : (next : Option ℕ) → TellsNext new made next → said ≡ answer_of (is_some next) made budget
-          → IsTold (HltEnds new.congruence budget) (IsAtEnd new.congruence made new.graph) (IsAtStage new.congruence made new.graph) (Stands new true made (unwrap_or next 0)) budget made true said
-      told None last e = told_done budget made said (at_stage new made rows) within e (ends_at new budget made rows within last) (at_end new made rows last)
+          → IsTold (HltEnds new.congruence budget) (IsAtEnd new.congruence made new.graph) (IsAtStage new.congruence made new.graph) (Stands new true made (unwrap_or next 0)) (run_of new budget made true said)
+      told None last e = told_done (run_of new budget made true said) refl (at_stage new made rows) within e (ends_at new budget made rows within last) (at_end new made rows last)
       told (Some node) first e =
           let ready : IsReady new made node = record { rows = rows; first = first.0; unended = first.1 } in
-          told_more budget made said (at_stage new made rows) within e (λ less. ready) (λ all. fails_at new budget made node ready all)
+          told_more (run_of new budget made true said) refl (at_stage new made rows) within e (λ less. ready) (λ all. fails_at new budget made node ready all)
 
 -- what is told of a table that stays as it was, and has not ended by a lookahead
 pub next_same : {X : Type 0} (r : Result (Option ℕ) X) (old new : CosetTable) (made : ℕ) (whole : Bool) → whole ≡ false
@@ -81,17 +82,49 @@ next_same (Ok (Some node)) old new made whole none is e found =
 next_same (Err f) old new made whole none is e found = tt
 
 -- a turn stands for one more row within the budget
-pub turn_of : (old : CosetTable) (c : Congruence) (budget made made' : ℕ) (begun : Bool) (node : ℕ) → IsRun old c budget made begun node More
-    → made' ≡ min (made + 1) budget → IsTurn old begun node (nat_lt made budget) made'
-turn_of old c budget made made' begun node run count = record {
+pub turn_of : (old : CosetTable) (c : Congruence) (budget made made' : ℕ) (begun : Bool) (next : ℕ) (row : Option ℕ)
+    → IsRun old c next (run_of old budget made begun More) → row ≡ then_some (nat_lt made budget) next
+    → made' ≡ min (made + 1) budget → IsTurn old begun row made'
+turn_of old c budget made made' begun next row run is count = record {
   before = made;
+  next = next;
   stands = run.told.due refl;
-  count = sym (rows_counted made budget made' (run.told.within (λ d. let bad : ⊥ = cc in bad)) count);
+  is = subst (λ (r : Option ℕ). IfSome r (λ node. node ≡ next)) (sym is) (at (nat_lt made budget));
+  count = sym (rows_counted made budget made' (run.told.within (λ d. let bad : ⊥ = cc in bad)) count)
+      ∙ ap (λ b. made + cond b 1 0) (sym (ap is_some is ∙ due (nat_lt made budget)));
 }
+  where
+    at : (b : Bool) → IfSome (then_some b next) (λ node. node ≡ next)
+    at true = refl
+    at false = tt
+
+    due : (b : Bool) → is_some (then_some b next) ≡ b
+    due true = refl
+    due false = refl
+
+-- once it has begun
+pub turn_begun : (old new : CosetTable) (begun : Bool) (row : Option ℕ) (made : ℕ)
+    → ((m node : ℕ) → Stands old begun m node → IsReady new m node) → IsTurn old begun row made → IsTurn new true row made
+turn_begun old new begun row made ready turn = record {
+  before = turn.before;
+  next = turn.next;
+  stands = ready turn.before turn.next turn.stands;
+  is = turn.is;
+  count = turn.count;
+}
+
+-- the row that is due
+pub row_ready : (t : CosetTable) (node made : ℕ) → (turn : IsTurn t true (Some node) made) → IsReady t turn.before node
+row_ready t node made turn = subst (λ n. IsReady t turn.before n) (sym turn.is) turn.stands
+
+-- where none is due, the rows are there
+pub none_ready : (t : CosetTable) (made : ℕ) → (turn : IsTurn t true None made) → IsReady t made turn.next
+none_ready t made turn = let e : turn.before ≡ made = omega (arith, turn.count) in subst (λ m. IsReady t m turn.next) e turn.stands
 
 -- a turn of an enumeration that goes on leaves what it says
 pub turn_after : (old new : CosetTable) (c : Congruence) (budget made made' : ℕ) (begun : Bool) (node : ℕ) (next : Option ℕ) (said : Progress)
-    → IsRun old c budget made begun node More → IsTable new → new.congruence ≡ old.congruence → HasRows new made' → made' ≡ min (made + 1) budget
-    → TellsNext new made' next → said ≡ answer_of (is_some next) made' budget → IsRun new c budget made' true (unwrap_or next 0) said
+    → IsRun old c node (run_of old budget made begun More) → IsTable new → new.congruence ≡ old.congruence → HasRows new made'
+    → made' ≡ min (made + 1) budget → TellsNext new made' next → said ≡ answer_of (is_some next) made' budget
+    → IsRun new c (unwrap_or next 0) (run_of new budget made' true said)
 turn_after old new c budget made made' begun node next said run table same rows count found e =
     run_after new c budget made' table (run.congruence ∙ sym same) rows (omega (arith, count)) next said found e

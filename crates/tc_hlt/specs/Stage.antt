@@ -1,5 +1,5 @@
 -- Where the strategy of rows stands.
-use Rattle.std.specs.Prelude.{◌≡◌, ◌↔◌, ◌⊎◌, ℕ, ◌+◌, ◌-◌, ◌<◌, Bool, true, false, IsTrue, List, ◌∷◌, cond, Option, Some, MatchOption}
+use Rattle.std.specs.Prelude.{◌≡◌, ◌↔◌, ◌⊎◌, ℕ, ◌+◌, ◌-◌, ◌<◌, Bool, true, false, IsTrue, List, ◌∷◌, cond, Option, Some, MatchOption, IfSome, is_some}
 use Rattle.theory.specs.Word.{Word}
 use Rattle.theory.specs.Congruence.{Congruence}
 use Rattle.theory.specs.Graph.{Graph, path, SameEnd, PathsRelate}
@@ -8,7 +8,6 @@ use Rattle.theory.specs.Hlt.{HltFacts, HltStage, HltEnds, HasEnded, has_lookahea
 use Rattle.coincidence.specs.Live.{IsOn}
 use Rattle.coincidence.specs.Marks.{AllMarked, IsFirstUnmarked}
 use Rattle.coincidence.specs.Table.{CosetTable, IsTable}
-use Rattle.race.specs.declared.engines.Progress.{Progress}
 use Rattle.coset_enumeration.specs.Enumeration.{EnumerationRun, IsAt, IsFresh, IsTold}
 
 -- the graph shows the facts after so many rows
@@ -70,16 +69,17 @@ abbrev pub Stands : CosetTable → Bool → ℕ → ℕ → Type 0
 Stands t false made node = IsFresh t × (made ≡ 0) × (node ≡ 0)
 Stands t true made node = IsReady t made node
 
--- the enumeration stands, and with the row of the node, if it is due, so many rows are made
-pub record IsTurn (t : CosetTable) (begun : Bool) (node : ℕ) (due : Bool) (made : ℕ) : Type 0 where
+-- the enumeration stands, and with the row of the node, if one is due, so many rows are made
+pub record IsTurn (t : CosetTable) (begun : Bool) (row : Option ℕ) (made : ℕ) : Type 0 where
   pub before : ℕ
-  pub stands : Stands t begun before node
-  pub count : made ≡ before + cond due 1 0
+  pub next : ℕ
+  pub stands : Stands t begun before next
+  pub is : IfSome row (λ node. node ≡ next)
+  pub count : made ≡ before + cond (is_some row) 1 0
 
 -- what the last turn left
-pub record IsRun (t : CosetTable) (c : Congruence) (budget made : ℕ) (begun : Bool) (next : ℕ)
-    (said : Progress) : Type 0 where
+pub record IsRun (t : CosetTable) (c : Congruence) (next : ℕ) (run : EnumerationRun) : Type 0 where
   pub table : IsTable t
   pub congruence : c ≡ t.congruence
-  pub told : IsTold (HltEnds t.congruence budget) (IsAtEnd t.congruence made t.graph)
-      (IsAtStage t.congruence made t.graph) (Stands t begun made next) budget made begun said
+  pub told : IsTold (HltEnds t.congruence run.budget) (IsAtEnd t.congruence run.made t.graph)
+      (IsAtStage t.congruence run.made t.graph) (Stands t run.begun run.made next) run

@@ -1,5 +1,5 @@
 // The strategy of rows with lookahead, a row at a time.
-ghost use Rattle.std.specs.Prelude.{◌≡◌, ℕ, ◌+◌, ◌≤◌, min, [], ◌∷◌, replicate, IfOk, OnOk, false, cond, ◌↔◌, IsTrue, None};
+ghost use Rattle.std.specs.Prelude.{◌≡◌, ℕ, ◌+◌, ◌≤◌, min, [], ◌∷◌, replicate, IfOk, OnOk, true, false, ◌↔◌, IsTrue, None};
 ghost use Rattle.theory.specs.Congruence.{IsRightSided};
 ghost use Rattle.theory.specs.Facts.{AllDefined, ClosedAll};
 ghost use Rattle.theory.specs.Graph.{SameEnd, PathsRelate, Shows, IsGraph};
@@ -39,22 +39,15 @@ pub struct Hlt {
 }
 
 impl Model for Hlt {
-    ghost use Rattle.coset_enumeration.specs.Enumeration.{EnumerationRun};
+    ghost use Rattle.coset_enumeration.specs.Enumeration.{EnumerationRun, run_of};
     ghost use Rattle.tc_hlt.specs.Stage.{IsRun};
 
     ghost Value = { EnumerationRun };
 
-    ghost view = { λ h. record {
-      congruence = h.table.congruence;
-      budget = h.budget;
-      made = h.made;
-      begun = h.begun;
-      graph = h.table.graph;
-      said = h.said;
-    } };
+    ghost view = { λ h. run_of h.table h.budget h.made h.begun h.said };
 
-    ghost invariant = { λ h. IsRun h.table h.congruence.congruence h.budget h.made h.begun h.next
-        h.said };
+    ghost invariant = { λ h. IsRun h.table h.congruence.congruence h.next
+        (run_of h.table h.budget h.made h.begun h.said) };
 }
 
 // Traces both sides of each pair from the root, and makes their ends one.
@@ -134,42 +127,40 @@ fn look_ahead(table: &mut Table, made: usize) -> Result<bool, NoMemory>
     draw_all(table)
 }
 
-// Makes the row of the node, if it is due, and the lookahead after it. Tells whether each word has
+// Makes the row of the node, if one is due, and the lookahead after it. Tells whether each word has
 // a path after a lookahead.
 fn row_due(
     table: &mut Table,
     congruence: &Congruence,
-    node: usize,
-    due: bool,
+    row: Option<usize>,
     made: usize,
 ) -> Result<bool, NoMemory>
     requires table { IsTable table.old }
-    requires ready { (before : ℕ) × IsReady table.old before node × (made ≡ before + cond due 1 0) }
+    requires turn { IsTurn table.old true row made }
     requires congruence { congruence.now.congruence ≡ table.old.congruence }
     ensures rows { OnOk result (HasRows table.new made) }
     ensures whole { IfOk result (λ whole. IsTrue whole ↔ IsWhole table.new made) }
     ensures congruence { table.new.congruence ≡ table.old.congruence }
     ensures table { IsTable table.new }
 {
-    if !due {
+    let Some(node) = row else {
         return Ok(false);
-    }
+    };
     make_row(table, congruence, node)?;
     look_ahead(table, made)
 }
 
-// One turn: the row of the node, if it is due, and the lookahead after it, with which so many rows
+// One turn: the row of the node, if one is due, and the lookahead after it, with which so many rows
 // are made. Tells the node of the next row, unless the strategy has ended.
 fn go_on(
     table: &mut Table,
     congruence: &Congruence,
     begun: bool,
-    node: usize,
-    due: bool,
+    row: Option<usize>,
     made: usize,
 ) -> Result<Option<usize>, NoMemory>
     requires table { IsTable table.old }
-    requires turn { IsTurn table.old begun node due made }
+    requires turn { IsTurn table.old begun row made }
     requires congruence { congruence.now.congruence ≡ table.old.congruence }
     ensures rows { OnOk result (HasRows table.new made) }
     ensures next { IfOk result (TellsNext table.new made) }
@@ -177,7 +168,7 @@ fn go_on(
     ensures table { IsTable table.new }
 {
     begin(table, congruence, begun)?;
-    let whole = row_due(table, congruence, node, due, made)?;
+    let whole = row_due(table, congruence, row, made)?;
     if whole {
         return Ok(None);
     }
@@ -235,16 +226,9 @@ impl Racer for Hlt {
         let Progress::More = self.said else {
             return self.said;
         };
-        let due = self.made < self.budget;
+        let row = (self.made < self.budget).then_some(self.next);
         let made = count(self.made, self.budget);
-        let Ok(next) = go_on(
-            &mut self.table,
-            &self.congruence,
-            self.begun,
-            self.next,
-            due,
-            made,
-        ) else {
+        let Ok(next) = go_on(&mut self.table, &self.congruence, self.begun, row, made) else {
             self.begun = true;
             self.said = Progress::NoMemory;
             return Progress::NoMemory;
