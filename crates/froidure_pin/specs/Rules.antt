@@ -1,8 +1,8 @@
 -- The reduced rules of a table (Froidure and Pin 1997).
 use Rattle.std.specs.Prelude.{◌≡◌, ℕ, zero, suc, ◌+◌, ◌<◌, ◌≤◌, ◌/◌, ◌%◌, Bool, not, ◌&&◌, ◌||◌, ◌==◌, List, [], ◌∷◌, ◌++◌, length, slice_index, slice_index_or, if◌then◌else◌}
 use Rattle.theory.specs.Word.{Word}
-use Rattle.froidure_pin.specs.Found.{entry, parent, words_of, IsTableOf, factor_at}
-use Rattle.froidure_pin.specs.Numbering.{TableOf, IsNumbering}
+use Rattle.froidure_pin.specs.Found.{AreFactors, entry, parent, words_of, IsTableOf, factor_at}
+use Rattle.froidure_pin.specs.Numbering.{AreRows, TableOf, IsNumbering}
 use Rattle.elements.specs.Generators.{HaveOneShape}
 use Rattle.froidure_pin.specs.declared.parts.Factor.{Factor}
 
@@ -12,6 +12,13 @@ pub record IsWholeTable {V : Type 0} (shape : V → ℕ × ℕ) (product : V →
   pub shaped : HaveOneShape shape generators
   pub found : IsTableOf product equal generators unused table.words table.elements
   pub numbers : IsNumbering product equal generators unused table
+
+-- words over so many letters, in a row for each parent the numbers of its products by the letters
+pub record AreProducts (letters : ℕ) (factors : List Factor) (right : List ℕ) : Type 0 where
+  pub some : 0 < letters
+  pub few : letters ≤ 256
+  pub known : AreFactors letters factors
+  pub rows : AreRows letters (length factors) right
 
 -- the parents that are left of the first i words without their first letters
 pub record AreSuffixes (k : ℕ) (factors : List Factor) (right suffixes : List ℕ)

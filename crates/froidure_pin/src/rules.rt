@@ -1,8 +1,7 @@
 // Reduced rules.
-ghost use Rattle.std.specs.Prelude.{◌≡◌, ◌+◌, ◌*◌, ◌/◌, ◌%◌, ◌<◌, ◌≤◌, [], ◌∷◌, ◌++◌, length, slice_index, if◌then◌else◌, ◌==◌, OnOk, IfOk};
+ghost use Rattle.std.specs.Prelude.{◌≡◌, ◌+◌, ◌*◌, ◌/◌, ◌%◌, ◌<◌, ◌≤◌, [], ◌∷◌, ◌++◌, length, List, ℕ, slice_index, if◌then◌else◌, ◌==◌, OnOk, IfOk};
 ghost use Rattle.froidure_pin.specs.Found.{AreFactors, entry, parent, words_of};
-ghost use Rattle.froidure_pin.specs.Numbering.{AreRows};
-ghost use Rattle.froidure_pin.specs.Rules.{AreSuffixes, is_product, is_rule, rules_at, rules_to};
+ghost use Rattle.froidure_pin.specs.Rules.{AreProducts, AreSuffixes, is_product, is_rule, rules_at, rules_to};
 
 use super::parts::Factor;
 use super::rows::entry;
@@ -11,44 +10,12 @@ use ports::NoMemory;
 use std::alloc::Global;
 use words::{Letter, Word};
 
-// The parent that is left of a word without its first letter.
-fn suffix_of(letters: usize, right: &Vec<u32>, suffixes: &Vec<usize>, factor: Factor) -> usize
-    requires letter { factor.last < letters }
-    requires parent { factor.prefix < length suffixes.now.items }
-    requires product { slice_index suffixes.now.items factor.prefix * letters + factor.last
-        < length right.now.items }
-    requires few { entry letters right.now.items (slice_index suffixes.now.items factor.prefix)
-        factor.last < length right.now.items }
-    ensures { result ≡ (if factor.prefix == 0 then 0 else entry letters right.now.items
-        (slice_index suffixes.now.items factor.prefix) factor.last + 1) }
-{
-    if factor.prefix == 0 {
-        return 0;
-    }
-    let suffix = suffixes[factor.prefix as usize];
-    entry(right, letters, suffix, factor.last as usize) + 1
-}
-
-// The parents that are left of the words without their first letters.
-pub(crate) fn suffixes_of(
-    alloc: Global,
-    letters: usize,
-    factors: &Vec<Factor>,
-    right: &Vec<u32>,
-) -> Result<Vec<usize>, NoMemory>
-    requires some { 0 < letters }
-    requires factors { AreFactors letters factors.now.items }
-    requires right { AreRows letters (length factors.now.items) right.now.items }
-    ensures { IfOk result (λ suffixes. AreSuffixes letters factors.now.items right.now.items
-        suffixes.items (length factors.now.items)) }
-{
-    let mut suffixes = Vec::new(alloc);
-    suffixes.push(0)?;
-    for number in 0..factors.len() {
-        let suffix = suffix_of(letters, right, &suffixes, factors[number]);
-        suffixes.push(suffix)?;
-    }
-    Ok(suffixes)
+// The words of a table, and the numbers of their products by each letter on the right.
+#[derive(Clone, Copy)]
+pub(crate) struct Products<'a> {
+    pub(crate) letters: usize,
+    pub(crate) factors: &'a Vec<Factor>,
+    pub(crate) right: &'a Vec<u32>,
 }
 
 // Whether the word of a number is a parent with a letter.
@@ -58,38 +25,6 @@ pub(crate) fn is_product(factors: &Vec<Factor>, number: usize, parent: usize, le
 {
     let factor = factors[number];
     factor.prefix as usize == parent && factor.last as usize == letter
-}
-
-// Whether a product is the left side of a rule: no word, while it is one without its first letter.
-fn is_rule(
-    letters: usize,
-    factors: &Vec<Factor>,
-    right: &Vec<u32>,
-    suffixes: &Vec<usize>,
-    place: usize,
-) -> bool
-    requires some { 0 < letters }
-    requires right { AreRows letters (length factors.now.items) right.now.items }
-    requires suffixes { AreSuffixes letters factors.now.items right.now.items suffixes.now.items
-        (length factors.now.items) }
-    requires within { place < length right.now.items }
-    ensures { result ≡ is_rule letters factors.now.items right.now.items suffixes.now.items place }
-{
-    let parent = place / letters;
-    let letter = place % letters;
-    if is_product(factors, right[place] as usize, parent, letter) {
-        return false;
-    }
-    if parent == 0 {
-        return true;
-    }
-    let suffix = suffixes[parent];
-    is_product(
-        factors,
-        entry(right, letters, suffix, letter),
-        suffix,
-        letter,
-    )
 }
 
 // The word of a parent.
@@ -122,56 +57,104 @@ fn product_word(
     Ok(word)
 }
 
-// Adds the rule at a place, where there is one.
-fn add_rule(
-    alloc: Global,
-    letters: usize,
-    factors: &Vec<Factor>,
-    right: &Vec<u32>,
-    suffixes: &Vec<usize>,
-    place: usize,
-    rules: &mut Vec<(Word, Word)>,
-) -> Result<(), NoMemory>
-    requires some { 0 < letters }
-    requires few { letters ≤ 256 }
-    requires factors { AreFactors letters factors.now.items }
-    requires right { AreRows letters (length factors.now.items) right.now.items }
-    requires suffixes { AreSuffixes letters factors.now.items right.now.items suffixes.now.items
-        (length factors.now.items) }
-    requires within { place < length right.now.items }
-    ensures { OnOk result (rules.new.items ≡ rules.old.items
-        ++ rules_at letters factors.now.items right.now.items suffixes.now.items place) }
-{
-    if !is_rule(letters, factors, right, suffixes, place) {
-        return Ok(());
+impl<'a> Products<'a> {
+    // The parent that is left of a word without its first letter.
+    fn suffix_of(&self, suffixes: &Vec<usize>, factor: Factor) -> usize
+        requires letter { factor.last < self.now.letters }
+        requires parent { factor.prefix < length suffixes.now.items }
+        requires product { slice_index suffixes.now.items factor.prefix * self.now.letters + factor.last
+            < length self.now.right.now.items }
+        requires few { entry self.now.letters self.now.right.now.items
+            (slice_index suffixes.now.items factor.prefix) factor.last
+            < length self.now.right.now.items }
+        ensures { result ≡ (if factor.prefix == 0 then 0 else entry self.now.letters
+            self.now.right.now.items (slice_index suffixes.now.items factor.prefix) factor.last + 1) }
+    {
+        if factor.prefix == 0 {
+            return 0;
+        }
+        let suffix = suffixes[factor.prefix as usize];
+        entry(self.right, self.letters, suffix, factor.last as usize) + 1
     }
-    let reducible = product_word(alloc, factors, place / letters, place % letters)?;
-    let normal = spell(alloc, factors, right[place] as usize)?;
-    rules.push((reducible, normal))?;
-    Ok(())
-}
 
-// All rules.
-pub(crate) fn rules_of(
-    alloc: Global,
-    letters: usize,
-    factors: &Vec<Factor>,
-    right: &Vec<u32>,
-    suffixes: &Vec<usize>,
-) -> Result<Vec<(Word, Word)>, NoMemory>
-    requires some { 0 < letters }
-    requires few { letters ≤ 256 }
-    requires factors { AreFactors letters factors.now.items }
-    requires right { AreRows letters (length factors.now.items) right.now.items }
-    requires suffixes { AreSuffixes letters factors.now.items right.now.items suffixes.now.items
-        (length factors.now.items) }
-    ensures { IfOk result (λ rules. rules.items
-        ≡ rules_to letters factors.now.items right.now.items suffixes.now.items
-        (length right.now.items)) }
-{
-    let mut rules = Vec::new(alloc);
-    for place in 0..right.len() {
-        add_rule(alloc, letters, factors, right, suffixes, place, &mut rules)?;
+    // The parents that are left of the words without their first letters.
+    fn suffixes(&self, alloc: Global) -> Result<Vec<usize>, NoMemory>
+        requires { AreProducts self.now.letters self.now.factors.now.items self.now.right.now.items }
+        ensures { IfOk result (λ suffixes. AreSuffixes self.now.letters self.now.factors.now.items
+            self.now.right.now.items suffixes.items (length self.now.factors.now.items)) }
+    {
+        let mut suffixes = Vec::new(alloc);
+        suffixes.push(0)?;
+        for number in 0..self.factors.len() {
+            let suffix = self.suffix_of(&suffixes, self.factors[number]);
+            suffixes.push(suffix)?;
+        }
+        Ok(suffixes)
     }
-    Ok(rules)
+
+    // Whether a product is the left side of a rule: no word, while it is one without its first
+    // letter.
+    fn is_rule(&self, suffixes: &Vec<usize>, place: usize) -> bool
+        requires products { AreProducts self.now.letters self.now.factors.now.items self.now.right.now.items }
+        requires suffixes { AreSuffixes self.now.letters self.now.factors.now.items self.now.right.now.items
+            suffixes.now.items (length self.now.factors.now.items) }
+        requires within { place < length self.now.right.now.items }
+        ensures { result ≡ is_rule self.now.letters self.now.factors.now.items self.now.right.now.items
+            suffixes.now.items place }
+    {
+        let parent = place / self.letters;
+        let letter = place % self.letters;
+        if is_product(self.factors, self.right[place] as usize, parent, letter) {
+            return false;
+        }
+        if parent == 0 {
+            return true;
+        }
+        let suffix = suffixes[parent];
+        let rest = entry(self.right, self.letters, suffix, letter);
+        is_product(self.factors, rest, suffix, letter)
+    }
+
+    // Adds the rule at a place, where there is one.
+    fn add_rule(
+        &self,
+        alloc: Global,
+        suffixes: &Vec<usize>,
+        place: usize,
+        rules: &mut Vec<(Word, Word)>,
+    ) -> Result<(), NoMemory>
+        requires products { AreProducts self.now.letters self.now.factors.now.items self.now.right.now.items }
+        requires suffixes { AreSuffixes self.now.letters self.now.factors.now.items self.now.right.now.items
+            suffixes.now.items (length self.now.factors.now.items) }
+        requires within { place < length self.now.right.now.items }
+        ensures { OnOk result (rules.new.items ≡ rules.old.items
+            ++ rules_at self.now.letters self.now.factors.now.items self.now.right.now.items
+            suffixes.now.items place) }
+    {
+        if !self.is_rule(suffixes, place) {
+            return Ok(());
+        }
+        let (before, letter) = (place / self.letters, place % self.letters);
+        let reducible = product_word(alloc, self.factors, before, letter)?;
+        let normal = spell(alloc, self.factors, self.right[place] as usize)?;
+        rules.push((reducible, normal))?;
+        Ok(())
+    }
+
+    // All rules.
+    pub(crate) fn rules(&self, alloc: Global) -> Result<Vec<(Word, Word)>, NoMemory>
+        requires { AreProducts self.now.letters self.now.factors.now.items self.now.right.now.items }
+        ensures { IfOk result (λ rules. (suffixes : List ℕ)
+            × AreSuffixes self.now.letters self.now.factors.now.items self.now.right.now.items suffixes
+            (length self.now.factors.now.items)
+            × (rules.items ≡ rules_to self.now.letters self.now.factors.now.items self.now.right.now.items
+            suffixes (length self.now.right.now.items))) }
+    {
+        let suffixes = self.suffixes(alloc)?;
+        let mut rules = Vec::new(alloc);
+        for place in 0..self.right.len() {
+            self.add_rule(alloc, &suffixes, place, &mut rules)?;
+        }
+        Ok(rules)
+    }
 }

@@ -10,7 +10,7 @@ ghost use Rattle.froidure_pin.specs.Numbering.{AreRowsBy, IsRowBy, left_number, 
 use super::lists::{Rows, Words};
 use super::parts::Factor;
 use super::rows::entry;
-use super::rules::{rules_of, suffixes_of};
+use super::rules::Products;
 use super::spell::spell;
 use super::tables::{CayleyTables, row_of};
 use elements::Element;
@@ -148,8 +148,12 @@ impl<E: Element> Table<E> {
             rules.items) }
     {
         let alloc = *self.factors.allocator();
-        let suffixes = suffixes_of(alloc, self.letters, &self.factors, &self.right)?;
-        rules_of(alloc, self.letters, &self.factors, &self.right, &suffixes)
+        let products = Products {
+            letters: self.letters,
+            factors: &self.factors,
+            right: &self.right,
+        };
+        products.rules(alloc)
     }
 
     /// The words, the numbers of the products by each letter on the right and on the left, and the

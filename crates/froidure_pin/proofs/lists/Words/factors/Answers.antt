@@ -1,4 +1,4 @@
-use Rattle.std.proofs.Common.{◌≡◌, ◌<◌, ◌++◌, ◌∷◌, List, [], length, slice_index_or, sym, ◌∙◌, ap, subst, arith}
+use Rattle.std.proofs.Common.{◌≡◌, ◌<◌, ◌++◌, ◌∷◌, List, [], length, slice_index_or, sym, ap, subst, arith}
 use Rattle.theory.specs.Word.{Word}
 use Rattle.froidure_pin.specs.Found.{word_or_none, words_of}
 use Rattle.froidure_pin.proofs.Factors.{words_length}

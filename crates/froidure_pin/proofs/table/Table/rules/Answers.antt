@@ -13,6 +13,6 @@ returns g c =
     let factors : List Factor = c.self.inside.factors.items in
     let right : List ℕ = c.self.inside.right.items in
     let rows = subst (λ n. AreRows c.self.inside.letters n right) (sym c.self.invariant.count) c.self.invariant.on_right in
-    ok_map _ _ c.rules_of.result (λ rules e generators unused whole.
+    ok_map _ _ c.rules.result (λ rules e generators unused whole.
     let here = subst (λ t. IsWholeTable g.E.Values.shape g.E.Values.product g.E.PartialEq.eq generators unused t) (sym c.self.view_is) whole in
-    subst (λ xs. IsRuleList (SameValue (length generators) g.E.PartialEq.eq (value_by g.E.Values.product generators unused)) xs) (sym e) (whole_rules g.met.E.Values.products g.met.E.Element.one_shape generators unused factors c.self.inside.elements.keys right c.self.inside.left.items c.in_ok-suffixes.suffixes.items c.self.inside.letters here c.self.invariant.known rows c.in_ok-suffixes.ensures c.self.invariant.some)) c.rules_of.ensures
+    subst (λ xs. IsRuleList (SameValue (length generators) g.E.PartialEq.eq (value_by g.E.Values.product generators unused)) xs) (sym e.2) (whole_rules g.met.E.Values.products g.met.E.Element.one_shape generators unused factors c.self.inside.elements.keys right c.self.inside.left.items e.0 c.self.inside.letters here c.self.invariant.known rows e.1 c.self.invariant.some)) c.rules.ensures
