@@ -1,8 +1,9 @@
 -- Branches of the search.
-use Rattle.std.proofs.Common.{◌≡◌, ℕ, zero, suc, ◌⊎◌, ◌-◌, ◌<◌, ◌≤◌, List, [], ◌∷◌, ◌++◌, length, take, slice_get, Option, Some, None, MatchOption, option_to_list, sym, ◌∙◌, ap, subst, arith, inl, inr, refl}
+use Rattle.std.proofs.Common.{◌≡◌, ℕ, zero, suc, ◌⊎◌, ◌-◌, ◌<◌, ◌≤◌, List, [], ◌∷◌, ◌++◌, length, take, set, get_or, slice_get, Option, Some, None, MatchOption, option_to_list, sym, ◌∙◌, ap, ap₂, subst, arith, inl, inr, refl}
+use Rattle.std.proofs.Math.Seq.{set-append_seam}
 use Rattle.std.proofs.lemmas.Bool.{cases_lt}
 use Rattle.std.proofs.lemmas.List.{length_push, take_at, length-take-le, take_all, take-append-le}
-use Rattle.std.proofs.lemmas.Option.{slice_get_within}
+use Rattle.std.proofs.lemmas.Option.{slice_get_read, slice_get_within}
 use Rattle.theory.specs.Congruence.{Presentation}
 use Rattle.sims_one.specs.declared.known.Known.{Known}
 use Rattle.sims_one.specs.Targets.{IsFront, AreAllowed}
@@ -27,6 +28,17 @@ get_taken (suc i) [] d k e = e
 get_taken (suc i) (x ∷ ks) zero k e = e
 get_taken (suc i) (x ∷ ks) (suc d) k e = get_taken i ks d k e
 
+-- what stands last
+pub last_at : (ks : List Known) (k x : Known) (d : ℕ) → d ≡ length ks → get_or (ks ++ k ∷ []) d x ≡ k
+last_at [] k x zero h = refl
+last_at [] k x (suc d) h = absurd (omega (arith, h))
+last_at (y ∷ ks) k x zero h = absurd (omega (arith, h))
+last_at (y ∷ ks) k x (suc d) h = last_at ks k x d (omega (arith, h))
+
+-- another stands last
+pub last_set : (ks items : List Known) (k new : Known) (d : ℕ) → items ≡ ks ++ k ∷ [] → d ≡ length ks → set items d new ≡ ks ++ new ∷ []
+last_set ks items k new d e h = ap₂ (λ (xs : List Known) i. set xs i new) e h ∙ set-append_seam ks k [] new
+
 -- one level
 only : (k known : Known) (d : ℕ) → slice_get (k ∷ []) d ≡ Some known → (d ≡ 0) × (k ≡ known)
 only k known zero e = (refl, let h : k ≡ known = cc in h)
@@ -45,6 +57,12 @@ branch_start p n k nodes edges = record {
 module _ (p : Presentation) (n : ℕ) (t : List ℕ) (levels : List Known) (is : IsBranch p n t levels) where
   pub branch_known : (known : Known) → slice_get levels (length t) ≡ Some known → IsKnown p n t known
   branch_known known e = subst (λ (xs : List ℕ). IsKnown p n xs known) (take_all (length t) t (omega arith)) (is.known (length t) known e)
+
+  -- the last level, where it is read
+  pub branch_last : (place : ℕ) (known : Known) → place ≡ length t → known ≡ get_or levels place known → IsKnown p n t known
+  branch_last place known here e =
+      let at : slice_get levels place ≡ Some known = slice_get_read levels (length levels) place known (λ i. length levels) (omega (arith, here, is.long)) e in
+      branch_known known (subst (λ z. slice_get levels z ≡ Some known) here at)
 
   pub branch_push : (m : ℕ) (new : Known) → IsFront p.letters (t ++ m ∷ []) → AreAllowed p n (t ++ m ∷ []) → IsKnown p n (t ++ m ∷ []) new → IsBranch p n (t ++ m ∷ []) (levels ++ new ∷ [])
   branch_push m new front allowed last = record {

@@ -1,11 +1,15 @@
 // Branches of the search.
-ghost use Rattle.std.specs.Prelude.{◌≡◌, ℕ, ◌++◌, ◌∷◌, [], length, suc, option_to_list, OnOk, IfOk, Option, MatchOption};
+ghost use Rattle.std.specs.Prelude.{◌≡◌, ◌≤◌, ℕ, ◌++◌, ◌∷◌, [], length, suc, option_to_list, true, false, IfOk, Option, MatchOption};
 ghost use Rattle.theory.specs.Congruence.{Presentation as Relations};
 ghost use Rattle.sims_one.specs.Known.{IsKnown, IsBranch};
+ghost use Rattle.sims_one.specs.Search.{NoneWithin};
+ghost use Rattle.sims_one.specs.Targets.{AreAllowed, IsFront};
 
-use crate::deductions::Edge;
+use crate::deductions::{Edge, extend};
 use crate::known::Known;
+use crate::sims::MOST_CLASSES;
 use ports::NoMemory;
+use presentation::Presentation;
 use std::alloc::Global;
 
 /// A front part of the targets of tables, and what is known behind each front part of it.
@@ -47,18 +51,42 @@ impl Branch {
         &self.levels[self.targets.len()]
     }
 
-    /// Puts a target behind the others, with what is known then. Refused only where memory is
-    /// wanting.
-    pub fn push(&mut self, target: usize, known: Known) -> Result<(), NoMemory>
-        ensures targets { OnOk result (self.new.targets.items
-            ≡ self.old.targets.items ++ target ∷ []) }
-        ensures levels { OnOk result (self.new.levels.items
-            ≡ self.old.levels.items ++ known ∷ []) }
+    /// Puts the target behind the others, with what is known then, and tells that tables may have it;
+    /// else no table has it, and the targets are left as they are. What is known is copied once, and
+    /// added to where it stands. Refused only where memory is wanting, and then the branch is any.
+    pub fn enter(
+        &mut self,
+        presentation: &Presentation,
+        classes: usize,
+        target: usize,
+    ) -> Result<bool, NoMemory>
+        requires classes { classes ≤ MOST_CLASSES }
+        requires branch { IsBranch presentation.now.presentation classes
+            self.old.targets.items self.old.levels.items }
+        requires front { IsFront presentation.now.presentation.letters
+            (self.old.targets.items ++ target ∷ []) }
+        requires allowed { AreAllowed presentation.now.presentation classes
+            (self.old.targets.items ++ target ∷ []) }
+        ensures entered { IfOk result (λ b. b ≡ true
+            → self.new.targets.items ≡ self.old.targets.items ++ target ∷ []) }
+        ensures none { IfOk result (λ b. b ≡ false → NoneWithin presentation.now.presentation
+            classes (self.old.targets.items ++ target ∷ [])) }
+        ensures branch { IfOk result (λ _. IsBranch presentation.now.presentation classes
+            self.new.targets.items self.new.levels.items) }
+        ensures same { IfOk result (λ b. b ≡ false
+            → self.new.targets.items ≡ self.old.targets.items) }
     {
-        self.targets.push(target)?;
+        let place = self.targets.len();
+        let known = self.levels[place];
         self.levels.push(known)?;
+        let last = &mut self.levels[place + 1];
+        if !extend(presentation, last, &mut self.fresh, place, target)? {
+            self.levels.pop();
+            return Ok(false);
+        }
+        self.targets.push(target)?;
         self.steps = self.steps.saturating_add(1);
-        Ok(())
+        Ok(true)
     }
 
     /// Takes the last target away.

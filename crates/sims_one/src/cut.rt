@@ -6,7 +6,7 @@ ghost use Rattle.sims_one.specs.Fronts.{IsOpen, AreOpen, AreLonger, AddsLonger, 
 
 use crate::branch::Branch;
 use crate::request::Request;
-use crate::search::{candidate_limit, enter, least_candidate, least_target, most_nodes};
+use crate::search::{candidate_limit, least_candidate, least_target, most_nodes};
 use crate::within::{branch_of, place_of};
 use ports::NoMemory;
 use std::alloc::Global;
@@ -72,7 +72,7 @@ fn grow_with(
         request.now.classes branch.new.targets.items branch.new.levels.items) }
     ensures same { OnOk result (branch.new.targets.items ≡ branch.old.targets.items) }
 {
-    if !enter(request.presentation, request.classes, branch, target)? {
+    if !branch.enter(request.presentation, request.classes, target)? {
         return Ok(());
     }
     grow(alloc, request, branch, depth, fronts)?;

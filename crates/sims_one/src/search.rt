@@ -5,7 +5,6 @@ ghost use Rattle.sims_one.specs.Known.{HasEdges, IsBranch};
 ghost use Rattle.sims_one.specs.Search.{IsLeastWithin, NoneWithin, IsLeastBeyond, NoneBeyond, IsLeastAfter, NoneAfter, NoneFrom, IsCursor, IsFoundBranch};
 
 use crate::branch::Branch;
-use crate::deductions::extend;
 use crate::known::{Known, MOST_EDGES};
 use crate::paths::is_sound;
 use crate::sims::MOST_CLASSES;
@@ -76,40 +75,6 @@ pub fn candidate_limit(
         Some(target) => limit.min(target + 1),
         None => limit,
     }
-}
-
-/// Puts the target behind those of the branch, and tells that tables may have it; else no table has
-/// it, and the targets are left as they are. Refused only where memory is wanting, and then the branch
-/// is any.
-pub fn enter(
-    presentation: &Presentation,
-    classes: usize,
-    branch: &mut Branch,
-    target: usize,
-) -> Result<bool, NoMemory>
-    requires classes { classes ≤ MOST_CLASSES }
-    requires branch { IsBranch presentation.now.presentation classes
-        branch.old.targets.items branch.old.levels.items }
-    requires front { IsFront presentation.now.presentation.letters
-        (branch.old.targets.items ++ target ∷ []) }
-    requires allowed { AreAllowed presentation.now.presentation classes
-        (branch.old.targets.items ++ target ∷ []) }
-    ensures entered { IfOk result (λ b. b ≡ true
-        → branch.new.targets.items ≡ branch.old.targets.items ++ target ∷ []) }
-    ensures none { IfOk result (λ b. b ≡ false → NoneWithin presentation.now.presentation classes
-        (branch.old.targets.items ++ target ∷ [])) }
-    ensures branch { IfOk result (λ _. IsBranch presentation.now.presentation classes
-        branch.new.targets.items branch.new.levels.items) }
-    ensures same { IfOk result (λ b. b ≡ false
-        → branch.new.targets.items ≡ branch.old.targets.items) }
-{
-    let mut known = *branch.known();
-    let place = branch.targets.len();
-    if !extend(presentation, &mut known, &mut branch.fresh, place, target)? {
-        return Ok(false);
-    }
-    branch.push(target, known)?;
-    Ok(true)
 }
 
 /// Makes of the branch that of the least table of at most so many classes that goes on behind its
@@ -202,7 +167,7 @@ pub fn search_with(
     ensures same { IfOk result (λ b. b ≡ false
         → branch.new.targets.items ≡ branch.old.targets.items) }
 {
-    if !enter(presentation, classes, branch, target)? {
+    if !branch.enter(presentation, classes, target)? {
         return Ok(false);
     }
     if search(presentation, classes, branch)? {
@@ -280,7 +245,7 @@ pub fn search_along(
     if !is_allowed(presentation, classes, target) {
         return Ok(false);
     }
-    if !enter(presentation, classes, branch, target)? {
+    if !branch.enter(presentation, classes, target)? {
         return Ok(false);
     }
     if search_after(presentation, classes, cursor, branch)? {

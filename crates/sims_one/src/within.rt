@@ -11,7 +11,7 @@ ghost use Rattle.sims_one.specs.Fronts.{IsOpen, lists_in};
 use crate::branch::Branch;
 use crate::paths::greatest;
 use crate::request::Request;
-use crate::search::{enter, search, search_after, search_next};
+use crate::search::{search, search_after, search_next};
 use ports::NoMemory;
 use std::alloc::Global;
 use std::cmp::Ordering;
@@ -59,7 +59,7 @@ pub fn branch_of(
 {
     let mut branch = Branch::new(alloc)?;
     for target in front {
-        if !enter(request.presentation, request.classes, &mut branch, *target)? {
+        if !branch.enter(request.presentation, request.classes, *target)? {
             return Ok(None);
         }
     }

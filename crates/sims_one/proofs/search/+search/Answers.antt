@@ -137,7 +137,7 @@ search_with-search-requires t c =
     let p = c.args.presentation.now.presentation in
     let ts : List ℕ = c.args.branch.now.targets.items in
     let entered = c.in_ok-enter.ensures.entered c.if-not-branch.false in
-    let long : length c.enter.new.branch.targets.items ≡ length ts + 1 = ap length entered ∙ length_push ts c.args.target in
+    let long : length c.enter.new.self.targets.items ≡ length ts + 1 = ap length entered ∙ length_push ts c.args.target in
     let room : p.letters * seen ts ≤ p.letters * 17 = times_more p.letters (seen ts) 17 (few_seen p c.args.classes ts c.requires.branch.allowed c.requires.classes) in
     let wants = front_wants p.letters ts c.args.target [] c.requires.front in
     (omega (arith, c.decreases, long, room, wants), (c.requires.classes, c.in_ok-enter.ensures.branch))

@@ -106,8 +106,8 @@ search_along-search_after-requires t c =
     let cursor : List ℕ = c.args.cursor.now in
     let ts : List ℕ = c.args.branch.now.targets.items in
     let entered = c.in_ok-enter.ensures.entered c.if-not-branch.false in
-    let within : IsWithin c.enter.new.branch.targets.items cursor = subst (λ (xs : List ℕ). IsWithin xs cursor) (sym entered) c.requires.within in
-    let long : length c.enter.new.branch.targets.items ≡ length ts + 1 = ap length entered ∙ length_push ts c.args.target in
+    let within : IsWithin c.enter.new.self.targets.items cursor = subst (λ (xs : List ℕ). IsWithin xs cursor) (sym entered) c.requires.within in
+    let long : length c.enter.new.self.targets.items ≡ length ts + 1 = ap length entered ∙ length_push ts c.args.target in
     let room : length ts < length cursor = within_long ts cursor c.args.target c.requires.within in
     (omega (arith, c.decreases, long, room), (c.requires.classes, (c.requires.cursor, (c.requires.full, (within, c.in_ok-enter.ensures.branch)))))
 
