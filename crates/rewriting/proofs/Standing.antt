@@ -1,8 +1,8 @@
 -- Where words stand in words.
-use Rattle.std.proofs.Common.{◌≡◌, ℕ, ◌-◌, ◌<◌, ◌≤◌, Bool, true, false, List, [], ◌∷◌, ◌++◌, length, take, drop, get_or, refl, sym, ◌∙◌, ap, ap₂, subst, arith, inl, inr, eqb, Contains, length-append, IsTrue, ◌↔◌}
+use Rattle.std.proofs.Common.{◌≡◌, ℕ, zero, suc, ◌&&◌, ◌-◌, ◌<◌, ◌≤◌, Bool, true, false, List, [], ◌∷◌, ◌++◌, length, take, drop, get_or, refl, sym, ◌∙◌, ap, ap₂, subst, arith, inl, inr, eqb, Contains, length-append, IsTrue, ◌↔◌}
 use Rattle.std.specs.Cmp.Lexicographic.{pointwise}
 use Rattle.std.specs.List.{starts_with}
-use Rattle.std.proofs.lemmas.Bool.{cases_Bool, or_cases, or_left, or_right}
+use Rattle.std.proofs.lemmas.Bool.{cases_Bool, eqb-true, or_cases, or_left, or_right}
 use Rattle.std.proofs.lemmas.Bool.Decides.{Decides-eqb}
 use Rattle.std.proofs.lemmas.List.{append_assoc, get_or_default, take_rest}
 use Rattle.std.proofs.lemmas.Slice.Eq.{starts_is}
@@ -12,14 +12,23 @@ use Rattle.theory.specs.Completion.{Listed}
 use Rattle.theory.proofs.Words.{before_no_longer, before_irrefl}
 use Rattle.rewriting.specs.Rules.{AreFalling, stands_in}
 
--- a test of the letters from a place on, as the code makes it
-pub starts_tested : (f u f' u' : Word) (place : ℕ) (r : Bool) → f' ≡ f → u' ≡ u
-    → r ≡ pointwise eqb f' (take (length f') (take (length u' - place) (drop place u')))
+-- a test whether the word stands at a place, as the code makes it
+pub starts_tested : (f u f' u' : Word) (place : ℕ) (r : Bool) → f' ≡ f → u' ≡ u → r ≡ starts_with eqb (drop place u') f'
     → (r ≡ true → drop place u ≡ f ++ drop (length f) (drop place u)) × (r ≡ false → (y : Word) → drop place u ≡ f ++ y → ⊥)
 starts_tested f u f' u' place r ef eu e =
-    let tested = starts_is Decides-eqb (drop place u) f r
-    (e ∙ ap (λ w. pointwise eqb f' (take (length f') w)) (take_rest u' place) ∙ ap₂ (λ (f u : Word). pointwise eqb f (take (length f) (drop place u))) ef eu) in
+    let tested = starts_is Decides-eqb (drop place u) f r (e ∙ ap₂ (λ (f u : Word). starts_with eqb (drop place u) f) ef eu) in
     (tested.0, λ t y h. let bad : r ≡ true = tested.1 y h in let b : ⊥ = cc in b)
+
+-- a word does not stand where its first letter does not
+pub starts_elsewhere : (u f : Word) (place x y : ℕ) → 0 < length f → place < length u → x ≡ get_or u place x → y ≡ get_or f 0 y → (x ≡ y → ⊥)
+    → false ≡ starts_with eqb (drop place u) f
+starts_elsewhere [] f place x y some within read begin differ = absurd (omega (arith, within))
+starts_elsewhere (b ∷ u) [] zero x y some within read begin differ = absurd (omega (arith, some))
+starts_elsewhere (b ∷ u) (a ∷ f) zero x y some within read begin differ = elim (cases_Bool (eqb a b)) [
+  | inl t ↦ absurd (differ (read ∙ sym (eqb-true a b t) ∙ sym begin))
+  | inr e ↦ sym (ap (λ t. t && pointwise eqb f (take (length f) u)) e)
+]
+starts_elsewhere (b ∷ u) f (suc place) x y some within read begin differ = starts_elsewhere u f place x y some (omega (arith, within)) read begin differ
 
 -- the rule at a number, as the code reads it
 pub rule_read : (rules items : List (Word × Word)) (number : ℕ) (rule : Word × Word) → items ≡ rules → number < length items
