@@ -184,6 +184,39 @@ fn join_overlap(
     Ok(())
 }
 
+// Joins the overlaps of two rules, by their places, in words of such lengths, one number of shared
+// letters after another.
+fn join_shared(
+    alloc: Global,
+    rules: &KeptRules,
+    first: usize,
+    second: usize,
+    lengths: Lengths,
+    equations: &mut Equations,
+    log: &mut Log,
+) -> Result<(), NoMemory>
+    requires first { first < length rules.now }
+    requires second { second < length rules.now }
+    requires held { LogsHeld log.old rules.now equations.old }
+    ensures gains { OnOk result (Gains lengths rules.now equations.old equations.new
+        (length (rule_at rules.now first).0)) }
+    ensures joined { OnOk result (AreJoined lengths rules.now equations.new
+        (rule_at rules.now first) (rule_at rules.now second)) }
+    ensures logged { OnOk result (KeepsLog log.old log.new rules.now equations.new) }
+{
+    let (fewest, end) = shared_by(
+        lengths,
+        rules.rule(first).0.len(),
+        rules.rule(second).0.len(),
+    );
+    for shared in fewest..end {
+        if overlap(&rules.rule(first).0, &rules.rule(second).0, shared) {
+            join_overlap(alloc, rules, first, second, shared, equations, log)?;
+        }
+    }
+    Ok(())
+}
+
 /// Joins the overlaps of two rules, by their places, in words of such lengths: where the two ways
 /// to rewrite one lead to different words, these become an equation. Refused only where memory is
 /// wanting.
@@ -208,17 +241,7 @@ pub fn join_overlaps(
     if !may_overlap(&rules.rule(first).0, &rules.rule(second).0) {
         return Ok(());
     }
-    let (fewest, end) = shared_by(
-        lengths,
-        rules.rule(first).0.len(),
-        rules.rule(second).0.len(),
-    );
-    for shared in fewest..end {
-        if overlap(&rules.rule(first).0, &rules.rule(second).0, shared) {
-            join_overlap(alloc, rules, first, second, shared, equations, log)?;
-        }
-    }
-    Ok(())
+    join_shared(alloc, rules, first, second, lengths, equations, log)
 }
 
 /// Joins the overlaps of a rule, by its place, with each rule, itself among them, on both sides, in

@@ -2,7 +2,7 @@ use Rattle.std.proofs.Common.{◌-◌, ◌≤◌, length}
 use Rattle.knuth_bendix.specs.Logs.{KeepsLog}
 use Rattle.knuth_bendix.specs.Overlaps.{rule_at}
 use Rattle.knuth_bendix.proofs.OverlapSteps.{IsJoinedTo}
-use Rattle.knuth_bendix.proofs.overlaps.join_overlaps.Given as goal
+use Rattle.knuth_bendix.proofs.overlaps.join_shared.Given as goal
 
 abbrev pub invariant-loop-shared : goal.invariant-loop-shared
 invariant-loop-shared l = record {
