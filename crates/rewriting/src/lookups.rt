@@ -138,6 +138,7 @@ impl Lookup {
 
     /// Reads one letter, and tells the rule that is applied there, if one is. Refused only where
     /// memory is wanting.
+    #[inline(always)]
     pub fn read_letter(
         &self,
         rules: &Rules,

@@ -59,14 +59,14 @@ fn depth_of(rules: &Rules, first: usize) -> usize
 }
 
 impl Newer {
-    /// No rule. It takes no memory.
+    /// No rule, with keys of a letter, since these are made the soonest. It takes no memory.
     pub fn none(alloc: Global) -> Newer
         ensures depth { 0 < result.depth }
         ensures before { result.before.items ≡ [] }
         ensures latest { result.latest.items ≡ [] }
     {
         Newer {
-            depth: LETTERS_AT_MOST,
+            depth: 1,
             latest: Vec::new(alloc),
             before: Vec::new(alloc),
         }

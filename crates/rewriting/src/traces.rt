@@ -31,6 +31,7 @@ pub fn note(trace: &mut Vec<Applied>, applied: Option<Applied>) -> Result<(), No
 
 /// The letter is read, to the state that follows; or the rule is applied whose left side ends
 /// there. Refused only where memory is wanting.
+#[inline(always)]
 pub fn follow(
     reduction: &mut Reduction,
     rules: &Rules,
