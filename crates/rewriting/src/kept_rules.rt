@@ -12,7 +12,7 @@ use crate::index_automaton::IndexAutomaton;
 use crate::lookups::Lookup;
 use crate::newer::Newer;
 use crate::parts::{part, places_after};
-use crate::reductions::unread;
+use crate::reductions::{Reduction, begin, unread};
 use crate::rule_lists::Rules;
 use crate::traces::{Applied, note};
 use ports::NoMemory;
@@ -218,15 +218,23 @@ impl KeptRules {
         ensures reached { IfOk result (λ w. Reduces (Listed self.now) word.now w) }
         ensures reduced { IfOk result (λ w. IsReduced (Listed self.now) w) }
     {
+        let mut room = Reduction::new(self.rules.alloc);
+        self.reduce_in(&mut room, word)
+    }
+
+    /// The same in room that is kept from one word to the next. Refused only where memory is
+    /// wanting.
+    pub fn reduce_in(&self, room: &mut Reduction, word: &Word) -> Result<Word, NoMemory>
+        ensures reached { IfOk result (λ w. Reduces (Listed self.now) word.now w) }
+        ensures reduced { IfOk result (λ w. IsReduced (Listed self.now) w) }
+    {
         let _count = self.rules.len();
         let alloc = self.rules.alloc;
-        let mut reduction = unread(alloc, word)?;
-        while let Some(letter) = reduction.rest.pop() {
-            let _applied = self
-                .lookup
-                .read_letter(&self.rules, word, &mut reduction, letter)?;
+        begin(room, word)?;
+        while let Some(letter) = room.rest.pop() {
+            let _applied = self.lookup.read_letter(&self.rules, word, room, letter)?;
         }
-        word_of(alloc, reduction.done.as_slice())
+        word_of(alloc, room.done.as_slice())
     }
 
     /// The word to which the rules lead from the word, none of which applies to it, and the rules that

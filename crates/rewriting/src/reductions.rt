@@ -13,13 +13,28 @@ use ports::NoMemory;
 use std::alloc::Global;
 use words::{Letter, Word};
 
-/// The letters that are read, the states of each front of them, and the letters that are left, the
-/// next one last.
+/// A word that is being reduced, and the room for one: the letters that are read, the states of each
+/// front of them, and the letters that are left, the next one last.
 #[derive(Drop)]
 pub struct Reduction {
     pub done: Vec<Letter>,
     pub states: Vec<usize>,
     pub rest: Vec<Letter>,
+}
+
+impl Reduction {
+    /// The room of no word. It takes no memory.
+    pub fn new(alloc: Global) -> Reduction
+        ensures done { result.done.items ≡ [] }
+        ensures states { result.states.items ≡ [] }
+        ensures rest { result.rest.items ≡ [] }
+    {
+        Reduction {
+            done: Vec::new(alloc),
+            states: Vec::new(alloc),
+            rest: Vec::new(alloc),
+        }
+    }
 }
 
 // Puts the letters at the end, the last one first.
@@ -32,21 +47,32 @@ fn put_reversed(rest: &mut Vec<Letter>, letters: &[Letter]) -> Result<(), NoMemo
     Ok(())
 }
 
+/// Nothing is read of the word, in the room of what was read before. Refused only where memory is
+/// wanting.
+pub fn begin(reduction: &mut Reduction, word: &Word) -> Result<(), NoMemory>
+    ensures done { OnOk result (reduction.new.done.items ≡ []) }
+    ensures states { OnOk result (reduction.new.states.items ≡ 0 ∷ []) }
+    ensures rest { OnOk result (reduction.new.rest.items ≡ reverse word.now) }
+{
+    reduction.done.clear();
+    reduction.states.clear();
+    reduction.rest.clear();
+    reduction.done.reserve(word.len())?;
+    reduction.states.reserve(word.len().saturating_add(1))?;
+    reduction.rest.reserve(word.len())?;
+    reduction.states.push(0)?;
+    put_reversed(&mut reduction.rest, word.letters())
+}
+
 /// Nothing is read of the word. Refused only where memory is wanting.
 pub fn unread(alloc: Global, word: &Word) -> Result<Reduction, NoMemory>
     ensures done { IfOk result (λ r. r.done.items ≡ []) }
     ensures states { IfOk result (λ r. r.states.items ≡ 0 ∷ []) }
     ensures rest { IfOk result (λ r. r.rest.items ≡ reverse word.now) }
 {
-    let mut rest = Vec::from_slice(alloc, word.letters())?;
-    rest.reverse();
-    let mut states = Vec::with_capacity(alloc, word.len().saturating_add(1))?;
-    states.push(0)?;
-    Ok(Reduction {
-        done: Vec::with_capacity(alloc, word.len())?,
-        states,
-        rest,
-    })
+    let mut reduction = Reduction::new(alloc);
+    begin(&mut reduction, word)?;
+    Ok(reduction)
 }
 
 /// The letter is read, and the state follows. Refused only where memory is wanting.
