@@ -6,7 +6,7 @@ ghost use Rattle.knuth_bendix.specs.Overlaps.{AreJoined, HasLength, IsSplit, rul
 use crate::equations::Equations;
 use crate::lengths::Lengths;
 use crate::logs::Log;
-use crate::overlaps::join_overlaps;
+use crate::overlaps::{Room, join_overlaps};
 use ports::NoMemory;
 use rewriting::KeptRules;
 use std::alloc::Global;
@@ -27,12 +27,14 @@ fn pair_is_joined(
 {
     let mut equations = Equations::new(alloc);
     let mut log = Log::none();
+    let mut room = Room::new(alloc);
     join_overlaps(
         alloc,
         rules,
         first,
         second,
         lengths,
+        &mut room,
         &mut equations,
         &mut log,
     )?;

@@ -12,7 +12,7 @@ ghost use Rattle.knuth_bendix.specs.Overlaps.{critical_pair, overlaps_by};
 use chains::{ChainStep, Derivations, Fact, around, turn_back};
 use ports::NoMemory;
 use presentation::Presentation;
-use rewriting::{Applied, KeptRules};
+use rewriting::{Applied, KeptRules, Reduction};
 use std::alloc::Global;
 use std::collections::HashMap;
 use std::marker::Model;
@@ -182,8 +182,26 @@ impl Log {
         ensures reduced { IfOk result (λ r. IsReduced (Listed rules.now) r.0) }
         ensures shown { IfOk result (λ r. Shows self.now word.now r.1.items r.0) }
     {
+        let mut room = Reduction::new(alloc);
+        self.reduce_in(alloc, rules, &mut room, word)
+    }
+
+    /// The same in room that is kept from one word to the next. Refused only where memory is
+    /// wanting.
+    pub fn reduce_in(
+        &self,
+        alloc: Global,
+        rules: &KeptRules,
+        room: &mut Reduction,
+        word: &Word,
+    ) -> Result<(Word, Vec<ChainStep>), NoMemory>
+        requires { AreLogged self.now rules.now }
+        ensures reached { IfOk result (λ r. Reduces (Listed rules.now) word.now r.0) }
+        ensures reduced { IfOk result (λ r. IsReduced (Listed rules.now) r.0) }
+        ensures shown { IfOk result (λ r. Shows self.now word.now r.1.items r.0) }
+    {
         match &self.facts {
-            None => Ok((rules.reduce(word)?, Vec::new(alloc))),
+            None => Ok((rules.reduce_in(room, word)?, Vec::new(alloc))),
             Some(facts) => {
                 let (reduced, trace) = rules.reduce_traced(word)?;
                 let steps = facts.steps_of(alloc, rules, trace.as_slice())?;

@@ -9,7 +9,7 @@ use crate::lengths::Lengths;
 use crate::logs::Log;
 use chains::ChainStep;
 use ports::NoMemory;
-use rewriting::KeptRules;
+use rewriting::{KeptRules, Reduction};
 use std::alloc::Global;
 use words::{Letter, Word};
 
@@ -67,31 +67,60 @@ fn shared_by(lengths: Lengths, first: usize, second: usize) -> (usize, usize)
     }
 }
 
-// The word of some letters and then others.
-fn joined(alloc: Global, front: &[Letter], back: &[Letter]) -> Result<Word, NoMemory>
-    ensures { IfOk result (λ w. w ≡ front.now ++ back.now) }
-{
-    let mut word = Word::with_capacity(alloc, front.len().saturating_add(back.len()))?;
-    word.append(front)?;
-    word.append(back)?;
-    Ok(word)
+/// Room for the words of an overlap, which is kept from one to the next.
+#[derive(Drop)]
+pub struct Room {
+    left: Word,
+    right: Word,
+    reduction: Reduction,
 }
 
-// The words to which two rules lead from the word in which their left sides share so many letters.
-fn critical_pair(
-    alloc: Global,
+impl Room {
+    /// Room for no letter. It takes no memory.
+    pub fn new(alloc: Global) -> Room {
+        Room {
+            left: Word::new(alloc),
+            right: Word::new(alloc),
+            reduction: Reduction::new(alloc),
+        }
+    }
+}
+
+// Makes a word of some letters and then others.
+fn put_joined(word: &mut Word, front: &[Letter], back: &[Letter]) -> Result<(), NoMemory>
+    ensures { OnOk result (word.new ≡ front.now ++ back.now) }
+{
+    word.clear();
+    word.append(front)?;
+    word.append(back)?;
+    Ok(())
+}
+
+// Puts the words into the room to which two rules lead from the word in which their left sides
+// share so many letters.
+fn put_critical_pair(
+    room: &mut Room,
     first: &(Word, Word),
     second: &(Word, Word),
     shared: usize,
-) -> Result<(Word, Word), NoMemory>
+) -> Result<(), NoMemory>
     requires first { shared ≤ length first.now.0 }
     requires second { shared ≤ length second.now.0 }
-    ensures { IfOk result (λ pair. pair ≡ critical_pair first.now second.now shared) }
+    ensures left { OnOk result (room.new.left ≡ (critical_pair first.now second.now shared).0) }
+    ensures right { OnOk result (room.new.right ≡ (critical_pair first.now second.now shared).1) }
 {
     let start = first.0.len() - shared;
-    let left = joined(alloc, first.1.letters(), &second.0.letters()[shared..])?;
-    let right = joined(alloc, &first.0.letters()[..start], second.1.letters())?;
-    Ok((left, right))
+    put_joined(
+        &mut room.left,
+        first.1.letters(),
+        &second.0.letters()[shared..],
+    )?;
+    put_joined(
+        &mut room.right,
+        &first.0.letters()[..start],
+        second.1.letters(),
+    )?;
+    Ok(())
 }
 
 // The reduced words to which an overlap of two rules leads, and steps from the first to the second.
@@ -101,6 +130,7 @@ fn reduced_pair(
     first: usize,
     second: usize,
     shared: usize,
+    room: &mut Room,
     log: &Log,
 ) -> Result<(Word, Word, Vec<ChainStep>), NoMemory>
     requires first { first < length rules.now }
@@ -113,9 +143,9 @@ fn reduced_pair(
     ensures reduces { IfOk result (λ r. ReducesTo rules.now first second shared r.0 r.1) }
     ensures shown { IfOk result (λ r. Shows log.now r.0 r.2.items r.1) }
 {
-    let pair = critical_pair(alloc, rules.rule(first), rules.rule(second), shared)?;
-    let (left, back) = log.reduce(alloc, rules, &pair.0)?;
-    let (right, on) = log.reduce(alloc, rules, &pair.1)?;
+    put_critical_pair(room, rules.rule(first), rules.rule(second), shared)?;
+    let (left, back) = log.reduce_in(alloc, rules, &mut room.reduction, &room.left)?;
+    let (right, on) = log.reduce_in(alloc, rules, &mut room.reduction, &room.right)?;
     let steps = log.over(
         alloc,
         rules.rule(first),
@@ -161,6 +191,7 @@ fn join_overlap(
     first: usize,
     second: usize,
     shared: usize,
+    room: &mut Room,
     equations: &mut Equations,
     log: &mut Log,
 ) -> Result<(), NoMemory>
@@ -179,7 +210,7 @@ fn join_overlap(
         (critical_pair (rule_at rules.now first) (rule_at rules.now second) shared).1) }
     ensures logged { OnOk result (KeepsLog log.old log.new rules.now equations.new) }
 {
-    let (left, right, steps) = reduced_pair(alloc, rules, first, second, shared, log)?;
+    let (left, right, steps) = reduced_pair(alloc, rules, first, second, shared, room, log)?;
     push_different(alloc, left, right, steps, equations, log)?;
     Ok(())
 }
@@ -192,6 +223,7 @@ fn join_shared(
     first: usize,
     second: usize,
     lengths: Lengths,
+    room: &mut Room,
     equations: &mut Equations,
     log: &mut Log,
 ) -> Result<(), NoMemory>
@@ -211,7 +243,7 @@ fn join_shared(
     );
     for shared in fewest..end {
         if overlap(&rules.rule(first).0, &rules.rule(second).0, shared) {
-            join_overlap(alloc, rules, first, second, shared, equations, log)?;
+            join_overlap(alloc, rules, first, second, shared, room, equations, log)?;
         }
     }
     Ok(())
@@ -226,6 +258,7 @@ pub fn join_overlaps(
     first: usize,
     second: usize,
     lengths: Lengths,
+    room: &mut Room,
     equations: &mut Equations,
     log: &mut Log,
 ) -> Result<(), NoMemory>
@@ -241,7 +274,7 @@ pub fn join_overlaps(
     if !may_overlap(&rules.rule(first).0, &rules.rule(second).0) {
         return Ok(());
     }
-    join_shared(alloc, rules, first, second, lengths, equations, log)
+    join_shared(alloc, rules, first, second, lengths, room, equations, log)
 }
 
 /// Joins the overlaps of a rule, by its place, with each rule, itself among them, on both sides, in
@@ -265,9 +298,14 @@ pub fn join_all(
         (rule_at rules.now newest)) }
     ensures logged { OnOk result (KeepsLog log.old log.new rules.now equations.new) }
 {
+    let mut room = Room::new(alloc);
     for other in 0..rules.len() {
-        join_overlaps(alloc, rules, newest, other, lengths, equations, log)?;
-        join_overlaps(alloc, rules, other, newest, lengths, equations, log)?;
+        join_overlaps(
+            alloc, rules, newest, other, lengths, &mut room, equations, log,
+        )?;
+        join_overlaps(
+            alloc, rules, other, newest, lengths, &mut room, equations, log,
+        )?;
     }
     Ok(())
 }

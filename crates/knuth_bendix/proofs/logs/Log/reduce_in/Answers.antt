@@ -2,7 +2,7 @@ use Rattle.std.proofs.Common.{subst, Option}
 use Rattle.chains.specs.Derivations.{Derived}
 use Rattle.knuth_bendix.specs.Logs.{AreLogged}
 use Rattle.knuth_bendix.proofs.LogLaws.{log_is}
-use Rattle.knuth_bendix.proofs.logs.Log.reduce.Goals as goal
+use Rattle.knuth_bendix.proofs.logs.Log.reduce_in.Goals as goal
 
 pub steps_of-requires-clause-logged : goal.steps_of-requires-clause-logged
 steps_of-requires-clause-logged c =
