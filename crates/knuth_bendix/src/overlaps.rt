@@ -216,7 +216,8 @@ fn join_overlap(
 }
 
 // Joins the overlaps of two rules, by their places, in words of such lengths, one number of shared
-// letters after another.
+// letters after another. Kept out of line, since few pairs of rules come here.
+#[inline(never)]
 fn join_shared(
     alloc: Global,
     rules: &KeptRules,
@@ -252,6 +253,7 @@ fn join_shared(
 /// Joins the overlaps of two rules, by their places, in words of such lengths: where the two ways
 /// to rewrite one lead to different words, these become an equation. Refused only where memory is
 /// wanting.
+#[inline(always)]
 pub fn join_overlaps(
     alloc: Global,
     rules: &KeptRules,
@@ -279,6 +281,7 @@ pub fn join_overlaps(
 
 /// Joins the overlaps of a rule, by its place, with each rule, itself among them, on both sides, in
 /// words of such lengths. Refused only where memory is wanting.
+#[inline(never)]
 pub fn join_all(
     alloc: Global,
     rules: &KeptRules,

@@ -17,7 +17,9 @@ use std::alloc::Global;
 use std::cmp::Ordering;
 use words::{Word, shortlex};
 
-// The reduced right side of a rule. The rule that has it is logged.
+// The reduced right side of a rule. The rule that has it is logged. Kept out of line, since few
+// rules come here.
+#[inline(never)]
 fn reduce_right(
     alloc: Global,
     rules: &KeptRules,
@@ -63,6 +65,7 @@ fn rewrite_right(
 }
 
 // Rewrites the right sides in which the left side of the newest rule stands.
+#[inline(never)]
 fn rewrite_rights(
     alloc: Global,
     rules: &mut KeptRules,

@@ -115,6 +115,7 @@ impl Lookup {
 
     /// What the letter leads to behind a reduced word, at whose end the state is the longest one:
     /// the place of a rule whose left side stands there, or else the longest state.
+    #[inline(always)]
     pub fn step(
         &self,
         rules: &Rules,
