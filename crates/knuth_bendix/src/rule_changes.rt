@@ -1,6 +1,7 @@
 // Adding a rule, and what it changes in the rules that are there.
 ghost use Rattle.std.specs.Prelude.{◌≡◌, ℕ, ◌<◌, length, IfOk, OnOk};
 ghost use Rattle.theory.specs.ShortLex.{◌≺◌};
+ghost use Rattle.theory.specs.Word.{Word as Letters};
 ghost use Rattle.knuth_bendix.specs.Changes.{AddsRule, IsDone, Joins, Rewrites};
 ghost use Rattle.knuth_bendix.specs.Overlaps.{rule_at};
 ghost use Rattle.knuth_bendix.specs.Logs.{AreLogged, Grows, IsLogged, KeepsLog, LogsHeld, LogsRule, Shows};
@@ -17,9 +18,7 @@ use std::alloc::Global;
 use std::cmp::Ordering;
 use words::{Word, shortlex};
 
-// The reduced right side of a rule. The rule that has it is logged. Kept out of line, since few
-// rules come here.
-#[inline(never)]
+// The reduced right side of a rule. The rule that has it is logged.
 fn reduce_right(
     alloc: Global,
     rules: &KeptRules,
@@ -39,7 +38,30 @@ fn reduce_right(
     Ok(right)
 }
 
+// Rewrites the right side of the rule at a place. Kept out of line, since few rules come here.
+#[inline(never)]
+fn reduce_right_at(
+    alloc: Global,
+    rules: &mut KeptRules,
+    place: usize,
+    log: &mut Log,
+) -> Result<(), NoMemory>
+    requires place { place < length rules.old }
+    requires logged { AreLogged log.old rules.old }
+    ensures rewrites { OnOk result (Rewrites rules.old rules.new) }
+    ensures others { OnOk result ((i : ℕ) → i < length rules.old → (i ≡ place → ⊥)
+        → rule_at rules.new i ≡ rule_at rules.old i) }
+    ensures done { OnOk result ((f : Letters) → IsDone f rules.old rules.new place) }
+    ensures grows { OnOk result (Grows log.old log.new) }
+    ensures logged { OnOk result (AreLogged log.new rules.new) }
+{
+    let right = reduce_right(alloc, rules, rules.rule(place), log)?;
+    rules.set_right(place, right);
+    Ok(())
+}
+
 // Rewrites the right side of the rule at a place, if the left side of the newest rule stands in it.
+#[inline(always)]
 fn rewrite_right(
     alloc: Global,
     rules: &mut KeptRules,
@@ -58,8 +80,7 @@ fn rewrite_right(
     ensures logged { OnOk result (AreLogged log.new rules.new) }
 {
     if has_factor(&rules.rule(place).1, &rules.rule(newest).0) {
-        let right = reduce_right(alloc, rules, rules.rule(place), log)?;
-        rules.set_right(place, right);
+        reduce_right_at(alloc, rules, place, log)?;
     }
     Ok(())
 }

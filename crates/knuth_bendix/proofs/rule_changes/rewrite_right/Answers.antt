@@ -1,47 +1,5 @@
-use Rattle.std.proofs.Common.{[], ◌∙◌, subst}
-use Rattle.std.proofs.lemmas.List.{get_or_default}
-use Rattle.theory.specs.Word.{Word}
-use Rattle.theory.specs.Completion.{Listed, Reduces}
 use Rattle.knuth_bendix.specs.Overlaps.{rule_at}
-use Rattle.knuth_bendix.proofs.LogLaws.{all_still_logged, right_logged, rule_logged}
-use Rattle.knuth_bendix.proofs.RuleChanges.{IsRewritten, rewritten_falls, rewrites_one, rewritten_done}
 use Rattle.knuth_bendix.proofs.rule_changes.rewrite_right.Goals as goal
 
-pub set_right-requires-clause-falls : goal.set_right-requires-clause-falls
-set_right-requires-clause-falls c =
-    rewritten_falls c.args.rules.now c.args.place c.rule-then-has_factor.result.now c.in_ok-right.right c.rule.ensures.falling c.requires.place
-    c.rule-then-has_factor.ensures.rule c.in_ok-right.ensures.reached
-
-rewritten : (c : goal.After-set_right) → IsRewritten c.args.rules.now c.set_right.new.self c.args.place c.in_ok-right.right
-rewritten c =
-    record {
-      within = c.requires.place;
-      falling = c.rule.ensures.falling;
-      is = c.set_right.ensures;
-      down =
-          subst (λ (r : Word × Word). Reduces (Listed c.args.rules.now) r.1 c.in_ok-right.right)
-          (c.rule-then-has_factor.ensures.rule
-          ∙ get_or_default c.args.rules.now c.args.place c.rule-then-has_factor.result.now ([], []) c.requires.place)
-          c.in_ok-right.ensures.reached;
-      end = c.in_ok-right.ensures.reduced;
-    }
-
-pub returns-in_ok-right-clause-rewrites : goal.returns-in_ok-right-clause-rewrites
-returns-in_ok-right-clause-rewrites c =
-    rewrites_one c.args.rules.now c.set_right.new.self c.args.place c.in_ok-right.right (rewritten c)
-
-pub returns-in_ok-right-clause-done : goal.returns-in_ok-right-clause-done
-returns-in_ok-right-clause-done c =
-    rewritten_done c.args.rules.now c.set_right.new.self c.args.place c.in_ok-right.right (rewritten c)
-    (rule_at c.args.rules.now c.args.newest).0
-
-pub reduce_right-requires-clause-rule : goal.reduce_right-requires-clause-rule
-reduce_right-requires-clause-rule c =
-    rule_logged c.args.log.now c.args.rules.now c.args.place c.rule-then-has_factor.result.now c.requires.logged c.requires.place
-    c.rule-then-has_factor.ensures.rule
-
-pub returns-in_ok-right-clause-logged : goal.returns-in_ok-right-clause-logged
-returns-in_ok-right-clause-logged c =
-    right_logged c.reduce_right.new.log c.args.rules.now c.set_right.new.self c.args.place c.rule-then-has_factor.result.now c.in_ok-right.right
-    (all_still_logged c.args.log.now c.reduce_right.new.log c.args.rules.now c.in_ok-right.ensures.grows c.requires.logged) c.requires.place
-    c.rule-then-has_factor.ensures.rule c.in_ok-right.ensures.logged c.set_right.ensures
+pub returns-in_ok-reduce_right_at-clause-done : goal.returns-in_ok-reduce_right_at-clause-done
+returns-in_ok-reduce_right_at-clause-done c = c.in_ok-reduce_right_at.ensures.done (rule_at c.args.rules.now c.args.newest).0
