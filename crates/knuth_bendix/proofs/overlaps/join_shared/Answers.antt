@@ -2,7 +2,7 @@ use Rattle.std.proofs.Common.{refl, ◌≡◌, ◌+◌, ◌-◌, ◌<◌, get_or
 use Rattle.chains.specs.Derivations.{Derived}
 use Rattle.knuth_bendix.specs.Logs.{KeepsLog}
 use Rattle.knuth_bendix.proofs.LogLaws.{keeps_after, keeps_none}
-use Rattle.knuth_bendix.proofs.OverlapSteps.{IsJoinedTo, gains_more, gains_none, joined_elsewhere, joined_end, joined_start, joined_there, shared_read}
+use Rattle.knuth_bendix.proofs.OverlapSteps.{IsJoinedTo, gains_more, joined_elsewhere, joined_end, joined_start, joined_there, shared_read}
 use Rattle.rewriting.proofs.Standing.{rule_read}
 use Rattle.theory.specs.Word.{Word}
 use Rattle.knuth_bendix.specs.Overlaps.{overlaps_by, rule_at}

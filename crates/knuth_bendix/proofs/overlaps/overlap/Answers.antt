@@ -1,4 +1,4 @@
-use Rattle.std.proofs.Common.{◌-◌, ◌∙◌, ap, false, drop}
+use Rattle.std.proofs.Common.{◌-◌, ◌∙◌, ap, drop}
 use Rattle.std.proofs.lemmas.Bool.{eq-eqb}
 use Rattle.knuth_bendix.proofs.OverlapSteps.{overlap_begins, overlap_tested}
 use Rattle.knuth_bendix.proofs.overlaps.overlap.Goals as goal
