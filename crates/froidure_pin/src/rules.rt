@@ -62,13 +62,14 @@ impl<'a> Products<'a> {
     fn suffix_of(&self, suffixes: &Vec<usize>, factor: Factor) -> usize
         requires letter { factor.last < self.now.letters }
         requires parent { factor.prefix < length suffixes.now.items }
-        requires product { slice_index suffixes.now.items factor.prefix * self.now.letters + factor.last
-            < length self.now.right.now.items }
+        requires product { slice_index suffixes.now.items factor.prefix * self.now.letters
+            + factor.last < length self.now.right.now.items }
         requires few { entry self.now.letters self.now.right.now.items
             (slice_index suffixes.now.items factor.prefix) factor.last
             < length self.now.right.now.items }
         ensures { result ≡ (if factor.prefix == 0 then 0 else entry self.now.letters
-            self.now.right.now.items (slice_index suffixes.now.items factor.prefix) factor.last + 1) }
+            self.now.right.now.items (slice_index suffixes.now.items factor.prefix)
+            factor.last + 1) }
     {
         if factor.prefix == 0 {
             return 0;
@@ -79,7 +80,8 @@ impl<'a> Products<'a> {
 
     // The parents that are left of the words without their first letters.
     fn suffixes(&self, alloc: Global) -> Result<Vec<usize>, NoMemory>
-        requires { AreProducts self.now.letters self.now.factors.now.items self.now.right.now.items }
+        requires { AreProducts self.now.letters self.now.factors.now.items
+            self.now.right.now.items }
         ensures { IfOk result (λ suffixes. AreSuffixes self.now.letters self.now.factors.now.items
             self.now.right.now.items suffixes.items (length self.now.factors.now.items)) }
     {
@@ -95,12 +97,13 @@ impl<'a> Products<'a> {
     // Whether a product is the left side of a rule: no word, while it is one without its first
     // letter.
     fn is_rule(&self, suffixes: &Vec<usize>, place: usize) -> bool
-        requires products { AreProducts self.now.letters self.now.factors.now.items self.now.right.now.items }
-        requires suffixes { AreSuffixes self.now.letters self.now.factors.now.items self.now.right.now.items
-            suffixes.now.items (length self.now.factors.now.items) }
+        requires products { AreProducts self.now.letters self.now.factors.now.items
+            self.now.right.now.items }
+        requires suffixes { AreSuffixes self.now.letters self.now.factors.now.items
+            self.now.right.now.items suffixes.now.items (length self.now.factors.now.items) }
         requires within { place < length self.now.right.now.items }
-        ensures { result ≡ is_rule self.now.letters self.now.factors.now.items self.now.right.now.items
-            suffixes.now.items place }
+        ensures { result ≡ is_rule self.now.letters self.now.factors.now.items
+            self.now.right.now.items suffixes.now.items place }
     {
         let parent = place / self.letters;
         let letter = place % self.letters;
@@ -123,9 +126,10 @@ impl<'a> Products<'a> {
         place: usize,
         rules: &mut Vec<(Word, Word)>,
     ) -> Result<(), NoMemory>
-        requires products { AreProducts self.now.letters self.now.factors.now.items self.now.right.now.items }
-        requires suffixes { AreSuffixes self.now.letters self.now.factors.now.items self.now.right.now.items
-            suffixes.now.items (length self.now.factors.now.items) }
+        requires products { AreProducts self.now.letters self.now.factors.now.items
+            self.now.right.now.items }
+        requires suffixes { AreSuffixes self.now.letters self.now.factors.now.items
+            self.now.right.now.items suffixes.now.items (length self.now.factors.now.items) }
         requires within { place < length self.now.right.now.items }
         ensures { OnOk result (rules.new.items ≡ rules.old.items
             ++ rules_at self.now.letters self.now.factors.now.items self.now.right.now.items
@@ -143,12 +147,13 @@ impl<'a> Products<'a> {
 
     // All rules.
     pub(crate) fn rules(&self, alloc: Global) -> Result<Vec<(Word, Word)>, NoMemory>
-        requires { AreProducts self.now.letters self.now.factors.now.items self.now.right.now.items }
+        requires { AreProducts self.now.letters self.now.factors.now.items
+            self.now.right.now.items }
         ensures { IfOk result (λ rules. (suffixes : List ℕ)
-            × AreSuffixes self.now.letters self.now.factors.now.items self.now.right.now.items suffixes
-            (length self.now.factors.now.items)
-            × (rules.items ≡ rules_to self.now.letters self.now.factors.now.items self.now.right.now.items
-            suffixes (length self.now.right.now.items))) }
+            × AreSuffixes self.now.letters self.now.factors.now.items self.now.right.now.items
+            suffixes (length self.now.factors.now.items)
+            × (rules.items ≡ rules_to self.now.letters self.now.factors.now.items
+            self.now.right.now.items suffixes (length self.now.right.now.items))) }
     {
         let suffixes = self.suffixes(alloc)?;
         let mut rules = Vec::new(alloc);

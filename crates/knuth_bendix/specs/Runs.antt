@@ -14,8 +14,8 @@ pub record CompletionTask : Type 0 where
   pub presentation : Presentation
   pub length : ℕ
 
--- a completion: what it was made for, the rules it holds, a measure of the turns that are left, what
--- the last turn gave, and whether it logs
+-- a completion: what it was made for, the rules it holds, a measure of the turns that are left,
+-- what the last turn gave, and whether it logs
 pub record CompletionRun : Type 0 where
   pub presentation : Presentation
   pub length : ℕ

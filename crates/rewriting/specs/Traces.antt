@@ -27,8 +27,8 @@ word_so_far r = r.done.items ++ reverse r.rest.items
 abbrev pub word_at : ℕ → Reduction → Word
 word_at letter r = r.done.items ++ reverse (r.rest.items ++ letter ∷ [])
 
--- rules that lead to the word before the letter is read lead to the word behind it, with the one that
--- is applied there, if one is
+-- rules that lead to the word before the letter is read lead to the word behind it, with the one
+-- that is applied there, if one is
 abbrev pub LeadsOn : List (Word × Word) → ℕ → Reduction → Option Applied → Reduction → Type 0
 LeadsOn rules letter old applied new = (u : Word) (trace : List Applied)
     → LeadBy rules u trace (word_at letter old)

@@ -237,8 +237,8 @@ impl KeptRules {
         word_of(alloc, room.done.as_slice())
     }
 
-    /// The word to which the rules lead from the word, none of which applies to it, and the rules that
-    /// were applied, one after another. Refused only where memory is wanting.
+    /// The word to which the rules lead from the word, none of which applies to it, and the rules
+    /// that were applied, one after another. Refused only where memory is wanting.
     pub fn reduce_traced(&self, word: &Word) -> Result<(Word, Vec<Applied>), NoMemory>
         ensures reached { IfOk result (λ r. Reduces (Listed self.now) word.now r.0) }
         ensures reduced { IfOk result (λ r. IsReduced (Listed self.now) r.0) }

@@ -3,7 +3,7 @@
 //! [`Rules`] are such a list, and an [`IndexAutomaton`] rewrites a word by it in one reading, until
 //! no rule applies (Sims, *Computation with finitely presented groups*, 1994, 3.5; libsemigroups,
 //! `KnuthBendix`). [`KeptRules`] rewrite too, and change often, and a [`Reduction`] is room for it.
-//! [`has_factor`] tells where a word stands in another.
+//! [`has_factor`] tells whether a word stands in another.
 #![tactic(auto)]
 
 mod factors;

@@ -13,8 +13,8 @@ use ports::NoMemory;
 use std::alloc::Global;
 use words::{Letter, Word};
 
-/// A word that is being reduced, and the room for one: the letters that are read, the states of each
-/// front of them, and the letters that are left, the next one last.
+/// A word that is being reduced, and the room for one: the letters that are read, the states of
+/// each front of them, and the letters that are left, the next one last.
 #[derive(Drop)]
 pub struct Reduction {
     pub done: Vec<Letter>,

@@ -190,8 +190,8 @@ impl Sweep {
         add_tables(&mut self.tables, parts)
     }
 
-    // Makes the front parts longer until there are enough, but not more often than a small search is
-    // worth.
+    // Makes the front parts longer until there are enough, but not more often than a small search
+    // is worth.
     fn grow(&mut self, alloc: Global, request: &Request, enough: usize) -> Result<(), NoMemory>
         requires asked { IsAsked (asked request.now) }
         requires joined { AreJoined (asked request.now)

@@ -51,9 +51,10 @@ impl Branch {
         &self.levels[self.targets.len()]
     }
 
-    /// Puts the target behind the others, with what is known then, and tells that tables may have it;
-    /// else no table has it, and the targets are left as they are. What is known is copied once, and
-    /// added to where it stands. Refused only where memory is wanting, and then the branch is any.
+    /// Puts the target behind the others, with what is known then, and tells that tables may have
+    /// it; else no table has it, and the targets are left as they are. What is known is copied
+    /// once, and added to where it stands. Refused only where memory is wanting, and then the
+    /// branch is any.
     pub fn enter(
         &mut self,
         presentation: &Presentation,

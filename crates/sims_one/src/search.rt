@@ -106,8 +106,8 @@ pub fn search(
 
 /// Makes of the branch that of the least table of at most so many classes that goes on behind its
 /// targets with one that is not below the first, and tells that there is one; else leaves the
-/// targets as they are. A target is wanting in the rows of the nodes seen. Refused only where memory
-/// is wanting, and then the branch is any.
+/// targets as they are. A target is wanting in the rows of the nodes seen. Refused only where
+/// memory is wanting, and then the branch is any.
 #[cycle(search)]
 pub fn search_from(
     presentation: &Presentation,
