@@ -1,13 +1,13 @@
 // A coset table by single definitions and a coincidence.
 ghost use Rattle.std.specs.Prelude.{◌≡◌, false, true, [], ◌∷◌, ◌<◌, OnOk};
+ghost use Rattle.theory.specs.Congruence.{IsRightSided};
 
-use crate::helpers::presented;
+use crate::helpers::right_congruence;
 use coincidence::Table;
 use ports::NoMemory;
-use presentation::{Congruence, Kind, Pairs};
+use presentation::Congruence;
 use std::alloc::Global;
 use std::process::Abort;
-use std::test::Fail;
 use words::Letter;
 
 // The letter `a` leads from the root to node 1, and from there to node 2.
@@ -22,9 +22,9 @@ fn define_line(rt: &impl Abort, table: &mut Table) -> Result<(), NoMemory>
 {
     let a = Letter::new(0);
     assert!(rt; table.target(0, a).is_none());
-    assert_eq!(rt; table.define(0, a)?, 1);
+    assert!(rt; table.define(0, a)? == 1);
     assert!(rt; table.target(1, a).is_none());
-    assert_eq!(rt; table.define(1, a)?, 2);
+    assert!(rt; table.define(1, a)? == 2);
     Ok(())
 }
 
@@ -42,12 +42,19 @@ fn keeps_the_root(rt: &impl Abort, table: &mut Table) -> Result<bool, NoMemory>
     Ok(leads_back && is_lost)
 }
 
+// Whether a line of the congruence's table does.
+fn closes(rt: &impl Abort, alloc: Global, congruence: &Congruence) -> Result<bool, NoMemory>
+    requires { IsRightSided congruence.now.congruence }
+{
+    assert!(rt; congruence.presentation().letters() > 0);
+    let mut table = Table::new(alloc, congruence)?;
+    let closed = keeps_the_root(rt, &mut table);
+    drop(table);
+    closed
+}
+
 #[test]
-fn a_line_is_closed_to_a_cycle(rt: HostRuntime) -> Result<(), Fail> {
-    let presentation = presented(rt.alloc(), "a", true, &[("aaa", "")])?;
-    assert!(rt; presentation.letters() > 0);
-    let congruence = Congruence::new(presentation, Kind::Right, Pairs::new(rt.alloc()));
-    let mut table = Table::new(rt.alloc(), &congruence)?;
-    assert!(rt; keeps_the_root(&rt, &mut table)?);
-    Ok(())
+fn a_line_is_closed_to_a_cycle(rt: HostRuntime) {
+    let congruence = right_congruence(rt.alloc(), &[("aaa", "")]).expect(&rt, "a congruence");
+    assert!(rt; closes(&rt, rt.alloc(), &congruence) == Ok(true));
 }

@@ -6,8 +6,6 @@ mod chains_tests;
 #[cfg(test)]
 mod coincidence_tests;
 #[cfg(test)]
-mod froidure_pin_tests;
-#[cfg(test)]
 mod green_tests;
 #[cfg(test)]
 mod helpers;

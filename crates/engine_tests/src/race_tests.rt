@@ -3,32 +3,60 @@ ghost use Rattle.std.specs.Prelude.{◌≡◌, ◌≤◌, length, IfOk};
 ghost use Rattle.race.specs.Machine.{Starts};
 ghost use Rattle.race.specs.Script.{IsScript};
 
-use crate::helpers::{MANY, meets};
+use crate::helpers::{MANY, Seeker, seeks};
 use ports::{NoMemory, Open};
 use race::Progress::{Decided, More, NoMemory as Starves, Spent};
 use race::{Lane, LaneState, Outcome, Progress, Racer, Scripted, play, race};
 use std::alloc::Global;
+use std::process::Abort;
 use std::sync::atomic::AtomicBool;
-use std::test::Fail;
 use std::thread::Threads;
 
 // How a race of two lanes ends, and how each lane ends.
 type Ending = (Outcome, LaneState, LaneState);
 
-// Two lanes that give these answers.
-fn two(
-    alloc: Global,
-    first: &[Progress],
-    second: &[Progress],
-) -> Result<Vec<Lane<Scripted>>, NoMemory>
-    requires { IsScript first.now × IsScript second.now }
+// How the engine of a lane ends, and at which of its turns.
+#[derive(Clone, Copy)]
+enum End {
+    DecidedFirst,
+    DecidedSecond,
+    DecidedThird,
+    SpentFirst,
+    SpentSecond,
+    StarvedFirst,
+    StarvedSecond,
+}
+
+// What the engine answers.
+fn answers(end: End) -> &'static [Progress]
+    ensures { IsScript result.now }
+{
+    match end {
+        End::DecidedFirst => &[Decided],
+        End::DecidedSecond => &[More, Decided],
+        End::DecidedThird => &[More, More, Decided],
+        End::SpentFirst => &[Spent],
+        End::SpentSecond => &[More, Spent],
+        End::StarvedFirst => &[Starves],
+        End::StarvedSecond => &[More, Starves],
+    }
+}
+
+// An engine that ends so.
+fn scripted(alloc: Global, end: End) -> Result<Scripted, NoMemory>
+    ensures { IfOk result (λ s. s.last ≡ Progress.More) }
+{
+    let answers = Vec::from_slice(alloc, answers(end))?;
+    Scripted::new(alloc, answers)
+}
+
+// Two lanes whose engines end so.
+fn two(alloc: Global, first: End, second: End) -> Result<Vec<Lane<Scripted>>, NoMemory>
     ensures { IfOk result (λ lanes. (length lanes.items ≡ 2)
         × Starts ⟦<Scripted as Racer>⟧ lanes.items) }
 {
-    let mut lanes = Vec::new(alloc);
-    lanes.push(Lane::new(0, Scripted::new(alloc, Vec::from_slice(alloc, first)?)?))?;
-    lanes.push(Lane::new(1, Scripted::new(alloc, Vec::from_slice(alloc, second)?)?))?;
-    Ok(lanes)
+    let (front, back) = (scripted(alloc, first)?, scripted(alloc, second)?);
+    Ok(vec![in alloc; Lane::new(0, front), Lane::new(1, back)]?)
 }
 
 fn ending(outcome: Outcome, lanes: &Vec<Lane<Scripted>>) -> Ending
@@ -37,118 +65,151 @@ fn ending(outcome: Outcome, lanes: &Vec<Lane<Scripted>>) -> Ending
     (outcome, lanes[0].state(), lanes[1].state())
 }
 
+// How the two lanes race on one thread, by the schedule.
+fn played(alloc: Global, first: End, second: End, schedule: &[usize]) -> Result<Ending, NoMemory> {
+    let schedule = Vec::from_slice(alloc, schedule)?;
+    let mut lanes = two(alloc, first, second)?;
+    let outcome = play(&mut lanes, &schedule);
+    Ok(ending(outcome, &lanes))
+}
+
+// How the two lanes race over threads.
 fn raced<T: Threads + Sync>(
     rt: &T,
     alloc: Global,
-    first: &[Progress],
-    second: &[Progress],
+    first: End,
+    second: End,
     workers: usize,
 ) -> Result<Ending, NoMemory>
-    requires { IsScript first.now × IsScript second.now × (1 ≤ workers) }
+    requires { 1 ≤ workers }
 {
     let mut lanes = two(alloc, first, second)?;
     let outcome = race(rt, alloc, &mut lanes, workers, &Open)?;
     Ok(ending(outcome, &lanes))
 }
 
-fn played(
-    alloc: Global,
-    first: &[Progress],
-    second: &[Progress],
-    schedule: &[usize],
-) -> Result<Ending, NoMemory>
-    requires { IsScript first.now × IsScript second.now }
-{
-    let mut lanes = two(alloc, first, second)?;
-    let outcome = play(&mut lanes, &Vec::from_slice(alloc, schedule)?);
-    Ok(ending(outcome, &lanes))
+const FRONT_WINS: Ending = (Outcome::Won(0), LaneState::Won, LaneState::Lost(0));
+
+const BACK_WINS: Ending = (Outcome::Won(1), LaneState::Lost(1), LaneState::Won);
+
+const BACK_IS_CANCELLED: Ending = (Outcome::Won(0), LaneState::Won, LaneState::Cancelled(0));
+
+const BACK_IS_SPENT: Ending = (Outcome::Won(0), LaneState::Won, LaneState::Spent);
+
+const FRONT_STARVES: Ending = (Outcome::Starved(0), LaneState::Starved, LaneState::Spent);
+
+const BACK_WINS_ALONE: Ending = (Outcome::Won(1), LaneState::Starved, LaneState::Won);
+
+const BOTH_ARE_SPENT: Ending = (Outcome::AllSpent, LaneState::Spent, LaneState::Spent);
+
+const BOTH_STARVE: Ending = (Outcome::Starved(0), LaneState::Starved, LaneState::Starved);
+
+// Two lanes, a schedule, and how they end.
+type Played<'a> = (End, End, &'a [usize], Ending);
+
+const PLAYED: [Played<'static>; 7] = [
+    (
+        End::DecidedThird,
+        End::SpentSecond,
+        &[0, 0, 0, 1],
+        BACK_IS_CANCELLED,
+    ),
+    (
+        End::DecidedThird,
+        End::SpentSecond,
+        &[1, 1, 0, 0, 0],
+        BACK_IS_SPENT,
+    ),
+    (End::DecidedThird, End::SpentSecond, &[], BACK_IS_SPENT),
+    (End::DecidedFirst, End::DecidedFirst, &[0, 1], FRONT_WINS),
+    (End::DecidedFirst, End::DecidedFirst, &[1, 0], BACK_WINS),
+    (
+        End::StarvedSecond,
+        End::SpentSecond,
+        &[1, 5, 0],
+        FRONT_STARVES,
+    ),
+    (
+        End::StarvedFirst,
+        End::DecidedSecond,
+        &[1, 1],
+        BACK_WINS_ALONE,
+    ),
+];
+
+// Each race ends so.
+fn check_played(rt: &impl Abort, alloc: Global, races: &[Played]) {
+    for (i, (first, second, schedule, want)) in races.iter().enumerate() {
+        assert!(rt;
+            played(alloc, *first, *second, schedule) == Ok(*want),
+            "race {i}"
+        );
+    }
 }
 
 #[test]
-fn two_lanes_race_by_schedules(rt: HostRuntime) {
-    let alloc = rt.alloc();
-    let cancelled = (Outcome::Won(0), LaneState::Won, LaneState::Cancelled(0));
-    let spent = (Outcome::Won(0), LaneState::Won, LaneState::Spent);
-    let (decides, gives_up) = ([More, More, Decided], [More, Spent]);
-    assert!(rt; played(alloc, &decides, &gives_up, &[0, 0, 0, 1]) == Ok(cancelled));
-    assert!(rt; played(alloc, &decides, &gives_up, &[1, 1, 0, 0, 0]) == Ok(spent));
-    assert!(rt; played(alloc, &decides, &gives_up, &[]) == Ok(spent));
+fn lanes_race_by_schedules(rt: HostRuntime) {
+    check_played(&rt, rt.alloc(), &PLAYED);
 }
 
-#[test]
-fn the_first_of_two_decisions_wins(rt: HostRuntime) {
-    let alloc = rt.alloc();
-    let front = (Outcome::Won(0), LaneState::Won, LaneState::Lost(0));
-    let back = (Outcome::Won(1), LaneState::Lost(1), LaneState::Won);
-    assert!(rt; played(alloc, &[Decided], &[Decided], &[0, 1]) == Ok(front));
-    assert!(rt; played(alloc, &[Decided], &[Decided], &[1, 0]) == Ok(back));
-}
+// Two lanes, and two ways in which they may end.
+type Raced = (End, End, Ending, Ending);
 
-#[test]
-fn a_lane_may_starve(rt: HostRuntime) {
-    let alloc = rt.alloc();
-    let both = (Outcome::Starved(0), LaneState::Starved, LaneState::Spent);
-    assert!(rt; played(alloc, &[More, Starves], &[More, Spent], &[1, 5, 0]) == Ok(both));
-    let one = (Outcome::Won(1), LaneState::Starved, LaneState::Won);
-    assert!(rt; played(alloc, &[Starves], &[More, Decided], &[1, 1]) == Ok(one));
-}
+const RACED: [Raced; 6] = [
+    (
+        End::DecidedThird,
+        End::SpentSecond,
+        BACK_IS_SPENT,
+        BACK_IS_CANCELLED,
+    ),
+    (
+        End::StarvedFirst,
+        End::DecidedSecond,
+        BACK_WINS_ALONE,
+        BACK_WINS_ALONE,
+    ),
+    (End::DecidedFirst, End::DecidedFirst, FRONT_WINS, BACK_WINS),
+    (
+        End::StarvedSecond,
+        End::SpentSecond,
+        FRONT_STARVES,
+        FRONT_STARVES,
+    ),
+    (
+        End::SpentFirst,
+        End::SpentSecond,
+        BOTH_ARE_SPENT,
+        BOTH_ARE_SPENT,
+    ),
+    (
+        End::StarvedSecond,
+        End::StarvedFirst,
+        BOTH_STARVE,
+        BOTH_STARVE,
+    ),
+];
 
-// Whether these answers end in one of two ways, on one thread and over threads by 1, 2 and 3
+// Whether a race ends in one of the two ways, on one thread, and over threads by 1, 2 and 3
 // workers.
-fn ends<T: Threads + Sync>(
-    rt: &T,
-    alloc: Global,
-    first: &[Progress],
-    second: &[Progress],
-    one: Ending,
-    other: Ending,
-) -> Result<bool, NoMemory>
-    requires { IsScript first.now × IsScript second.now }
-{
+fn ends<T: Threads + Sync>(rt: &T, alloc: Global, race: &Raced) -> Result<bool, NoMemory> {
+    let (first, second, one, other) = *race;
     let alone = played(alloc, first, second, &[])?;
     let mut as_told = alone == one || alone == other;
     for workers in 1..4usize {
-        let over_threads = raced(rt, alloc, first, second, workers)?;
-        as_told = as_told && (over_threads == one || over_threads == other);
+        let ended = raced(rt, alloc, first, second, workers)?;
+        as_told = as_told && (ended == one || ended == other);
     }
     Ok(as_told)
 }
 
 #[test]
-fn a_decision_wins(rt: HostRuntime) {
-    let alloc = rt.alloc();
-    let spent = (Outcome::Won(0), LaneState::Won, LaneState::Spent);
-    let cancelled = (Outcome::Won(0), LaneState::Won, LaneState::Cancelled(0));
-    let decides = [More, More, Decided];
-    assert!(rt; ends(&rt, alloc, &decides, &[More, Spent], spent, cancelled) == Ok(true));
-    let second = (Outcome::Won(1), LaneState::Starved, LaneState::Won);
-    assert!(rt; ends(&rt, alloc, &[Starves], &[More, Decided], second, second) == Ok(true));
-    let front = (Outcome::Won(0), LaneState::Won, LaneState::Lost(0));
-    let back = (Outcome::Won(1), LaneState::Lost(1), LaneState::Won);
-    assert!(rt; ends(&rt, alloc, &[Decided], &[Decided], front, back) == Ok(true));
+fn lanes_race_over_threads(rt: HostRuntime) {
+    for (i, race) in RACED.iter().enumerate() {
+        assert!(rt; ends(&rt, rt.alloc(), race) == Ok(true), "race {i}");
+    }
 }
 
-#[test]
-fn a_race_ends_without_a_decision(rt: HostRuntime) {
-    let alloc = rt.alloc();
-    let one = (Outcome::Starved(0), LaneState::Starved, LaneState::Spent);
-    assert!(rt; ends(&rt, alloc, &[More, Starves], &[More, Spent], one, one) == Ok(true));
-    let all = (Outcome::AllSpent, LaneState::Spent, LaneState::Spent);
-    assert!(rt; ends(&rt, alloc, &[Spent], &[More, Spent], all, all) == Ok(true));
-    let both = (Outcome::Starved(0), LaneState::Starved, LaneState::Starved);
-    assert!(rt; ends(&rt, alloc, &[More, Starves], &[Starves], both, both) == Ok(true));
-}
-
-// An engine that looks in its first turn for the mark of another, and is spent.
-#[derive(Drop)]
-struct Seeker<'a> {
-    mine: &'a AtomicBool,
-    other: &'a AtomicBool,
-    looks: u32,
-    saw: bool,
-    done: bool,
-}
-
+// In its first turn the engine looks for the mark of another, and is spent.
 impl<'a> Racer for Seeker<'a> {
     ghost use Rattle.race.specs.declared.engines.Progress.TheVariants.{More, Spent};
     ghost use Rattle.std.specs.Prelude.{if◌then◌else◌};
@@ -165,20 +226,9 @@ impl<'a> Racer for Seeker<'a> {
 
     fn advance(&mut self) -> Progress {
         if !self.done {
-            self.saw = meets(self.mine, self.other, self.looks);
-            self.done = true;
+            self.look();
         }
         Spent
-    }
-}
-
-fn seeks<'a>(mine: &'a AtomicBool, other: &'a AtomicBool, looks: u32) -> Seeker<'a> {
-    Seeker {
-        mine,
-        other,
-        looks,
-        saw: false,
-        done: false,
     }
 }
 
@@ -192,17 +242,15 @@ fn met<T: Threads + Sync>(
     requires { 1 ≤ workers }
 {
     let (front, back) = (AtomicBool::new(false), AtomicBool::new(false));
-    let mut lanes = Vec::new(alloc);
-    lanes.push(Lane::new(0, seeks(&front, &back, looks)))?;
-    lanes.push(Lane::new(1, seeks(&back, &front, looks)))?;
+    let (first, second) = (seeks(&front, &back, looks), seeks(&back, &front, looks));
+    let mut lanes = vec![in alloc; Lane::new(0, first), Lane::new(1, second)]?;
     race(rt, alloc, &mut lanes, workers, &Open)?;
     Ok((lanes[0].racer().saw, lanes[1].racer().saw))
 }
 
 // One worker gives the lanes their turns one after another.
 #[test]
-fn two_workers_run_lanes_side_by_side(rt: HostRuntime) -> Result<(), Fail> {
+fn two_workers_run_lanes_side_by_side(rt: HostRuntime) {
     assert!(rt; met(&rt, rt.alloc(), 2, MANY) == Ok((true, true)));
     assert!(rt; met(&rt, rt.alloc(), 1, 1_000) == Ok((false, true)));
-    Ok(())
 }

@@ -1,58 +1,68 @@
 // Tables of low index, one after another.
-ghost use Rattle.std.specs.Prelude.{◌≤◌};
+ghost use Rattle.std.specs.Prelude.{◌≡◌};
 
 use crate::helpers::presented;
-use ports::NoMemory;
 use presentation::Presentation;
-use sims_one::{MOST_CLASSES, Sims};
+use sims_one::Sims;
 use std::alloc::Global;
-use std::test::Fail;
+use std::process::Abort;
 use word_graph::WordGraph;
 
-// The next tables, at most ten, with a semicolon behind each.
-fn printed(alloc: Global, sims: &mut Sims) -> Result<Vec<u8>, NoMemory> {
-    let mut text = Vec::new(alloc);
-    for _ in 0..10 {
-        let Some(table) = sims.next()? else {
-            return Ok(text);
-        };
-        let row = table.print_table(alloc)?;
-        text.extend_from_slice(row.as_slice())?;
-        text.push(b';')?;
+// Has the search go on behind the table of a text.
+fn resume(alloc: Global, presentation: &Presentation, sims: &mut Sims, text: &str) -> Option<()>
+    requires { sims.old.presentation ≡ presentation.now.presentation }
+{
+    let table = WordGraph::read_table(alloc, presentation.letters(), text.as_bytes()).ok()?;
+    if table.is_standard() {
+        sims.resume(&table).ok()
+    } else {
+        None
     }
-    Ok(text)
 }
 
-// The tables of at most so many classes, from the first on where no text is given, and else behind
-// the table of the text, if it is standard.
-fn listed(
-    alloc: Global,
-    presentation: &Presentation,
-    classes: usize,
-    after: Option<&str>,
-) -> Result<Vec<u8>, Fail>
-    requires { classes ≤ MOST_CLASSES }
-{
-    let mut sims = Sims::new(alloc, presentation, classes)?;
-    if let Some(text) = after {
-        let table = WordGraph::read_table(alloc, presentation.letters(), text.as_bytes())?;
-        if table.is_standard() {
-            sims.resume(&table)?;
-        }
+// Whether the next table is that of the text.
+fn is_next(alloc: Global, sims: &mut Sims, text: &str) -> Option<bool> {
+    let table = sims.next().ok()??;
+    let printed = table.print_table(alloc).ok()?;
+    Some(printed.as_slice() == text.as_bytes())
+}
+
+// A text behind whose table the search goes on, and the texts of the tables of at most two classes.
+type Row<'a> = (Option<&'a str>, &'a [&'a str]);
+
+const TABLES: [Row<'static>; 3] = [
+    (None, &["0", "1/0", "1/1"]),
+    (Some("1/0"), &["1/1"]),
+    (Some("1/2/0"), &[]),
+];
+
+// The search lists these tables, and no more.
+fn check_tables(rt: &impl Abort, alloc: Global, sims: &mut Sims, texts: &[&str]) {
+    for text in texts {
+        assert!(rt; is_next(alloc, sims, text) == Some(true));
     }
-    Ok(printed(alloc, &mut sims)?)
+    assert!(rt; sims.next().expect(rt, "memory").is_none());
+}
+
+// A search lists the tables of the row.
+fn check_row(rt: &impl Abort, alloc: Global, presentation: &Presentation, row: &Row) {
+    let mut sims = Sims::new(alloc, presentation, 2).expect(rt, "a search");
+    if let Some(text) = row.0 {
+        resume(alloc, presentation, &mut sims, text).expect(rt, "a table");
+    }
+    check_tables(rt, alloc, &mut sims, row.1);
+    drop(sims);
+}
+
+// Each search lists its tables.
+fn check_rows(rt: &impl Abort, alloc: Global, rows: &[Row]) {
+    let monoid = presented(alloc, "a", true, &[]).expect(rt, "a monoid");
+    for row in rows {
+        check_row(rt, alloc, &monoid, row);
+    }
 }
 
 #[test]
-fn tables_of_a_free_monoid(rt: HostRuntime) -> Result<(), Fail> {
-    let monoid = presented(rt.alloc(), "a", true, &[])?;
-    for (after, want) in [
-        (None, "0;1/0;1/1;"),
-        (Some("1/0"), "1/1;"),
-        (Some("1/2/0"), ""),
-    ] {
-        let text = listed(rt.alloc(), &monoid, 2, after)?;
-        assert_eq!(rt; text.as_slice(), want.as_bytes());
-    }
-    Ok(())
+fn tables_of_a_free_monoid(rt: HostRuntime) {
+    check_rows(&rt, rt.alloc(), &TABLES);
 }

@@ -1,16 +1,15 @@
 // What the engines answer turn by turn, and that they may go to other threads.
-ghost use Rattle.std.specs.Prelude.{◌≡◌, IfOk};
 ghost use Rattle.theory.specs.Congruence.{IsRightSided};
 
-use crate::helpers::{gives, presented};
+use crate::helpers::{gives, right_congruence};
 use cayley::PairsRacer;
 use elements::Transf;
 use knuth_bendix::Completion;
 use ports::NoMemory;
-use presentation::{Congruence, Kind, Pairs};
+use presentation::Congruence;
 use race::Progress::{self, Decided, More, Spent};
 use std::alloc::Global;
-use std::test::Fail;
+use std::process::Abort;
 use tc_felsch::Felsch;
 use tc_hlt::Hlt;
 
@@ -32,7 +31,9 @@ const TRIVIAL: &[(&str, &str)] = &[("aaa", ""), ("aaaaa", "")];
 const LONG_FIRST: &[(&str, &str)] = &[("aaaa", ""), ("a", "")];
 
 // An engine, the relations of a monoid of one letter, a budget, and the first answers.
-const TURNS: [(Engine, &[(&str, &str)], usize, &[Progress]); 9] = [
+type Row<'a> = (Engine, &'a [(&'a str, &'a str)], usize, &'a [Progress]);
+
+const TURNS: [Row<'static>; 9] = [
     (Engine::Felsch, CYCLIC, 2, &[More, More, Decided, Decided]),
     (Engine::Felsch, CYCLIC, 1, &[More, Spent, Spent]),
     (Engine::Felsch, TRIVIAL, 2, &[More, More, Decided]),
@@ -44,51 +45,6 @@ const TURNS: [(Engine, &[(&str, &str)], usize, &[Progress]); 9] = [
     (Engine::Completion, LONG_FIRST, 4, &[More, More, Decided]),
 ];
 
-// The congruence of the relations without pairs.
-fn congruence(alloc: Global, relations: &[(&str, &str)]) -> Result<Congruence, Fail>
-    ensures { IfOk result (λ c. c.congruence.kind ≡ Kind.Right) }
-{
-    let monoid = presented(alloc, "a", true, relations)?;
-    Ok(Congruence::new(monoid, Kind::Right, Pairs::new(alloc)))
-}
-
-// Whether the turns of the enumeration by Felsch's strategy give these answers.
-fn felsch(
-    alloc: Global,
-    congruence: &Congruence,
-    defs: usize,
-    answers: &[Progress],
-) -> Result<bool, NoMemory>
-    requires { IsRightSided congruence.now.congruence }
-{
-    let mut engine = Felsch::new(alloc, congruence, defs)?;
-    Ok(gives(&mut engine, answers))
-}
-
-// The same of the enumeration by rows.
-fn hlt(
-    alloc: Global,
-    congruence: &Congruence,
-    rows: usize,
-    answers: &[Progress],
-) -> Result<bool, NoMemory>
-    requires { IsRightSided congruence.now.congruence }
-{
-    let mut engine = Hlt::new(alloc, congruence, rows)?;
-    Ok(gives(&mut engine, answers))
-}
-
-// The same of the completion.
-fn completion(
-    alloc: Global,
-    congruence: &Congruence,
-    length: usize,
-    answers: &[Progress],
-) -> Result<bool, NoMemory> {
-    let mut engine = Completion::new(alloc, congruence.presentation(), length)?;
-    Ok(gives(&mut engine, answers))
-}
-
 // Whether the turns of the engine give these answers.
 fn turns(
     alloc: Global,
@@ -99,23 +55,33 @@ fn turns(
 ) -> Result<bool, NoMemory>
     requires { IsRightSided congruence.now.congruence }
 {
-    match engine {
-        Engine::Felsch => felsch(alloc, congruence, budget, answers),
-        Engine::Hlt => hlt(alloc, congruence, budget, answers),
-        Engine::Completion => completion(alloc, congruence, budget, answers),
+    Ok(match engine {
+        Engine::Felsch => gives(Felsch::new(alloc, congruence, budget)?, answers),
+        Engine::Hlt => gives(Hlt::new(alloc, congruence, budget)?, answers),
+        Engine::Completion => {
+            let presentation = congruence.presentation();
+            gives(Completion::new(alloc, presentation, budget)?, answers)
+        }
+    })
+}
+
+// Whether the engine of the row gives its answers.
+fn are_given(alloc: Global, row: &Row) -> Option<bool> {
+    let (engine, relations, budget, answers) = *row;
+    let congruence = right_congruence(alloc, relations)?;
+    turns(alloc, engine, &congruence, budget, answers).ok()
+}
+
+// Each row's engine gives its answers.
+fn check_rows(rt: &impl Abort, alloc: Global, rows: &[Row]) {
+    for (i, row) in rows.iter().enumerate() {
+        assert!(rt; are_given(alloc, row) == Some(true), "row {i}");
     }
 }
 
 #[test]
-fn engines_take_their_turns(rt: HostRuntime) -> Result<(), Fail> {
-    for (i, (engine, relations, budget, answers)) in TURNS.iter().enumerate() {
-        let congruence = congruence(rt.alloc(), relations)?;
-        assert!(rt;
-            turns(rt.alloc(), *engine, &congruence, *budget, answers)?,
-            "row {i}"
-        );
-    }
-    Ok(())
+fn engines_take_their_turns(rt: HostRuntime) {
+    check_rows(&rt, rt.alloc(), &TURNS);
 }
 
 // Another thread may have values of the type.

@@ -1,5 +1,5 @@
 use Rattle.std.proofs.Common.{ap, Ok}
-use Rattle.engine_tests.proofs.helpers.counted_table.Goals as goal
+use Rattle.engine_tests.proofs.green_tests.counted_table.Goals as goal
 
 pub returns : goal.returns
 returns g c = λ unused.
