@@ -9,7 +9,18 @@ use Rattle.words.specs.declared.fault.AlphabetFault.TheVariants.{Repeated, NotAL
 use Rattle.line_parts.specs.declared.cause.Cause.{Cause}
 use Rattle.line_parts.specs.declared.cause.Cause.TheVariants as cause
 use Rattle.line_parts.specs.Outcome.{and_then}
+use Rattle.problem.specs.declared.kinds.Problem.TheVariants as problem
+use Rattle.query_lang.specs.declared.draft.AnyListed.{AnyListed}
+use Rattle.query_lang.specs.declared.draft.AnyListed.TheVariants as listed
 use Rattle.query_lang.specs.Draft.{IsDraft, new_letter_of}
+use Rattle.query_lang.specs.Header.{Start}
+
+-- what contracts see of generators, by their kind
+abbrev pub seen : AnyListed → Start
+seen (listed.Transf d) = (d.sizes, problem.Transf d.posed)
+seen (listed.PPerm d) = (d.sizes, problem.PPerm d.posed)
+seen (listed.BMat d) = (d.sizes, problem.BMat d.posed)
+seen (listed.MaxPlus d) = (d.sizes, problem.MaxPlus d.posed)
 
 or_later : (o p q : Option AlphabetFault) → option_or o (option_or p q) ≡ option_or (option_or o p) q
 or_later (Some x) p q = refl

@@ -1,6 +1,6 @@
 -- What comes of lines of a form: what the lines say then, or the cause.
-use Rattle.std.proofs.Common.{◌≡◌, ◌≤◌, Bool, true, false, not, if◌then◌else◌, List, [], ◌∷◌, map, Option, Some, None, Result, Ok, Err, IfErr, IsErrAnd, is_none, refl, sym, ap, ap₂, ◌∙◌, subst}
-use Rattle.std.proofs.lemmas.Bool.{le-ltb}
+use Rattle.std.proofs.Common.{◌≡◌, ◌<◌, ◌≤◌, Bool, true, false, not, if◌then◌else◌, List, [], ◌∷◌, map, Option, Some, None, Result, Ok, Err, IfErr, IsErrAnd, is_none, refl, sym, ap, ap₂, ◌∙◌, subst}
+use Rattle.std.proofs.lemmas.Bool.{le-ltb, lt-ltb}
 use Rattle.std.specs.Option.{ok_or}
 use Rattle.problem.specs.Problem.{is_presented}
 use Rattle.line_parts.specs.declared.cause.Cause.{Cause}
@@ -85,6 +85,15 @@ form_cause p form tokens some early =
     ap₂ (λ late lacks. first_of (when cause.LineOutOfOrder late ∷ when cause.NoGenerator lacks ∷ causes_behind p form tokens)) (le-ltb (section_of form) (section_reached p) early) some
     ∙ sym (added_cause p form tokens)
     ∙ sym (same-cause (with_added p form) (added_of p.head.version p.problem form tokens))
+
+-- or where it may not stand
+pub form_late : (p : Partial) (form : Form) (tokens : List Token) → section_of form < section_reached p → first_of (form_causes p form tokens) ≡ Some cause.LineOutOfOrder
+form_late p form tokens late =
+    ap (λ late. first_of (when cause.LineOutOfOrder late ∷ when cause.NoGenerator (lacks_generator p) ∷ causes_behind p form tokens)) (lt-ltb (section_of form) (section_reached p) late)
+
+pub form_lacks : (p : Partial) (form : Form) (tokens : List Token) → section_reached p ≤ section_of form → lacks_generator p ≡ true → first_of (form_causes p form tokens) ≡ Some cause.NoGenerator
+form_lacks p form tokens early lacks =
+    ap₂ (λ late lacks. first_of (when cause.LineOutOfOrder late ∷ when cause.NoGenerator lacks ∷ causes_behind p form tokens)) (le-ltb (section_of form) (section_reached p) early) lacks
 
 -- a line that is no generator line goes by its name
 named_is : (p : Partial) (name : Token) (tokens : List Token) → is_generator_line p (name ∷ tokens) ≡ false → line_causes p (name ∷ tokens) ≡ named_causes p (form_named p.head.version (is_presented p.problem) name) tokens

@@ -3,7 +3,8 @@ use Rattle.std.proofs.Common.{◌≡◌, ℕ, Bool, true, false, not, if◌then�
 use Rattle.std.specs.Option.{ok_or}
 use Rattle.std.proofs.lemmas.List.Elements.{All-contains}
 use Rattle.presentation.specs.Presented.{Posed}
-use Rattle.problem.specs.declared.kinds.Problem.TheVariants.{Presented, Transf, PPerm, BMat, MaxPlus}
+use Rattle.problem.specs.declared.kinds.Problem.{Problem}
+use Rattle.problem.specs.declared.kinds.Problem.TheVariants.{Presented}
 use Rattle.words.specs.Alphabet.{IsAlphabetFault, IsAlphabetOf, IsLetterByte, alphabet_fault, marker}
 use Rattle.words.specs.declared.fault.AlphabetFault.{AlphabetFault}
 use Rattle.words.specs.declared.fault.AlphabetFault.TheVariants as letter_fault
@@ -18,11 +19,13 @@ use Rattle.line_parts.specs.Token.{Line, Token, is_kept, is_word, number_of, num
 use Rattle.line_parts.proofs.FaultLemmas.{handed_on}
 use Rattle.query_lang.specs.Faults.{IsFaultFor}
 use Rattle.query_lang.specs.Forms.{ANumber, AllGiven, Place, Way}
-use Rattle.query_lang.specs.Header.{Start, free_way, generators_named, given_by, header_named, no_generators, no_letters, one_size, started, two_sizes}
+use Rattle.query_lang.specs.declared.draft.GeneratorKind.{GeneratorKind}
+use Rattle.query_lang.specs.declared.draft.GeneratorKind.TheVariants as kind
+use Rattle.query_lang.specs.Header.{Start, free_way, generators_named, given_by, header_for, header_named, named_kind, no_letters, none_of, one_size, started, told, two_sizes}
 use Rattle.query_lang.specs.Grammar.{HeaderReads, Nothing, OfVersion, Partial, Step, begin_with}
 use Rattle.query_lang.specs.Grammar as grammar
 use Rattle.query_lang.specs.Outline.{alphabet_of, unless_fault}
-use Rattle.query_lang.specs.Reading.{headed, said_by}
+use Rattle.query_lang.specs.Reading.{AreGenerators, headed, said_by}
 use Rattle.query_lang.specs.Relations.{free_over}
 use Rattle.query_lang.specs.Values.{as_many, values_of}
 use Rattle.query_lang.specs.LineCauses.{when, first_of, cause_in, first_line_causes, header_causes, start_causes, token_causes, version_causes}
@@ -48,28 +51,28 @@ semigroup_named wide t h k = rw (h, k) refl
 pub kind_named : (wide : Bool) (t : Token) → is_word (codes "monoid") t ≡ false → is_word (codes "semigroup") t ≡ false → header_named wide t ≡ generators_named t
 kind_named wide t h k = rw (h, k) refl
 
-pub trans_named : (t : Token) → is_word (codes "trans") t ≡ true → generators_named t ≡ Some (one_size 64 (Transf no_generators))
-trans_named t h = rw h refl
+-- a header of generators says what its kind does
+kind_said : (t : Token) (tokens : List Token) → started (generators_named t) tokens ≡ and_then (λ k. told (header_for k) tokens) (ok_or (named_kind t) cause.UnknownHeader)
+kind_said t tokens = by (is_word (codes "trans") t) (is_word (codes "pperm") t) (is_word (codes "bmat") t) (is_word (codes "mpt") t)
+  where
+    by : (a b c d : Bool)
+        → started (if a then Some (header_for kind.Transf) else if b then Some (header_for kind.PPerm) else if c then Some (header_for kind.BMat) else if d then Some (header_for kind.MaxPlus) else None) tokens
+        ≡ and_then (λ k. told (header_for k) tokens) (ok_or (if a then Some kind.Transf else if b then Some kind.PPerm else if c then Some kind.BMat else if d then Some kind.MaxPlus else None) cause.UnknownHeader)
+    by true b c d = refl
+    by false true c d = refl
+    by false false true d = refl
+    by false false false true = refl
+    by false false false false = refl
 
-pub pperm_named : (t : Token) → is_word (codes "trans") t ≡ false → is_word (codes "pperm") t ≡ true → generators_named t ≡ Some (one_size 64 (PPerm no_generators))
-pperm_named t h k = rw (h, k) refl
+pub kind_told : (t : Token) (tokens : List Token) (o : Option GeneratorKind) (r : Result GeneratorKind Cause) → o ≡ named_kind t → r ≡ ok_or o cause.UnknownHeader → started (generators_named t) tokens ≡ and_then (λ k. told (header_for k) tokens) r
+kind_told t tokens o r e h = kind_said t tokens ∙ ap (and_then (λ k. told (header_for k) tokens)) (sym (h ∙ ap (λ o. ok_or o cause.UnknownHeader) e))
 
-pub bmat_named : (t : Token) → is_word (codes "trans") t ≡ false → is_word (codes "pperm") t ≡ false → is_word (codes "bmat") t ≡ true → generators_named t ≡ Some (one_size 16 (BMat no_generators))
-bmat_named t h k l = rw (h, k, l) refl
-
-pub mpt_named : (t : Token) → is_word (codes "trans") t ≡ false → is_word (codes "pperm") t ≡ false → is_word (codes "bmat") t ≡ false → is_word (codes "mpt") t ≡ true → generators_named t ≡ Some (two_sizes (MaxPlus no_generators))
-mpt_named t h k l m = rw (h, k, l, m) refl
-
-pub none_named : (t : Token) → is_word (codes "trans") t ≡ false → is_word (codes "pperm") t ≡ false → is_word (codes "bmat") t ≡ false → is_word (codes "mpt") t ≡ false → generators_named t ≡ None
-none_named t h k l m = rw (h, k, l, m) refl
-
--- what a header of this name says, by what its tokens give, or why it is refused
-
-pub start_told : (named : Option (Way Start)) (w : Way Start) (tokens : List Token) (vs : AllGiven w.places) (s : Start) → named ≡ Some w → given_by w.places tokens ≡ Ok vs → s ≡ w.makes vs → started named tokens ≡ Ok s
-start_told named w tokens vs s e h k = ap (λ named. started named tokens) e ∙ ap (and_then (λ vs. Ok (w.makes vs))) h ∙ ap (λ s. Ok s) (sym k)
-
-pub start_refused : (named : Option (Way Start)) (w : Way Start) (tokens : List Token) (c : Cause) → named ≡ Some w → given_by w.places tokens ≡ Err c → started named tokens ≡ Err c
-start_refused named w tokens c e h = ap (λ named. started named tokens) e ∙ ap (and_then (λ vs. Ok (w.makes vs))) h
+-- before the first generator there are generators alone
+pub none_generated : (k : GeneratorKind) → AreGenerators (none_of k)
+none_generated kind.Transf = (refl, refl)
+none_generated kind.PPerm = (refl, refl)
+none_generated kind.BMat = (refl, refl)
+none_generated kind.MaxPlus = (refl, refl)
 
 -- the numbers of a header
 
@@ -78,18 +81,14 @@ size_in greatest [] t h = absurd (cc)
 size_in greatest (s ∷ u ∷ tokens) t h = absurd (cc)
 size_in greatest (s ∷ []) t h = let same : s ≡ t = cc in ap (λ t. and_then (λ n. Ok (n, tt)) (ok_or (number_within 1 greatest t) cause.BadNumber)) same
 
-pub size_made : (greatest : ℕ) (tokens : List Token) (t : Token) (r : Result ℕ Cause) → one_token tokens ≡ Ok t → r ≡ ok_or (number_within 1 greatest t) cause.BadNumber → IfOk r (λ n. given_by (ANumber 1 greatest ∷ []) tokens ≡ Ok (n, tt))
-size_made greatest tokens t (Err c) h e = tt
-size_made greatest tokens t (Ok n) h e = size_in greatest tokens t h ∙ ap (and_then (λ n. Ok (n, tt))) (sym e)
+pub size_told : (greatest : ℕ) (problem : Problem) (tokens : List Token) (t : Token) (r : Result ℕ Cause) → one_token tokens ≡ Ok t → r ≡ ok_or (number_within 1 greatest t) cause.BadNumber
+    → told (one_size greatest problem) tokens ≡ and_then (λ n. Ok ((n, 0), problem)) r
+size_told greatest problem tokens t r h e = ap (and_then {B = Start} (λ (v : ℕ × Unit {0}). Ok ((v.0, 0), problem))) (size_in greatest tokens t h ∙ ap (and_then (λ n. Ok (n, tt))) (sym e)) ∙ one_in (λ v. ((v.0, 0), problem)) r
 
-pub size_refused : (greatest : ℕ) (tokens : List Token) (t : Token) (r : Result ℕ Cause) → one_token tokens ≡ Ok t → r ≡ ok_or (number_within 1 greatest t) cause.BadNumber → IfErr r (λ c. given_by (ANumber 1 greatest ∷ []) tokens ≡ Err c)
-size_refused greatest tokens t (Ok n) h e = tt
-size_refused greatest tokens t (Err c) h e = size_in greatest tokens t h ∙ ap (and_then (λ n. Ok (n, tt))) (sym e)
-
-pub size_missing : (greatest : ℕ) (tokens : List Token) (c : Cause) → one_token tokens ≡ Err c → given_by (ANumber 1 greatest ∷ []) tokens ≡ Err c
-size_missing greatest [] c h = let same : cause.WrongNumberOfWords ≡ c = cc in ap (λ c. Err c) same
-size_missing greatest (s ∷ u ∷ tokens) c h = let same : cause.WrongNumberOfWords ≡ c = cc in ap (λ c. Err c) same
-size_missing greatest (s ∷ []) c h = absurd (cc)
+pub size_missing : (greatest : ℕ) (problem : Problem) (tokens : List Token) (c : Cause) → one_token tokens ≡ Err c → told (one_size greatest problem) tokens ≡ Err c
+size_missing greatest problem [] c h = let same : cause.WrongNumberOfWords ≡ c = cc in ap (λ c. Err c) same
+size_missing greatest problem (s ∷ u ∷ tokens) c h = let same : cause.WrongNumberOfWords ≡ c = cc in ap (λ c. Err c) same
+size_missing greatest problem (s ∷ []) c h = absurd (cc)
 
 -- of both numbers, by what the tokens are
 abbrev both_sizes : Result ℕ Cause → Result ℕ Cause → Result (ℕ × (ℕ × Unit {0})) Cause
@@ -109,15 +108,20 @@ sizes_in (x ∷ y ∷ []) s t h =
     by (Ok n) (Err c) = refl
     by (Ok n) (Ok m) = refl
 
-pub sizes_given : (tokens : List Token) (s t : Token) (u v : Result ℕ Cause) → two_tokens tokens ≡ Ok (s, t) → u ≡ ok_or (number_within 1 16 s) cause.BadNumber → v ≡ ok_or (number_within 0 65535 t) cause.BadNumber
-    → given_by (ANumber 1 16 ∷ ANumber 0 65535 ∷ []) tokens ≡ and_then (λ n. and_then (λ m. Ok (n, (m, tt))) v) u
-sizes_given tokens s t u v h e f = sizes_in tokens s t h ∙ ap₂ both_sizes (sym e) (sym f)
+pub sizes_told : (problem : Problem) (tokens : List Token) (s t : Token) (u v : Result ℕ Cause) → two_tokens tokens ≡ Ok (s, t) → u ≡ ok_or (number_within 1 16 s) cause.BadNumber → v ≡ ok_or (number_within 0 65535 t) cause.BadNumber
+    → told (two_sizes problem) tokens ≡ and_then (λ n. and_then (λ m. Ok ((n, m), problem)) v) u
+sizes_told problem tokens s t u v h e f = ap (and_then {B = Start} (λ (w : ℕ × (ℕ × Unit {0})). Ok ((w.0, w.1.0), problem))) (sizes_in tokens s t h ∙ ap₂ both_sizes (sym e) (sym f)) ∙ by u v
+  where
+    by : (u v : Result ℕ Cause) → and_then {B = Start} (λ (w : ℕ × (ℕ × Unit {0})). Ok ((w.0, w.1.0), problem)) (both_sizes u v) ≡ and_then {B = Start} (λ n. and_then {B = Start} (λ m. Ok ((n, m), problem)) v) u
+    by (Err c) v = refl
+    by (Ok n) (Err c) = refl
+    by (Ok n) (Ok m) = refl
 
-pub sizes_missing : (tokens : List Token) (c : Cause) → two_tokens tokens ≡ Err c → given_by (ANumber 1 16 ∷ ANumber 0 65535 ∷ []) tokens ≡ Err c
-sizes_missing [] c h = let same : cause.WrongNumberOfWords ≡ c = cc in ap (λ c. Err c) same
-sizes_missing (s ∷ []) c h = let same : cause.WrongNumberOfWords ≡ c = cc in ap (λ c. Err c) same
-sizes_missing (s ∷ t ∷ []) c h = absurd (cc)
-sizes_missing (s ∷ t ∷ u ∷ tokens) c h = let same : cause.WrongNumberOfWords ≡ c = cc in ap (λ c. Err c) same
+pub sizes_missing : (problem : Problem) (tokens : List Token) (c : Cause) → two_tokens tokens ≡ Err c → told (two_sizes problem) tokens ≡ Err c
+sizes_missing problem [] c h = let same : cause.WrongNumberOfWords ≡ c = cc in ap (λ c. Err c) same
+sizes_missing problem (s ∷ []) c h = let same : cause.WrongNumberOfWords ≡ c = cc in ap (λ c. Err c) same
+sizes_missing problem (s ∷ t ∷ []) c h = absurd (cc)
+sizes_missing problem (s ∷ t ∷ u ∷ tokens) c h = let same : cause.WrongNumberOfWords ≡ c = cc in ap (λ c. Err c) same
 
 -- the letters of a header
 

@@ -9,6 +9,7 @@ use Rattle.problem.specs.Problem.{is_presented, pairs_of, with_pair}
 use Rattle.problem.specs.declared.kinds.Problem.{Problem}
 use Rattle.problem.specs.declared.kinds.Problem.TheVariants.{Presented}
 use Rattle.line_parts.specs.declared.cause.Cause.{Cause}
+use Rattle.line_parts.specs.declared.cause.Cause.TheVariants.{UnknownLine}
 use Rattle.line_parts.specs.declared.version.Version.{Version}
 use Rattle.line_parts.specs.Fields.{field_of}
 use Rattle.line_parts.specs.Outcome.{and_then}
@@ -126,3 +127,8 @@ generator_fault p line a b fault h sign k =
     denied : (b : Bool) → not b ≡ true → b ≡ false
     denied false h = refl
     denied true h = absurd (true≢false (sym h))
+
+-- and a line with no token
+pub nothing_there : (p : Partial) (line : List (Bor (List ℕ))) → length line ≡ 0 → first_of (line_causes p (texts line)) ≡ Some UnknownLine
+nothing_there p [] h = refl
+nothing_there p (t ∷ ts) h = absurd (omega arith)

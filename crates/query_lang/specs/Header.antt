@@ -10,6 +10,8 @@ use Rattle.line_parts.specs.declared.cause.Cause.TheVariants.{UnknownHeader, Wro
 use Rattle.line_parts.specs.declared.version.Version.TheVariants.{One}
 use Rattle.line_parts.specs.Outcome.{and_then}
 use Rattle.line_parts.specs.Token.{Token, is_word}
+use Rattle.query_lang.specs.declared.draft.GeneratorKind.{GeneratorKind}
+use Rattle.query_lang.specs.declared.draft.GeneratorKind.TheVariants as kind
 use Rattle.query_lang.specs.Forms.{Place, ALetters, ANumber, AllGiven, Way, way}
 use Rattle.query_lang.specs.Relations.{free_over}
 use Rattle.query_lang.specs.Values.{Scope, as_many, scope, values_of}
@@ -66,3 +68,30 @@ abbrev pub started : Option (Way Start) → List Token → Result Start Cause
 started named tokens = and_then
     (λ w. and_then (λ vs. Ok (w.makes vs)) (given_by w.places tokens))
     (ok_or named UnknownHeader)
+
+-- what a header says that is written this way, or why it is refused
+abbrev pub told : Way Start → List Token → Result Start Cause
+told w tokens = and_then (λ vs. Ok (w.makes vs)) (given_by w.places tokens)
+
+-- no generator yet, of this kind
+abbrev pub none_of : GeneratorKind → Problem
+none_of kind.Transf = Transf no_generators
+none_of kind.PPerm = PPerm no_generators
+none_of kind.BMat = BMat no_generators
+none_of kind.MaxPlus = MaxPlus no_generators
+
+-- the header of this kind of generators
+abbrev pub header_for : GeneratorKind → Way Start
+header_for kind.Transf = one_size 64 (Transf no_generators)
+header_for kind.PPerm = one_size 64 (PPerm no_generators)
+header_for kind.BMat = one_size 16 (BMat no_generators)
+header_for kind.MaxPlus = two_sizes (MaxPlus no_generators)
+
+-- the kind of generators whose header has this name
+abbrev pub named_kind : Token → Option GeneratorKind
+named_kind t =
+    if is_word (codes "trans") t then Some kind.Transf
+    else if is_word (codes "pperm") t then Some kind.PPerm
+    else if is_word (codes "bmat") t then Some kind.BMat
+    else if is_word (codes "mpt") t then Some kind.MaxPlus
+    else None

@@ -6,7 +6,7 @@ ghost use Rattle.line_parts.specs.Fields.{field_of};
 ghost use Rattle.line_parts.specs.Texts.{texts};
 ghost use Rattle.query_lang.specs.Draft.{new_letter_of, start_of, with_one};
 ghost use Rattle.query_lang.specs.Generators.{one_more};
-ghost use Rattle.query_lang.specs.Header.{no_generators};
+ghost use Rattle.query_lang.specs.Header.{none_of};
 ghost use Rattle.query_lang.specs.Pairing.{IsPairable};
 ghost use Rattle.query_lang.specs.Reading.{with_generator};
 
@@ -146,6 +146,19 @@ impl<E: Generator> Listed<E> {
     }
 }
 
+/// The kinds of generators.
+#[derive(Clone, Copy)]
+pub enum GeneratorKind {
+    /// Transformations.
+    Transf,
+    /// Partial permutations.
+    PPerm,
+    /// Boolean matrices.
+    BMat,
+    /// Truncated max-plus matrices.
+    MaxPlus,
+}
+
 // The generators of a script, so far, by their kind.
 #[derive(Drop)]
 enum AnyListed {
@@ -177,40 +190,17 @@ impl Model for Draft {
 }
 
 impl Draft {
-    /// No transformation yet, of this degree.
-    pub fn transf(alloc: Global, degree: u32) -> Draft
-        ensures { result ≡ ((degree, 0), Problem.Transf no_generators) }
+    /// No generator yet, of this kind and with these numbers of the header.
+    pub fn new(alloc: Global, kind: GeneratorKind, sizes: (u32, u32)) -> Draft
+        ensures { result ≡ (sizes, none_of kind) }
     {
-        Draft {
-            listed: AnyListed::Transf(Listed::new(alloc, (degree, 0))),
-        }
-    }
-
-    /// No partial permutation yet, of this degree.
-    pub fn pperm(alloc: Global, degree: u32) -> Draft
-        ensures { result ≡ ((degree, 0), Problem.PPerm no_generators) }
-    {
-        Draft {
-            listed: AnyListed::PPerm(Listed::new(alloc, (degree, 0))),
-        }
-    }
-
-    /// No Boolean matrix yet, of this dimension.
-    pub fn bmat(alloc: Global, dimension: u32) -> Draft
-        ensures { result ≡ ((dimension, 0), Problem.BMat no_generators) }
-    {
-        Draft {
-            listed: AnyListed::BMat(Listed::new(alloc, (dimension, 0))),
-        }
-    }
-
-    /// No max-plus matrix yet, of this dimension and bound.
-    pub fn max_plus(alloc: Global, sizes: (u32, u32)) -> Draft
-        ensures { result ≡ (sizes, Problem.MaxPlus no_generators) }
-    {
-        Draft {
-            listed: AnyListed::MaxPlus(Listed::new(alloc, sizes)),
-        }
+        let listed = match kind {
+            GeneratorKind::Transf => AnyListed::Transf(Listed::new(alloc, sizes)),
+            GeneratorKind::PPerm => AnyListed::PPerm(Listed::new(alloc, sizes)),
+            GeneratorKind::BMat => AnyListed::BMat(Listed::new(alloc, sizes)),
+            GeneratorKind::MaxPlus => AnyListed::MaxPlus(Listed::new(alloc, sizes)),
+        };
+        Draft { listed }
     }
 
     /// The numbers of the header.

@@ -3,17 +3,14 @@ ghost use Rattle.std.specs.Prelude.{◌≡◌};
 ghost use Rattle.query_lang.specs.Faults.{fault_at_line};
 
 use line_parts::LineFault;
-use thiserror::Error;
 
 /// Why bytes make no script.
-#[derive(Clone, Copy, Debug, Error)]
+#[derive(Clone, Copy)]
 pub enum ScriptFault {
     /// The first line, counted from 1, that is out of form or out of place, and the number of its
     /// cause.
-    #[error("line {line}: cause {cause}")]
     Bad { line: usize, cause: u8 },
     /// Memory is wanting.
-    #[error("out of memory")]
     NoMemory,
 }
 

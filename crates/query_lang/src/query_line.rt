@@ -49,15 +49,14 @@ impl QueryForm {
     pub fn takes(self, tokens: &[&[u8]]) -> bool
         ensures { result ≡ takes self (texts tokens.now) }
     {
+        let count = tokens.len();
         match self {
             QueryForm::Index | QueryForm::Rules | QueryForm::Cayley | QueryForm::Idempotents =>
-                tokens.is_empty(),
-            QueryForm::Normal | QueryForm::Element | QueryForm::Green => matches!(tokens, [_]),
-            QueryForm::Equal | QueryForm::Meet | QueryForm::Join | QueryForm::Chain => {
-                matches!(tokens, [_, _])
-            }
-            QueryForm::Classes => matches!(tokens, [_] | [_, _, _]),
-            QueryForm::LowIndex { .. } => matches!(tokens, [_, _] | [_, _, _, _]),
+                count == 0,
+            QueryForm::Normal | QueryForm::Element | QueryForm::Green => count == 1,
+            QueryForm::Equal | QueryForm::Meet | QueryForm::Join | QueryForm::Chain => count == 2,
+            QueryForm::Classes => count == 1 || count == 3,
+            QueryForm::LowIndex { .. } => count == 2 || count == 4,
         }
     }
 }

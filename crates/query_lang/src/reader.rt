@@ -318,12 +318,14 @@ impl Reader {
     {
         let version = self.version();
         let sizes = self.sizes();
-        let script = self.into_script(alloc)?;
-        Ok(asking(
-            version,
-            sizes,
-            script.with_query(alloc, version, form, tokens)?,
-        ))
+        let mut script = self.into_script(alloc)?;
+        match script.add_query(alloc, version, form, tokens) {
+            Ok(()) => Ok(asking(version, sizes, script)),
+            Err(fault) => {
+                drop(script);
+                Err(fault)
+            }
+        }
     }
 
     // A line of this form, which may stand here. Scripts of this version and kind have it.

@@ -1,9 +1,9 @@
 // Scripts: a problem, and queries.
-ghost use Rattle.std.specs.Prelude.{◌≡◌, [], true, IfOk, IfErr, Ok, All};
+ghost use Rattle.std.specs.Prelude.{◌≡◌, [], true, IfOk, IfErr, Ok, All, OnOk};
 ghost use Rattle.problem.specs.Problem.{IsPosable, is_presented};
 ghost use Rattle.line_parts.specs.Faults.{IsLineFault};
 ghost use Rattle.line_parts.specs.Texts.{texts};
-ghost use Rattle.query_lang.specs.Asked.{asked, with_asked};
+ghost use Rattle.query_lang.specs.Asked.{asked};
 ghost use Rattle.query_lang.specs.Faults.{IsScriptFault};
 ghost use Rattle.query_lang.specs.Grammar.{lines_of};
 ghost use Rattle.query_lang.specs.LineCauses.{AreScript};
@@ -17,7 +17,6 @@ use crate::form::{Form, QueryForm};
 use crate::query_line::query_of;
 use crate::reader::Progress;
 use line_parts::{Cause, LineFault, Version};
-use ports::NoMemory;
 use problem::Problem;
 use std::alloc::Global;
 use std::marker::Model;
@@ -153,43 +152,23 @@ impl Script {
         )
     }
 
-    // The query behind the others.
-    fn with_asked(self, query: Query) -> Result<Script, NoMemory>
-        requires { IsQueryOf self.problem query }
-        ensures { IfOk result (λ next. next ≡ with_asked self query) }
-    {
-        let Script {
-            problem,
-            mut queries,
-        } = self;
-        match queries.push(query) {
-            Ok(()) => Ok(Script { problem, queries }),
-            Err(failed) => {
-                drop(problem);
-                Err(failed.into())
-            }
-        }
-    }
-
-    // The query of this form and these tokens behind the others. Scripts of this kind have it.
-    pub(crate) fn with_query(
-        self,
+    // Puts the query of this form and these tokens behind the others. Scripts of this kind have it.
+    pub(crate) fn add_query(
+        &mut self,
         alloc: Global,
         version: Version,
         form: QueryForm,
         tokens: &[&[u8]],
-    ) -> Result<Script, LineFault>
-        requires { has_query (is_presented self.problem) form ≡ true }
-        ensures ok { IfOk result (λ next. asked version self form (texts tokens.now) ≡ Ok next) }
-        ensures err { IfErr result (IsLineFault (asked version self form (texts tokens.now))) }
+    ) -> Result<(), LineFault>
+        requires { has_query (is_presented self.old.problem) form ≡ true }
+        ensures ok { OnOk result
+            (asked version self.old form (texts tokens.now) ≡ Ok self.new) }
+        ensures err { IfErr result (IsLineFault
+            (asked version self.old form (texts tokens.now))) }
     {
-        match self.query(alloc, version, form, tokens) {
-            Ok(query) => Ok(self.with_asked(query)?),
-            Err(fault) => {
-                drop(self);
-                Err(fault)
-            }
-        }
+        let query = self.query(alloc, version, form, tokens)?;
+        self.queries.push(query)?;
+        Ok(())
     }
 
     /// What the script poses.

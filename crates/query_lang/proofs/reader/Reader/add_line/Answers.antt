@@ -1,9 +1,10 @@
-use Rattle.std.proofs.Common.{◌≤◌, IfErr, IfOk, length, rules, sym, ◌∙◌, subst}
+use Rattle.std.proofs.Common.{◌≤◌, IfErr, IfOk, arith, length, rules, sym, ◌∙◌, subst}
 use Rattle.std.proofs.lemmas.Result.{IfErr-weaker}
+use Rattle.line_parts.specs.Texts.{texts}
 use Rattle.query_lang.specs.Faults.{IsFaultFor}
 use Rattle.query_lang.specs.Grammar.{LineReads}
 use Rattle.query_lang.specs.LineCauses.{first_of, line_causes}
-use Rattle.query_lang.proofs.ReaderLemmas.{generator_fault, generator_texts, named_texts}
+use Rattle.query_lang.proofs.ReaderLemmas.{generator_fault, generator_texts, named_texts, nothing_there}
 use Rattle.query_lang.proofs.reader.Reader.add_line.Goals as goal
 
 pub returns-in-len2-up-clause-ok : goal.returns-in-len2-up-clause-ok
@@ -23,3 +24,7 @@ pub returns-in-len1-up-clause-err : goal.returns-in-len1-up-clause-err
 returns-in-len1-up-clause-err c =
     let some : 1 ≤ length c.args.line.now = search rules in
     subst (λ tokens. IfErr c.add_named.result (IsFaultFor (first_of (line_causes c.args.self tokens)))) (named_texts c.args.line.now _ some) c.add_named.ensures.err
+
+pub returns-in-empty-clause-err : goal.returns-in-empty-clause-err
+returns-in-empty-clause-err c =
+    subst (IsFaultFor (first_of (line_causes c.args.self (texts c.args.line.now)))) (sym c.refused_after.ensures) (nothing_there c.args.self c.args.line.now (omega arith))
