@@ -129,6 +129,9 @@ few_three makes false (Ok x) (Err c) w = refl
 few_three makes false (Ok x) (Ok y) (Err c) = refl
 few_three makes false (Ok x) (Ok y) (Ok z) = refl
 
+pub both_read : (version : Version) (o : Posed) (s t : Token) (x y : ℕ) → is_too_many o (count_for_both s t) ≡ false → letter_in version o.alphabet s ≡ Ok x → letter_in version o.alphabet t ≡ Ok y → both_letters version o s t ≡ Ok (x, y)
+both_read version o s t x y few h k = rw (few, h, k) refl
+
 -- in a monoid
 pub inverse_in : (version : Version) (o : Posed) (tokens : List Token) (s t : Token) → o.congruence.presentation.is_monoid ≡ true → two_tokens tokens ≡ Ok (s, t)
     → added_of version (Presented o) (OfRole Inverse) tokens ≡ and_then (λ (p : ℕ × ℕ). Ok (inverse_relations p.0 p.1 None)) (both_letters version o s t)

@@ -1,5 +1,5 @@
 -- What comes of headers and version lines: what they say, or the cause.
-use Rattle.std.proofs.Common.{◌≡◌, ℕ, Bool, true, false, not, if◌then◌else◌, is_none, option_and_then, List, [], ◌∷◌, codes, Option, Some, None, Result, Ok, Err, IfErr, IfOk, IsErrAnd, refl, sym, ap, ap₂, ◌∙◌, subst, arith, inl, inr, Contains}
+use Rattle.std.proofs.Common.{◌≡◌, ℕ, Bool, true, false, not, if◌then◌else◌, is_none, option_and_then, List, [], ◌∷◌, codes, Option, Some, None, Result, Ok, Err, IfErr, IsErrAnd, refl, sym, ap, ap₂, ◌∙◌, subst, arith, inl, inr, Contains}
 use Rattle.std.specs.Option.{ok_or}
 use Rattle.std.proofs.lemmas.List.Elements.{All-contains}
 use Rattle.presentation.specs.Presented.{Posed}

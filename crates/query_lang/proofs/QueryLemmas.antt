@@ -1,7 +1,6 @@
 -- Forms by their names, and queries by the table of forms.
-use Rattle.std.proofs.Common.{◌≡◌, ◌≢◌, ℕ, suc, ◌<◌, ◌≤◌, ◌==◌, Bool, true, false, not, ◌&&◌, if◌then◌else◌, is_none, List, [], ◌∷◌, length, drop, get_or, drop-cons, Option, Some, None, Result, Ok, Err, Bor, codes, refl, sym, ap, ◌∙◌, subst, arith, true≢false}
+use Rattle.std.proofs.Common.{◌≡◌, ◌≢◌, ℕ, suc, ◌<◌, ◌≤◌, Bool, true, false, ◌&&◌, if◌then◌else◌, List, [], ◌∷◌, length, drop, get_or, drop-cons, Option, Some, None, Result, Ok, Err, Bor, codes, refl, sym, ap, ◌∙◌, subst, arith, true≢false}
 use Rattle.std.specs.Option.{ok_or}
-use Rattle.std.proofs.Math.Dec.{eqb-suc-suc, eqb-suc-zero, eqb-zero-suc}
 use Rattle.std.proofs.lemmas.List.{drop_all}
 use Rattle.theory.specs.Graph.{Graph}
 use Rattle.std.specs.Result.{IsErrAnd, IfErr}
@@ -15,13 +14,12 @@ use Rattle.line_parts.specs.Texts.{texts}
 use Rattle.line_parts.specs.Token.{Token, is_word, number_within}
 use Rattle.line_parts.proofs.FaultLemmas.{handed_on}
 use Rattle.query_lang.specs.declared.form.Form.{Form}
-use Rattle.query_lang.specs.declared.form.QueryForm.{QueryForm}
 use Rattle.query_lang.specs.declared.form.QueryForm.TheVariants as asks
 use Rattle.query_lang.specs.declared.script.Query.{Query}
 use Rattle.query_lang.specs.declared.script.Query.TheVariants.{Classes, LowIndex}
 use Rattle.query_lang.specs.Forms.{Place, ACongruenceTable, AllGiven, Way, way, form_among, has_form, name_of, row_of}
 use Rattle.query_lang.specs.LineCauses.{cause_in, first_of, token_causes}
-use Rattle.query_lang.specs.Values.{Scope, as_many, limits_of, made_in, takes, value_of, values_of, way_for}
+use Rattle.query_lang.specs.Values.{Scope, as_many, limits_of, made_in, value_of, values_of, way_for}
 
 -- forms by their names
 
@@ -87,25 +85,6 @@ way_fits {A} tokens (one ∷ ways) w h = by (λ h. way_fits tokens ways w h) (as
     by : (way_for tokens ways ≡ Some w → as_many w.places tokens ≡ true) → (b : Bool) → as_many one.places tokens ≡ b → (if b then Some one else way_for tokens ways) ≡ Some w → as_many w.places tokens ≡ true
     by behind true e h = let same : one ≡ w = cc in ap (λ (w : Way A). as_many w.places tokens) (sym same) ∙ e
     by behind false e h = behind h
-
--- how many tokens a query takes
-
-counted : {A : Type 0} (places : List A) (tokens : List (Bor (List ℕ))) → (length tokens == length places) ≡ as_many places (texts tokens)
-counted [] [] = refl
-counted [] (t ∷ tokens) = eqb-suc-zero (length tokens)
-counted (place ∷ places) [] = eqb-zero-suc (length places)
-counted (place ∷ places) (t ∷ tokens) = eqb-suc-suc (length tokens) (length places) ∙ counted places tokens
-
-one_way : {A : Type 0} (w : Way A) (tokens : List (Bor (List ℕ))) → (length tokens == length w.places) ≡ not (is_none (way_for (texts tokens) (w ∷ [])))
-one_way w tokens = counted w.places tokens ∙ by (as_many w.places (texts tokens))
-  where
-    by : (fit : Bool) → fit ≡ not (is_none (if fit then Some w else None))
-    by true = refl
-    by false = refl
-
--- a query that is written in one way
-pub takes_one : (form : QueryForm) (w : Way Query) (tokens : List (Bor (List ℕ))) (n : ℕ) → (row_of form).ways ≡ w ∷ [] → n ≡ length tokens → (n == length w.places) ≡ takes form (texts tokens)
-takes_one form w tokens n ways e = ap (λ n. n == length w.places) e ∙ one_way w tokens ∙ ap (λ ways. not (is_none (way_for (texts tokens) ways))) (sym ways)
 
 -- two tables
 
