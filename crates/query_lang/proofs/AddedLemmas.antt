@@ -175,8 +175,3 @@ inverse_by_missing version o (s ∷ t ∷ u ∷ v ∷ tokens) semigroup h = rw s
 -- the letters that are read may be made inverse
 pub inverse_fit : (o : Posed) (x y e : ℕ) → x < length o.alphabet → y < length o.alphabet → e < length o.alphabet → length o.congruence.presentation.relations + length (inverse_relations x y (Some e)) ≤ most_relations → AreInverses o x y (Some e)
 inverse_fit o x y e left right unit few = record { left = left; right = right; unit = unit; some = λ none. absurd (cc); few = few }
-
-pub inverses_fit : {E : Type 0} (o : Posed) (r : Result (ℕ × ℕ) E) → o.congruence.presentation.is_monoid ≡ true → IfOk r (λ p. p.0 < length o.alphabet) → IfOk r (λ p. p.1 < length o.alphabet)
-    → IfOk r (λ p. length o.congruence.presentation.relations + length (inverse_relations p.0 p.1 None) ≤ most_relations) → IfOk r (λ p. AreInverses o p.0 p.1 None)
-inverses_fit o (Ok p) monoid left right few = record { left = left; right = right; unit = tt; some = λ _. monoid; few = few }
-inverses_fit o (Err e) monoid left right few = tt

@@ -1,5 +1,5 @@
 // Relations that lines give, one after another.
-ghost use Rattle.std.specs.Prelude.{◌≡◌, ◌≢◌, ◌<◌, ◌≤◌, ◌+◌, ℕ, [], ◌∷◌, Option, None, Some, IfOk, IfErr, OnOk, Ok, Err, true, false, length, Contains};
+ghost use Rattle.std.specs.Prelude.{◌≡◌, ◌≢◌, ◌<◌, ◌≤◌, ◌+◌, ℕ, [], ◌∷◌, Option, IfOk, IfErr, OnOk, Ok, Err, length, Contains};
 ghost use Rattle.theory.specs.Word.{Word as Letters};
 ghost use Rattle.words.specs.Alphabet.{marker};
 ghost use Rattle.presentation.specs.Added.{identity_relations, zero_relations, inverse_relations, products_with};
@@ -251,50 +251,6 @@ impl Outline {
         Ok((x, y))
     }
 
-    // The letters that the tokens name in a monoid, where the relations that make them inverse are
-    // not too many.
-    fn letters_in_monoid(
-        &self,
-        version: Version,
-        tokens: &[&[u8]],
-    ) -> Result<(Letter, Letter), Cause>
-        requires { self.now.congruence.presentation.is_monoid ≡ true }
-        ensures ok { IfOk result (λ t. added_of version (Problem.Presented self.now)
-            (Form.OfRole Role.Inverse) (texts tokens.now)
-            ≡ Ok (inverse_relations t.0 t.1 None)) }
-        ensures fit { IfOk result (λ t. AreInverses self.now t.0 t.1 None) }
-        ensures err { IfErr result (λ cause. added_of version (Problem.Presented self.now)
-            (Form.OfRole Role.Inverse) (texts tokens.now) ≡ Err cause) }
-    {
-        let (x, y) = two_tokens(tokens)?;
-        self.both_letters(version, x, y)
-    }
-
-    // The letters that the tokens name in a semigroup, where the relations that make them inverse
-    // are not too many. The third one is the identity by which they are.
-    fn letters_in_semigroup(
-        &self,
-        version: Version,
-        tokens: &[&[u8]],
-    ) -> Result<(Letter, Letter, Letter), Cause>
-        requires { self.now.congruence.presentation.is_monoid ≡ false }
-        ensures ok { IfOk result (λ t. added_of version (Problem.Presented self.now)
-            (Form.OfRole Role.Inverse) (texts tokens.now)
-            ≡ Ok (inverse_relations t.0 t.1 (Some t.2))) }
-        ensures fit { IfOk result (λ t. AreInverses self.now t.0 t.1 (Some t.2)) }
-        ensures err { IfErr result (λ cause. added_of version (Problem.Presented self.now)
-            (Form.OfRole Role.Inverse) (texts tokens.now) ≡ Err cause) }
-    {
-        match tokens {
-            [x, y, e] => {
-                let (x, y) = self.both_letters(version, x, y)?;
-                let e = self.letter(version, e)?;
-                Ok((x, y, e))
-            }
-            _ => Err(Cause::WrongNumberOfWords),
-        }
-    }
-
     // The letters that the tokens name, where the relations that make them inverse are not too
     // many. In a semigroup the third one is the identity by which they are.
     fn inverse_letters(
@@ -310,11 +266,17 @@ impl Outline {
             (Form.OfRole Role.Inverse) (texts tokens.now) ≡ Err cause) }
     {
         if self.presentation.is_monoid() {
-            let (x, y) = self.letters_in_monoid(version, tokens)?;
-            Ok((x, y, None))
-        } else {
-            let (x, y, e) = self.letters_in_semigroup(version, tokens)?;
-            Ok((x, y, Some(e)))
+            let (first, second) = two_tokens(tokens)?;
+            let (x, y) = self.both_letters(version, first, second)?;
+            return Ok((x, y, None));
+        }
+        match tokens {
+            [x, y, e] => {
+                let (x, y) = self.both_letters(version, x, y)?;
+                let e = self.letter(version, e)?;
+                Ok((x, y, Some(e)))
+            }
+            _ => Err(Cause::WrongNumberOfWords),
         }
     }
 
