@@ -1,7 +1,7 @@
 -- Relations that were seen to hold at nodes.
-use Rattle.std.proofs.Common.{◌≡◌, ℕ, zero, suc, [], ◌∷◌, ◌++◌, ◌/◌, true, ◌*◌, ◌%◌, ◌^◌, ◌<◌, ◌≤◌, ◌⊎◌, List, refl, sym, ◌∙◌, ap, subst, arith, inl, inr, Some, length, get_or, set, take, slice_index, eqb, w64, Bool, false, Option, None, option_and_then}
+use Rattle.std.proofs.Common.{◌≡◌, ℕ, zero, suc, [], ◌∷◌, ◌++◌, ◌/◌, true, ◌*◌, ◌%◌, ◌^◌, ◌<◌, ◌≤◌, ◌⊎◌, List, refl, sym, ◌∙◌, ap, subst, arith, inl, inr, Some, length, get_or, set, take, drop, slice_index, eqb, w64, Bool, false, Option, None, option_and_then}
 use Rattle.std.proofs.lemmas.Bool.{cases_eq, cases_lt, eqb-true}
-use Rattle.std.proofs.lemmas.List.{get_or_read, get_or-take, get_or_past, get_or-set_same, get_or-set_other, length-take}
+use Rattle.std.proofs.lemmas.List.{get_or_read, get_or-take, get_or_past, get_or-set_same, get_or-set_other, length-take, take-append-drop}
 use Rattle.std.proofs.lemmas.Nat.Bits.{bit_at-zero, bit_at_set_other, shr_and_one}
 use Rattle.std.specs.Int.{bit_at}
 use Rattle.std.specs.Prelude.{bit_and, bit_or}
@@ -9,6 +9,8 @@ use Rattle.theory.specs.Word.{Word}
 use Rattle.theory.specs.Graph.{Graph, path, target}
 use Rattle.coincidence.specs.Holding.{MeetAt}
 use Rattle.coincidence.specs.Merging.{EdgesReached, IsFolded, IsReached}
+use Rattle.theory.proofs.GraphLaws.{path_append}
+use Rattle.coincidence.specs.Rings.{turned}
 use Rattle.coincidence.specs.Seen.{AreSidesOf, HoldWhereSeen, IsSeen}
 use Rattle.coincidence.specs.Uses.{other_of, side_of}
 use Rattle.word_graph.proofs.WalkLaws.{some_same}
@@ -84,6 +86,36 @@ module _ (pairs : List (Word × Word)) where
 
   pub seen_nothing : (g : Graph) (seen : List ℕ) → length seen ≡ 0 → HoldWhereSeen pairs g seen
   seen_nothing g seen none n i d h r = absurd (none_seen seen n i (omega (arith, none)) h)
+
+-- a word that leads home and stays as it is when turned does so from where its first letters lead
+pub round_on : (g : Graph) (at next count : ℕ) (side : Word) → turned count side ≡ side → path g at side ≡ Some at → path g at (take count side) ≡ Some next → path g next side ≡ Some next
+round_on g at next count side stays home leads =
+    sym (ap (path g next) stays) ∙ path_append g next at (drop count side) (take count side) back ∙ leads
+  where
+    back : path g next (drop count side) ≡ Some at
+    back = sym (path_append g at next (take count side) (drop count side) leads) ∙ ap (path g at) (take-append-drop count side) ∙ home
+
+-- one node more on the way round
+pub round_noted : (g : Graph) (side : Word) (relation node : ℕ) (first old new : List ℕ) → path g node side ≡ Some node
+    → ((n i : ℕ) → IsSeen new n i → IsSeen old n i ⊎ ((n ≡ node) × (i ≡ relation)))
+    → ((n i : ℕ) → IsSeen old n i → IsSeen first n i ⊎ ((i ≡ relation) × (path g n side ≡ Some n)))
+    → (n i : ℕ) → IsSeen new n i → IsSeen first n i ⊎ ((i ≡ relation) × (path g n side ≡ Some n))
+round_noted g side relation node first old new home noted before n i h = elim (noted n i h) [
+  | inl was ↦ before n i was
+  | inr is ↦ inr (is.1, subst (λ z. path g z side ≡ Some z) (sym is.0) home)
+]
+
+-- a pair of which the second side is empty leads home where it holds
+pub met_home : (g : Graph) (node : ℕ) (side other : Word) → other ≡ [] → MeetAt g node (side, other) → path g node side ≡ Some node
+met_home g node side other empty met = met.1 ∙ sym met.2 ∙ ap (path g node) empty
+
+-- and holds where it leads home
+pub seen_round : (pairs : List (Word × Word)) (g : Graph) (relation : ℕ) (pair : Word × Word) (old new : List ℕ) → relation < length pairs → pair ≡ get_or pairs relation pair → pair.1 ≡ []
+    → ((n i : ℕ) → IsSeen new n i → IsSeen old n i ⊎ ((i ≡ relation) × (path g n pair.0 ≡ Some n))) → HoldWhereSeen pairs g old → HoldWhereSeen pairs g new
+seen_round pairs g relation pair old new less at empty noted hold n k d h r = elim (noted n k h) [
+  | inl was ↦ hold n k d was r
+  | inr is ↦ subst (λ z. MeetAt g n (get_or pairs z d)) (sym is.0) (subst (MeetAt g n) (get_or_read pairs relation pair less at d) (n, is.1, ap (path g n) empty))
+]
 
 -- the sides of a pair, one or the other first
 module _ (pairs : List (Word × Word)) (i : ℕ) (one other : Word) where

@@ -1,10 +1,11 @@
 -- Lists of places of sides.
 use Rattle.std.proofs.Common.{◌≡◌, ℕ, zero, suc, ◌+◌, ◌<◌, List, [], ◌∷◌, ◌++◌, refl, sym, ◌∙◌, ap, subst, arith, ◌⊎◌, inl, inr, Bool, true, false, length, map, set, get_or}
 use Rattle.std.proofs.lemmas.Bool.{cases_eq}
-use Rattle.std.proofs.lemmas.List.{get_or_read}
+use Rattle.std.proofs.lemmas.List.{get_or_append_left, get_or_push, get_or_read, length_push}
 use Rattle.theory.specs.Word.{Word}
 use Rattle.coincidence.specs.Pending.{IsAmong}
-use Rattle.coincidence.specs.Uses.{side_of, Places, list_at, list_of, told, IsListed, AreUses, IsNoted, AreNoted, IsSideNoted}
+use Rattle.coincidence.specs.Uses.{ArePeriods, side_of, Places, list_at, list_of, told, IsListed, AreUses, IsNoted, AreNoted, IsSideNoted}
+use Rattle.coincidence.specs.Rings.{IsPeriod}
 use Rattle.coincidence.proofs.PendingLaws.{among_push, among_before, among_last}
 
 -- what is read in a list
@@ -137,3 +138,33 @@ uses_end second pairs lists count end k = record {
   within = λ a i p d h. (let b = k.within a i p d h in (omega (arith, b.0, end), b.1));
   all = λ i d less. k.all i d (omega (arith, less, end));
 }
+
+-- the periods of the first pairs
+pub record ArePeriodsTo (second : Bool) (pairs : List (Word × Word)) (periods : List ℕ) (count : ℕ) : Type 0 where
+  pub shape : length periods ≡ count
+  pub all : (i : ℕ) (d : Word × Word) → i < count → IsPeriod (get_or periods i 0) (side_of second (get_or pairs i d))
+
+pub periods_step : (second : Bool) (pairs : List (Word × Word)) (old new : List ℕ) (count : ℕ) (pair : Word × Word) (u : Word) (period : ℕ) → count < length pairs → pair ≡ get_or pairs count pair → u ≡ side_of second pair
+    → IsPeriod period u → new ≡ old ++ period ∷ [] → ArePeriodsTo second pairs old count → ArePeriodsTo second pairs new (count + 1)
+periods_step second pairs old new count pair u period less at side is more k = subst (λ z. ArePeriodsTo second pairs z (count + 1)) (sym more) (record {
+  shape = omega (arith, length_push old period, k.shape);
+  all = λ i d l. elim (cases_eq i count) [
+    | inr off ↦ (let before : i < count = omega (arith, l, off) in
+        subst (λ z. IsPeriod z (side_of second (get_or pairs i d))) (sym (get_or_append_left old (period ∷ []) 0 i (omega (arith, before, k.shape)))) (k.all i d before))
+    | inl same ↦ subst (λ z. IsPeriod (get_or (old ++ period ∷ []) z 0) (side_of second (get_or pairs z d))) (sym same)
+        (subst (λ z. IsPeriod z (side_of second (get_or pairs count d))) (sym (get_or_push old period 0 count k.shape))
+        (subst (IsPeriod period) (side ∙ ap (side_of second) (get_or_read pairs count pair less at d)) is))
+  ];
+})
+
+pub periods_end : (second : Bool) (pairs : List (Word × Word)) (periods : List ℕ) (count : ℕ) → count ≡ length pairs → ArePeriodsTo second pairs periods count → ArePeriods second pairs periods
+periods_end second pairs periods count end k = record {
+  count = k.shape ∙ end;
+  all = λ i d less. k.all i d (omega (arith, less, end));
+}
+
+-- the period of a side of a pair
+pub period_read : (second : Bool) (pairs : List (Word × Word)) (periods : List ℕ) (i count : ℕ) (pair : Word × Word) (u : Word) → i < length pairs → pair ≡ get_or pairs i pair → u ≡ side_of second pair → count ≡ get_or periods i 0
+    → ArePeriods second pairs periods → IsPeriod count u
+period_read second pairs periods i count pair u less at side is k =
+    subst (λ z. IsPeriod z u) (sym is) (subst (IsPeriod (get_or periods i 0)) (sym (side ∙ ap (side_of second) at)) (k.all i pair less))

@@ -4,6 +4,7 @@ use Rattle.theory.specs.Word.{Word}
 use Rattle.theory.specs.Graph.{Graph, path}
 use Rattle.coincidence.specs.Pending.{IsAmong}
 use Rattle.coincidence.specs.Reading.{IsDueAlong, IsDueBehind, IsDueThrough}
+use Rattle.coincidence.specs.Rings.{IsPeriod}
 use Rattle.coincidence.specs.declared.due.Due.{Due}
 use Rattle.coincidence.specs.declared.due.Due.TheVariants.{Nothing, Edge, Join}
 
@@ -67,6 +68,13 @@ pub record AreUses (second : Bool) (pairs : List (Word × Word))
   pub within : (a : ℕ) → ArePlaces second pairs (list_at lists a)
   pub all : (i : ℕ) (d : Word × Word) → i < length pairs
       → IsListed lists (side_of second (slice_index_or pairs i d)) i
+
+-- these are periods of the first sides of the pairs, or of the second sides
+pub record ArePeriods (second : Bool) (pairs : List (Word × Word))
+    (periods : List ℕ) : Type 0 where
+  pub count : length periods ≡ length pairs
+  pub all : (i : ℕ) (d : Word × Word) → i < length pairs
+      → IsPeriod (slice_index_or periods i 0) (side_of second (slice_index_or pairs i d))
 
 -- the entry is in the list a, and nothing else is new
 pub record IsNoted (old new : List Places) (a : ℕ) (entry : ℕ × ℕ) : Type 0 where

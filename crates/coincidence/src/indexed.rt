@@ -2,8 +2,9 @@
 ghost use Rattle.std.specs.Prelude.{◌≡◌, false, true, length, IfOk};
 ghost use Rattle.presentation.specs.Presented.{IsPosed};
 ghost use Rattle.coincidence.specs.Starts.{AreStarts};
-ghost use Rattle.coincidence.specs.Uses.{AreUses};
+ghost use Rattle.coincidence.specs.Uses.{ArePeriods, AreUses};
 
+use crate::periods::Periods;
 use crate::starts::Starts;
 use crate::uses::Uses;
 use ports::NoMemory;
@@ -11,12 +12,14 @@ use presentation::{Congruence, Pairs, Presentation};
 use std::alloc::Global;
 use std::marker::Model;
 
-// A congruence, and the places of letters in the sides of its relations.
+// A congruence, the places of letters in the sides of its relations, and the periods of these.
 #[derive(Drop)]
 pub struct Indexed {
     congruence: Congruence,
     firsts: Uses,
     seconds: Uses,
+    first_periods: Periods,
+    second_periods: Periods,
     starts: Starts,
 }
 
@@ -24,7 +27,7 @@ impl Model for Indexed {
     ghost use Rattle.std.specs.Prelude.{true, false};
     ghost use Rattle.presentation.specs.Presented.{Posed};
     ghost use Rattle.coincidence.specs.Starts.{AreStarts};
-    ghost use Rattle.coincidence.specs.Uses.{AreUses};
+    ghost use Rattle.coincidence.specs.Uses.{ArePeriods, AreUses};
 
     ghost Value = { Posed };
 
@@ -33,6 +36,10 @@ impl Model for Indexed {
     ghost invariant = { λ c. record {
       firsts : AreUses false c.congruence.congruence.presentation.relations c.firsts;
       seconds : AreUses true c.congruence.congruence.presentation.relations c.seconds;
+      first_periods : ArePeriods false c.congruence.congruence.presentation.relations
+          c.first_periods;
+      second_periods : ArePeriods true c.congruence.congruence.presentation.relations
+          c.second_periods;
       starts : AreStarts c.congruence.congruence.presentation.relations c.starts;
     } };
 }
@@ -45,11 +52,15 @@ impl Indexed {
         let relations = congruence.presentation().relations();
         let firsts = Uses::new(alloc, relations, false)?;
         let seconds = Uses::new(alloc, relations, true)?;
+        let first_periods = Periods::new(alloc, relations, false)?;
+        let second_periods = Periods::new(alloc, relations, true)?;
         let starts = Starts::new(alloc, relations)?;
         Ok(Indexed {
             congruence,
             firsts,
             seconds,
+            first_periods,
+            second_periods,
             starts,
         })
     }
@@ -82,6 +93,17 @@ impl Indexed {
         ensures { AreUses second self.now.congruence.presentation.relations result.now }
     {
         if second { &self.seconds } else { &self.firsts }
+    }
+
+    /// The periods of the first sides of the relations, or of the second ones.
+    pub fn periods(&self, second: bool) -> &Periods
+        ensures { ArePeriods second self.now.congruence.presentation.relations result.now }
+    {
+        if second {
+            &self.second_periods
+        } else {
+            &self.first_periods
+        }
     }
 
     /// The relations by the letters with which their sides begin.

@@ -1,7 +1,13 @@
 // Periods of words: a word is a power of its first letters, as many as its period.
-ghost use Rattle.std.specs.Prelude.{◌≡◌, ◌+◌, ◌<◌, ◌≤◌, true, length, take, drop};
+ghost use Rattle.std.specs.Prelude.{◌≡◌, ◌+◌, ◌<◌, ◌≤◌, true, length, slice_index_or, take, drop, IfOk};
 ghost use Rattle.coincidence.specs.Rings.{turned};
+ghost use Rattle.coincidence.specs.Uses.{ArePeriods};
 
+use crate::uses::side;
+use ports::NoMemory;
+use presentation::Pairs;
+use std::alloc::Global;
+use std::marker::Model;
 use words::Word;
 
 // Whether as many letters of the word behind the one place are those behind the other.
@@ -41,4 +47,40 @@ pub fn period(word: &Word) -> usize
         }
     }
     len
+}
+
+// For each pair the period of its first side, or for each that of its second.
+#[derive(Drop)]
+pub struct Periods {
+    counts: Vec<usize>,
+}
+
+impl Model for Periods {
+    ghost use Rattle.std.specs.Prelude.{List, ℕ};
+
+    ghost Value = { List ℕ };
+
+    ghost view = { λ p. p.counts.items };
+}
+
+impl Periods {
+    /// The periods of the first sides of the pairs, or of the second. Refused only where memory is
+    /// wanting.
+    pub fn new(alloc: Global, pairs: &Pairs, second: bool) -> Result<Periods, NoMemory>
+        ensures { IfOk result (ArePeriods second pairs.now) }
+    {
+        let mut counts = Vec::new(alloc);
+        for number in 0..pairs.len() {
+            counts.push(period(side(pairs.pair(number), second)))?;
+        }
+        Ok(Periods { counts })
+    }
+
+    /// The period of the side of the pair of this number.
+    pub fn of(&self, number: usize) -> usize
+        requires { number < length self.now }
+        ensures { result ≡ slice_index_or self.now number 0 }
+    {
+        self.counts[number]
+    }
 }

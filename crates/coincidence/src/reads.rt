@@ -1,5 +1,5 @@
 // What relations and pairs ask for, read along edges and back along lists of sources.
-ghost use Rattle.std.specs.Prelude.{◌≡◌, ◌≢◌, ℕ, ◌-◌, ◌<◌, ◌≤◌, false, true, List, None, Some, length, slice_get, slice_index_or, take, MatchOption};
+ghost use Rattle.std.specs.Prelude.{◌≡◌, ◌≢◌, ◌⊎◌, ℕ, ◌-◌, ◌<◌, ◌≤◌, false, true, List, None, Some, length, slice_get, slice_index_or, take, MatchOption};
 ghost use Rattle.theory.specs.Word.{Word as Letters};
 ghost use Rattle.theory.specs.Graph.{path as path_of, target as target_of};
 ghost use Rattle.coincidence.specs.DueSpec.{IsDueFrom, IsDueAt};
@@ -7,14 +7,16 @@ ghost use Rattle.coincidence.specs.Holding.{HoldBefore, HoldOnceDrawn, MeetAt};
 ghost use Rattle.coincidence.specs.Merging.{EdgesReached, IsReached};
 ghost use Rattle.coincidence.specs.Reading.{IsCut, IsDueBoth, IsDueBehind, IsDueAlong, IsDueThrough};
 ghost use Rattle.coincidence.specs.Pending.{IsAmong};
-ghost use Rattle.coincidence.specs.Seen.{AreSidesOf, HoldWhereSeen};
+ghost use Rattle.coincidence.specs.Rings.{IsPeriod, turned};
+ghost use Rattle.coincidence.specs.Seen.{AreSidesOf, HoldWhereSeen, IsSeen};
 ghost use Rattle.coincidence.specs.Starts.{AreStarts, IsDueByLetter, IsDueInList};
 ghost use Rattle.coincidence.specs.declared.due.Due.TheVariants.{Nothing};
-ghost use Rattle.coincidence.specs.Uses.{list_at, AreUses, ArePlaces, IsDueAtPlaces, IsDueInPowers, IsDueBefore, IsDueBeforeAny, IsDueInSides};
+ghost use Rattle.coincidence.specs.Uses.{list_at, ArePeriods, AreUses, ArePlaces, IsDueAtPlaces, IsDueInPowers, IsDueBefore, IsDueBeforeAny, IsDueInSides};
 
 use crate::due::Due;
 use crate::edges::Edges;
 use crate::indexed::Indexed;
+use crate::periods::Periods;
 use crate::rings::comes_round;
 use crate::seen::Seen;
 use crate::starts::Starts;
@@ -180,21 +182,78 @@ pub fn due_at(edges: &Edges, node: usize, pairs: &Pairs) -> Due
     due_from(edges, node, pairs, 0)
 }
 
+// The side leads from the node back to it, and so does it from each node to which so many letters of
+// it, after which it stays as it is, lead again and again: there the relation is seen to hold too.
+fn note_round(
+    edges: &Edges,
+    node: usize,
+    relation: usize,
+    side: &Word,
+    count: usize,
+    seen: &mut Seen,
+)
+    requires within { count ≤ length side.now }
+    requires stays { turned count side.now ≡ side.now }
+    requires home { path_of edges.now.graph node side.now ≡ Some node }
+    ensures { (n i : ℕ) → IsSeen seen.new n i → IsSeen seen.old n i
+        ⊎ ((i ≡ relation) × (path_of edges.now.graph n side.now ≡ Some n)) }
+{
+    let mut at = node;
+    for _ in 0..side.len() {
+        let Some(next) = prefix_path(edges, at, side, count) else {
+            return;
+        };
+        if next == node {
+            return;
+        }
+        seen.note(next, relation);
+        at = next;
+    }
+}
+
+// Pairs, the periods of their first sides, and their lists by the letters with which they begin.
+#[derive(Drop)]
+struct Begun<'a> {
+    pairs: &'a Pairs,
+    periods: &'a Periods,
+    starts: &'a Starts,
+}
+
+// A pair that holds at the node is seen to hold there, and a power beside the empty word also where
+// its letters lead as often as they are repeated.
+fn note_held(edges: &Edges, node: usize, begun: &Begun, number: usize, seen: &mut Seen)
+    requires number { number < length begun.now.pairs.now }
+    requires periods { ArePeriods false begun.now.pairs.now begun.now.periods.now }
+    requires meets { (p : Letters × Letters) → MeetAt edges.now.graph node
+        (slice_index_or begun.now.pairs.now number p) }
+    requires seen { HoldWhereSeen begun.now.pairs.now edges.now.graph seen.old }
+    ensures { HoldWhereSeen begun.now.pairs.now edges.now.graph seen.new }
+{
+    seen.note(node, number);
+    let pair = begun.pairs.pair(number);
+    let count = begun.periods.of(number);
+    if pair.1.is_empty() && count < pair.0.len() && seen.has(node, number) {
+        note_round(edges, node, number, &pair.0, count, seen);
+    }
+}
+
 // What a pair asks for at the node, unless it was seen to hold there. It is seen to if it does.
-fn due_unless_seen(edges: &Edges, node: usize, pairs: &Pairs, number: usize, seen: &mut Seen) -> Due
-    requires number { number < length pairs.now }
+fn due_unless_seen(edges: &Edges, node: usize, begun: &Begun, number: usize, seen: &mut Seen) -> Due
+    requires number { number < length begun.now.pairs.now }
+    requires periods { ArePeriods false begun.now.pairs.now begun.now.periods.now }
     requires node { IsReached edges.now.graph node }
-    requires seen { HoldWhereSeen pairs.now edges.now.graph seen.old }
+    requires seen { HoldWhereSeen begun.now.pairs.now edges.now.graph seen.old }
     ensures due { (p : Letters × Letters) → IsDueBoth edges.now.graph node
-        (slice_index_or pairs.now number p).0 (slice_index_or pairs.now number p).1 result }
-    ensures seen { HoldWhereSeen pairs.now edges.now.graph seen.new }
+        (slice_index_or begun.now.pairs.now number p).0
+        (slice_index_or begun.now.pairs.now number p).1 result }
+    ensures seen { HoldWhereSeen begun.now.pairs.now edges.now.graph seen.new }
 {
     if seen.has(node, number) {
         return Due::Nothing;
     }
-    match asked(edges, node, pairs.pair(number)) {
+    match asked(edges, node, begun.pairs.pair(number)) {
         None => {
-            seen.note(node, number);
+            note_held(edges, node, begun, number, seen);
             Due::Nothing
         }
         Some(due) => due,
@@ -205,18 +264,19 @@ fn due_unless_seen(edges: &Edges, node: usize, pairs: &Pairs, number: usize, see
 fn due_in_list(
     edges: &Edges,
     node: usize,
-    pairs: &Pairs,
+    begun: &Begun,
     list: &[(usize, usize)],
     seen: &mut Seen,
 ) -> Due
-    requires within { (i p : ℕ) → IsAmong (i, p) list.now → i < length pairs.now }
+    requires within { (i p : ℕ) → IsAmong (i, p) list.now → i < length begun.now.pairs.now }
+    requires periods { ArePeriods false begun.now.pairs.now begun.now.periods.now }
     requires node { IsReached edges.now.graph node }
-    requires seen { HoldWhereSeen pairs.now edges.now.graph seen.old }
-    ensures due { IsDueInList edges.now.graph pairs.now node list.now result }
-    ensures seen { HoldWhereSeen pairs.now edges.now.graph seen.new }
+    requires seen { HoldWhereSeen begun.now.pairs.now edges.now.graph seen.old }
+    ensures due { IsDueInList edges.now.graph begun.now.pairs.now node list.now result }
+    ensures seen { HoldWhereSeen begun.now.pairs.now edges.now.graph seen.new }
 {
     for k in 0..list.len() {
-        match due_unless_seen(edges, node, pairs, list[k].0, seen) {
+        match due_unless_seen(edges, node, begun, list[k].0, seen) {
             Due::Nothing => {}
             due => return due,
         }
@@ -224,16 +284,10 @@ fn due_in_list(
     Due::Nothing
 }
 
-// Pairs, and their lists by the letters with which they begin.
-#[derive(Drop)]
-struct Begun<'a> {
-    pairs: &'a Pairs,
-    starts: &'a Starts,
-}
-
 // What pairs with the letter in front ask for at the node, if it leads on.
 fn due_by_letter(edges: &Edges, node: usize, begun: &Begun, letter: Letter, seen: &mut Seen) -> Due
     requires starts { AreStarts begun.now.pairs.now begun.now.starts.now }
+    requires periods { ArePeriods false begun.now.pairs.now begun.now.periods.now }
     requires node { IsReached edges.now.graph node }
     requires seen { HoldWhereSeen begun.now.pairs.now edges.now.graph seen.old }
     ensures due { IsDueByLetter edges.now.graph begun.now.pairs.now node begun.now.starts.now
@@ -242,7 +296,7 @@ fn due_by_letter(edges: &Edges, node: usize, begun: &Begun, letter: Letter, seen
 {
     match edges.target(node, letter) {
         None => Due::Nothing,
-        Some(_) => due_in_list(edges, node, begun.pairs, begun.starts.of(letter), seen),
+        Some(_) => due_in_list(edges, node, begun, begun.starts.of(letter), seen),
     }
 }
 
@@ -251,6 +305,7 @@ fn due_by_letters(edges: &Edges, node: usize, begun: &Begun, seen: &mut Seen) ->
     requires short { IsDueInList edges.now.graph begun.now.pairs.now node
         (list_at begun.now.starts.now 0) Nothing }
     requires starts { AreStarts begun.now.pairs.now begun.now.starts.now }
+    requires periods { ArePeriods false begun.now.pairs.now begun.now.periods.now }
     requires node { IsReached edges.now.graph node }
     requires seen { HoldWhereSeen begun.now.pairs.now edges.now.graph seen.old }
     ensures due { IsDueAt edges.now.graph node begun.now.pairs.now result }
@@ -277,10 +332,13 @@ pub fn due_at_start(edges: &Edges, node: usize, congruence: &Indexed, seen: &mut
     ensures seen { HoldWhereSeen congruence.now.congruence.presentation.relations edges.now.graph
         seen.new }
 {
-    let pairs = congruence.relations();
-    let starts = congruence.starts();
-    match due_in_list(edges, node, pairs, starts.short(), seen) {
-        Due::Nothing => due_by_letters(edges, node, &Begun { pairs, starts }, seen),
+    let begun = Begun {
+        pairs: congruence.relations(),
+        periods: congruence.periods(false),
+        starts: congruence.starts(),
+    };
+    match due_in_list(edges, node, &begun, begun.starts.short(), seen) {
+        Due::Nothing => due_by_letters(edges, node, &begun, seen),
         due => due,
     }
 }
@@ -430,8 +488,17 @@ fn may_cross(edges: &Edges, node: usize, letter: Letter, side: &Word, place: usi
     }
 }
 
-// What a pair asks for where the one side is read across the edge of the letter from the node.
-fn due_along(edges: &Edges, node: usize, letter: Letter, one: &OneSide, seen: &mut Seen) -> Due
+// What a pair asks for where the one side, of which the count is the period, is read across the
+// edge of the letter from the node.
+fn due_along(
+    edges: &Edges,
+    node: usize,
+    letter: Letter,
+    one: &OneSide,
+    count: usize,
+    seen: &mut Seen,
+) -> Due
+    requires period { IsPeriod count one.now.side.now }
     requires pair { AreSidesOf one.now.pairs.now one.now.number one.now.side.now
         one.now.other.now }
     requires reached { EdgesReached edges.now.graph }
@@ -441,7 +508,7 @@ fn due_along(edges: &Edges, node: usize, letter: Letter, one: &OneSide, seen: &m
         one.now.other.now result }
     ensures seen { HoldWhereSeen one.now.pairs.now edges.now.graph seen.new }
 {
-    if comes_round(edges, node, letter, one.side, one.other) {
+    if comes_round(edges, node, letter, one.side, count, one.other) {
         return Due::Nothing;
     }
     for place in 0..one.side.len() {
@@ -455,14 +522,15 @@ fn due_along(edges: &Edges, node: usize, letter: Letter, one: &OneSide, seen: &m
     Due::Nothing
 }
 
-// The first sides of pairs, or the second ones, where letters stand in them, and the edges along
-// which they are read.
+// The first sides of pairs, or the second ones, where letters stand in them, their periods, and the
+// edges along which they are read.
 #[derive(Drop)]
 struct Sides<'a> {
     edges: &'a Edges,
     pairs: &'a Pairs,
     second: bool,
     uses: &'a Uses,
+    periods: &'a Periods,
 }
 
 // What pairs ask for at places of the letter, read from the node on.
@@ -505,6 +573,7 @@ fn due_in_powers(
     places: &[(usize, usize)],
     seen: &mut Seen,
 ) -> Due
+    requires periods { ArePeriods sides.now.second sides.now.pairs.now sides.now.periods.now }
     requires places { ArePlaces sides.now.second sides.now.pairs.now places.now }
     requires reached { EdgesReached sides.now.edges.now.graph }
     requires node { IsReached sides.now.edges.now.graph node }
@@ -521,7 +590,8 @@ fn due_in_powers(
             side: side(pair, sides.second),
             other: other_side(pair, sides.second),
         };
-        match due_along(sides.edges, node, letter, &one, seen) {
+        let count = sides.periods.of(places[k].0);
+        match due_along(sides.edges, node, letter, &one, count, seen) {
             Due::Nothing => {}
             due => return due,
         }
@@ -576,6 +646,7 @@ fn due_before_any(node: usize, letter: Letter, sides: &Sides, seen: &mut Seen) -
 // letter from the node. Only places are looked at behind which the next letter leads on.
 fn due_in_sides(node: usize, letter: Letter, sides: &Sides, seen: &mut Seen) -> Due
     requires uses { AreUses sides.now.second sides.now.pairs.now sides.now.uses.now }
+    requires periods { ArePeriods sides.now.second sides.now.pairs.now sides.now.periods.now }
     requires reached { EdgesReached sides.now.edges.now.graph }
     requires node { IsReached sides.now.edges.now.graph node }
     requires seen { HoldWhereSeen sides.now.pairs.now sides.now.edges.now.graph seen.old }
@@ -616,6 +687,7 @@ fn due_in_relations(
         pairs: congruence.relations(),
         second,
         uses: congruence.uses(second),
+        periods: congruence.periods(second),
     };
     due_in_sides(edge.0, edge.1, &sides, seen)
 }

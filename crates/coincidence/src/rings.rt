@@ -1,11 +1,10 @@
 // Powers that lead from a node back to it, and ask for nothing there.
 ghost use Rattle.std.specs.Prelude.{◌≡◌, ◌-◌, ◌<◌, ◌≤◌, ℕ, true, Some, length, take, drop};
 ghost use Rattle.coincidence.specs.Reading.{IsDueAlong};
-ghost use Rattle.coincidence.specs.Rings.{IsLoneEdge, IsLoneWalk, turned};
+ghost use Rattle.coincidence.specs.Rings.{IsLoneEdge, IsLoneWalk, IsPeriod, turned};
 ghost use Rattle.coincidence.specs.declared.due.Due.TheVariants.{Nothing};
 
 use crate::edges::Edges;
-use crate::periods::period;
 use words::{Letter, Word};
 
 // The node whose edge of the letter leads to this node, where there is one alone.
@@ -63,15 +62,22 @@ fn is_ring(edges: &Edges, node: usize, side: &Word, place: usize) -> bool
 /// Whether the other side is empty, and the side a power that leads from the node, begun at each
 /// place with the letter, back to the node by edges each of which is the only one of its letter
 /// into its end. Then each read across the edge of the letter from the node begins on such a ring,
-/// and comes back.
-pub fn comes_round(edges: &Edges, node: usize, letter: Letter, side: &Word, other: &Word) -> bool
+/// and comes back. The count is the side's period.
+pub fn comes_round(
+    edges: &Edges,
+    node: usize,
+    letter: Letter,
+    side: &Word,
+    count: usize,
+    other: &Word,
+) -> bool
+    requires { IsPeriod count side.now }
     ensures { result ≡ true
         → IsDueAlong edges.now.graph node letter side.now side.now other.now Nothing }
 {
     if !other.is_empty() {
         return false;
     }
-    let count = period(side);
     if count == side.len() {
         return false;
     }

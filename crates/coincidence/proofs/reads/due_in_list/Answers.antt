@@ -11,19 +11,19 @@ pub returns-in_default-clause-due : goal.returns-in_default-clause-due
 returns-in_default-clause-due c =
     let i = (get_or c.args.list.now c.loop-k.k (0, 0)).0 in
     let within = c.requires.within i (get_or c.args.list.now c.loop-k.k (0, 0)).1 (among_at c.args.list.now c.loop-k.k (0, 0) (omega arith)) in
-    list_found c.args.edges.now.graph c.args.pairs.now c.args.node i c.args.list.now (get_or c.args.pairs.now i ([], [])) c.due_unless_seen.result (λ e. c.in_default.not-Nothing e)
-    within (get_or_default c.args.pairs.now i ([], []) (get_or c.args.pairs.now i ([], [])) within) (c.due_unless_seen.ensures.due ([], []))
+    list_found c.args.edges.now.graph c.args.begun.now.pairs.now c.args.node i c.args.list.now (get_or c.args.begun.now.pairs.now i ([], [])) c.due_unless_seen.result (λ e. c.in_default.not-Nothing e)
+    within (get_or_default c.args.begun.now.pairs.now i ([], []) (get_or c.args.begun.now.pairs.now i ([], [])) within) (c.due_unless_seen.ensures.due ([], []))
 
 pub loop-k-preserved : goal.loop-k-preserved
 loop-k-preserved c =
     let i = (get_or c.args.list.now c.loop-k.k (0, 0)).0 in
     let within = c.requires.within i (get_or c.args.list.now c.loop-k.k (0, 0)).1 (among_at c.args.list.now c.loop-k.k (0, 0) (omega arith)) in
     record {
-      quiet = list_more c.args.edges.now.graph c.args.pairs.now c.args.node c.args.list.now c.loop-k.k (get_or c.args.pairs.now i ([], [])) within (get_or_default c.args.pairs.now i ([], []) (get_or c.args.pairs.now i ([], [])) within) (c.in-Nothing.ensures.due ([], [])) c.loop-k.invariant.quiet;
+      quiet = list_more c.args.edges.now.graph c.args.begun.now.pairs.now c.args.node c.args.list.now c.loop-k.k (get_or c.args.begun.now.pairs.now i ([], [])) within (get_or_default c.args.begun.now.pairs.now i ([], []) (get_or c.args.begun.now.pairs.now i ([], [])) within) (c.in-Nothing.ensures.due ([], [])) c.loop-k.invariant.quiet;
       seen = c.due_unless_seen.ensures.seen;
     }
 
 pub returns-clause-due : goal.returns-clause-due
 returns-clause-due c =
     let end : c.loop-k.k ≡ length c.args.list.now = omega arith in
-    list_end c.args.edges.now.graph c.args.pairs.now c.args.node c.args.list.now c.loop-k.k end c.loop-k.invariant.quiet
+    list_end c.args.edges.now.graph c.args.begun.now.pairs.now c.args.node c.args.list.now c.loop-k.k end c.loop-k.invariant.quiet

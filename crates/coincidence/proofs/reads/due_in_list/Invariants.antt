@@ -4,6 +4,6 @@ use Rattle.coincidence.proofs.reads.due_in_list.Given as goal
 
 abbrev pub invariant-loop-k : goal.invariant-loop-k
 invariant-loop-k l = record {
-  quiet : AreQuietTo l.edges.graph l.pairs l.node l.list l.k;
-  seen : HoldWhereSeen l.pairs l.edges.graph l.seen;
+  quiet : AreQuietTo l.edges.graph l.begun.pairs.now l.node l.list l.k;
+  seen : HoldWhereSeen l.begun.pairs.now l.edges.graph l.seen;
 }

@@ -2,6 +2,7 @@ use Rattle.std.proofs.Common.{◌≡◌, [], length, get_or, arith}
 use Rattle.coincidence.specs.declared.due.Due.TheVariants.{Nothing}
 use Rattle.coincidence.proofs.PlaceLaws.{place_within, powers_found, powers_more, powers_end, along_of}
 use Rattle.coincidence.proofs.SeenLaws.{sides_of_pair}
+use Rattle.coincidence.proofs.UsesLaws.{period_read}
 use Rattle.coincidence.proofs.reads.due_in_powers.Goals as goal
 
 pub pair-pair-requires : goal.pair-pair-requires
@@ -32,3 +33,11 @@ pub due_along-requires-clause-pair : goal.due_along-requires-clause-pair
 due_along-requires-clause-pair c =
     sides_of_pair c.args.sides.now.second c.args.sides.now.pairs.now (get_or c.args.places.now c.loop-k.k (0, 0)).0 c.pair-pair.result.now _ _
     (place_within c.args.sides.now.second c.args.sides.now.pairs.now c.args.places.now c.loop-k.k ([], []) (omega arith) c.requires.places).0 c.pair-pair.ensures c.side.ensures c.other_side.ensures
+
+pub of-count-requires : goal.of-count-requires
+of-count-requires c = omega (arith, (place_within c.args.sides.now.second c.args.sides.now.pairs.now c.args.places.now c.loop-k.k ([], []) (omega arith) c.requires.places).0, c.requires.periods.count)
+
+pub due_along-requires-clause-period : goal.due_along-requires-clause-period
+due_along-requires-clause-period c =
+    period_read c.args.sides.now.second c.args.sides.now.pairs.now c.args.sides.now.periods.now (get_or c.args.places.now c.loop-k.k (0, 0)).0 c.of-count.result c.pair-pair.result.now c.side.result.now
+    (place_within c.args.sides.now.second c.args.sides.now.pairs.now c.args.places.now c.loop-k.k ([], []) (omega arith) c.requires.places).0 c.pair-pair.ensures c.side.ensures c.of-count.ensures c.requires.periods
