@@ -445,7 +445,22 @@ fn due_behind(edges: &Edges, node: usize, count: usize, crossing: &Crossing, see
     Due::Nothing
 }
 
-// What a pair asks for where the one side is read across this node, with so many letters behind it.
+// Whether no edge leads to the node by the letter of the side before the place.
+fn none_before(edges: &Edges, node: usize, side: &Word, place: usize) -> bool
+    requires some { 0 < place }
+    requires within { place < length side.now }
+    ensures { result ≡ true → (other : Letters)
+        → IsDueBehind edges.now.graph node (take place side.now) side.now other Nothing }
+{
+    let _letters = edges.letters();
+    match edges.first_source(node, side.letter(place - 1)) {
+        None => true,
+        Some(_) => false,
+    }
+}
+
+// What a pair asks for where the one side is read across this node, with so many letters before it.
+// Most often nothing is read: the pair was seen to hold, or nothing leads to the node.
 fn due_across(edges: &Edges, node: usize, one: &OneSide, place: usize, seen: &mut Seen) -> Due
     requires place { place < length one.now.side.now }
     requires pair { AreSidesOf one.now.pairs.now one.now.number one.now.side.now
@@ -457,6 +472,12 @@ fn due_across(edges: &Edges, node: usize, one: &OneSide, place: usize, seen: &mu
         one.now.other.now result }
     ensures seen { HoldWhereSeen one.now.pairs.now edges.now.graph seen.new }
 {
+    if place == 0 && seen.has(node, one.number) {
+        return Due::Nothing;
+    }
+    if 0 < place && none_before(edges, node, one.side, place) {
+        return Due::Nothing;
+    }
     let crossing = Crossing {
         pairs: one.pairs,
         number: one.number,
