@@ -1,13 +1,12 @@
 // Elements of each kind: entries that are refused, copies, the order, and more points than a script
 // has.
-ghost use Rattle.std.specs.Prelude.{◌≡◌, ◌<◌, IfOk, length};
+ghost use Rattle.std.specs.Prelude.{◌≡◌, ◌<◌, length};
 
 use elements::{BMat, Element, ElementFault, Field, MaxPlusTrunc, PPerm, Transf};
 use std::alloc::Global;
 use std::cmp::Ordering;
 use std::hash::{DefaultHasher, Hash, Hasher};
 use std::process::Abort;
-use std::test::Fail;
 
 const DASH: Field = Field::Dash;
 
@@ -76,14 +75,8 @@ fn refuses_entries(rt: HostRuntime) {
 
 // The first element is equal to its copy, with its hash, and is less than the second one; the third
 // one has another shape.
-fn check_copies<E: Element>(
-    rt: &impl Abort,
-    alloc: Global,
-    less: &E,
-    greater: &E,
-    other: &E,
-) -> Result<(), Fail> {
-    let copy = less.copy(alloc)?;
+fn check_copies<E: Element>(rt: &impl Abort, alloc: Global, less: &E, greater: &E, other: &E) {
+    let copy = less.copy(alloc).expect(rt, "a copy");
     assert!(rt; copy == *less && *less != *greater);
     assert!(rt; less.cmp(&copy) == Ordering::Equal);
     assert!(rt; less.cmp(greater) == Ordering::Less);
@@ -92,65 +85,74 @@ fn check_copies<E: Element>(
     let (mut hasher, mut of_copy) = (DefaultHasher::new(), DefaultHasher::new());
     less.hash(&mut hasher);
     copy.hash(&mut of_copy);
-    assert_eq!(rt; hasher.finish(), of_copy.finish());
-    Ok(())
+    assert!(rt; hasher.finish() == of_copy.finish());
 }
 
 #[test]
-fn maps_are_copied_and_compared(rt: HostRuntime) -> Result<(), Fail> {
+fn transformations_are_copied_and_compared(rt: HostRuntime) {
     let alloc = rt.alloc();
-    let fold = Transf::read(alloc, 2, &[ZERO, ZERO])?;
-    let swap = Transf::read(alloc, 2, &[ONE, ZERO])?;
-    check_copies(&rt, alloc, &fold, &swap, &Transf::read(alloc, 0, &[])?)?;
-    let back = PPerm::read(alloc, 2, &[DASH, ZERO])?;
-    let forth = PPerm::read(alloc, 2, &[ONE, DASH])?;
-    check_copies(&rt, alloc, &back, &forth, &PPerm::read(alloc, 0, &[])?)
+    let fold = Transf::read(alloc, 2, &[ZERO, ZERO]).expect(&rt, "a map");
+    let swap = Transf::read(alloc, 2, &[ONE, ZERO]).expect(&rt, "a map");
+    let empty = Transf::read(alloc, 0, &[]).expect(&rt, "a map");
+    check_copies(&rt, alloc, &fold, &swap, &empty);
 }
 
 #[test]
-fn matrices_are_copied_and_compared(rt: HostRuntime) -> Result<(), Fail> {
+fn partial_permutations_are_copied_and_compared(rt: HostRuntime) {
     let alloc = rt.alloc();
-    let zero = BMat::read(alloc, 1, &[ZERO])?;
-    let unit = BMat::read(alloc, 1, &[ONE])?;
-    check_copies(&rt, alloc, &zero, &unit, &BMat::read(alloc, 0, &[])?)?;
-    let one = MaxPlusTrunc::read(alloc, (1, 2), &[ONE])?;
-    let two = MaxPlusTrunc::read(alloc, (1, 2), &[TWO])?;
-    check_copies(
-        &rt,
-        alloc,
-        &one,
-        &two,
-        &MaxPlusTrunc::read(alloc, (1, 1), &[ONE])?,
-    )
+    let back = PPerm::read(alloc, 2, &[DASH, ZERO]).expect(&rt, "a map");
+    let forth = PPerm::read(alloc, 2, &[ONE, DASH]).expect(&rt, "a map");
+    let empty = PPerm::read(alloc, 0, &[]).expect(&rt, "a map");
+    check_copies(&rt, alloc, &back, &forth, &empty);
+}
+
+#[test]
+fn boolean_matrices_are_copied_and_compared(rt: HostRuntime) {
+    let alloc = rt.alloc();
+    let zero = BMat::read(alloc, 1, &[ZERO]).expect(&rt, "a matrix");
+    let unit = BMat::read(alloc, 1, &[ONE]).expect(&rt, "a matrix");
+    let empty = BMat::read(alloc, 0, &[]).expect(&rt, "a matrix");
+    check_copies(&rt, alloc, &zero, &unit, &empty);
+}
+
+#[test]
+fn truncated_matrices_are_copied_and_compared(rt: HostRuntime) {
+    let alloc = rt.alloc();
+    let one = MaxPlusTrunc::read(alloc, (1, 2), &[ONE]).expect(&rt, "a matrix");
+    let two = MaxPlusTrunc::read(alloc, (1, 2), &[TWO]).expect(&rt, "a matrix");
+    let lower = MaxPlusTrunc::read(alloc, (1, 1), &[ONE]).expect(&rt, "a matrix");
+    check_copies(&rt, alloc, &one, &two, &lower);
 }
 
 // No script has a bound as great as this.
 #[test]
-fn sums_end_at_the_greatest_bound(rt: HostRuntime) -> Result<(), Fail> {
+fn sums_end_at_the_greatest_bound(rt: HostRuntime) {
     let alloc = rt.alloc();
-    let greatest = MaxPlusTrunc::read(alloc, (1, u32::MAX), &[Field::Number(u32::MAX)])?;
-    let sum = greatest.product(alloc, &greatest)?.print(alloc)?;
-    assert_eq!(rt; sum.as_slice(), b"4294967295".as_slice());
-    Ok(())
+    let bound = Field::Number(u32::MAX);
+    let greatest = MaxPlusTrunc::read(alloc, (1, u32::MAX), &[bound]).expect(&rt, "a matrix");
+    let sum = greatest.product(alloc, &greatest).expect(&rt, "a product");
+    let printed = sum.print(alloc).expect(&rt, "a text");
+    assert!(rt; printed.as_slice() == b"4294967295".as_slice());
 }
 
 // The map of so many points to the last one.
-fn constant(alloc: Global, degree: u32) -> Result<Transf, Fail>
+fn constant(rt: &impl Abort, alloc: Global, degree: u32) -> Transf
     requires { 0 < degree }
-    ensures { IfOk result (λ made. length made ≡ degree) }
+    ensures { length result ≡ degree }
 {
-    let fields = Vec::from_elem(alloc, Field::Number(degree - 1), degree as usize)?;
-    Ok(Transf::read(alloc, degree, &fields)?)
+    let fields = Vec::from_elem(alloc, Field::Number(degree - 1), degree as usize);
+    let fields = fields.expect(rt, "entries");
+    Transf::read(alloc, degree, &fields).expect(rt, "a map")
 }
 
 // Images of 256 points are bytes, and those of 257 numbers of four bytes.
 #[test]
-fn multiplies_maps_of_many_points(rt: HostRuntime) -> Result<(), Fail> {
+fn multiplies_maps_of_many_points(rt: HostRuntime) {
     let alloc = rt.alloc();
-    let fewer = constant(alloc, 256)?;
-    let last = constant(alloc, 257)?;
-    assert!(rt; fewer.product(alloc, &fewer)? == fewer);
-    assert!(rt; last.product(alloc, &last)? == last);
+    let (fewer, last) = (constant(&rt, alloc, 256), constant(&rt, alloc, 257));
     assert!(rt; fewer < last);
-    Ok(())
+    for map in [fewer, last] {
+        let square = map.product(alloc, &map).expect(&rt, "a product");
+        assert!(rt; square == map);
+    }
 }
