@@ -6,7 +6,7 @@ use Rattle.elements.specs.declared.field.Field.{Field}
 use Rattle.elements.specs.declared.field.Field.TheVariants.{Number}
 use Rattle.elements.specs.Fields.{field_of}
 use Rattle.elements.specs.PPerm.{IsInjective, IsFirstRepeat, IsFirstAgain}
-use Rattle.elements.proofs.Refused.{below_or_at}
+use Rattle.elements.proofs.Refused.{below_or_at, two_ways}
 
 -- the images of the first n places, each different, are those marked
 pub record Marks (images : List (Option ℕ)) (seen : List Bool) (n : ℕ) : Type 0 where
@@ -14,9 +14,6 @@ pub record Marks (images : List (Option ℕ)) (seen : List Bool) (n : ℕ) : Typ
   pub marked : (y : ℕ) → get_or seen y false ≡ true → (i : ℕ) × (i < n) × (get_or images i None ≡ Some y)
   pub unmarked : (i y : ℕ) → i < n → get_or images i None ≡ Some y → get_or seen y false ≡ true
   pub before : (i k y : ℕ) → i < k → k < n → get_or images i None ≡ Some y → get_or images k None ≡ Some y → ⊥
-
-two_ways : (i j : ℕ) → (i ≡ j) ⊎ ((i < j) ⊎ (j < i))
-two_ways i j = grind arith
 
 replicate_false : (n y : ℕ) → get_or (replicate n false) y false ≡ false
 replicate_false zero y = refl

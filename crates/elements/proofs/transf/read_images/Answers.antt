@@ -1,10 +1,13 @@
-use Rattle.std.proofs.Common.{◌≡◌, ℕ, List, [], ◌∷◌, ◌++◌, ◌<◌, take, slice_get, Some, arith, sym, ap, ◌∙◌, below_more}
+use Rattle.std.proofs.Common.{Err, inl, subst, ◌≡◌, ℕ, List, [], ◌∷◌, ◌++◌, ◌<◌, take, slice_get, Some, arith, sym, ap, ◌∙◌, below_more}
 use Rattle.std.proofs.lemmas.Grind.{common_steps}
 use Rattle.std.proofs.lemmas.List.{take_more, map-append}
 use Rattle.std.proofs.lemmas.List.Elements.{All-append}
 use Rattle.std.proofs.lemmas.Option.{slice_get-get_or}
 use Rattle.elements.specs.declared.field.Field.{Field}
 use Rattle.elements.specs.declared.field.Field.TheVariants.{Number}
+use Rattle.elements.specs.declared.field.ElementFault.TheVariants.{BadEntry}
+use Rattle.elements.specs.Fields.{IsFirstBad}
+use Rattle.elements.proofs.Refused.{first_bad, one_first_bad, one_entry}
 use Rattle.elements.proofs.transf.read_images.Goals as goal
 
 pub loop-i-preserved : goal.loop-i-preserved
@@ -21,3 +24,13 @@ loop-i-preserved c =
       count = grind (arith, common_steps);
       before = below_more _ _ inv.before (rw at read.1);
     }
+
+pub returns-in-None-clause-entry : goal.returns-in-None-clause-entry
+returns-in-None-clause-entry c = λ place e.
+    let first = first_bad c.args.degree c.args.fields.now c.loop-i.i _ c.loop-i.invariant.before c.loop-i-test.true c.in-None.ensures in
+    subst (IsFirstBad c.args.degree c.args.fields.now) (one_entry e) first
+
+pub returns-in-None-clause-refused : goal.returns-in-None-clause-refused
+returns-in-None-clause-refused c = λ place p.
+    let first = first_bad c.args.degree c.args.fields.now c.loop-i.i _ c.loop-i.invariant.before c.loop-i-test.true c.in-None.ensures in
+    inl (ap (λ k. Err (BadEntry k)) (one_first_bad c.args.degree c.args.fields.now c.loop-i.i place first p))
