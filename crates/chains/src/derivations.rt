@@ -48,6 +48,23 @@ pub struct Derivations {
     facts: Vec<Fact>,
 }
 
+// How much relations and facts weigh, and what a search for lighter steps goes by.
+#[derive(Drop)]
+struct Scale {
+    weights: Weights,
+    guide: Guide,
+}
+
+impl Scale {
+    // Puts in the next fact, which has this number.
+    fn add(&mut self, number: usize, fact: &Fact) -> Result<(), NoMemory> {
+        let steps = fact.steps.as_slice();
+        self.weights.push(steps)?;
+        let weight = self.weights.of(steps);
+        self.guide.add(&fact.left, &fact.right, number, weight)
+    }
+}
+
 impl Model for Derivations {
     ghost use Rattle.chains.specs.Derivations.{AreDerived, Derived};
 
@@ -391,29 +408,48 @@ impl Derivations {
         Ok(guide)
     }
 
+    // What steps are weighed by while the log has no facts.
+    fn scale(&self) -> Result<Scale, NoMemory> {
+        let relations = self.presentation.relations().len();
+        Ok(Scale {
+            weights: Weights::of_relations(self.alloc, relations)?,
+            guide: self.guide()?,
+        })
+    }
+
+    // Puts the fact of this number behind those before it: by lighter steps, where it is needed and
+    // some are found.
+    fn put_lighter(
+        &self,
+        light: &mut Derivations,
+        scale: &mut Scale,
+        number: usize,
+        is_needed: bool,
+    ) -> Result<(), NoMemory>
+        requires within { number < length self.now.facts }
+        requires front { IsFrontOf number self.now light.old }
+        ensures { OnOk result (IsFrontOf (number + 1) self.now light.new) }
+    {
+        let limit = if is_needed {
+            scale.weights.of(self.facts[number].steps.as_slice())
+        } else {
+            0
+        };
+        let fact = self.fact_over(light, &scale.guide, number, limit)?;
+        scale.add(light.len(), &fact)?;
+        light.push(fact)?;
+        Ok(())
+    }
+
     // The log with lighter steps for the facts that are needed, where some are found. Its facts are
     // put among what a search goes by.
-    fn lightened(
-        &self,
-        guide: &mut Guide,
-        weights: &mut Weights,
-        needed: &Vec<bool>,
-    ) -> Result<Derivations, NoMemory>
+    fn lightened(&self, scale: &mut Scale, needed: &Vec<bool>) -> Result<Derivations, NoMemory>
         requires { length needed.now.items ≡ length self.now.facts }
         ensures { IfOk result (IsFrontOf (length self.now.facts) self.now) }
     {
         let mut light = Derivations::new(self.alloc, &self.presentation)?;
         for number in 0..self.facts.len() {
-            let limit = if needed[number] {
-                weights.of(self.facts[number].steps.as_slice())
-            } else {
-                0
-            };
-            let fact = self.fact_over(&light, guide, number, limit)?;
-            weights.push(fact.steps.as_slice())?;
-            let weight = weights.of(fact.steps.as_slice());
-            guide.add(&fact.left, &fact.right, light.len(), weight)?;
-            light.push(fact)?;
+            self.put_lighter(&mut light, scale, number, needed[number])?;
         }
         Ok(light)
     }
@@ -429,10 +465,9 @@ impl Derivations {
             LeadAlike (all_of self.now) from.now steps.now r.1.items) }
     {
         let needed = self.needed(steps)?;
-        let mut weights = Weights::of_relations(self.alloc, self.presentation.relations().len())?;
-        let mut guide = self.guide()?;
-        let light = self.lightened(&mut guide, &mut weights, &needed)?;
-        let lighter = light.lighter(&guide, from, steps, weights.of(steps))?;
+        let mut scale = self.scale()?;
+        let light = self.lightened(&mut scale, &needed)?;
+        let lighter = light.lighter(&scale.guide, from, steps, scale.weights.of(steps))?;
         Ok((light, lighter))
     }
 

@@ -45,6 +45,25 @@ struct Search {
 }
 
 impl Search {
+    // A search between the two words, before its first look.
+    fn new(
+        alloc: Global,
+        from: &Word,
+        to: &Word,
+        letters: usize,
+        limit: u64,
+    ) -> Result<Search, NoMemory> {
+        Ok(Search {
+            near: Front::new(alloc, from)?,
+            far: Front::new(alloc, to)?,
+            turned: false,
+            letters,
+            limit,
+            meeting: None,
+            word: Word::new(alloc),
+        })
+    }
+
     // The two ends change places.
     fn turn(&mut self) {
         swap(&mut self.near, &mut self.far);
@@ -158,6 +177,16 @@ impl Search {
         Ok(true)
     }
 
+    // Looks along so many words, or fewer where no steps can be lighter.
+    fn go_through(&mut self, guide: &Guide, words: u64) -> Result<(), NoMemory> {
+        for _ in 0..words {
+            if !self.go_on(guide)? {
+                return Ok(());
+            }
+        }
+        Ok(())
+    }
+
     // The steps that are found.
     fn steps(&mut self, alloc: Global) -> Result<Option<Vec<ChainStep>>, NoMemory> {
         if self.turned {
@@ -185,19 +214,7 @@ pub fn find(
     letters: usize,
     limit: u64,
 ) -> Result<Option<Vec<ChainStep>>, NoMemory> {
-    let mut search = Search {
-        near: Front::new(alloc, from)?,
-        far: Front::new(alloc, to)?,
-        turned: false,
-        letters,
-        limit,
-        meeting: None,
-        word: Word::new(alloc),
-    };
-    for _ in 0..words_for(limit) {
-        if !search.go_on(guide)? {
-            return search.steps(alloc);
-        }
-    }
+    let mut search = Search::new(alloc, from, to, letters, limit)?;
+    search.go_through(guide, words_for(limit))?;
     search.steps(alloc)
 }
