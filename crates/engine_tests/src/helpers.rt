@@ -8,7 +8,7 @@ use std::alloc::Global;
 use std::sync::atomic::{AtomicBool, Ordering};
 use words::{Alphabet, Word};
 
-// The word of a text with powers; `None` where it is none.
+/// The word of a text with powers; `None` where it is none.
 pub fn word(alloc: Global, alphabet: &Alphabet, text: &str) -> Option<Word>
     ensures { IfSome result (IsOver (length alphabet.now)) }
 {
@@ -22,7 +22,7 @@ fn add(alloc: Global, presentation: &mut Presentation, sides: &(&str, &str)) -> 
     presentation.add(left, right).ok()
 }
 
-// The monoid or semigroup of the relations.
+/// The monoid or semigroup of the relations.
 pub fn presented(
     alloc: Global,
     letters: &str,
@@ -37,7 +37,7 @@ pub fn presented(
     Some(presentation)
 }
 
-// The congruence without pairs on the monoid of one letter with these relations.
+/// The congruence without pairs on the monoid of one letter with these relations.
 pub fn right_congruence(alloc: Global, relations: &[(&str, &str)]) -> Option<Congruence>
     ensures { IfSome result (λ c. c.congruence.kind ≡ Kind.Right) }
 {
@@ -45,7 +45,7 @@ pub fn right_congruence(alloc: Global, relations: &[(&str, &str)]) -> Option<Con
     Some(Congruence::new(monoid, Kind::Right, Pairs::new(alloc)))
 }
 
-// Whether the turns give these answers, one after another.
+/// Whether the turns give these answers, one after another.
 pub fn gives<R: Racer>(mut engine: R, answers: &[Progress]) -> bool {
     for answer in answers {
         if engine.advance() != *answer {
@@ -69,7 +69,7 @@ fn meets(mine: &AtomicBool, other: &AtomicBool, looks: u32) -> bool {
     false
 }
 
-// Looks for the mark of another, and sets its own before.
+/// Looks for the mark of another, and sets its own before.
 #[derive(Drop)]
 pub struct Seeker<'a> {
     mine: &'a AtomicBool,
@@ -79,7 +79,7 @@ pub struct Seeker<'a> {
     pub done: bool,
 }
 
-// One that has not looked.
+/// One that has not looked.
 pub fn seeks<'a>(mine: &'a AtomicBool, other: &'a AtomicBool, looks: u32) -> Seeker<'a>
     ensures { result.done ≡ false }
 {
@@ -93,7 +93,7 @@ pub fn seeks<'a>(mine: &'a AtomicBool, other: &'a AtomicBool, looks: u32) -> See
 }
 
 impl<'a> Seeker<'a> {
-    // Sets its mark, and looks for the other.
+    /// Sets its mark, and looks for the other.
     pub fn look(&mut self)
         ensures { self.new.done ≡ true }
     {
