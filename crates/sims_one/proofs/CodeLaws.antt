@@ -34,3 +34,11 @@ codes_put codes place node h again =
 pub node_at : (codes : List ℕ) (targets : List (Option ℕ)) (place : ℕ) → map node_of codes ≡ targets → place < length codes
     → node_of (get_or codes place 0) ≡ get_or targets place None
 node_at codes targets place is inside = sym (get_or-map node_of codes place 0 None inside) ∙ ap (λ (ts : List (Option ℕ)). get_or ts place None) is
+
+-- none is put at a place
+pub nodes_clear : (codes : List ℕ) (place : ℕ) → map node_of (set codes place 17) ≡ set (map node_of codes) place None
+nodes_clear codes place = map-set node_of codes place 17
+
+pub codes_clear : (codes : List ℕ) (place : ℕ) → map code_of (map node_of codes) ≡ codes → map code_of (map node_of (set codes place 17)) ≡ set codes place 17
+codes_clear codes place again =
+    ap (map code_of) (nodes_clear codes place) ∙ map-set code_of (map node_of codes) place None ∙ ap (λ (xs : List ℕ). set xs place 17) again

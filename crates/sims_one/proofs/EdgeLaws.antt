@@ -1,5 +1,5 @@
 -- Edges that tables have, and paths along them.
-use Rattle.std.proofs.Common.{◌≡◌, ℕ, zero, suc, ◌+◌, ◌*◌, ◌<◌, ◌≤◌, max, List, [], ◌∷◌, length, take, get_or, set, replicate, Contains, Bool, true, IsTrue, Result, Ok, Err, IfOk, slice_get, Option, Some, None, option_and_then, refl, sym, ◌∙◌, ap, subst, arith, ◌⊎◌, inl, inr, ◌==◌}
+use Rattle.std.proofs.Common.{◌≡◌, ℕ, zero, suc, ◌+◌, ◌*◌, ◌<◌, ◌≤◌, max, List, [], ◌∷◌, ◌++◌, length, take, get_or, set, replicate, Contains, Bool, true, IsTrue, Result, Ok, Err, IfOk, slice_get, Option, Some, None, option_and_then, refl, sym, ◌∙◌, ap, subst, arith, ◌⊎◌, inl, inr, ◌==◌}
 use Rattle.std.proofs.lemmas.List.Elements.{Contains-get_or}
 use Rattle.std.proofs.lemmas.List.{take_all}
 use Rattle.std.proofs.lemmas.Option.{get_or_from_slice_get, same_Some, slice_get_within, slice_get-get_or}
@@ -7,9 +7,11 @@ use Rattle.theory.specs.Word.{Word, IsOver}
 use Rattle.theory.specs.Congruence.{Presentation}
 use Rattle.word_graph.proofs.NumberLaws.{entry_below}
 use Rattle.sims_one.specs.Targets.{seen, path_in, IsTable}
+use Rattle.sims_one.specs.declared.trail.Edge.{Edge}
 use Rattle.sims_one.specs.declared.known.Known.{Known}
 use Rattle.sims_one.specs.Known.{HasEdges, HasKnown, Keeps, Extends}
 use Rattle.sims_one.proofs.FrontLaws.{times_more}
+use Rattle.sims_one.proofs.TrailLaws.{grows_same, grows_one, grows_on}
 use Rattle.sims_one.proofs.PathLaws.{letter_over}
 
 -- one letter more of a path
@@ -136,33 +138,43 @@ module _ (p : Presentation) (k : ℕ) (letters : k ≡ p.letters) (known : Known
   seen_by u fits = omega (arith, inside, fits.nodes)
 
   pub kept_ends : (i m j q : ℕ) → Leads k known node r i m → Leads k known node s j q → i ≡ length r → j ≡ length s → Keeps p known known (m == q)
-  kept_ends i m j q left right all all' = λ n u table fits.
-      let same : m ≡ q = meet n u table (seen_by u fits) m q (whole u r i m left all fits) (whole u s j q right all' fits) in
-      (subst (λ z. IsTrue (m == z)) same (let e : (m == m) ≡ true = grind arith in e), fits)
+  kept_ends i m j q left right all all' = record {
+    tables = λ n u table fits.
+        let same : m ≡ q = meet n u table (seen_by u fits) m q (whole u r i m left all fits) (whole u s j q right all' fits) in
+        (subst (λ z. IsTrue (m == z)) same (let e : (m == m) ≡ true = grind arith in e), fits);
+    grows = grows_same known known refl refl;
+  }
 
-  pub kept_last : (new : Known) (i m j q c : ℕ) → IsOver k s → Leads k known node r i m → Leads k known node s j q → i ≡ length r → j + 1 ≡ length s
-      → slice_get s j ≡ Some c → new.nodes ≡ known.nodes → new.targets ≡ set known.targets (q * k + c) (Some m) → Keeps p known new true
-  kept_last new i m j q c over left right all last letter nodes targets = λ n u table fits.
-      let edge : slice_get u (q * p.letters + c) ≡ Some m =
-      last_edge p n u table node (seen_by u fits) r s (meet n u table (seen_by u fits)) m q j c (subst (λ z. IsOver z s) letters over)
-      (whole u r i m left all fits) (part u s j q right fits) letter last in
-      let edge' : slice_get u (q * k + c) ≡ Some m = subst (λ z. slice_get u (q * z + c) ≡ Some m) (sym letters) edge in (
-        refl,
-        record {
-          nodes = omega (arith, fits.nodes, nodes);
-          edges = subst (λ (ts : List (Option ℕ)). HasEdges ts u) (sym targets) (edges_set known.targets u (q * k + c) m fits.edges edge');
-        },
-      )
+  pub kept_last : (new : Known) (i m j q c : ℕ) (e : Edge) → IsOver k s → Leads k known node r i m → Leads k known node s j q → i ≡ length r → j + 1 ≡ length s
+      → slice_get s j ≡ Some c → e.place ≡ q * k + c → get_or known.targets (q * k + c) None ≡ None
+      → new.nodes ≡ known.nodes → new.targets ≡ set known.targets e.place (Some m) → new.trail ≡ known.trail ++ e ∷ [] → Keeps p known new true
+  kept_last new i m j q c e over left right all last letter place fresh nodes targets trail = record {
+    tables = λ n u table fits.
+        let edge : slice_get u (q * p.letters + c) ≡ Some m =
+        last_edge p n u table node (seen_by u fits) r s (meet n u table (seen_by u fits)) m q j c (subst (λ z. IsOver z s) letters over)
+        (whole u r i m left all fits) (part u s j q right fits) letter last in
+        let edge' : slice_get u e.place ≡ Some m = ap (slice_get u) place ∙ subst (λ z. slice_get u (q * z + c) ≡ Some m) (sym letters) edge in (
+          refl,
+          record {
+            nodes = omega (arith, fits.nodes, nodes);
+            edges = subst (λ (ts : List (Option ℕ)). HasEdges ts u) (sym targets) (edges_set known.targets u e.place m fits.edges edge');
+          },
+        );
+    grows = grows_one known new e m (ap (λ z. get_or known.targets z None) place ∙ fresh) targets trail;
+  }
 
 -- nothing new is known
 pub kept_all : (p : Presentation) (known : Known) → Keeps p known known true
-kept_all p known = λ n u table fits. (refl, fits)
+kept_all p known = record { tables = λ n u table fits. (refl, fits); grows = grows_same known known refl refl }
 
 pub kept_on : (p : Presentation) (old known new : Known) (holds : Bool) → Keeps p old known true → Keeps p known new holds → Keeps p old new holds
-kept_on p old known new holds first further = λ n u table fits. further n u table (first n u table fits).1
+kept_on p old known new holds first further = record {
+  tables = λ n u table fits. further.tables n u table (first.tables n u table fits).1;
+  grows = grows_on old known new first.grows further.grows;
+}
 
 pub kept_same : (p : Presentation) (old new known : Known) → new ≡ known → Keeps p old known true → Keeps p old new true
-kept_same p old new known same kept = subst (λ (k : Known). Keeps p old k true) (sym same) kept
+kept_same p old new known same kept = subst (λ (z : Known). Keeps p old z true) (sym same) kept
 
 pub kept_to : (p : Presentation) (old known new : Known) (b holds : Bool) → Keeps p old known true → b ≡ holds → Keeps p known new b → Keeps p old new holds
 kept_to p old known new b holds first is further =
@@ -171,7 +183,7 @@ kept_to p old known new b holds first is further =
 -- a target that is put at a place
 module _ (p : Presentation) (old : Known) (place target nodes : ℕ) (most : nodes ≡ max old.nodes (target + 1)) where
   pub extended_known : (other : ℕ) → ((u : List ℕ) → HasEdges old.targets u → slice_get u place ≡ Some other)
-      → Extends p old place target (record { nodes = nodes; targets = old.targets }) (other == target)
+      → Extends p old place target (record old { nodes = nodes }) (other == target)
   extended_known other known = λ n u table fits edge.
       let is = known u fits.edges in
       let same : other ≡ target = cc in
@@ -180,7 +192,7 @@ module _ (p : Presentation) (old : Known) (place target nodes : ℕ) (most : nod
 
   pub extended : (put new : Known) (holds : Bool) → put.nodes ≡ nodes → put.targets ≡ set old.targets place (Some target)
       → Keeps p put new holds → Extends p old place target new holds
-  extended put new holds count targets kept = λ n u table fits edge. kept n u table (record {
+  extended put new holds count targets kept = λ n u table fits edge. kept.tables n u table (record {
     nodes = omega (arith, fits.nodes, entry_seen u place target edge, most, count);
     edges = subst (λ (ts : List (Option ℕ)). HasEdges ts u) (sym targets) (edges_set old.targets u place target fits.edges edge);
   })

@@ -1,6 +1,7 @@
 pub mod CodeLaws
 pub mod FrontLaws
 pub mod PathLaws
+pub mod TrailLaws
 pub mod EdgeLaws
 pub mod KnownLaws
 pub mod BranchLaws

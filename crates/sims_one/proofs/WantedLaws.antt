@@ -9,7 +9,7 @@ use Rattle.theory.proofs.LatticeLaws.{standard_table}
 use Rattle.sims_one.specs.Targets.{table_of, IsTable, IsWithin, IsFront, AreAllowed}
 use Rattle.sims_one.specs.Search.{Before, NoneFrom, IsLeastAfter, NoneWithin}
 use Rattle.sims_one.specs.Known.{IsBranch}
-use Rattle.sims_one.specs.declared.known.Known.{Known}
+use Rattle.sims_one.specs.declared.branch.Levels.{Levels}
 use Rattle.sims_one.specs.Asked.{AreFirst, AddsWanted, Asked, IsWanted, IsWantedWithin, IsFirstWithin, AreTablesWithin}
 use Rattle.sims_one.specs.Fronts.{IsOpen}
 use Rattle.sims_one.proofs.FrontLaws.{before_itself, front_front, allowed_front}
@@ -31,14 +31,14 @@ kept_front front old kept w is = ap (take kept) w.is ∙ take_at front w.rest ke
 
 module _ (a : Asked) (front : List ℕ) where
   -- the tables so far, of which each is asked for; the next table of the front part is known
-  pub record AreListed (us : List (List ℕ)) (last targets : List ℕ) (levels : List Known) : Type 0 where
+  pub record AreListed (us : List (List ℕ)) (last targets : List ℕ) (levels : Levels) : Type 0 where
     pub first : IsFirstWithin a front last targets levels
     pub goes : Goes Before before_trans before_itself (IsWantedWithin a front) (Some a.cursor) us last
 
-  pub listed_none : (targets : List ℕ) (levels : List Known) → IsFirstWithin a front a.cursor targets levels → AreListed [] a.cursor targets levels
+  pub listed_none : (targets : List ℕ) (levels : Levels) → IsFirstWithin a front a.cursor targets levels → AreListed [] a.cursor targets levels
   listed_none targets levels first = record { first = first; goes = goes_none Before before_trans before_itself (IsWantedWithin a front) a.cursor }
 
-  module _ (us : List (List ℕ)) (last targets : List ℕ) (levels : List Known) (l : AreListed us last targets levels) where
+  module _ (us : List (List ℕ)) (last targets : List ℕ) (levels : Levels) (l : AreListed us last targets levels) where
     -- the table is asked for
     pub listed_wanted : IsWanted a targets → Goes Before before_trans before_itself (IsWantedWithin a front) (Some a.cursor) (us ++ targets ∷ []) targets
     listed_wanted wanted = goes_next Before before_trans before_itself (IsWantedWithin a front) (Some a.cursor) us last targets l.goes (record {
@@ -90,7 +90,7 @@ module _ (a : Asked) (front : List ℕ) where
       (subst (λ zs. AreFirst (IsWantedWithin a front) Before (Some a.cursor) (length us + 0) zs) (append-nil us) (goes 0 [] tt))
 
   -- the table after one of the front part
-  pub first_after : (old targets : List ℕ) (levels : List Known) → IsLeastAfter a.presentation a.classes old targets → IsWithin front targets → IsBranch a.presentation a.classes targets levels → IsFirstWithin a front old targets levels
+  pub first_after : (old targets : List ℕ) (levels : Levels) → IsLeastAfter a.presentation a.classes old targets → IsWithin front targets → IsBranch a.presentation a.classes targets levels → IsFirstWithin a front old targets levels
   first_after old targets levels l within branch = record {
     branch = branch;
     table = l.table;

@@ -6,7 +6,7 @@ use Rattle.theory.specs.LowIndex.{graph_of}
 use Rattle.theory.specs.TwoSidedTable.{IsTwoSidedTable}
 use Rattle.sims_one.specs.Targets.{table_of, IsTable, IsWithin}
 use Rattle.sims_one.specs.Known.{IsBranch}
-use Rattle.sims_one.specs.declared.known.Known.{Known}
+use Rattle.sims_one.specs.declared.branch.Levels.{Levels}
 use Rattle.sims_one.specs.declared.request.Request.{Request}
 use Rattle.sims_one.specs.Search.{Before, IsCursor}
 
@@ -68,7 +68,7 @@ AreTablesWithin a front us =
     AreFirst (IsWantedWithin a front) Before (Some a.cursor) (suc a.count) us
 
 -- the least table after the cursor that goes on behind the front part, with its branch
-pub record IsFirstWithin (a : Asked) (front last targets : List ℕ) (levels : List Known)
+pub record IsFirstWithin (a : Asked) (front last targets : List ℕ) (levels : Levels)
     : Type 0 where
   pub branch : IsBranch a.presentation a.classes targets levels
   pub table : IsTable a.presentation a.classes targets

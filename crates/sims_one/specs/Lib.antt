@@ -1,5 +1,6 @@
 pub mod Targets
 pub mod Codes
+pub mod Edges
 pub mod Known
 pub mod Search
 pub mod Graphs

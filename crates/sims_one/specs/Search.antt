@@ -7,7 +7,7 @@ use Rattle.theory.specs.Congruence.{Presentation}
 use Rattle.theory.specs.Listing.{IsNext}
 use Rattle.theory.specs.Graph.{Graph}
 use Rattle.theory.specs.LowIndex.{Rows, graph_of, IsLowIndex, TableLess}
-use Rattle.sims_one.specs.declared.known.Known.{Known}
+use Rattle.sims_one.specs.declared.branch.Levels.{Levels}
 use Rattle.sims_one.specs.Known.{IsBranch}
 use Rattle.sims_one.specs.Targets.{IsTable, IsFront, IsWithin, IsBeyond, seen, cursor_of}
 
@@ -57,7 +57,7 @@ pub record IsCursor (k : ℕ) (targets : List ℕ) : Type 0 where
 
 -- the branch of the least table after the cursor
 pub record IsFoundBranch (p : Presentation) (n : ℕ) (cursor targets : List ℕ)
-    (levels : List Known) : Type 0 where
+    (levels : Levels) : Type 0 where
   pub least : IsLeastAfter p n cursor targets
   pub branch : IsBranch p n targets levels
 
@@ -69,7 +69,7 @@ pub record Search : Type 0 where
   pub failed : Bool
 
 -- the next table as a graph, its targets, and what is known on its branch
-pub record IsFound (s : Search) (targets : List ℕ) (levels : List Known) (g : Graph) : Type 0 where
+pub record IsFound (s : Search) (targets : List ℕ) (levels : Levels) (g : Graph) : Type 0 where
   pub rows : Rows
   pub is : g ≡ graph_of rows
   pub next : IsNext (IsLowIndex s.presentation s.classes) TableLess s.after rows

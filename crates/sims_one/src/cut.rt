@@ -27,11 +27,11 @@ fn grow(
 ) -> Result<(), NoMemory>
     requires asked { IsAsked (asked request.now) }
     requires branch { IsBranch request.now.presentation.now.presentation request.now.classes
-        branch.old.targets.items branch.old.levels.items }
+        branch.old.targets.items branch.old.levels }
     ensures fronts { OnOk result (AddsLonger (asked request.now) branch.old.targets.items
         (lists_in fronts.old.items) (lists_in fronts.new.items)) }
     ensures branch { OnOk result (IsBranch request.now.presentation.now.presentation
-        request.now.classes branch.new.targets.items branch.new.levels.items) }
+        request.now.classes branch.new.targets.items branch.new.levels) }
     ensures same { OnOk result (branch.new.targets.items ≡ branch.old.targets.items) }
 {
     if place_of(&branch.targets, request.cursor) == Ordering::Less {
@@ -63,13 +63,13 @@ fn grow_with(
 ) -> Result<(), NoMemory>
     requires asked { IsAsked (asked request.now) }
     requires branch { IsBranch request.now.presentation.now.presentation request.now.classes
-        branch.old.targets.items branch.old.levels.items }
+        branch.old.targets.items branch.old.levels }
     requires opened { IsOpen (asked request.now) (branch.old.targets.items ++ target ∷ []) }
     ensures fronts { OnOk result (AddsLonger (asked request.now)
         (branch.old.targets.items ++ target ∷ [])
         (lists_in fronts.old.items) (lists_in fronts.new.items)) }
     ensures branch { OnOk result (IsBranch request.now.presentation.now.presentation
-        request.now.classes branch.new.targets.items branch.new.levels.items) }
+        request.now.classes branch.new.targets.items branch.new.levels) }
     ensures same { OnOk result (branch.new.targets.items ≡ branch.old.targets.items) }
 {
     if !branch.enter(request.presentation, request.classes, target)? {

@@ -1,42 +1,30 @@
 // Edges that follow from others by relations.
 ghost use Rattle.std.specs.Prelude.{◌≡◌, ◌≢◌, ℕ, ◌+◌, ◌*◌, ◌<◌, ◌≤◌, List, length, max, suc, slice_set, IfOk, Some, true};
 ghost use Rattle.theory.specs.Word.{IsOver};
-ghost use Rattle.sims_one.specs.Known.{Keeps, Extends};
+ghost use Rattle.sims_one.specs.Edges.{IsEdge};
+ghost use Rattle.sims_one.specs.Known.{Grows, Keeps, Extends};
 
-use crate::known::{Known, MOST_EDGES};
+use crate::known::Known;
 use crate::paths::MOST_NODES;
+use crate::places::{Place, Places};
+use crate::trail::{Edge, MOST_EDGES};
 use ports::NoMemory;
 use presentation::Presentation;
 use words::Word;
 
-/// An edge: the node that it leaves, and the number of its letter.
-#[derive(Clone, Copy)]
-pub struct Edge {
-    node: usize,
-    letter: usize,
+// A side of the relation of this number.
+#[derive(Drop)]
+struct Side<'a> {
+    relation: usize,
+    word: &'a Word,
 }
 
-// The edge of the letter leads from the node to the target from now on, and what follows from it is
-// still to be read.
-fn deduce(
-    letters: usize,
-    known: &mut Known,
-    fresh: &mut Vec<Edge>,
-    node: usize,
-    letter: usize,
-    target: usize,
-) -> Result<(), NoMemory>
-    requires letters { letters ≤ 53 }
-    requires node { node < MOST_NODES }
-    requires letter { letter < letters }
-    requires target { target < MOST_NODES }
-    ensures nodes { known.new.nodes ≡ known.old.nodes }
-    ensures targets { known.new.targets
-        ≡ slice_set known.old.targets (node * letters + letter) (Some target) }
+// The side of the pair at a place.
+fn side_of(pair: &(Word, Word), second: bool) -> &Word
+    ensures { (letters : ℕ) → IsOver letters pair.now.0 → IsOver letters pair.now.1
+        → IsOver letters result.now }
 {
-    known.set(node * letters + letter, target);
-    fresh.push(Edge { node, letter })?;
-    Ok(())
+    if second { &pair.1 } else { &pair.0 }
 }
 
 // Reads a relation at a node. Where both sides lead from it but for the last letter of one, the
@@ -44,7 +32,6 @@ fn deduce(
 fn read(
     presentation: &Presentation,
     known: &mut Known,
-    fresh: &mut Vec<Edge>,
     relation: usize,
     node: usize,
 ) -> Result<bool, NoMemory>
@@ -64,12 +51,12 @@ fn read(
     }
     if left.length == pair.0.len() && right.length + 1 == pair.1.len() {
         let letter = pair.1.letter(right.length).number();
-        deduce(letters, known, fresh, right.node, letter, left.node)?;
+        known.learn(Edge::new(letters, right.node, letter), left.node)?;
         return Ok(true);
     }
     if right.length == pair.1.len() && left.length + 1 == pair.0.len() {
         let letter = pair.0.letter(left.length).number();
-        deduce(letters, known, fresh, left.node, letter, right.node)?;
+        known.learn(Edge::new(letters, left.node, letter), right.node)?;
         return Ok(true);
     }
     Ok(true)
@@ -80,121 +67,103 @@ fn read(
 fn read_back(
     presentation: &Presentation,
     known: &mut Known,
-    fresh: &mut Vec<Edge>,
-    relation: usize,
-    side: &Word,
+    side: &Side,
     count: usize,
     node: usize,
 ) -> Result<bool, NoMemory>
-    requires relation { relation < length presentation.now.presentation.relations }
+    requires relation { side.now.relation < length presentation.now.presentation.relations }
     requires few { known.old.nodes ≤ MOST_NODES }
-    requires side { IsOver presentation.now.presentation.letters side.now }
-    requires count { count ≤ length side.now }
+    requires side { IsOver presentation.now.presentation.letters side.now.word.now }
+    requires count { count ≤ length side.now.word.now }
     ensures nodes { known.new.nodes ≡ known.old.nodes }
     ensures keeps { IfOk result (λ holds.
         Keeps presentation.now.presentation known.old known.new holds) }
 {
-    if count == 0 {
-        return if node < known.nodes {
-            read(presentation, known, fresh, relation, node)
-        } else {
-            Ok(true)
-        };
+    let _letters = presentation.letters();
+    if known.nodes <= node {
+        return Ok(true);
     }
-    let letters = presentation.letters();
-    let letter = side.letter(count - 1).number();
-    for start in 0..known.nodes {
-        if known.target(start * letters + letter) == Some(node)
-            && !read_back(presentation, known, fresh, relation, side, count - 1, start)?
-        {
+    if count == 0 {
+        return read(presentation, known, side.relation, node);
+    }
+    let mut starts = known.sources(node, side.word.letter(count - 1).number());
+    while let Some(start) = starts.pop() {
+        if !read_back(presentation, known, side, count - 1, start)? {
             return Ok(false);
         }
     }
     Ok(true)
 }
 
-// Whether the letter of a side at the place is that of the edge, and the side leads on from there.
-// Else nothing follows from the edge there.
-fn is_due(letters: usize, known: &Known, side: &Word, place: usize, edge: Edge) -> bool
-    requires few { known.now.nodes ≤ MOST_NODES }
-    requires letters { letters ≤ 53 }
-    requires side { IsOver letters side.now }
-    requires place { place < length side.now }
-{
-    side.letter(place).number() == edge.letter
-        && edge.node < known.nodes
-        && known.leads_on(letters, edge.node, side, place)
-}
-
-// Reads a relation at each node from which a side goes over the edge. False where its sides lead to
-// two nodes.
-fn read_side(
+// Reads the relation of the place at each node from which its side goes over the edge there, where
+// the side leads on from the edge. Else nothing follows from the edge there. False where the sides
+// lead to two nodes.
+fn read_place(
     presentation: &Presentation,
     known: &mut Known,
-    fresh: &mut Vec<Edge>,
-    relation: usize,
-    side: &Word,
+    place: Place,
     edge: Edge,
 ) -> Result<bool, NoMemory>
-    requires relation { relation < length presentation.now.presentation.relations }
     requires few { known.old.nodes ≤ MOST_NODES }
-    requires side { IsOver presentation.now.presentation.letters side.now }
+    requires edge { IsEdge edge }
     ensures nodes { known.new.nodes ≡ known.old.nodes }
     ensures keeps { IfOk result (λ holds.
         Keeps presentation.now.presentation known.old known.new holds) }
 {
     let letters = presentation.letters();
-    for i in 0..side.len() {
-        if is_due(letters, known, side, i, edge)
-            && !read_back(presentation, known, fresh, relation, side, i, edge.node)?
-        {
-            return Ok(false);
-        }
+    let relations = presentation.relations();
+    if relations.len() <= place.relation {
+        return Ok(true);
     }
-    Ok(true)
+    let word = side_of(relations.pair(place.relation), place.second);
+    if word.len() <= place.before || !known.leads_on(letters, edge.node, word, place.before) {
+        return Ok(true);
+    }
+    let side = Side {
+        relation: place.relation,
+        word,
+    };
+    read_back(presentation, known, &side, place.before, edge.node)
 }
 
 // Reads each relation that goes over the edge. False where one fails.
 fn read_edge(
     presentation: &Presentation,
+    places: &Places,
     known: &mut Known,
-    fresh: &mut Vec<Edge>,
     edge: Edge,
 ) -> Result<bool, NoMemory>
     requires few { known.old.nodes ≤ MOST_NODES }
+    requires edge { IsEdge edge }
     ensures nodes { known.new.nodes ≡ known.old.nodes }
     ensures keeps { IfOk result (λ holds.
         Keeps presentation.now.presentation known.old known.new holds) }
 {
-    let relations = presentation.relations();
-    for relation in 0..relations.len() {
-        let pair = relations.pair(relation);
-        if !read_side(presentation, known, fresh, relation, &pair.0, edge)? {
-            return Ok(false);
-        }
-        if !read_side(presentation, known, fresh, relation, &pair.1, edge)? {
+    for place in places.of(edge.letter) {
+        if !read_place(presentation, known, *place, edge)? {
             return Ok(false);
         }
     }
     Ok(true)
 }
 
-// Reads the relations that go over the edges that are still to be read. False where one fails.
-fn read_fresh(
+// Reads the relations that go over the edges known, from this one on. False where one fails.
+fn read_edges(
     presentation: &Presentation,
+    places: &Places,
     known: &mut Known,
-    fresh: &mut Vec<Edge>,
+    first: usize,
 ) -> Result<bool, NoMemory>
     requires few { known.old.nodes ≤ MOST_NODES }
     ensures nodes { known.new.nodes ≡ known.old.nodes }
     ensures keeps { IfOk result (λ holds.
         Keeps presentation.now.presentation known.old known.new holds) }
 {
-    for _ in 0..MOST_EDGES {
-        let Some(edge) = fresh.pop() else {
+    for number in first..MOST_EDGES {
+        let Some(edge) = known.edge(number) else {
             return Ok(true);
         };
-        if !read_edge(presentation, known, fresh, edge)? {
+        if !read_edge(presentation, places, known, edge)? {
             return Ok(false);
         }
     }
@@ -202,12 +171,7 @@ fn read_fresh(
 }
 
 // Reads each relation at the node. False where one fails.
-fn read_node(
-    presentation: &Presentation,
-    known: &mut Known,
-    fresh: &mut Vec<Edge>,
-    node: usize,
-) -> Result<bool, NoMemory>
+fn read_node(presentation: &Presentation, known: &mut Known, node: usize) -> Result<bool, NoMemory>
     requires node { node < known.old.nodes }
     requires few { known.old.nodes ≤ MOST_NODES }
     ensures nodes { known.new.nodes ≡ known.old.nodes }
@@ -215,7 +179,7 @@ fn read_node(
         Keeps presentation.now.presentation known.old known.new holds) }
 {
     for relation in 0..presentation.relations().len() {
-        if !read(presentation, known, fresh, relation, node)? {
+        if !read(presentation, known, relation, node)? {
             return Ok(false);
         }
     }
@@ -226,7 +190,6 @@ fn read_node(
 fn read_new_node(
     presentation: &Presentation,
     known: &mut Known,
-    fresh: &mut Vec<Edge>,
     seen: usize,
     node: usize,
 ) -> Result<bool, NoMemory>
@@ -239,15 +202,15 @@ fn read_new_node(
     if node < seen {
         return Ok(true);
     }
-    read_node(presentation, known, fresh, node)
+    read_node(presentation, known, node)
 }
 
 /// Puts the target at the place, which is known from now on, with all that follows from it. False
 /// where another target is known there, or where a relation fails: then no table has it.
 pub fn extend(
     presentation: &Presentation,
+    places: &Places,
     known: &mut Known,
-    fresh: &mut Vec<Edge>,
     place: usize,
     target: usize,
 ) -> Result<bool, NoMemory>
@@ -257,6 +220,7 @@ pub fn extend(
     ensures nodes { known.new.nodes ≡ max known.old.nodes (suc target) }
     ensures extends { IfOk result (λ holds.
         Extends presentation.now.presentation known.old place target known.new holds) }
+    ensures grows { IfOk result (λ _. Grows known.old known.new) }
 {
     let letters = presentation.letters();
     let seen = known.nodes;
@@ -264,14 +228,10 @@ pub fn extend(
     if let Some(other) = known.target(place) {
         return Ok(other == target);
     }
-    known.set(place, target);
-    fresh.clear();
-    fresh.push(Edge {
-        node: place / letters,
-        letter: place % letters,
-    })?;
-    if !read_new_node(presentation, known, fresh, seen, target)? {
+    let first = known.mark().edges;
+    known.learn(Edge::at(letters, place), target)?;
+    if !read_new_node(presentation, known, seen, target)? {
         return Ok(false);
     }
-    read_fresh(presentation, known, fresh)
+    read_edges(presentation, places, known, first)
 }

@@ -1,21 +1,23 @@
 // Edges that each table behind a front part has.
-ghost use Rattle.std.specs.Prelude.{◌≡◌, ℕ, ◌+◌, ◌<◌, ◌≤◌, List, length, take, replicate, slice_index_or, slice_set, None, Some, IfSome};
+ghost use Rattle.std.specs.Prelude.{◌≡◌, ℕ, ◌+◌, ◌*◌, ◌<◌, ◌≤◌, ◌++◌, ◌∷◌, [], List, length, take, drop, replicate, slice_get, slice_index_or, slice_set, None, Some, IfSome, OnOk};
 ghost use Rattle.theory.specs.Word.{IsOver};
 ghost use Rattle.sims_one.specs.Targets.{path_in};
+ghost use Rattle.sims_one.specs.Edges.{IsEdge, without};
 ghost use Rattle.sims_one.specs.Known.{HasEdges};
 
 use crate::paths::MOST_NODES;
+use crate::sources::{NodeSet, Sources};
+use crate::trail::{Edge, MOST_EDGES, MOST_LETTERS, Trail};
+use ports::NoMemory;
+use std::alloc::Global;
 use std::marker::Model;
 use words::Word;
-
-/// The most edges of a table: 53 for each node.
-pub const MOST_EDGES: usize = 901;
 
 // Stands for a target that is not known.
 const UNKNOWN: u8 = 17;
 
 // A node or none for each place.
-#[derive(Clone, Copy)]
+#[derive(Drop)]
 struct Targets {
     codes: [u8; MOST_EDGES],
 }
@@ -67,15 +69,34 @@ impl Targets {
     {
         self.codes[place] = node as u8;
     }
+
+    // Puts none at the place.
+    fn clear(&mut self, place: usize)
+        requires { place < MOST_EDGES }
+        ensures { self.new ≡ slice_set self.old place None }
+    {
+        self.codes[place] = UNKNOWN;
+    }
 }
 
 /// The nodes seen and the edges known of all tables behind a front part: those of the front part,
 /// and those that follow from them by relations.
-#[derive(Clone, Copy)]
+#[derive(Drop)]
 pub struct Known {
     /// How many nodes have been seen.
     pub nodes: usize,
     targets: Targets,
+    sources: Sources,
+    trail: Trail,
+}
+
+/// How much is known: so many nodes, and so many edges.
+#[derive(Clone, Copy)]
+pub struct Mark {
+    /// How many nodes.
+    pub nodes: usize,
+    /// How many edges.
+    pub edges: usize,
 }
 
 /// Where the known edges end on the path of a word.
@@ -89,13 +110,15 @@ pub struct End {
 
 impl Known {
     /// The root alone, and no edge.
-    pub fn new() -> Known
+    pub fn new(alloc: Global) -> Known
         ensures nodes { result.nodes ≡ 1 }
         ensures edges { (u : List ℕ) → HasEdges result.targets u }
     {
         Known {
             nodes: 1,
             targets: Targets::none(),
+            sources: Sources::none(),
+            trail: Trail::new(alloc),
         }
     }
 
@@ -108,14 +131,86 @@ impl Known {
         self.targets.get(place)
     }
 
-    /// The target at the place is known from now on.
-    pub fn set(&mut self, place: usize, target: usize)
-        requires place { place < MOST_EDGES }
+    /// The nodes from which known edges of the letter lead to the node. They are told for speed
+    /// alone: no contract says which they are.
+    pub fn sources(&self, node: usize, letter: usize) -> NodeSet
+        requires node { node < MOST_NODES }
+        requires letter { letter < MOST_LETTERS }
+    {
+        self.sources.of(node, letter)
+    }
+
+    /// How much is known.
+    pub fn mark(&self) -> Mark
+        ensures nodes { result.nodes ≡ self.now.nodes }
+        ensures edges { result.edges ≡ length self.now.trail }
+    {
+        Mark {
+            nodes: self.nodes,
+            edges: self.trail.len(),
+        }
+    }
+
+    /// The edge that became known after so many others.
+    pub fn edge(&self, number: usize) -> Option<Edge>
+        ensures { IfSome result IsEdge }
+    {
+        self.trail.edge(number)
+    }
+
+    /// The edge, which is not known yet, leads to the target from now on. Refused only where memory
+    /// is wanting.
+    pub fn learn(&mut self, edge: Edge, target: usize) -> Result<(), NoMemory>
+        requires edge { IsEdge edge }
         requires target { target < MOST_NODES }
         ensures nodes { self.new.nodes ≡ self.old.nodes }
-        ensures targets { self.new.targets ≡ slice_set self.old.targets place (Some target) }
+        ensures targets { OnOk result (self.new.targets
+            ≡ slice_set self.old.targets edge.place (Some target)) }
+        ensures trail { OnOk result (self.new.trail ≡ self.old.trail ++ edge ∷ []) }
     {
-        self.targets.put(place, target);
+        self.trail.push(edge)?;
+        self.targets.put(edge.place, target);
+        self.sources.add(edge, target);
+        Ok(())
+    }
+
+    // The edge is not known any more.
+    fn forget_edge(&mut self, edge: Edge)
+        requires { IsEdge edge }
+        ensures nodes { self.new.nodes ≡ self.old.nodes }
+        ensures targets { self.new.targets ≡ slice_set self.old.targets edge.place None }
+        ensures trail { self.new.trail ≡ self.old.trail }
+    {
+        if let Some(target) = self.targets.get(edge.place) {
+            self.sources.remove(edge, target);
+        }
+        self.targets.clear(edge.place);
+    }
+
+    // The edges that became known after so many others are not known any more.
+    fn forget_edges(&mut self, count: usize)
+        ensures nodes { self.new.nodes ≡ self.old.nodes }
+        ensures targets { self.new.targets
+            ≡ without self.old.targets (drop count self.old.trail) }
+        ensures trail { self.new.trail ≡ take count self.old.trail }
+    {
+        while self.trail.len() > count {
+            let Some(edge) = self.trail.pop() else {
+                return;
+            };
+            self.forget_edge(edge);
+        }
+    }
+
+    /// What became known after the mark is not known any more.
+    pub fn forget(&mut self, mark: Mark)
+        ensures nodes { self.new.nodes ≡ mark.nodes }
+        ensures targets { self.new.targets
+            ≡ without self.old.targets (drop mark.edges self.old.trail) }
+        ensures trail { self.new.trail ≡ take mark.edges self.old.trail }
+    {
+        self.nodes = mark.nodes;
+        self.forget_edges(mark.edges);
     }
 
     /// How far the word leads from the node by known edges.
@@ -127,6 +222,8 @@ impl Known {
         ensures node { result.node < MOST_NODES }
         ensures path { (u : List ℕ) → HasEdges self.now.targets u
             → path_in letters u node (take result.length word.now) ≡ Some result.node }
+        ensures stopped { (letter : ℕ) → slice_get word.now result.length ≡ Some letter
+            → slice_index_or self.now.targets (result.node * letters + letter) None ≡ None }
     {
         let mut at = node;
         for i in 0..word.len() {

@@ -17,11 +17,14 @@ mod known;
 mod pages;
 mod parts;
 mod paths;
+mod places;
 mod request;
 mod runs;
 mod search;
 mod sims;
+mod sources;
 mod table_parts;
+mod trail;
 mod within;
 
 pub use pages::{TablePage, page, page_two_sided};

@@ -5,9 +5,10 @@ ghost use Rattle.sims_one.specs.Known.{HasEdges, IsBranch};
 ghost use Rattle.sims_one.specs.Search.{IsLeastWithin, NoneWithin, IsLeastBeyond, NoneBeyond, IsLeastAfter, NoneAfter, NoneFrom, IsCursor, IsFoundBranch};
 
 use crate::branch::Branch;
-use crate::known::{Known, MOST_EDGES};
+use crate::known::Known;
 use crate::paths::is_sound;
 use crate::sims::MOST_CLASSES;
+use crate::trail::MOST_EDGES;
 use ports::NoMemory;
 use presentation::Presentation;
 use std::alloc::Global;
@@ -88,13 +89,13 @@ pub fn search(
 ) -> Result<bool, NoMemory>
     requires classes { classes ≤ MOST_CLASSES }
     requires branch { IsBranch presentation.now.presentation classes
-        branch.old.targets.items branch.old.levels.items }
+        branch.old.targets.items branch.old.levels }
     ensures found { IfOk result (λ b. b ≡ true → IsLeastWithin presentation.now.presentation classes
         branch.old.targets.items branch.new.targets.items) }
     ensures none { IfOk result (λ b. b ≡ false
         → NoneWithin presentation.now.presentation classes branch.old.targets.items) }
     ensures branch { IfOk result (λ _. IsBranch presentation.now.presentation classes
-        branch.new.targets.items branch.new.levels.items) }
+        branch.new.targets.items branch.new.levels) }
     ensures same { IfOk result (λ b. b ≡ false
         → branch.new.targets.items ≡ branch.old.targets.items) }
 {
@@ -117,7 +118,7 @@ pub fn search_from(
 ) -> Result<bool, NoMemory>
     requires classes { classes ≤ MOST_CLASSES }
     requires branch { IsBranch presentation.now.presentation classes
-        branch.old.targets.items branch.old.levels.items }
+        branch.old.targets.items branch.old.levels }
     requires wanting { length branch.old.targets.items
         < presentation.now.presentation.letters * seen branch.old.targets.items }
     requires first { least_target presentation.now.presentation.is_monoid ≤ first }
@@ -126,7 +127,7 @@ pub fn search_from(
     ensures none { IfOk result (λ b. b ≡ false
         → NoneBeyond presentation.now.presentation classes branch.old.targets.items first) }
     ensures branch { IfOk result (λ _. IsBranch presentation.now.presentation classes
-        branch.new.targets.items branch.new.levels.items) }
+        branch.new.targets.items branch.new.levels) }
     ensures same { IfOk result (λ b. b ≡ false
         → branch.new.targets.items ≡ branch.old.targets.items) }
 {
@@ -153,7 +154,7 @@ pub fn search_with(
 ) -> Result<bool, NoMemory>
     requires classes { classes ≤ MOST_CLASSES }
     requires branch { IsBranch presentation.now.presentation classes
-        branch.old.targets.items branch.old.levels.items }
+        branch.old.targets.items branch.old.levels }
     requires front { IsFront presentation.now.presentation.letters
         (branch.old.targets.items ++ target ∷ []) }
     requires allowed { AreAllowed presentation.now.presentation classes
@@ -163,7 +164,7 @@ pub fn search_with(
     ensures none { IfOk result (λ b. b ≡ false → NoneWithin presentation.now.presentation classes
         (branch.old.targets.items ++ target ∷ [])) }
     ensures branch { IfOk result (λ _. IsBranch presentation.now.presentation classes
-        branch.new.targets.items branch.new.levels.items) }
+        branch.new.targets.items branch.new.levels) }
     ensures same { IfOk result (λ b. b ≡ false
         → branch.new.targets.items ≡ branch.old.targets.items) }
 {
@@ -193,7 +194,7 @@ pub fn search_after(
     requires full { length cursor.now ≡ presentation.now.presentation.letters * seen cursor.now }
     requires within { IsWithin branch.old.targets.items cursor.now }
     requires branch { IsBranch presentation.now.presentation classes
-        branch.old.targets.items branch.old.levels.items }
+        branch.old.targets.items branch.old.levels }
     ensures found { IfOk result (λ b. b ≡ true → IsLeastAfter presentation.now.presentation classes
         cursor.now branch.new.targets.items) }
     ensures within { IfOk result (λ b. b ≡ true
@@ -201,7 +202,7 @@ pub fn search_after(
     ensures none { IfOk result (λ b. b ≡ false → NoneFrom presentation.now.presentation classes
         cursor.now branch.old.targets.items) }
     ensures branch { IfOk result (λ _. IsBranch presentation.now.presentation classes
-        branch.new.targets.items branch.new.levels.items) }
+        branch.new.targets.items branch.new.levels) }
     ensures same { IfOk result (λ b. b ≡ false
         → branch.new.targets.items ≡ branch.old.targets.items) }
 {
@@ -230,7 +231,7 @@ pub fn search_along(
     requires full { length cursor.now ≡ presentation.now.presentation.letters * seen cursor.now }
     requires within { IsWithin (branch.old.targets.items ++ target ∷ []) cursor.now }
     requires branch { IsBranch presentation.now.presentation classes
-        branch.old.targets.items branch.old.levels.items }
+        branch.old.targets.items branch.old.levels }
     ensures found { IfOk result (λ b. b ≡ true → IsLeastAfter presentation.now.presentation classes
         cursor.now branch.new.targets.items) }
     ensures within { IfOk result (λ b. b ≡ true
@@ -238,7 +239,7 @@ pub fn search_along(
     ensures none { IfOk result (λ b. b ≡ false → NoneFrom presentation.now.presentation classes
         cursor.now (branch.old.targets.items ++ target ∷ [])) }
     ensures branch { IfOk result (λ _. IsBranch presentation.now.presentation classes
-        branch.new.targets.items branch.new.levels.items) }
+        branch.new.targets.items branch.new.levels) }
     ensures same { IfOk result (λ b. b ≡ false
         → branch.new.targets.items ≡ branch.old.targets.items) }
 {
@@ -266,7 +267,7 @@ pub fn search_next(
 ) -> Result<bool, NoMemory>
     requires classes { classes ≤ MOST_CLASSES }
     requires branch { IsBranch presentation.now.presentation classes
-        branch.old.targets.items branch.old.levels.items }
+        branch.old.targets.items branch.old.levels }
     requires full { presentation.now.presentation.letters * seen branch.old.targets.items
         ≤ length branch.old.targets.items }
     requires kept { kept ≤ length branch.old.targets.items }
@@ -277,7 +278,7 @@ pub fn search_next(
     ensures none { IfOk result (λ b. b ≡ false → NoneFrom presentation.now.presentation classes
         branch.old.targets.items (take kept branch.old.targets.items)) }
     ensures branch { IfOk result (λ b. b ≡ true → IsBranch presentation.now.presentation classes
-        branch.new.targets.items branch.new.levels.items) }
+        branch.new.targets.items branch.new.levels) }
 {
     while kept < branch.targets.len() {
         let Some(target) = branch.pop() else {
@@ -303,10 +304,10 @@ fn find_after(
     ensures { IfOk result (λ found. MatchOption found
         (NoneAfter presentation.now.presentation classes cursor.now)
         (λ b. IsFoundBranch presentation.now.presentation classes cursor.now
-        b.targets.items b.levels.items)) }
+        b.targets.items b.levels)) }
 {
     let _letters = presentation.letters();
-    let mut branch = Branch::new(alloc)?;
+    let mut branch = Branch::new(alloc, presentation)?;
     if cursor.is_empty() {
         if search(presentation, classes, &mut branch)? {
             return Ok(Some(branch));
@@ -332,13 +333,13 @@ pub fn find_next(
     requires classes { classes ≤ MOST_CLASSES }
     requires cursor { IsCursor presentation.now.presentation.letters cursor.now }
     requires branch { IfSome branch (λ b. IsBranch presentation.now.presentation classes
-        b.targets.items b.levels.items) }
+        b.targets.items b.levels) }
     requires same { IfSome branch (λ b. (b.targets.items ≡ cursor.now)
         × (0 < length b.targets.items)) }
     ensures { IfOk result (λ found. MatchOption found
         (NoneAfter presentation.now.presentation classes cursor.now)
         (λ b. IsFoundBranch presentation.now.presentation classes cursor.now
-        b.targets.items b.levels.items)) }
+        b.targets.items b.levels)) }
 {
     let Some(mut branch) = branch else {
         return find_after(alloc, presentation, classes, cursor);

@@ -63,7 +63,7 @@ impl Model for Sims {
       few : s.classes ≤ 16;
       cursor : IsCursor s.presentation.presentation.letters s.last.items;
       branch : IfSome s.branch (λ b. IsBranch s.presentation.presentation s.classes
-          b.targets.items b.levels.items);
+          b.targets.items b.levels);
       same : IfSome s.branch (λ b. (b.targets.items ≡ s.last.items)
           × (0 < length b.targets.items));
     } };
@@ -122,7 +122,7 @@ impl Sims {
         ensures same { self.new ≡ self.old }
         ensures found { IfOk result (λ found. MatchOption found
             (IsLast (IsLowIndex self.old.presentation self.old.classes) TableLess self.old.after)
-            (λ f. IsFound self.old f.targets.items f.branch.levels.items f.graph)) }
+            (λ f. IsFound self.old f.targets.items f.branch.levels f.graph)) }
         ensures branch { IfOk result (λ found. IfSome found
             (λ f. f.branch.targets.items ≡ f.targets.items)) }
     {

@@ -55,9 +55,9 @@ pub fn branch_of(
     ensures { IfOk result (λ found. MatchOption found
         (NoneWithin request.now.presentation.now.presentation request.now.classes front.now)
         (λ b. IsBranch request.now.presentation.now.presentation request.now.classes
-        b.targets.items b.levels.items × (b.targets.items ≡ front.now))) }
+        b.targets.items b.levels × (b.targets.items ≡ front.now))) }
 {
-    let mut branch = Branch::new(alloc)?;
+    let mut branch = Branch::new(alloc, request.presentation)?;
     for target in front {
         if !branch.enter(request.presentation, request.classes, *target)? {
             return Ok(None);
@@ -71,14 +71,14 @@ pub fn branch_of(
 fn search_place(request: &Request, place: Ordering, branch: &mut Branch) -> Result<bool, NoMemory>
     requires asked { IsAsked (asked request.now) }
     requires branch { IsBranch request.now.presentation.now.presentation request.now.classes
-        branch.old.targets.items branch.old.levels.items }
+        branch.old.targets.items branch.old.levels }
     requires along { place ≡ Equal → IsWithin branch.old.targets.items request.now.cursor.now
         × (0 < length request.now.cursor.now) }
     requires behind { place ≢ Equal → (u : List ℕ) → 0 < length u
         → IsWithin branch.old.targets.items u → Before request.now.cursor.now u }
     ensures found { IfOk result (λ b. b ≡ true → IsFirstWithin (asked request.now)
         branch.old.targets.items request.now.cursor.now
-        branch.new.targets.items branch.new.levels.items) }
+        branch.new.targets.items branch.new.levels) }
     ensures none { IfOk result (λ b. b ≡ false → NoneFrom request.now.presentation.now.presentation
         request.now.classes request.now.cursor.now branch.old.targets.items) }
 {
@@ -109,7 +109,7 @@ fn first_within(
         (NoneFrom request.now.presentation.now.presentation request.now.classes
         request.now.cursor.now front.now)
         (λ b. IsFirstWithin (asked request.now) front.now request.now.cursor.now
-        b.targets.items b.levels.items)) }
+        b.targets.items b.levels)) }
 {
     let place = place_of(front, request.cursor);
     if place == Ordering::Less {

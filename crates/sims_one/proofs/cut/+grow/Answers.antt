@@ -119,12 +119,12 @@ pub grow_with-returns-clause-branch : goal.grow_with-returns-clause-branch
 grow_with-returns-clause-branch t c =
     let p = c.args.request.now.presentation.now.presentation in
     let same = c.in_ok-grow.ensures.same ∙ c.in_ok-enter.ensures.entered c.if-not-branch.false in
-    (popped p c.args.request.now.classes c.grow.new.branch.targets.items c.pop.new.self.targets.items c.args.branch.now.targets.items c.pop.new.self.levels.items c.args.target c.pop.result
+    (popped p c.args.request.now.classes c.grow.new.branch.targets.items c.pop.new.self.targets.items c.args.branch.now.targets.items c.pop.new.self.levels c.args.target c.pop.result
     c.pop.ensures.targets same (c.pop.ensures.branch p c.args.request.now.classes c.in_ok-grow.ensures.branch)).1
 
 pub grow_with-returns-clause-same : goal.grow_with-returns-clause-same
 grow_with-returns-clause-same t c =
     let p = c.args.request.now.presentation.now.presentation in
     let same = c.in_ok-grow.ensures.same ∙ c.in_ok-enter.ensures.entered c.if-not-branch.false in
-    (popped p c.args.request.now.classes c.grow.new.branch.targets.items c.pop.new.self.targets.items c.args.branch.now.targets.items c.pop.new.self.levels.items c.args.target c.pop.result
+    (popped p c.args.request.now.classes c.grow.new.branch.targets.items c.pop.new.self.targets.items c.args.branch.now.targets.items c.pop.new.self.levels c.args.target c.pop.result
     c.pop.ensures.targets same (c.pop.ensures.branch p c.args.request.now.classes c.in_ok-grow.ensures.branch)).0

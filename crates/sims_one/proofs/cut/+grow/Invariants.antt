@@ -14,6 +14,6 @@ decreases-grow_with l = 2 * l.depth + 2
 abbrev pub invariant-grow-loop-target : goal.invariant-grow-loop-target
 invariant-grow-loop-target l = record {
   same : l.branch.targets.items ≡ l.initial.branch.targets.items;
-  branch : IsBranch l.request.presentation.now.presentation l.request.classes l.branch.targets.items l.branch.levels.items;
+  branch : IsBranch l.request.presentation.now.presentation l.request.classes l.branch.targets.items l.branch.levels;
   split : HasSplit (asked l.request) l.initial.branch.targets.items l.target (lists_in l.fn.fronts.items) (lists_in l.fronts.items);
 }

@@ -10,3 +10,6 @@ invariant-loop-start l = record {
   nodes : l.known.nodes ≡ l.initial.known.nodes;
   keeps : Keeps l.presentation.presentation l.initial.known l.known true;
 }
+
+abbrev pub decreases-loop-start : goal.decreases-loop-start
+decreases-loop-start l = l.starts.bits

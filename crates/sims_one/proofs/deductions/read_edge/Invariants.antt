@@ -2,8 +2,8 @@ use Rattle.std.proofs.Common.{◌≡◌, true}
 use Rattle.sims_one.specs.Known.{Keeps}
 use Rattle.sims_one.proofs.deductions.read_edge.Given as goal
 
-abbrev pub invariant-loop-relation : goal.invariant-loop-relation
-invariant-loop-relation l = record {
+abbrev pub invariant-loop-place : goal.invariant-loop-place
+invariant-loop-place l = record {
   nodes : l.known.nodes ≡ l.initial.known.nodes;
   keeps : Keeps l.presentation.presentation l.initial.known l.known true;
 }

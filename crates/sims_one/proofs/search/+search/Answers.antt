@@ -156,12 +156,12 @@ pub search_with-returns-clause-branch : goal.search_with-returns-clause-branch
 search_with-returns-clause-branch t c =
     let p = c.args.presentation.now.presentation in
     let same = c.in_ok-search.ensures.same c.if-branch.false ∙ c.in_ok-enter.ensures.entered c.if-not-branch.false in
-    (popped p c.args.classes c.search.new.branch.targets.items c.pop.new.self.targets.items c.args.branch.now.targets.items c.pop.new.self.levels.items c.args.target c.pop.result
+    (popped p c.args.classes c.search.new.branch.targets.items c.pop.new.self.targets.items c.args.branch.now.targets.items c.pop.new.self.levels c.args.target c.pop.result
     c.pop.ensures.targets same (c.pop.ensures.branch p c.args.classes c.in_ok-search.ensures.branch)).1
 
 pub search_with-returns-clause-same : goal.search_with-returns-clause-same
 search_with-returns-clause-same t c = λ _.
     let p = c.args.presentation.now.presentation in
     let same = c.in_ok-search.ensures.same c.if-branch.false ∙ c.in_ok-enter.ensures.entered c.if-not-branch.false in
-    (popped p c.args.classes c.search.new.branch.targets.items c.pop.new.self.targets.items c.args.branch.now.targets.items c.pop.new.self.levels.items c.args.target c.pop.result
+    (popped p c.args.classes c.search.new.branch.targets.items c.pop.new.self.targets.items c.args.branch.now.targets.items c.pop.new.self.levels c.args.target c.pop.result
     c.pop.ensures.targets same (c.pop.ensures.branch p c.args.classes c.in_ok-search.ensures.branch)).0

@@ -15,6 +15,6 @@ decreases-search_with l = 3 * (l.presentation.now.presentation.letters * 17 - le
 abbrev pub invariant-search_from-loop-target : goal.invariant-search_from-loop-target
 invariant-search_from-loop-target l = record {
   same : l.branch.targets.items ≡ l.initial.branch.targets.items;
-  branch : IsBranch l.presentation.presentation l.classes l.branch.targets.items l.branch.levels.items;
+  branch : IsBranch l.presentation.presentation l.classes l.branch.targets.items l.branch.levels;
   none : NoneBetween l.presentation.presentation l.classes l.initial.branch.targets.items l.first l.target;
 }

@@ -120,12 +120,12 @@ pub search_along-returns-clause-branch : goal.search_along-returns-clause-branch
 search_along-returns-clause-branch t c =
     let p = c.args.presentation.now.presentation in
     let same = c.in_ok-search_after.ensures.same c.if-branch.false ∙ c.in_ok-enter.ensures.entered c.if-not-branch.false in
-    (popped p c.args.classes c.search_after.new.branch.targets.items c.pop.new.self.targets.items c.args.branch.now.targets.items c.pop.new.self.levels.items c.args.target c.pop.result
+    (popped p c.args.classes c.search_after.new.branch.targets.items c.pop.new.self.targets.items c.args.branch.now.targets.items c.pop.new.self.levels c.args.target c.pop.result
     c.pop.ensures.targets same (c.pop.ensures.branch p c.args.classes c.in_ok-search_after.ensures.branch)).1
 
 pub search_along-returns-clause-same : goal.search_along-returns-clause-same
 search_along-returns-clause-same t c = λ _.
     let p = c.args.presentation.now.presentation in
     let same = c.in_ok-search_after.ensures.same c.if-branch.false ∙ c.in_ok-enter.ensures.entered c.if-not-branch.false in
-    (popped p c.args.classes c.search_after.new.branch.targets.items c.pop.new.self.targets.items c.args.branch.now.targets.items c.pop.new.self.levels.items c.args.target c.pop.result
+    (popped p c.args.classes c.search_after.new.branch.targets.items c.pop.new.self.targets.items c.args.branch.now.targets.items c.pop.new.self.levels c.args.target c.pop.result
     c.pop.ensures.targets same (c.pop.ensures.branch p c.args.classes c.in_ok-search_after.ensures.branch)).0

@@ -31,7 +31,7 @@ overflow_add-target c =
     let t : List ℕ = c.pop.new.self.targets.items in
     let w = within_before cursor c.loop-branch.branch.targets.items t c.in-Some.target c.loop-branch.invariant.within c.in-Some.ensures.targets in
     let low = front_next p.letters t c.in-Some.target w.rest (front_before p.letters cursor t c.in-Some.target c.requires.branch.front w) in
-    let branch : IsBranch p c.args.classes t c.pop.new.self.levels.items = c.in-Some.ensures.branch p c.args.classes c.loop-branch.invariant.branch in
+    let branch : IsBranch p c.args.classes t c.pop.new.self.levels = c.in-Some.ensures.branch p c.args.classes c.loop-branch.invariant.branch in
     omega (arith, low, few_seen p c.args.classes t branch.allowed c.requires.classes)
 
 pub search_from-requires-clause-branch : goal.search_from-requires-clause-branch

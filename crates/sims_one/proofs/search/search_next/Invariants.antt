@@ -9,7 +9,7 @@ invariant-loop-branch l = record {
   within : IsWithin l.branch.targets.items l.initial.branch.targets.items;
   none : NoneFrom l.presentation.presentation l.classes l.initial.branch.targets.items l.branch.targets.items;
   kept : l.kept ≤ length l.branch.targets.items;
-  branch : IsBranch l.presentation.presentation l.classes l.branch.targets.items l.branch.levels.items;
+  branch : IsBranch l.presentation.presentation l.classes l.branch.targets.items l.branch.levels;
 }
 
 abbrev pub decreases-loop-branch : goal.decreases-loop-branch

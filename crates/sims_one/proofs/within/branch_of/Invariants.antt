@@ -5,5 +5,5 @@ use Rattle.sims_one.proofs.within.branch_of.Given as goal
 abbrev pub invariant-loop-target : goal.invariant-loop-target
 invariant-loop-target l = record {
   same : l.branch.targets.items ≡ take l.target-index l.front;
-  branch : IsBranch l.request.presentation.now.presentation l.request.classes l.branch.targets.items l.branch.levels.items;
+  branch : IsBranch l.request.presentation.now.presentation l.request.classes l.branch.targets.items l.branch.levels;
 }

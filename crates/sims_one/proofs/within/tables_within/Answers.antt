@@ -16,7 +16,7 @@ returns-then-len-request c =
     let old = lists_in c.loop-branch.tables.items in
     let new = lists_in c.add_wanted.new.tables.items in
     let adds = subst (λ (t : List ℕ). AddsWanted a t old new) c.deref.ensures.value c.in_ok-add_wanted.ensures in
-    let on = listed_on a front old i.last c.loop-branch.branch.targets.items c.loop-branch.branch.levels.items i.listed new adds in
+    let on = listed_on a front old i.last c.loop-branch.branch.targets.items c.loop-branch.branch.levels i.listed new adds in
     tables_enough a front new c.loop-branch.branch.targets.items on.0
     (omega (arith, on.1, i.few, length-map c.loop-branch.tables.items (λ v. v.items), length-map c.add_wanted.new.tables.items (λ v. v.items), c.if-len-request.true, c.len.ensures, c.add_wanted.new.tables.ok.0))
 
@@ -29,7 +29,7 @@ returns-then-not-branch c =
     let new = lists_in c.add_wanted.new.tables.items in
     let at : List ℕ = c.loop-branch.branch.targets.items in
     let adds = subst (λ (t : List ℕ). AddsWanted a t old new) c.deref.ensures.value c.in_ok-add_wanted.ensures in
-    let on = listed_on a front old i.last at c.loop-branch.branch.levels.items i.listed new adds in
+    let on = listed_on a front old i.last at c.loop-branch.branch.levels i.listed new adds in
     let none = subst (λ (t : List ℕ). NoneFrom a.presentation a.classes at t) (kept_front front at (length front) i.listed.first.within refl) (c.in_ok-search_next.ensures.none c.if-not-branch.true) in
     tables_end a front new at on.0 none
     (omega (arith, length-map c.add_wanted.new.tables.items (λ v. v.items), c.if-len-request.false, c.len.ensures, c.add_wanted.new.tables.ok.0))
@@ -51,11 +51,11 @@ loop-branch-preserved c =
     let at : List ℕ = c.loop-branch.branch.targets.items in
     let next : List ℕ = c.search_next.new.branch.targets.items in
     let adds = subst (λ (t : List ℕ). AddsWanted a t old new) c.deref.ensures.value c.in_ok-add_wanted.ensures in
-    let on = listed_on a front old i.last at c.loop-branch.branch.levels.items i.listed new adds in
+    let on = listed_on a front old i.last at c.loop-branch.branch.levels i.listed new adds in
     let found = c.in_ok-search_next.ensures.found c.if-not-branch.false in
     let within = subst (λ (t : List ℕ). IsWithin t next) (kept_front front at (length front) i.listed.first.within refl) (c.in_ok-search_next.ensures.within c.if-not-branch.false) in
     record {
       last = at;
-      listed = record { first = first_after a front at next c.search_next.new.branch.levels.items found within (c.in_ok-search_next.ensures.branch c.if-not-branch.false); goes = on.0 };
+      listed = record { first = first_after a front at next c.search_next.new.branch.levels found within (c.in_ok-search_next.ensures.branch c.if-not-branch.false); goes = on.0 };
       few = omega (arith, c.if-len-request.false, c.len.ensures, c.add_wanted.new.tables.ok.0);
     }

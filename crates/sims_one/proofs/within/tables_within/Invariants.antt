@@ -8,7 +8,7 @@ use Rattle.sims_one.proofs.within.tables_within.Given as goal
 abbrev pub invariant-loop-branch : goal.invariant-loop-branch
 invariant-loop-branch l = record {
   last : List ℕ;
-  listed : AreListed (asked l.request) l.front (lists_in l.tables.items) last l.branch.targets.items l.branch.levels.items;
+  listed : AreListed (asked l.request) l.front (lists_in l.tables.items) last l.branch.targets.items l.branch.levels;
   few : length l.tables.items ≤ l.request.count;
 }
 

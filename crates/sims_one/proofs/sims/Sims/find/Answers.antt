@@ -22,7 +22,7 @@ returns-in_default-clause-found c =
 pub of_targets-requires-clause-full : goal.of_targets-requires-clause-full
 of_targets-requires-clause-full c =
     let p = c.self.inside.presentation.presentation in
-    let found : IsFoundBranch p c.self.inside.classes c.as_slice.result.now c.in-Some.branch.targets.items c.in-Some.branch.levels.items = rw c.in-Some.is at c.in_ok-branch.ensures in
+    let found : IsFoundBranch p c.self.inside.classes c.as_slice.result.now c.in-Some.branch.targets.items c.in-Some.branch.levels = rw c.in-Some.is at c.in_ok-branch.ensures in
     let same : c.in_ok-targets.targets.items ≡ c.in-Some.branch.targets.items = c.in_ok-targets.ensures.items ∙ c.as_slice-2.ensures.value in
     let nodes : c.greatest-nodes.result + 1 ≡ seen c.in-Some.branch.targets.items = omega (arith, c.greatest-nodes.ensures, ap seen (c.as_slice-3.ensures.value ∙ same)) in
     let long : length c.as_slice-4.result.now ≡ p.letters * seen c.in-Some.branch.targets.items = ap length (c.as_slice-4.ensures.value ∙ same) ∙ found.least.table.full in
@@ -35,7 +35,7 @@ of_targets-requires-clause-full c =
 pub of_targets-requires-clause-nodes : goal.of_targets-requires-clause-nodes
 of_targets-requires-clause-nodes c =
     let p = c.self.inside.presentation.presentation in
-    let found : IsFoundBranch p c.self.inside.classes c.as_slice.result.now c.in-Some.branch.targets.items c.in-Some.branch.levels.items = rw c.in-Some.is at c.in_ok-branch.ensures in
+    let found : IsFoundBranch p c.self.inside.classes c.as_slice.result.now c.in-Some.branch.targets.items c.in-Some.branch.levels = rw c.in-Some.is at c.in_ok-branch.ensures in
     let some : 0 < p.letters = omega (arith, c.letters-letters.ensures.letters, c.letters-letters.ensures.some) in
     let same : c.in_ok-targets.targets.items ≡ c.in-Some.branch.targets.items = c.in_ok-targets.ensures.items ∙ c.as_slice-2.ensures.value in
     let within = found_nodes p c.self.inside.classes some c.relations-relations.ensures.presented.elements c.in-Some.branch.targets.items found.least.table in
@@ -47,7 +47,7 @@ pub returns-clause-found : goal.returns-clause-found
 returns-clause-found c =
     let p = c.self.inside.presentation.presentation in
     let ts : List ℕ = c.in_ok-targets.targets.items in
-    let levels = c.in-Some.branch.levels.items in
+    let levels = c.in-Some.branch.levels in
     let came : IsFoundBranch p c.self.inside.classes c.as_slice.result.now c.in-Some.branch.targets.items levels = rw c.in-Some.is at c.in_ok-branch.ensures in
     let same : c.in-Some.branch.targets.items ≡ ts = sym (c.in_ok-targets.ensures.items ∙ c.as_slice-2.ensures.value) in
     let found : IsLeastAfter p c.self.inside.classes c.as_slice.result.now ts = subst (λ (xs : List ℕ). IsLeastAfter p c.self.inside.classes c.as_slice.result.now xs) same came.least in

@@ -1,9 +1,0 @@
-use Rattle.std.proofs.Common.{◌≡◌, true}
-use Rattle.sims_one.specs.Known.{Keeps}
-use Rattle.sims_one.proofs.deductions.read_fresh.Given as goal
-
-abbrev pub invariant-loop : goal.invariant-loop
-invariant-loop l = record {
-  nodes : l.known.nodes ≡ l.initial.known.nodes;
-  keeps : Keeps l.presentation.presentation l.initial.known l.known true;
-}
