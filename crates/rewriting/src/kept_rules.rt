@@ -1,5 +1,5 @@
 // Rules that change, and that are found by a table.
-ghost use Rattle.std.specs.Prelude.{◌≡◌, ℕ, ◌<◌, false, [], ◌∷◌, ◌++◌, length, map, not, slice_index_or, slice_set, IfOk};
+ghost use Rattle.std.specs.Prelude.{◌≡◌, ℕ, ◌<◌, ◌≤◌, false, [], ◌∷◌, ◌++◌, length, map, not, slice_index_or, slice_set, IfOk};
 ghost use Rattle.std.specs.List.{filter, range_with_len};
 ghost use Rattle.theory.specs.ShortLex.{◌≺◌};
 ghost use Rattle.theory.specs.Completion.{IsReduced, Listed, Reduces};
@@ -77,6 +77,14 @@ impl KeptRules {
         ensures falling { AreFalling self.now }
     {
         self.rules.len()
+    }
+
+    /// How many letters the longest left side has.
+    pub fn longest_left(&self) -> usize
+        ensures { (place : ℕ) → place < length self.now
+            → length (left_at self.now place) ≤ result }
+    {
+        self.rules.longest_left()
     }
 
     /// The rule at a place, from 0: its left side, and its right side. That left sides are greater

@@ -1,24 +1,13 @@
 // The states level by level: the shorter ones first.
-ghost use Rattle.std.specs.Prelude.{ℕ, ◌<◌, ◌≤◌, length, IfOk, OnOk};
+ghost use Rattle.std.specs.Prelude.{◌≤◌, length, IfOk, OnOk};
 ghost use Rattle.rewriting.specs.Rules.{AreOver};
-ghost use Rattle.rewriting.specs.Tries.{AreChildren, Gathers, IsOrder, IsTreeOf, left_at, states_of};
+ghost use Rattle.rewriting.specs.Tries.{AreChildren, Gathers, IsOrder, IsTreeOf, states_of};
 
 use crate::rule_lists::Rules;
 use crate::tries::Trie;
 use ports::NoMemory;
 use std::alloc::Global;
 use words::Letter;
-
-// The greatest length of a left side.
-fn longest_left(rules: &Rules) -> usize
-    ensures { (n : ℕ) → length (left_at rules.now n) ≤ result }
-{
-    let mut longest = 0;
-    for number in 0..rules.items.len() {
-        longest = longest.max(rules.items[number].0.len());
-    }
-    longest
-}
 
 // Puts the children of the state at the end.
 fn push_children(
@@ -73,7 +62,7 @@ pub fn order_of(
     order.push(0)?;
     let mut level = Vec::new(alloc);
     level.push(0)?;
-    for _ in 0..longest_left(rules) {
+    for _ in 0..rules.longest_left() {
         level = next_level(alloc, trie, letters, level.as_slice())?;
         order.extend_from_slice(level.as_slice())?;
     }

@@ -1,8 +1,9 @@
 // Lists of rewriting rules.
-ghost use Rattle.std.specs.Prelude.{◌≡◌, ◌<◌, ◌≤◌, [], ◌∷◌, ◌++◌, length, slice_index_or, slice_set, IfOk, OnOk, OnErr, IsTrue, ◌↔◌};
+ghost use Rattle.std.specs.Prelude.{◌≡◌, ℕ, ◌<◌, ◌≤◌, [], ◌∷◌, ◌++◌, length, slice_index_or, slice_set, IfOk, OnOk, OnErr, IsTrue, ◌↔◌};
 ghost use Rattle.theory.specs.Word.{IsOver};
 ghost use Rattle.theory.specs.ShortLex.{◌≺◌};
 ghost use Rattle.rewriting.specs.Rules.{AreFalling, AreOver};
+ghost use Rattle.rewriting.specs.Tries.{left_at};
 
 use ports::NoMemory;
 use std::alloc::Global;
@@ -133,6 +134,17 @@ impl Rules {
             items.push((left, right))?;
         }
         Ok(Rules { alloc, items })
+    }
+
+    // How many letters the longest left side has.
+    pub(crate) fn longest_left(&self) -> usize
+        ensures { (place : ℕ) → length (left_at self.now place) ≤ result }
+    {
+        let mut longest = 0;
+        for place in 0..self.items.len() {
+            longest = longest.max(self.items[place].0.len());
+        }
+        longest
     }
 
     // One more than the greatest letter of the rules.
