@@ -19,7 +19,7 @@ use Rattle.theory.proofs.Related.{element_over}
 use Rattle.theory.proofs.CompletionLaws.{within_left}
 use Rattle.rewriting.proofs.Standing.{listed_falls, listed_at}
 use Rattle.knuth_bendix.specs.Links.{Linked, IsBelow, IsShort, NoLater, IsNoMore, IsCovered, IsLinkedUp}
-use Rattle.knuth_bendix.specs.Held.{Held, lefts, AreClear, AreAllClear, IsSound}
+use Rattle.knuth_bendix.specs.Held.{Held, lefts, AreClear, AreAllClear, IsSound, held_of}
 use Rattle.knuth_bendix.specs.declared.lengths.Lengths.TheVariants.{UpTo}
 use Rattle.knuth_bendix.specs.Overlaps.{rule_at, AreShort, IsJoinedBy, Gains}
 use Rattle.knuth_bendix.specs.Changes.{SetsAside, Rewrites, AddsRule, Joins}
@@ -120,7 +120,7 @@ sound_short p L h sound = within_short p L h.rules (λ f g m. sound.within f g (
 module _ (p : Presentation) (L : ℕ) (rules equations new_rules new_equations : List (Word × Word)) (u v l r : Word)
     (sound : IsSound p L (record { rules = rules; equations = (u, v) ∷ equations })) (down_left : Reduces (Listed rules) u l)
     (down_right : Reduces (Listed rules) v r) (end_left : IsReduced (Listed rules) l) (end_right : IsReduced (Listed rules) r) (less : r ≺ l)
-    (adds : AddsRule L l r rules equations new_rules new_equations) where
+    (adds : AddsRule L l r (held_of rules equations) (held_of new_rules new_equations)) where
   -- the rules before right sides are rewritten
   abbrev pushed : List (Word × Word)
   pushed = adds.kept ++ (l, r) ∷ []
@@ -472,7 +472,7 @@ module _ (p : Presentation) (L : ℕ) (rules equations : List (Word × Word)) (u
 -- a turn leaves sound rules and equations
 pub joins_sound : (p : Presentation) (L : ℕ) (rules equations new_rules new_equations : List (Word × Word)) (u v : Word)
     → IsSound p L (record { rules = rules; equations = (u, v) ∷ equations })
-    → Joins L u v rules equations new_rules new_equations
+    → Joins L u v (held_of rules equations) (held_of new_rules new_equations)
     → IsSound p L (record { rules = new_rules; equations = new_equations })
 joins_sound p L rules equations new_rules new_equations u v sound h = elim (h.then) [
   | inl e ↦
@@ -487,7 +487,7 @@ joins_sound p L rules equations new_rules new_equations u v sound h = elim (h.th
 -- and comes nearer the end
 pub joins_nearer : (p : Presentation) (L : ℕ) (rules equations new_rules new_equations : List (Word × Word)) (u v : Word)
     → IsSound p L (record { rules = rules; equations = (u, v) ∷ equations })
-    → Joins L u v rules equations new_rules new_equations
+    → Joins L u v (held_of rules equations) (held_of new_rules new_equations)
     → left_of p L new_rules new_equations < left_of p L rules ((u, v) ∷ equations)
 joins_nearer p L rules equations new_rules new_equations u v sound h = elim (h.then) [
   | inl e ↦

@@ -15,7 +15,7 @@ use Rattle.theory.proofs.CompletionLaws.{within_left}
 use Rattle.rewriting.specs.Rules.{AreFalling}
 use Rattle.rewriting.proofs.Standing.{listed_falls, listed_at}
 use Rattle.knuth_bendix.specs.Changes.{AddsRule, IsDone, Joins, Rewrites, SetsAside}
-use Rattle.knuth_bendix.specs.Held.{lefts}
+use Rattle.knuth_bendix.specs.Held.{lefts, held_of}
 use Rattle.knuth_bendix.specs.Links.{LinkStep, Linked, NoLater, IsNoMore, IsCovered}
 use Rattle.knuth_bendix.specs.declared.lengths.Lengths.TheVariants.{UpTo}
 use Rattle.knuth_bendix.specs.Overlaps.{AreJoined, AreShort, Gains, rule_at}
@@ -246,7 +246,7 @@ pub adds_rule : (L : ℕ) (left right : Word) (rules kept pushed new_rules equat
     → ((most : ℕ) → AreShort most new_rules → Gains (UpTo L) new_rules between new_equations (length new_rules * (most + most)))
     → ((other : ℕ) → other < length new_rules → AreJoined (UpTo L) new_rules new_equations (rule_at new_rules newest) (rule_at new_rules other)
     × AreJoined (UpTo L) new_rules new_equations (rule_at new_rules other) (rule_at new_rules newest))
-    → AddsRule L left right rules equations new_rules new_equations
+    → AddsRule L left right (held_of rules equations) (held_of new_rules new_equations)
 adds_rule L left right rules kept pushed new_rules equations between new_equations newest aside place is rewrites done gains joined =
     record {
       kept = kept;
@@ -284,7 +284,7 @@ pub record LeadTo (rules : List (Word × Word)) (u v left right : Word) : Type 0
   pub end_right : IsReduced (Listed rules) right
 
 module _ (L : ℕ) (u v left right : Word) (rules equations : List (Word × Word)) (to : LeadTo rules u v left right) where
-  pub joins_equal : Equal ≡ shortlex left right → Joins L u v rules equations rules equations
+  pub joins_equal : Equal ≡ shortlex left right → Joins L u v (held_of rules equations) (held_of rules equations)
   joins_equal e =
       record {
         left = left;
@@ -297,7 +297,7 @@ module _ (L : ℕ) (u v left right : Word) (rules equations : List (Word × Word
       }
 
   pub joins_greater : (new_rules new_equations : List (Word × Word)) → Greater ≡ shortlex left right
-      → AddsRule L left right rules equations new_rules new_equations → Joins L u v rules equations new_rules new_equations
+      → AddsRule L left right (held_of rules equations) (held_of new_rules new_equations) → Joins L u v (held_of rules equations) (held_of new_rules new_equations)
   joins_greater new_rules new_equations e adds =
       record {
         left = left;

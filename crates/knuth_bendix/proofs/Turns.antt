@@ -8,7 +8,7 @@ use Rattle.theory.specs.Congruence.{Presentation, AreElements}
 use Rattle.theory.specs.Completion.{CompletionEnds}
 use Rattle.race.specs.declared.engines.Progress.{Progress}
 use Rattle.race.specs.declared.engines.Progress.TheVariants.{More, Decided, Spent, NoMemory}
-use Rattle.knuth_bendix.specs.Held.{IsSound}
+use Rattle.knuth_bendix.specs.Held.{IsSound, held_of}
 use Rattle.knuth_bendix.specs.declared.lengths.Lengths.TheVariants.{Beyond}
 use Rattle.knuth_bendix.specs.Overlaps.{AreJoined, AreShort, IsSplit, rule_at}
 use Rattle.knuth_bendix.specs.Changes.{Joins}
@@ -30,7 +30,7 @@ module _ (p : Presentation) (L : ℕ) (rules : List (Word × Word)) (sound : IsS
   ends_tested fits false h = split_spent p L rules (sound_rules p L rules sound) h.0 h.1 h.2
 
   -- the last turn
-  pub last_turn : (ends : Bool) → MatchBool ends (CompletionEnds p L) (CompletionEnds p L → ⊥) → IsTurn p L rules [] rules [] (cond ends Decided Spent)
+  pub last_turn : (ends : Bool) → MatchBool ends (CompletionEnds p L) (CompletionEnds p L → ⊥) → IsTurn p L (held_of rules []) (held_of rules []) (cond ends Decided Spent)
   last_turn true h = record {
     more = λ e. cc;
     run = record {
@@ -66,8 +66,8 @@ going_on p L rules equations sound =
 
 -- a turn that joins an equation
 pub join_turn : (p : Presentation) (L : ℕ) (rules old new_rules new_equations equations : List (Word × Word)) (q : Word × Word)
-    → IsSound p L (record { rules = rules; equations = old }) → IsPermutation old (q ∷ equations) → Joins L q.0 q.1 rules equations new_rules new_equations
-    → IsTurn p L rules old new_rules new_equations More
+    → IsSound p L (record { rules = rules; equations = old }) → IsPermutation old (q ∷ equations) → Joins L q.0 q.1 (held_of rules equations) (held_of new_rules new_equations)
+    → IsTurn p L (held_of rules old) (held_of new_rules new_equations) More
 join_turn p L rules old new_rules new_equations equations q sound moved joins =
     let held : IsSound p L (record { rules = rules; equations = (q.0, q.1) ∷ equations }) =
     moved_sound p L rules old (q ∷ equations) moved sound in
@@ -88,16 +88,16 @@ fresh_completion p L equations over short = record { elements = over; run = goin
 pub end_turn : (p : Presentation) (L : ℕ) (rules old new : List (Word × Word)) (ends : Bool) (progress : Progress)
     → IsSound p L (record { rules = rules; equations = old }) → (old ≡ []) × (new ≡ [])
     → MatchBool ends (CompletionEnds p L) (CompletionEnds p L → ⊥) → progress ≡ cond ends Decided Spent
-    → IsTurn p L rules old rules new progress
+    → IsTurn p L (held_of rules old) (held_of rules new) progress
 end_turn p L rules old new ends progress sound none h told =
     let held : IsSound p L (record { rules = rules; equations = [] }) =
     subst (λ (es : List (Word × Word)). IsSound p L (record { rules = rules; equations = es })) none.0 sound in
-    let turn : IsTurn p L rules [] rules [] (cond ends Decided Spent) = last_turn p L rules held ends h in
-    let from : IsTurn p L rules old rules [] (cond ends Decided Spent) =
-    subst (λ (es : List (Word × Word)). IsTurn p L rules es rules [] (cond ends Decided Spent)) (sym none.0) turn in
-    let to : IsTurn p L rules old rules new (cond ends Decided Spent) =
-    subst (λ (es : List (Word × Word)). IsTurn p L rules old rules es (cond ends Decided Spent)) (sym none.1) from in
-    subst (λ (told : Progress). IsTurn p L rules old rules new told) (sym told) to
+    let turn : IsTurn p L (held_of rules []) (held_of rules []) (cond ends Decided Spent) = last_turn p L rules held ends h in
+    let from : IsTurn p L (held_of rules old) (held_of rules []) (cond ends Decided Spent) =
+    subst (λ (es : List (Word × Word)). IsTurn p L (held_of rules es) (held_of rules []) (cond ends Decided Spent)) (sym none.0) turn in
+    let to : IsTurn p L (held_of rules old) (held_of rules new) (cond ends Decided Spent) =
+    subst (λ (es : List (Word × Word)). IsTurn p L (held_of rules old) (held_of rules es) (cond ends Decided Spent)) (sym none.1) from in
+    subst (λ (told : Progress). IsTurn p L (held_of rules old) (held_of rules new) told) (sym told) to
 
 -- what a turn leaves: a run, nearer to its end where there is more to do
 pub record Leaves (left : ℕ) (p : Presentation) (L : ℕ) (rules equations : List (Word × Word)) (said : Progress) : Type 0 where
@@ -119,17 +119,17 @@ leaves_starved left p L rules equations none =
     }
 
 pub leaves_turn : (left : ℕ) (p : Presentation) (L : ℕ) (held rules equations new_rules new_equations : List (Word × Word)) (said : Progress)
-    → held ≡ rules → left_of p L rules equations ≡ left → IsTurn p L held equations new_rules new_equations said
+    → held ≡ rules → left_of p L rules equations ≡ left → IsTurn p L (held_of held equations) (held_of new_rules new_equations) said
     → Leaves left p L new_rules new_equations said
 leaves_turn left p L held rules equations new_rules new_equations said same is turn =
-    let here : IsTurn p L rules equations new_rules new_equations said =
-    subst (λ (rs : List (Word × Word)). IsTurn p L rs equations new_rules new_equations said) same turn in
+    let here : IsTurn p L (held_of rules equations) (held_of new_rules new_equations) said =
+    subst (λ (rs : List (Word × Word)). IsTurn p L (held_of rs equations) (held_of new_rules new_equations) said) same turn in
     record { run = here.run; nearer = λ e. subst (λ (n : ℕ). left_of p L new_rules new_equations < n) is (here.more e) }
 
 -- what a turn leaves, whether or not it met want of memory
 pub turn_leaves : {E : Type 0} (left : ℕ) (p : Presentation) (L : ℕ) (held rules equations new_equations : List (Word × Word))
     (turn : Result (List (Word × Word) × Progress) E) (rest : List (Word × Word) × Progress)
-    → held ≡ rules → left_of p L rules equations ≡ left → IfOk turn (λ t. IsTurn p L held equations t.0 new_equations t.1)
+    → held ≡ rules → left_of p L rules equations ≡ left → IfOk turn (λ t. IsTurn p L (held_of held equations) (held_of t.0 new_equations) t.1)
     → MatchResult turn (λ t. rest ≡ t) (λ _. (rest.0 ≡ []) × (rest.1 ≡ NoMemory)) → Leaves left p L rest.0 new_equations rest.1
 turn_leaves left p L held rules equations new_equations (Ok t) rest same is turn e =
     subst (λ (r : List (Word × Word) × Progress). Leaves left p L r.0 new_equations r.1) (sym e)

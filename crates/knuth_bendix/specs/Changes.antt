@@ -7,7 +7,7 @@ use Rattle.theory.specs.Congruence.{Presentation}
 use Rattle.theory.specs.Completion.{IsReduced, Listed, Reduces, Within}
 use Rattle.theory.specs.ShortLex.{◌≺◌}
 use Rattle.knuth_bendix.specs.Links.{Linked, NoLater}
-use Rattle.knuth_bendix.specs.Held.{lefts}
+use Rattle.knuth_bendix.specs.Held.{Held, lefts}
 use Rattle.rewriting.specs.Rules.{AreFalling, stands_in}
 use Rattle.knuth_bendix.specs.declared.lengths.Lengths.TheVariants.{UpTo}
 use Rattle.knuth_bendix.specs.Overlaps.{AreJoined, AreShort, Gains, rule_at}
@@ -35,31 +35,29 @@ IsDone f old new i = IsReduced (Listed new) (rule_at new i).1
 
 -- a rule has been added: rules in which its left side stands became equations, right sides were
 -- rewritten, and its overlaps within the length were joined
-pub record AddsRule (L : ℕ) (left right : Word)
-    (rules equations new_rules new_equations : List (Word × Word)) : Type 0 where
+pub record AddsRule (L : ℕ) (left right : Word) (old new : Held) : Type 0 where
   pub kept : List (Word × Word)
   pub between : List (Word × Word)
-  pub aside : SetsAside left rules kept equations between
-  pub rewrites : Rewrites (kept ++ (left, right) ∷ []) new_rules
-  pub done : (i : ℕ) → i < length new_rules → IsDone left (kept ++ (left, right) ∷ []) new_rules i
-  pub gains : (most : ℕ) → AreShort most new_rules
-      → Gains (UpTo L) new_rules between new_equations (length new_rules * (most + most))
-  pub joined : (other : ℕ) → other < length new_rules
-      → AreJoined (UpTo L) new_rules new_equations (rule_at new_rules (length kept))
-      (rule_at new_rules other)
-      × AreJoined (UpTo L) new_rules new_equations (rule_at new_rules other)
-      (rule_at new_rules (length kept))
+  pub aside : SetsAside left old.rules kept old.equations between
+  pub rewrites : Rewrites (kept ++ (left, right) ∷ []) new.rules
+  pub done : (i : ℕ) → i < length new.rules → IsDone left (kept ++ (left, right) ∷ []) new.rules i
+  pub gains : (most : ℕ) → AreShort most new.rules
+      → Gains (UpTo L) new.rules between new.equations (length new.rules * (most + most))
+  pub joined : (other : ℕ) → other < length new.rules
+      → AreJoined (UpTo L) new.rules new.equations (rule_at new.rules (length kept))
+      (rule_at new.rules other)
+      × AreJoined (UpTo L) new.rules new.equations (rule_at new.rules other)
+      (rule_at new.rules (length kept))
 
 -- the two words were rewritten, and if they became different, these are the sides of a rule that
 -- has been added
-pub record Joins (L : ℕ) (u v : Word)
-    (rules equations new_rules new_equations : List (Word × Word)) : Type 0 where
+pub record Joins (L : ℕ) (u v : Word) (old new : Held) : Type 0 where
   pub left : Word
   pub right : Word
-  pub down_left : Reduces (Listed rules) u left
-  pub down_right : Reduces (Listed rules) v right
-  pub end_left : IsReduced (Listed rules) left
-  pub end_right : IsReduced (Listed rules) right
-  pub then : ((left ≡ right) × (new_rules ≡ rules) × (new_equations ≡ equations))
-      ⊎ (((right ≺ left) × AddsRule L left right rules equations new_rules new_equations)
-      ⊎ ((left ≺ right) × AddsRule L right left rules equations new_rules new_equations))
+  pub down_left : Reduces (Listed old.rules) u left
+  pub down_right : Reduces (Listed old.rules) v right
+  pub end_left : IsReduced (Listed old.rules) left
+  pub end_right : IsReduced (Listed old.rules) right
+  pub then : ((left ≡ right) × (new.rules ≡ old.rules) × (new.equations ≡ old.equations))
+      ⊎ (((right ≺ left) × AddsRule L left right old new)
+      ⊎ ((left ≺ right) × AddsRule L right left old new))

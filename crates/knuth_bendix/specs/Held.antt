@@ -12,6 +12,10 @@ pub record Held : Type 0 where
   pub rules : List (Word × Word)
   pub equations : List (Word × Word)
 
+-- these rules and equations
+abbrev pub held_of : List (Word × Word) → List (Word × Word) → Held
+held_of rules equations = record { rules = rules; equations = equations }
+
 -- a listed rule, or a listed equation
 abbrev pub Known : Held → Word → Word → Type 0
 Known h u v = Listed h.rules u v ⊎ Listed h.equations u v

@@ -6,3 +6,4 @@ pub mod Changes
 pub mod Runs
 pub mod Waiting
 pub mod Logs
+pub mod Joining

@@ -5,7 +5,7 @@ use Rattle.theory.specs.Congruence.{Presentation, AreElements}
 use Rattle.theory.specs.Completion.{AreRules, CompletionEnds, Listed}
 use Rattle.race.specs.declared.engines.Progress.{Progress}
 use Rattle.race.specs.declared.engines.Progress.TheVariants.{More, Decided, Spent, NoMemory}
-use Rattle.knuth_bendix.specs.Held.{IsSound}
+use Rattle.knuth_bendix.specs.Held.{Held, IsSound}
 use Rattle.knuth_bendix.specs.Overlaps.{AreShort}
 use Rattle.knuth_bendix.specs.Remaining.{still_reduced, words_up_to}
 
@@ -50,11 +50,10 @@ pub record IsCompletion (p : Presentation) (L : ℕ) (rules equations : List (Wo
   pub run : IsRun p L rules equations said
 
 -- a turn that met no want of memory
-pub record IsTurn (p : Presentation) (L : ℕ)
-    (rules equations new_rules new_equations : List (Word × Word))
-    (progress : Progress) : Type 0 where
-  pub more : progress ≡ More → left_of p L new_rules new_equations < left_of p L rules equations
-  pub run : IsRun p L new_rules new_equations progress
+pub record IsTurn (p : Presentation) (L : ℕ) (old new : Held) (progress : Progress) : Type 0 where
+  pub more : progress ≡ More
+      → left_of p L new.rules new.equations < left_of p L old.rules old.equations
+  pub run : IsRun p L new.rules new.equations progress
 
 -- the relations both of whose sides are within the length
 pub record AreShortRelations (L : ℕ) (relations equations : List (Word × Word)) : Type 0 where

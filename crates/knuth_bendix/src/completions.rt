@@ -6,7 +6,7 @@ ghost use Rattle.chains.specs.Chains.{IsStraight};
 ghost use Rattle.theory.specs.Congruence.{of_presentation};
 ghost use Rattle.theory.specs.Class.{IsRuleList, SameClass};
 ghost use Rattle.theory.specs.Completion.{AreRules, CompletionEnds, Listed, Rule};
-ghost use Rattle.knuth_bendix.specs.Held.{IsSound};
+ghost use Rattle.knuth_bendix.specs.Held.{IsSound, held_of};
 ghost use Rattle.knuth_bendix.specs.Overlaps.{AreShort};
 ghost use Rattle.knuth_bendix.specs.Logs.{IsLogOf, KeepsLog, LogsHeld};
 ghost use Rattle.knuth_bendix.specs.Runs.{AreShortRelations, CompletionRun, IsTurn};
@@ -15,6 +15,7 @@ use crate::confluence::are_joined;
 use crate::equations::Equations;
 use crate::lengths::Lengths;
 use crate::logs::Log;
+use crate::overlaps::Pending;
 use crate::rule_changes::join;
 use chains::ChainStep;
 use ports::NoMemory;
@@ -35,8 +36,7 @@ pub struct Completion {
     presentation: Presentation,
     length: usize,
     rules: KeptRules,
-    equations: Equations,
-    log: Log,
+    pending: Pending,
     said: Progress,
 }
 
@@ -51,13 +51,14 @@ impl Model for Completion {
       presentation = c.presentation.presentation;
       length = c.length;
       rules = c.rules;
-      left = left_of c.presentation.presentation c.length c.rules c.equations;
+      left = left_of c.presentation.presentation c.length c.rules c.pending.equations;
       said = c.said;
-      logged = is_some c.log;
+      logged = is_some c.pending.log;
     } };
 
-    ghost invariant = { λ c. IsCompletion c.presentation.presentation c.length c.rules c.equations
-        c.said × IsLogOf c.presentation.presentation c.log × LogsHeld c.log c.rules c.equations };
+    ghost invariant = { λ c. IsCompletion c.presentation.presentation c.length c.rules
+        c.pending.equations c.said × IsLogOf c.presentation.presentation c.pending.log
+        × LogsHeld c.pending.log c.rules c.pending.equations };
 }
 
 // Whether neither side of the relation has more letters than the bound.
@@ -127,29 +128,28 @@ fn last_answer(ends: bool) -> Progress
 
 // One turn: an equation is joined, or if none is left, it is decided whether completion ends.
 fn go_on(
-    alloc: Global,
     presentation: &Presentation,
     length: usize,
     rules: KeptRules,
-    equations: &mut Equations,
-    log: &mut Log,
+    pending: &mut Pending,
 ) -> Result<(KeptRules, Progress), NoMemory>
     requires sound { IsSound presentation.now.presentation length
-        (record { rules = rules; equations = equations.old }) }
-    requires held { LogsHeld log.old rules equations.old }
-    ensures turn { IfOk result (λ turn. IsTurn presentation.now.presentation length rules
-        equations.old turn.0 equations.new turn.1) }
-    ensures logged { IfOk result (λ turn. KeepsLog log.old log.new turn.0 equations.new) }
+        (held_of rules pending.old.equations) }
+    requires held { LogsHeld pending.old.log rules pending.old.equations }
+    ensures turn { IfOk result (λ turn. IsTurn presentation.now.presentation length
+        (held_of rules pending.old.equations) (held_of turn.0 pending.new.equations) turn.1) }
+    ensures logged { IfOk result (λ turn.
+        KeepsLog pending.old.log pending.new.log turn.0 pending.new.equations) }
 {
-    match equations.pop() {
+    match pending.equations.pop() {
         Some(pair) => {
-            let rules = join(alloc, rules, &pair, length, equations, log)?;
+            let rules = join(rules, &pair, length, pending)?;
             Ok((rules, Progress::More))
         }
         None => {
             let mut rules = rules;
             rules.rebuild()?;
-            let ends = ends(alloc, presentation, length, &rules)?;
+            let ends = ends(pending.alloc, presentation, length, &rules)?;
             Ok((rules, last_answer(ends)))
         }
     }
@@ -220,16 +220,9 @@ impl Racer for Completion {
             return self.said;
         };
         let rules = mem::replace(&mut self.rules, KeptRules::new(self.alloc));
-        let turn = go_on(
-            self.alloc,
-            &self.presentation,
-            self.length,
-            rules,
-            &mut self.equations,
-            &mut self.log,
-        );
+        let turn = go_on(&self.presentation, self.length, rules, &mut self.pending);
         let (rules, said) = left_by(self.alloc, turn);
-        settle(&mut self.log, said);
+        settle(&mut self.pending.log, said);
         self.rules = rules;
         self.said = said;
         said
@@ -257,8 +250,7 @@ impl Completion {
             presentation: presentation.copy(alloc)?,
             length,
             rules: KeptRules::new(alloc),
-            equations,
-            log,
+            pending: Pending::new(alloc, equations, log),
             said: Progress::More,
         })
     }
@@ -308,7 +300,7 @@ impl Completion {
     pub fn is_logged(&self) -> bool
         ensures { IsTrue result ↔ (self.now.logged ≡ true) }
     {
-        self.log.is_logged()
+        self.pending.log.is_logged()
     }
 
     /// The rules of a completion that has decided: the reduced rules of the presentation's
@@ -337,12 +329,13 @@ impl Completion {
             (Related (of_presentation self.now.presentation) u.now v.now → ⊥)
             (λ steps. IsStraight self.now.presentation u.now steps.items v.now)) }
     {
-        let (left, there) = self.log.reduce(self.alloc, &self.rules, u)?;
-        let (right, back) = self.log.reduce(self.alloc, &self.rules, v)?;
+        let log = &self.pending.log;
+        let (left, there) = log.reduce(self.alloc, &self.rules, u)?;
+        let (right, back) = log.reduce(self.alloc, &self.rules, v)?;
         if left.letters() != right.letters() {
             return Ok(None);
         }
-        let chain = self.log.spell(u, there, back.as_slice())?;
+        let chain = log.spell(u, there, back.as_slice())?;
         Ok(Some(chain))
     }
 }

@@ -6,7 +6,7 @@ ghost use Rattle.knuth_bendix.specs.Overlaps.{AreJoined, HasLength, IsSplit, rul
 use crate::equations::Equations;
 use crate::lengths::Lengths;
 use crate::logs::Log;
-use crate::overlaps::{Room, join_overlaps};
+use crate::overlaps::Pending;
 use ports::NoMemory;
 use rewriting::KeptRules;
 use std::alloc::Global;
@@ -25,32 +25,9 @@ fn pair_is_joined(
         (AreJoined lengths rules.now [] (rule_at rules.now first) (rule_at rules.now second))
         ((u : Letters) × (v : Letters) × IsSplit lengths rules.now u v)) }
 {
-    let mut equations = Equations::new(alloc);
-    let mut log = Log::none();
-    let mut room = Room::new(alloc);
-    join_overlaps(
-        alloc,
-        rules,
-        first,
-        second,
-        lengths,
-        &mut room,
-        &mut equations,
-        &mut log,
-    )?;
-    Ok(equations.is_empty())
-}
-
-// How many letters the longest left side has.
-fn longest_left(rules: &KeptRules) -> usize
-    ensures { (place : ℕ) → place < length rules.now
-        → length (rule_at rules.now place).0 ≤ result }
-{
-    let mut longest = 0;
-    for place in 0..rules.len() {
-        longest = longest.max(rules.rule(place).0.len());
-    }
-    longest
+    let mut pending = Pending::new(alloc, Equations::new(alloc), Log::none());
+    pending.join_overlaps(rules, first, second, lengths)?;
+    Ok(pending.equations.is_empty())
 }
 
 // Whether an overlap of a left side of so many letters with one that is no longer than the longest
@@ -101,7 +78,7 @@ pub fn are_joined(alloc: Global, rules: &KeptRules, lengths: Lengths) -> Result<
         → AreJoined lengths rules.now [] (rule_at rules.now first) (rule_at rules.now second))
         ((u : Letters) × (v : Letters) × IsSplit lengths rules.now u v)) }
 {
-    let longest = longest_left(rules);
+    let longest = rules.longest_left();
     for first in 0..rules.len() {
         if !row_is_joined(alloc, rules, first, longest, lengths)? {
             return Ok(false);

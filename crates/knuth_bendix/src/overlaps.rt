@@ -3,6 +3,7 @@ ghost use Rattle.std.specs.Prelude.{◌≡◌, ℕ, ◌+◌, ◌-◌, ◌*◌, �
 ghost use Rattle.std.specs.List.Sorted.{IsPermutation};
 ghost use Rattle.knuth_bendix.specs.Overlaps.{AreJoined, AreShort, Gains, HasLength, IsJoinedBy, IsOverlap, ReducesTo, critical_pair, overlaps_by, rule_at};
 ghost use Rattle.knuth_bendix.specs.Logs.{AreLogged, Grows, KeepsLog, LogsHeld, Shows};
+ghost use Rattle.knuth_bendix.specs.Joining.{JoinsRules};
 
 use crate::equations::Equations;
 use crate::lengths::Lengths;
@@ -67,23 +68,42 @@ fn shared_by(lengths: Lengths, first: usize, second: usize) -> (usize, usize)
     }
 }
 
-/// Room for the words of an overlap, which is kept from one to the next.
+// Room for the words of an overlap, which is kept from one to the next.
 #[derive(Drop)]
-pub struct Room {
+struct Room {
     left: Word,
     right: Word,
     reduction: Reduction,
 }
 
 impl Room {
-    /// Room for no letter. It takes no memory.
-    pub fn new(alloc: Global) -> Room {
+    // Room for no letter. It takes no memory.
+    fn new(alloc: Global) -> Room {
         Room {
             left: Word::new(alloc),
             right: Word::new(alloc),
             reduction: Reduction::new(alloc),
         }
     }
+}
+
+// Two rules by their places, and how many letters the end of the left side of the first and the
+// beginning of that of the second share.
+#[derive(Clone, Copy)]
+struct Sharing {
+    first: usize,
+    second: usize,
+    shared: usize,
+}
+
+/// Equations that wait, the log of how these and the rules follow, and room for the words of an
+/// overlap.
+#[derive(Drop)]
+pub struct Pending {
+    pub alloc: Global,
+    pub equations: Equations,
+    pub log: Log,
+    room: Room,
 }
 
 // Makes a word of some letters and then others.
@@ -127,188 +147,191 @@ fn put_critical_pair(
 fn reduced_pair(
     alloc: Global,
     rules: &KeptRules,
-    first: usize,
-    second: usize,
-    shared: usize,
+    overlap: Sharing,
     room: &mut Room,
     log: &Log,
 ) -> Result<(Word, Word, Vec<ChainStep>), NoMemory>
-    requires first { first < length rules.now }
-    requires second { second < length rules.now }
-    requires shared_first { shared ≤ length (rule_at rules.now first).0 }
-    requires shared_second { shared ≤ length (rule_at rules.now second).0 }
-    requires overlaps { overlaps_by (rule_at rules.now first).0 (rule_at rules.now second).0
-        shared }
+    requires first { overlap.first < length rules.now }
+    requires second { overlap.second < length rules.now }
+    requires shared_first { overlap.shared ≤ length (rule_at rules.now overlap.first).0 }
+    requires shared_second { overlap.shared ≤ length (rule_at rules.now overlap.second).0 }
+    requires overlaps { overlaps_by (rule_at rules.now overlap.first).0
+        (rule_at rules.now overlap.second).0 overlap.shared }
     requires logged { AreLogged log.now rules.now }
-    ensures reduces { IfOk result (λ r. ReducesTo rules.now first second shared r.0 r.1) }
+    ensures reduces { IfOk result (λ r.
+        ReducesTo rules.now overlap.first overlap.second overlap.shared r.0 r.1) }
     ensures shown { IfOk result (λ r. Shows log.now r.0 r.2.items r.1) }
 {
-    put_critical_pair(room, rules.rule(first), rules.rule(second), shared)?;
+    let first = rules.rule(overlap.first);
+    let second = rules.rule(overlap.second);
+    put_critical_pair(room, first, second, overlap.shared)?;
     let (left, back) = log.reduce_in(alloc, rules, &mut room.reduction, &room.left)?;
     let (right, on) = log.reduce_in(alloc, rules, &mut room.reduction, &room.right)?;
     let steps = log.over(
         alloc,
-        rules.rule(first),
-        rules.rule(second),
-        shared,
+        first,
+        second,
+        overlap.shared,
         back.as_slice(),
         on.as_slice(),
     )?;
     Ok((left, right, steps))
 }
 
-// Puts the words to which an overlap leads among the equations, where they differ, and logs the
-// steps that lead from the left one to the right one.
-fn push_different(
-    alloc: Global,
-    left: Word,
-    right: Word,
-    steps: Vec<ChainStep>,
-    equations: &mut Equations,
-    log: &mut Log,
-) -> Result<(), NoMemory>
-    requires shown { Shows log.old left steps.items right }
-    requires logged { AreLogged log.old equations.old }
-    ensures same { OnOk result (left ≡ right → equations.new ≡ equations.old) }
-    ensures different { OnOk result
-        ((left ≡ right → ⊥)
-        → IsPermutation (equations.old ++ (left, right) ∷ []) equations.new) }
-    ensures grows { OnOk result (Grows log.old log.new) }
-    ensures logged { OnOk result (AreLogged log.new equations.new) }
-{
-    if left.letters() != right.letters() {
-        log.push(alloc, &left, &right, steps)?;
-        equations.push(left, right)?;
-    }
-    Ok(())
-}
-
-// Joins the words to which an overlap of two rules leads: where the rules lead them to different
-// words, these become an equation.
-fn join_overlap(
-    alloc: Global,
-    rules: &KeptRules,
-    first: usize,
-    second: usize,
-    shared: usize,
-    room: &mut Room,
-    equations: &mut Equations,
-    log: &mut Log,
-) -> Result<(), NoMemory>
-    requires first { first < length rules.now }
-    requires second { second < length rules.now }
-    requires shared_first { shared ≤ length (rule_at rules.now first).0 }
-    requires shared_second { shared ≤ length (rule_at rules.now second).0 }
-    requires overlaps { overlaps_by (rule_at rules.now first).0 (rule_at rules.now second).0
-        shared }
-    requires held { LogsHeld log.old rules.now equations.old }
-    ensures gains { OnOk result ((lengths : Lengths)
-        → IsOverlap lengths (rule_at rules.now first) (rule_at rules.now second) shared
-        → Gains lengths rules.now equations.old equations.new 1) }
-    ensures joined { OnOk result (IsJoinedBy rules.now equations.new
-        (critical_pair (rule_at rules.now first) (rule_at rules.now second) shared).0
-        (critical_pair (rule_at rules.now first) (rule_at rules.now second) shared).1) }
-    ensures logged { OnOk result (KeepsLog log.old log.new rules.now equations.new) }
-{
-    let (left, right, steps) = reduced_pair(alloc, rules, first, second, shared, room, log)?;
-    push_different(alloc, left, right, steps, equations, log)?;
-    Ok(())
-}
-
-// Joins the overlaps of two rules, by their places, in words of such lengths, one number of shared
-// letters after another. Kept out of line, since few pairs of rules come here.
-#[inline(never)]
-fn join_shared(
-    alloc: Global,
-    rules: &KeptRules,
-    first: usize,
-    second: usize,
-    lengths: Lengths,
-    room: &mut Room,
-    equations: &mut Equations,
-    log: &mut Log,
-) -> Result<(), NoMemory>
-    requires first { first < length rules.now }
-    requires second { second < length rules.now }
-    requires held { LogsHeld log.old rules.now equations.old }
-    ensures gains { OnOk result (Gains lengths rules.now equations.old equations.new
-        (length (rule_at rules.now first).0)) }
-    ensures joined { OnOk result (AreJoined lengths rules.now equations.new
-        (rule_at rules.now first) (rule_at rules.now second)) }
-    ensures logged { OnOk result (KeepsLog log.old log.new rules.now equations.new) }
-{
-    let (fewest, end) = shared_by(
-        lengths,
-        rules.rule(first).0.len(),
-        rules.rule(second).0.len(),
-    );
-    for shared in fewest..end {
-        if overlap(&rules.rule(first).0, &rules.rule(second).0, shared) {
-            join_overlap(alloc, rules, first, second, shared, room, equations, log)?;
+impl Pending {
+    /// Equations and their log, with room for no letter. It takes no memory.
+    pub fn new(alloc: Global, equations: Equations, log: Log) -> Pending
+        ensures equations { result.equations ≡ equations }
+        ensures log { result.log ≡ log }
+    {
+        Pending {
+            alloc,
+            equations,
+            log,
+            room: Room::new(alloc),
         }
     }
-    Ok(())
-}
 
-/// Joins the overlaps of two rules, by their places, in words of such lengths: where the two ways
-/// to rewrite one lead to different words, these become an equation. Refused only where memory is
-/// wanting.
-#[inline(always)]
-pub fn join_overlaps(
-    alloc: Global,
-    rules: &KeptRules,
-    first: usize,
-    second: usize,
-    lengths: Lengths,
-    room: &mut Room,
-    equations: &mut Equations,
-    log: &mut Log,
-) -> Result<(), NoMemory>
-    requires first { first < length rules.now }
-    requires second { second < length rules.now }
-    requires held { LogsHeld log.old rules.now equations.old }
-    ensures gains { OnOk result (Gains lengths rules.now equations.old equations.new
-        (length (rule_at rules.now first).0)) }
-    ensures joined { OnOk result (AreJoined lengths rules.now equations.new
-        (rule_at rules.now first) (rule_at rules.now second)) }
-    ensures logged { OnOk result (KeepsLog log.old log.new rules.now equations.new) }
-{
-    if !may_overlap(&rules.rule(first).0, &rules.rule(second).0) {
-        return Ok(());
+    // Puts the words to which an overlap leads among the equations, where they differ, and logs the
+    // steps that lead from the left one to the right one.
+    fn push_different(
+        &mut self,
+        left: Word,
+        right: Word,
+        steps: Vec<ChainStep>,
+    ) -> Result<(), NoMemory>
+        requires shown { Shows self.old.log left steps.items right }
+        requires logged { AreLogged self.old.log self.old.equations }
+        ensures same { OnOk result (left ≡ right → self.new.equations ≡ self.old.equations) }
+        ensures different { OnOk result
+            ((left ≡ right → ⊥)
+            → IsPermutation (self.old.equations ++ (left, right) ∷ []) self.new.equations) }
+        ensures grows { OnOk result (Grows self.old.log self.new.log) }
+        ensures logged { OnOk result (AreLogged self.new.log self.new.equations) }
+    {
+        if left.letters() != right.letters() {
+            self.log.push(self.alloc, &left, &right, steps)?;
+            self.equations.push(left, right)?;
+        }
+        Ok(())
     }
-    join_shared(alloc, rules, first, second, lengths, room, equations, log)
-}
 
-/// Joins the overlaps of a rule, by its place, with each rule, itself among them, on both sides, in
-/// words of such lengths. Refused only where memory is wanting.
-#[inline(never)]
-pub fn join_all(
-    alloc: Global,
-    rules: &KeptRules,
-    newest: usize,
-    lengths: Lengths,
-    equations: &mut Equations,
-    log: &mut Log,
-) -> Result<(), NoMemory>
-    requires newest { newest < length rules.now }
-    requires held { LogsHeld log.old rules.now equations.old }
-    ensures gains { OnOk result ((most : ℕ) → AreShort most rules.now
-        → Gains lengths rules.now equations.old equations.new (length rules.now * (most + most))) }
-    ensures joined { OnOk result ((other : ℕ) → other < length rules.now
-        → AreJoined lengths rules.now equations.new (rule_at rules.now newest)
-        (rule_at rules.now other)
-        × AreJoined lengths rules.now equations.new (rule_at rules.now other)
-        (rule_at rules.now newest)) }
-    ensures logged { OnOk result (KeepsLog log.old log.new rules.now equations.new) }
-{
-    let mut room = Room::new(alloc);
-    for other in 0..rules.len() {
-        join_overlaps(
-            alloc, rules, newest, other, lengths, &mut room, equations, log,
+    // Joins the words to which an overlap of two rules leads: where the rules lead them to
+    // different words, these become an equation.
+    fn join_overlap(&mut self, rules: &KeptRules, overlap: Sharing) -> Result<(), NoMemory>
+        requires first { overlap.first < length rules.now }
+        requires second { overlap.second < length rules.now }
+        requires shared_first { overlap.shared ≤ length (rule_at rules.now overlap.first).0 }
+        requires shared_second { overlap.shared ≤ length (rule_at rules.now overlap.second).0 }
+        requires overlaps { overlaps_by (rule_at rules.now overlap.first).0
+            (rule_at rules.now overlap.second).0 overlap.shared }
+        requires held { LogsHeld self.old.log rules.now self.old.equations }
+        ensures gains { OnOk result ((lengths : Lengths)
+            → IsOverlap lengths (rule_at rules.now overlap.first)
+            (rule_at rules.now overlap.second) overlap.shared
+            → Gains lengths rules.now self.old.equations self.new.equations 1) }
+        ensures joined { OnOk result (IsJoinedBy rules.now self.new.equations
+            (critical_pair (rule_at rules.now overlap.first) (rule_at rules.now overlap.second)
+            overlap.shared).0
+            (critical_pair (rule_at rules.now overlap.first) (rule_at rules.now overlap.second)
+            overlap.shared).1) }
+        ensures logged { OnOk result
+            (KeepsLog self.old.log self.new.log rules.now self.new.equations) }
+    {
+        let (left, right, steps) = reduced_pair(
+            self.alloc,
+            rules,
+            overlap,
+            &mut self.room,
+            &self.log,
         )?;
-        join_overlaps(
-            alloc, rules, other, newest, lengths, &mut room, equations, log,
-        )?;
+        self.push_different(left, right, steps)?;
+        Ok(())
     }
-    Ok(())
+
+    // Joins the overlaps of two rules, one number of shared letters after another. Kept out of
+    // line, since few pairs of rules come here.
+    #[inline(never)]
+    fn join_shared(
+        &mut self,
+        rules: &KeptRules,
+        first: usize,
+        second: usize,
+        lengths: Lengths,
+    ) -> Result<(), NoMemory>
+        requires first { first < length rules.now }
+        requires second { second < length rules.now }
+        requires held { LogsHeld self.old.log rules.now self.old.equations }
+        ensures { OnOk result (JoinsRules lengths rules.now (rule_at rules.now first)
+            (rule_at rules.now second) self.old self.new) }
+    {
+        let (fewest, end) = shared_by(
+            lengths,
+            rules.rule(first).0.len(),
+            rules.rule(second).0.len(),
+        );
+        for shared in fewest..end {
+            if overlap(&rules.rule(first).0, &rules.rule(second).0, shared) {
+                let sharing = Sharing {
+                    first,
+                    second,
+                    shared,
+                };
+                self.join_overlap(rules, sharing)?;
+            }
+        }
+        Ok(())
+    }
+
+    /// Joins the overlaps of two rules, by their places, in words of such lengths: where the two
+    /// ways to rewrite one lead to different words, these become an equation. Refused only where
+    /// memory is wanting.
+    #[inline(always)]
+    pub fn join_overlaps(
+        &mut self,
+        rules: &KeptRules,
+        first: usize,
+        second: usize,
+        lengths: Lengths,
+    ) -> Result<(), NoMemory>
+        requires first { first < length rules.now }
+        requires second { second < length rules.now }
+        requires held { LogsHeld self.old.log rules.now self.old.equations }
+        ensures { OnOk result (JoinsRules lengths rules.now (rule_at rules.now first)
+            (rule_at rules.now second) self.old self.new) }
+    {
+        if !may_overlap(&rules.rule(first).0, &rules.rule(second).0) {
+            return Ok(());
+        }
+        self.join_shared(rules, first, second, lengths)
+    }
+
+    /// Joins the overlaps of a rule, by its place, with each rule, itself among them, on both
+    /// sides, in words of such lengths. Refused only where memory is wanting.
+    #[inline(never)]
+    pub fn join_all(
+        &mut self,
+        rules: &KeptRules,
+        newest: usize,
+        lengths: Lengths,
+    ) -> Result<(), NoMemory>
+        requires newest { newest < length rules.now }
+        requires held { LogsHeld self.old.log rules.now self.old.equations }
+        ensures gains { OnOk result ((most : ℕ) → AreShort most rules.now
+            → Gains lengths rules.now self.old.equations self.new.equations
+            (length rules.now * (most + most))) }
+        ensures joined { OnOk result ((other : ℕ) → other < length rules.now
+            → AreJoined lengths rules.now self.new.equations (rule_at rules.now newest)
+            (rule_at rules.now other)
+            × AreJoined lengths rules.now self.new.equations (rule_at rules.now other)
+            (rule_at rules.now newest)) }
+        ensures logged { OnOk result
+            (KeepsLog self.old.log self.new.log rules.now self.new.equations) }
+    {
+        for other in 0..rules.len() {
+            self.join_overlaps(rules, newest, other, lengths)?;
+            self.join_overlaps(rules, other, newest, lengths)?;
+        }
+        Ok(())
+    }
 }

@@ -3,14 +3,14 @@ ghost use Rattle.std.specs.Prelude.{◌≡◌, ℕ, ◌<◌, length, IfOk, OnOk}
 ghost use Rattle.theory.specs.ShortLex.{◌≺◌};
 ghost use Rattle.theory.specs.Word.{Word as Letters};
 ghost use Rattle.knuth_bendix.specs.Changes.{AddsRule, IsDone, Joins, Rewrites};
+ghost use Rattle.knuth_bendix.specs.Held.{held_of};
 ghost use Rattle.knuth_bendix.specs.Overlaps.{rule_at};
 ghost use Rattle.knuth_bendix.specs.Logs.{AreLogged, Grows, IsLogged, KeepsLog, LogsHeld, LogsRule, Shows};
 ghost use Rattle.theory.specs.Completion.{IsReduced, Listed, Reduces};
 
-use crate::equations::Equations;
 use crate::lengths::Lengths;
 use crate::logs::Log;
-use crate::overlaps::join_all;
+use crate::overlaps::Pending;
 use chains::ChainStep;
 use ports::NoMemory;
 use rewriting::{KeptRules, has_factor};
@@ -111,54 +111,52 @@ fn rewrite_rights(
 // stands become equations, and so do the words to which its overlaps within the length lead where
 // no rules join them.
 fn add_rule(
-    alloc: Global,
     rules: KeptRules,
     left: Word,
     right: Word,
     length: usize,
-    equations: &mut Equations,
-    log: &mut Log,
+    pending: &mut Pending,
 ) -> Result<KeptRules, NoMemory>
     requires falls { right ≺ left }
-    requires rule { IsLogged log.old (left, right) }
-    requires held { LogsHeld log.old rules equations.old }
-    ensures adds { IfOk result (λ new. AddsRule length left right rules equations.old new
-        equations.new) }
-    ensures logged { IfOk result (λ new. KeepsLog log.old log.new new equations.new) }
+    requires rule { IsLogged pending.old.log (left, right) }
+    requires held { LogsHeld pending.old.log rules pending.old.equations }
+    ensures adds { IfOk result (λ new. AddsRule length left right
+        (held_of rules pending.old.equations) (held_of new pending.new.equations)) }
+    ensures logged { IfOk result (λ new.
+        KeepsLog pending.old.log pending.new.log new pending.new.equations) }
 {
     let (mut rules, gone) = rules.add(left, right)?;
-    equations.extend(gone)?;
+    pending.equations.extend(gone)?;
     let newest = rules.len() - 1;
-    rewrite_rights(alloc, &mut rules, newest, log)?;
-    join_all(alloc, &rules, newest, Lengths::UpTo(length), equations, log)?;
+    rewrite_rights(pending.alloc, &mut rules, newest, &mut pending.log)?;
+    pending.join_all(&rules, newest, Lengths::UpTo(length))?;
     Ok(rules)
 }
 
-// Logs the rule that two words make to which those of a pair were reduced.
+// Logs the rule that two words make to which those of a pair were reduced, each with the steps that
+// lead there.
 fn log_rule(
     alloc: Global,
     pair: &(Word, Word),
-    left: &Word,
-    down: &[ChainStep],
-    right: &Word,
-    on: &[ChainStep],
+    left: &(Word, Vec<ChainStep>),
+    right: &(Word, Vec<ChainStep>),
     log: &mut Log,
 ) -> Result<(), NoMemory>
-    requires down { Shows log.old pair.now.0 down.now left.now }
-    requires on { Shows log.old pair.now.1 on.now right.now }
+    requires down { Shows log.old pair.now.0 left.now.1.items left.now.0 }
+    requires on { Shows log.old pair.now.1 right.now.1.items right.now.0 }
     requires logged { IsLogged log.old pair.now }
     ensures grows { OnOk result (Grows log.old log.new) }
-    ensures rule { OnOk result (LogsRule log.new left.now right.now) }
+    ensures rule { OnOk result (LogsRule log.new left.now.0 right.now.0) }
 {
-    match shortlex(left, right) {
+    match shortlex(&left.0, &right.0) {
         Ordering::Equal => Ok(()),
         Ordering::Less => {
-            let steps = log.across(alloc, pair, false, on, down)?;
-            log.push(alloc, right, left, steps)
+            let steps = log.across(alloc, pair, false, right.1.as_slice(), left.1.as_slice())?;
+            log.push(alloc, &right.0, &left.0, steps)
         }
         Ordering::Greater => {
-            let steps = log.across(alloc, pair, true, down, on)?;
-            log.push(alloc, left, right, steps)
+            let steps = log.across(alloc, pair, true, left.1.as_slice(), right.1.as_slice())?;
+            log.push(alloc, &left.0, &right.0, steps)
         }
     }
 }
@@ -179,41 +177,32 @@ fn reduce_both(
     ensures grows { OnOk result (Grows log.old log.new) }
     ensures rule { IfOk result (λ r. LogsRule log.new r.0 r.1) }
 {
-    let (left, down) = log.reduce(alloc, rules, &pair.0)?;
-    let (right, on) = log.reduce(alloc, rules, &pair.1)?;
-    log_rule(
-        alloc,
-        pair,
-        &left,
-        down.as_slice(),
-        &right,
-        on.as_slice(),
-        log,
-    )?;
-    Ok((left, right))
+    let left = log.reduce(alloc, rules, &pair.0)?;
+    let right = log.reduce(alloc, rules, &pair.1)?;
+    log_rule(alloc, pair, &left, &right, log)?;
+    Ok((left.0, right.0))
 }
 
 /// The rules made to join the two words: where they lead to different words, a rule is added. Its
 /// overlaps whose words have at most `length` letters are joined too, or become equations. Refused
 /// only where memory is wanting.
 pub fn join(
-    alloc: Global,
     rules: KeptRules,
     pair: &(Word, Word),
     length: usize,
-    equations: &mut Equations,
-    log: &mut Log,
+    pending: &mut Pending,
 ) -> Result<KeptRules, NoMemory>
-    requires pair { IsLogged log.old pair.now }
-    requires held { LogsHeld log.old rules equations.old }
-    ensures joins { IfOk result (λ new. Joins length pair.now.0 pair.now.1 rules equations.old new
-        equations.new) }
-    ensures logged { IfOk result (λ new. KeepsLog log.old log.new new equations.new) }
+    requires pair { IsLogged pending.old.log pair.now }
+    requires held { LogsHeld pending.old.log rules pending.old.equations }
+    ensures joins { IfOk result (λ new. Joins length pair.now.0 pair.now.1
+        (held_of rules pending.old.equations) (held_of new pending.new.equations)) }
+    ensures logged { IfOk result (λ new.
+        KeepsLog pending.old.log pending.new.log new pending.new.equations) }
 {
-    let (left, right) = reduce_both(alloc, &rules, pair, log)?;
+    let (left, right) = reduce_both(pending.alloc, &rules, pair, &mut pending.log)?;
     match shortlex(&left, &right) {
         Ordering::Equal => Ok(rules),
-        Ordering::Less => add_rule(alloc, rules, right, left, length, equations, log),
-        Ordering::Greater => add_rule(alloc, rules, left, right, length, equations, log),
+        Ordering::Less => add_rule(rules, right, left, length, pending),
+        Ordering::Greater => add_rule(rules, left, right, length, pending),
     }
 }

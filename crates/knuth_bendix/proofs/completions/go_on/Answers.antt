@@ -1,5 +1,6 @@
 use Rattle.std.proofs.Common.{List, ◌∙◌, sym, subst, subst₂}
 use Rattle.theory.specs.Word.{Word}
+use Rattle.knuth_bendix.specs.Held.{held_of}
 use Rattle.knuth_bendix.specs.Runs.{IsTurn}
 use Rattle.knuth_bendix.specs.Logs.{LogsHeld}
 use Rattle.knuth_bendix.proofs.LogLaws.{keeps_none, taken_held}
@@ -8,25 +9,25 @@ use Rattle.knuth_bendix.proofs.completions.go_on.Goals as goal
 
 pub returns-in_ok-rules-in-Some-clause-turn : goal.returns-in_ok-rules-in-Some-clause-turn
 returns-in_ok-rules-in-Some-clause-turn c =
-    join_turn c.args.presentation.now.presentation c.args.length c.args.rules c.args.equations.now c.in_ok-rules-in-Some.rules c.join.new.equations c.pop.new.self
+    join_turn c.args.presentation.now.presentation c.args.length c.args.rules c.args.pending.now.equations c.in_ok-rules-in-Some.rules c.join.new.pending.equations c.pop.new.self
     c.in-Some.pair c.requires.sound c.in-Some.ensures.pair c.in_ok-rules-in-Some.ensures.joins
 
 pub returns-in_ok-ends-in-None-clause-turn : goal.returns-in_ok-ends-in-None-clause-turn
 returns-in_ok-ends-in-None-clause-turn c =
-    let Turn : List (Word × Word) → Type 0 = λ rs. IsTurn c.args.presentation.now.presentation c.args.length c.args.rules c.args.equations.now rs c.pop.new.self c.last_answer.result in
+    let Turn : List (Word × Word) → Type 0 = λ rs. IsTurn c.args.presentation.now.presentation c.args.length (held_of c.args.rules c.args.pending.now.equations) (held_of rs c.pop.new.self) c.last_answer.result in
     subst Turn (sym c.rebuild.ensures)
-    (end_turn c.args.presentation.now.presentation c.args.length c.args.rules c.args.equations.now c.pop.new.self c.in_ok-ends-in-None.ends c.last_answer.result
+    (end_turn c.args.presentation.now.presentation c.args.length c.args.rules c.args.pending.now.equations c.pop.new.self c.in_ok-ends-in-None.ends c.last_answer.result
     c.requires.sound c.in-None.ensures.pair c.in_ok-ends-in-None.ensures c.last_answer.ensures)
 
 pub join-requires-clause-pair : goal.join-requires-clause-pair
 join-requires-clause-pair c =
-    (taken_held c.args.log.now c.args.rules c.args.equations.now c.pop.new.self c.in-Some.pair c.in-Some.ensures.pair c.requires.held).0
+    (taken_held c.args.pending.now.log c.args.rules c.args.pending.now.equations c.pop.new.self c.in-Some.pair c.in-Some.ensures.pair c.requires.held).0
 
 pub join-requires-clause-held : goal.join-requires-clause-held
 join-requires-clause-held c =
-    (taken_held c.args.log.now c.args.rules c.args.equations.now c.pop.new.self c.in-Some.pair c.in-Some.ensures.pair c.requires.held).1
+    (taken_held c.args.pending.now.log c.args.rules c.args.pending.now.equations c.pop.new.self c.in-Some.pair c.in-Some.ensures.pair c.requires.held).1
 
 pub returns-in_ok-ends-in-None-clause-logged : goal.returns-in_ok-ends-in-None-clause-logged
 returns-in_ok-ends-in-None-clause-logged c =
-    keeps_none c.args.log.now c.rebuild.new.self c.pop.new.self
-    (subst₂ (λ (rs es : List (Word × Word)). LogsHeld c.args.log.now rs es) (sym c.rebuild.ensures) (c.in-None.ensures.pair.0 ∙ sym c.in-None.ensures.pair.1) c.requires.held)
+    keeps_none c.args.pending.now.log c.rebuild.new.self c.pop.new.self
+    (subst₂ (λ (rs es : List (Word × Word)). LogsHeld c.args.pending.now.log rs es) (sym c.rebuild.ensures) (c.in-None.ensures.pair.0 ∙ sym c.in-None.ensures.pair.1) c.requires.held)

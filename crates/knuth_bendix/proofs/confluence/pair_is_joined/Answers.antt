@@ -1,4 +1,4 @@
-use Rattle.std.proofs.Common.{List, length, subst}
+use Rattle.std.proofs.Common.{List, length, ◌∙◌, subst}
 use Rattle.theory.specs.Word.{Word}
 use Rattle.knuth_bendix.specs.Overlaps.{Gains, rule_at}
 use Rattle.knuth_bendix.proofs.LogLaws.{none_held}
@@ -8,10 +8,12 @@ use Rattle.knuth_bendix.proofs.confluence.pair_is_joined.Goals as goal
 pub returns : goal.returns
 returns c =
     let most = length (rule_at c.args.rules.now c.args.first).0 in
-    tested_pair c.args.lengths c.args.rules.now c.join_overlaps.new.equations (rule_at c.args.rules.now c.args.first) (rule_at c.args.rules.now c.args.second) most c.is_empty.result
+    let joins = c.in_ok-join_overlaps.ensures in
+    tested_pair c.args.lengths c.args.rules.now c.join_overlaps.new.self.equations (rule_at c.args.rules.now c.args.first) (rule_at c.args.rules.now c.args.second) most c.is_empty.result
     c.is_empty.ensures
-    (subst (λ (es : List (Word × Word)). Gains c.args.lengths c.args.rules.now es c.join_overlaps.new.equations most) c.new-equations.ensures c.in_ok-join_overlaps.ensures.gains)
-    c.in_ok-join_overlaps.ensures.joined
+    (subst (λ (es : List (Word × Word)). Gains c.args.lengths c.args.rules.now es c.join_overlaps.new.self.equations most) (c.new-pending.ensures.equations ∙ c.new.ensures) joins.gains)
+    joins.joined
 
 pub join_overlaps-requires-clause-held : goal.join_overlaps-requires-clause-held
-join_overlaps-requires-clause-held c = none_held c.none-log.result c.args.rules.now c.new-equations.result c.none-log.ensures
+join_overlaps-requires-clause-held c =
+    none_held c.new-pending.result.log c.args.rules.now c.new-pending.result.equations (c.new-pending.ensures.log ∙ c.none.ensures)

@@ -16,32 +16,32 @@ returns-clause-adds c =
     let newest : c.len-newest.result - 1 ≡ length kept =
     omega (arith, c.len-newest.ensures.len, ap length c.in_ok-rules.ensures.kept, length-append kept ((c.args.left, c.args.right) ∷ [])) in
     adds_rule c.args.length c.args.left c.args.right c.args.rules kept c.in_ok-rules.rules c.rewrite_rights.new.rules
-    c.args.equations.now c.extend.new.self c.join_all.new.equations (c.len-newest.result - 1)
-    (record { kept_is = refl; moved = subst (λ (es : List (Word × Word)). IsPermutation (c.args.equations.now ++ es) c.extend.new.self) c.in_ok-rules.ensures.gone c.in_ok-extend.ensures }) newest
+    c.args.pending.now.equations c.extend.new.self c.join_all.new.self.equations (c.len-newest.result - 1)
+    (record { kept_is = refl; moved = subst (λ (es : List (Word × Word)). IsPermutation (c.args.pending.now.equations ++ es) c.extend.new.self) c.in_ok-rules.ensures.gone c.in_ok-extend.ensures }) newest
     c.in_ok-rules.ensures.kept c.in_ok-rewrite_rights.ensures.rewrites c.in_ok-rewrite_rights.ensures.done c.in_ok-join_all.ensures.gains
     c.in_ok-join_all.ensures.joined
 
 pub rewrite_rights-requires-clause-logged : goal.rewrite_rights-requires-clause-logged
 rewrite_rights-requires-clause-logged c =
     let kept : List (Word × Word) = filter (λ r. not (stands_in c.args.left r.0)) c.args.rules in
-    subst (AreLogged c.args.log.now) (sym c.in_ok-rules.ensures.kept)
-    (All-push (IsLogged c.args.log.now) kept (c.args.left, c.args.right)
-    (All-filter (λ r. not (stands_in c.args.left r.0)) (IsLogged c.args.log.now) c.args.rules c.requires.held.each_rule) c.requires.rule)
+    subst (AreLogged c.args.pending.now.log) (sym c.in_ok-rules.ensures.kept)
+    (All-push (IsLogged c.args.pending.now.log) kept (c.args.left, c.args.right)
+    (All-filter (λ r. not (stands_in c.args.left r.0)) (IsLogged c.args.pending.now.log) c.args.rules c.requires.held.each_rule) c.requires.rule)
 
 pub join_all-requires-clause-held : goal.join_all-requires-clause-held
 join_all-requires-clause-held c =
-    let gone : AreLogged c.args.log.now c.in_ok-rules.gone.items =
-    subst (AreLogged c.args.log.now) (sym c.in_ok-rules.ensures.gone)
-    (All-filter (λ r. stands_in c.args.left r.0) (IsLogged c.args.log.now) c.args.rules c.requires.held.each_rule) in
-    let between : AreLogged c.args.log.now c.extend.new.self =
-    All-permutation (IsLogged c.args.log.now) (c.args.equations.now ++ c.in_ok-rules.gone.items) c.extend.new.self c.in_ok-extend.ensures
-    (All-append (IsLogged c.args.log.now) c.args.equations.now c.in_ok-rules.gone.items c.requires.held.each_equation gone) in
+    let gone : AreLogged c.args.pending.now.log c.in_ok-rules.gone.items =
+    subst (AreLogged c.args.pending.now.log) (sym c.in_ok-rules.ensures.gone)
+    (All-filter (λ r. stands_in c.args.left r.0) (IsLogged c.args.pending.now.log) c.args.rules c.requires.held.each_rule) in
+    let between : AreLogged c.args.pending.now.log c.extend.new.self =
+    All-permutation (IsLogged c.args.pending.now.log) (c.args.pending.now.equations ++ c.in_ok-rules.gone.items) c.extend.new.self c.in_ok-extend.ensures
+    (All-append (IsLogged c.args.pending.now.log) c.args.pending.now.equations c.in_ok-rules.gone.items c.requires.held.each_equation gone) in
     record {
       each_rule = c.in_ok-rewrite_rights.ensures.logged;
-      each_equation = all_still_logged c.args.log.now c.rewrite_rights.new.log c.extend.new.self c.in_ok-rewrite_rights.ensures.grows between;
+      each_equation = all_still_logged c.args.pending.now.log c.rewrite_rights.new.log c.extend.new.self c.in_ok-rewrite_rights.ensures.grows between;
     }
 
 pub returns-clause-logged : goal.returns-clause-logged
 returns-clause-logged c =
-    keeps_after c.args.log.now c.rewrite_rights.new.log c.join_all.new.log c.rewrite_rights.new.rules c.join_all.new.equations
+    keeps_after c.args.pending.now.log c.rewrite_rights.new.log c.join_all.new.self.log c.rewrite_rights.new.rules c.join_all.new.self.equations
     c.in_ok-rewrite_rights.ensures.grows c.in_ok-join_all.ensures.logged

@@ -13,7 +13,7 @@ use Rattle.knuth_bendix.proofs.completions.Completion.chain.Goals as goal
 pub returns-then-ne : goal.returns-then-ne
 returns-then-ne c =
     let p : Presentation = c.args.self.now.presentation in
-    let run = decided_run c.self.inside.presentation.presentation p c.self.inside.length c.args.self.now.length c.self.inside.rules c.self.inside.equations c.self.inside.said c.args.self.now.said
+    let run = decided_run c.self.inside.presentation.presentation p c.self.inside.length c.args.self.now.length c.self.inside.rules c.self.inside.pending.equations c.self.inside.said c.args.self.now.said
     c.self.invariant.0 (ap (λ (r : CompletionRun). r.presentation) c.self.view_is) (ap (λ (r : CompletionRun). r.length) c.self.view_is) (ap (λ (r : CompletionRun). r.said) c.self.view_is) c.requires.decided in
     λ related. (different_tested c.in_ok-left.left c.in_ok-right.right c.letters.result.now c.letters-2.result.now c.ne.result c.letters.ensures c.letters-2.ensures c.ne.ensures).0 c.if-ne.true
     (reduced_alike p c.args.self.now.length c.self.inside.rules run c.args.u.now c.args.v.now c.in_ok-left.left c.in_ok-right.right
@@ -25,14 +25,14 @@ spell-requires-clause-shown c =
       c.in_ok-left.left,
       c.args.v.now,
       c.in_ok-left.ensures.shown,
-      subst₂ (λ (s : List ChainStep) (w : Word). Shows c.self.inside.log c.args.v.now s w) (sym c.as_slice.ensures.value) (sym same) c.in_ok-right.ensures.shown,
+      subst₂ (λ (s : List ChainStep) (w : Word). Shows c.self.inside.pending.log c.args.v.now s w) (sym c.as_slice.ensures.value) (sym same) c.in_ok-right.ensures.shown,
     )
 
 pub returns : goal.returns
 returns c =
     let same = (different_tested c.in_ok-left.left c.in_ok-right.right c.letters.result.now c.letters-2.result.now c.ne.result c.letters.ensures c.letters-2.ensures c.ne.ensures).1 c.if-ne.false in
-    let some = some_logged c.self.inside.log (ap (λ (r : CompletionRun). r.logged) c.self.view_is ∙ c.requires.logged) in
-    let of = logged_of c.self.inside.presentation.presentation c.self.inside.log some.0 c.self.invariant.1 some.1 in
+    let some = some_logged c.self.inside.pending.log (ap (λ (r : CompletionRun). r.logged) c.self.view_is ∙ c.requires.logged) in
+    let of = logged_of c.self.inside.presentation.presentation c.self.inside.pending.log some.0 c.self.invariant.1 some.1 in
     subst (λ (q : Presentation). IsStraight q c.args.u.now c.in_ok-chain.chain.items c.args.v.now) (of ∙ ap (λ (r : CompletionRun). r.presentation) c.self.view_is)
     (c.in_ok-chain.ensures some.0 c.in_ok-left.left c.args.v.now some.1 c.in_ok-left.ensures.shown
-    (subst₂ (λ (s : List ChainStep) (w : Word). Shows c.self.inside.log c.args.v.now s w) (sym c.as_slice.ensures.value) (sym same) c.in_ok-right.ensures.shown))
+    (subst₂ (λ (s : List ChainStep) (w : Word). Shows c.self.inside.pending.log c.args.v.now s w) (sym c.as_slice.ensures.value) (sym same) c.in_ok-right.ensures.shown))

@@ -22,7 +22,7 @@ returns-clause-list c =
     let moved : IsPermutation c.self.inside.rules c.sort_by.new.self.items =
     subst (λ (rs : List (Word × Word)). IsPermutation rs c.sort_by.new.self.items) (c.into_vec-rules.ensures.rules ∙ c.in_ok-copy.ensures) c.in_ok-sort_by.ensures.permutation in
     let same : c.self.inside.presentation.presentation ≡ p = ap (λ (r : CompletionRun). r.presentation) c.self.view_is in
-    let run = decided_run c.self.inside.presentation.presentation p c.self.inside.length c.args.self.now.length c.self.inside.rules c.self.inside.equations c.self.inside.said c.args.self.now.said
+    let run = decided_run c.self.inside.presentation.presentation p c.self.inside.length c.args.self.now.length c.self.inside.rules c.self.inside.pending.equations c.self.inside.said c.args.self.now.said
     c.self.invariant.0 same (ap (λ (r : CompletionRun). r.length) c.self.view_is) (ap (λ (r : CompletionRun). r.said) c.self.view_is) c.requires in
     subst (λ (rs : List (Word × Word)). IsRuleList (SameClass (of_presentation p)) rs) (sym c.from_vec.ensures)
     (sorted_rule_list p c.args.self.now.length c.self.inside.rules c.sort_by.new.self.items run.are moved run.clear
@@ -34,7 +34,7 @@ returns-clause-rules c u v =
     let moved : IsPermutation c.self.inside.rules c.sort_by.new.self.items =
     subst (λ (rs : List (Word × Word)). IsPermutation rs c.sort_by.new.self.items) (c.into_vec-rules.ensures.rules ∙ c.in_ok-copy.ensures) c.in_ok-sort_by.ensures.permutation in
     let same : c.self.inside.presentation.presentation ≡ p = ap (λ (r : CompletionRun). r.presentation) c.self.view_is in
-    let run = decided_run c.self.inside.presentation.presentation p c.self.inside.length c.args.self.now.length c.self.inside.rules c.self.inside.equations c.self.inside.said c.args.self.now.said
+    let run = decided_run c.self.inside.presentation.presentation p c.self.inside.length c.args.self.now.length c.self.inside.rules c.self.inside.pending.equations c.self.inside.said c.args.self.now.said
     c.self.invariant.0 same (ap (λ (r : CompletionRun). r.length) c.self.view_is) (ap (λ (r : CompletionRun). r.said) c.self.view_is) c.requires in
     subst (λ (rs : List (Word × Word)). Listed rs u v ↔ Rule p c.args.self.now.length u v) (sym c.from_vec.ensures)
     (sorted_rules p c.args.self.now.length c.self.inside.rules c.sort_by.new.self.items run.are moved u v)

@@ -19,7 +19,8 @@ invariant_of-result c =
     subst (λ (rs : List (Word × Word)). IsCompletion p c.args.length rs c.in_ok-equations.equations More) (sym c.new.ensures) fresh in
     let held : LogsHeld c.args.log c.new.result c.in_ok-equations.equations =
     subst (λ (rs : List (Word × Word)). LogsHeld c.args.log rs c.in_ok-equations.equations) (sym c.new.ensures)
-    (start_held p c.args.length c.args.log c.in_ok-equations.equations c.requires short) in (
+    (start_held p c.args.length c.args.log c.in_ok-equations.equations c.requires short) in
+    rw (c.new-2.ensures.equations, c.new-2.ensures.log) (
       subst (λ (q : Presented). IsCompletion q.presentation c.args.length c.new.result c.in_ok-equations.equations More) (sym c.in_ok-copy.ensures) ruled,
       subst (λ (q : Presented). IsLogOf q.presentation c.args.log) (sym c.in_ok-copy.ensures) c.requires,
       held,

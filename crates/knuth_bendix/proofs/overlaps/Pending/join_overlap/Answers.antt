@@ -1,16 +1,16 @@
 use Rattle.knuth_bendix.proofs.LogLaws.{all_still_logged}
 use Rattle.knuth_bendix.proofs.OverlapSteps.{overlap_gains, overlap_joined}
-use Rattle.knuth_bendix.proofs.overlaps.join_overlap.Goals as goal
+use Rattle.knuth_bendix.proofs.overlaps.Pending.join_overlap.Goals as goal
 
 pub returns-clause-gains : goal.returns-clause-gains
 returns-clause-gains c =
-    overlap_gains c.args.rules.now c.args.equations.now c.push_different.new.equations c.args.first c.args.second c.args.shared c.in_ok-left.left c.in_ok-left.right
+    overlap_gains c.args.rules.now c.args.self.now.equations c.push_different.new.self.equations c.args.overlap.first c.args.overlap.second c.args.overlap.shared c.in_ok-left.left c.in_ok-left.right
     c.requires.first c.requires.second c.in_ok-left.ensures.reduces
     (record { same = c.in_ok-push_different.ensures.same; different = c.in_ok-push_different.ensures.different })
 
 pub returns-clause-joined : goal.returns-clause-joined
 returns-clause-joined c =
-    overlap_joined c.args.rules.now c.args.equations.now c.push_different.new.equations c.args.first c.args.second c.args.shared c.in_ok-left.left c.in_ok-left.right
+    overlap_joined c.args.rules.now c.args.self.now.equations c.push_different.new.self.equations c.args.overlap.first c.args.overlap.second c.args.overlap.shared c.in_ok-left.left c.in_ok-left.right
     c.in_ok-left.ensures.reduces
     (record { same = c.in_ok-push_different.ensures.same; different = c.in_ok-push_different.ensures.different })
 
@@ -19,7 +19,7 @@ returns-clause-logged c =
     record {
       grows = c.in_ok-push_different.ensures.grows;
       held = record {
-        each_rule = all_still_logged c.args.log.now c.push_different.new.log c.args.rules.now c.in_ok-push_different.ensures.grows c.requires.held.each_rule;
+        each_rule = all_still_logged c.args.self.now.log c.push_different.new.self.log c.args.rules.now c.in_ok-push_different.ensures.grows c.requires.held.each_rule;
         each_equation = c.in_ok-push_different.ensures.logged;
       };
     }

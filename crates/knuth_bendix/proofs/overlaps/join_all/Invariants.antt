@@ -1,9 +1,0 @@
-use Rattle.knuth_bendix.specs.Logs.{KeepsLog}
-use Rattle.knuth_bendix.proofs.OverlapSteps.{IsJoinedWith}
-use Rattle.knuth_bendix.proofs.overlaps.join_all.Given as goal
-
-abbrev pub invariant-loop-other : goal.invariant-loop-other
-invariant-loop-other l = record {
-  joined : IsJoinedWith l.lengths l.rules l.fn.equations l.equations l.newest l.other;
-  logged : KeepsLog l.fn.log l.log l.rules l.equations;
-}
