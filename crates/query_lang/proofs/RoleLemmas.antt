@@ -1,13 +1,14 @@
 -- Letters that lines give a role, and how many relations they get.
-use Rattle.std.proofs.Common.{◌≡◌, ◌≢◌, ℕ, ◌+◌, ◌*◌, ◌-◌, ◌==◌, ◌≤◌, Bool, true, false, if◌then◌else◌, List, [], ◌∷◌, length, length-append, get_or, Option, Some, None, is_none, Result, Ok, refl, sym, ap, ◌∙◌, subst, arith}
+use Rattle.std.proofs.Common.{◌≡◌, ◌≢◌, ℕ, ◌+◌, ◌*◌, ◌-◌, ◌==◌, ◌≤◌, Bool, true, false, if◌then◌else◌, List, [], ◌∷◌, length, length-append, get_or, Option, Some, None, is_none, Result, Ok, Err, OnErr, OnOk, refl, sym, ap, ◌∙◌, subst, arith}
 use Rattle.std.proofs.lemmas.Bool.{eqb-true, ltb-false}
 use Rattle.std.proofs.lemmas.List.Quantifiers.{position-Some}
 use Rattle.std.specs.Cmp.Lexicographic.{same_text, other_text}
 use Rattle.std.specs.Option.{ok_or}
-use Rattle.theory.specs.Word.{Word}
+use Rattle.theory.specs.Word.{Word, IsOver}
+use Rattle.theory.proofs.Related.{element_over}
 use Rattle.words.specs.Alphabet.{is_letter, place_of}
 use Rattle.words.proofs.TextLaws.{place_below}
-use Rattle.presentation.specs.Presented.{Posed, Presented, with_more}
+use Rattle.presentation.specs.Presented.{IsPresented, Posed, Presented, with_more}
 use Rattle.presentation.specs.Added.{both_products, products_with}
 use Rattle.presentation.proofs.AddedLemmas.{both_count, both_count_same, products_count}
 use Rattle.line_parts.specs.declared.cause.Cause.{Cause}
@@ -16,7 +17,7 @@ use Rattle.line_parts.specs.declared.version.Version.{Version}
 use Rattle.line_parts.specs.Outcome.{and_then}
 use Rattle.line_parts.specs.Token.{Token, is_word, letter_of}
 use Rattle.line_parts.specs.Versions.{is_wide}
-use Rattle.query_lang.specs.Relations.{IsOutline, most_relations, outlined}
+use Rattle.query_lang.specs.Relations.{IsOutline, IsSide, most_relations, outlined}
 use Rattle.query_lang.specs.Roles.{count_for, count_for_both, is_too_many, letter_in}
 
 one_byte : (wide : Bool) (t : Token) (b : ℕ) → letter_of wide t ≡ Some b → t ≡ b ∷ []
@@ -93,3 +94,16 @@ pub more_outlined : (p next : Presented) (o : Posed) (more : List (Word × Word)
 more_outlined p next o more is view e few =
     let room : length p.presentation.relations + length more ≤ most_relations = subst (λ (o : Posed). length o.congruence.presentation.relations + length more ≤ most_relations) (sym view) few in
     subst (λ next. IsOutline (outlined next)) (sym e) (record { few = omega (arith, length-append p.presentation.relations more, room); unmarked = is.unmarked })
+
+-- and so is one to which they were to be added
+pub outlined_after : {T E : Type 0} (r : Result T E) (p next : Presented) (o : Posed) (more : List (Word × Word)) → IsOutline (outlined p) → outlined p ≡ o → OnOk r (next ≡ with_more p more) → OnErr r (next ≡ p)
+    → length o.congruence.presentation.relations + length more ≤ most_relations → IsOutline (outlined next)
+outlined_after (Ok v) p next o more is view ok err few = more_outlined p next o more is view ok few
+outlined_after (Err e) p next o more is view ok err few = subst (λ next. IsOutline (outlined next)) (sym err) is
+
+-- an outline has the letters of its presentation
+pub outline_letters : (p : Presented) (o : Posed) → IsPresented p → outlined p ≡ o → p.presentation.letters ≡ length o.alphabet
+outline_letters p o is view = is.letters ∙ ap (λ (o : Posed). length o.alphabet) view
+
+pub side_over : (p : Presented) (o : Posed) (w : Word) → IsPresented p → outlined p ≡ o → IsSide o w → IsOver p.presentation.letters w
+side_over p o w is view side = subst (λ n. IsOver n w) (sym (outline_letters p o is view)) (element_over o.congruence.presentation.is_monoid (length o.alphabet) w side)

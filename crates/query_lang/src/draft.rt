@@ -261,7 +261,8 @@ impl Draft {
     }
 
     /// The generator with this name and these entries behind the others; the name is a letter, of
-    /// both cases where letters are wide. Refused with the cause of its line, or for want of memory.
+    /// both cases where letters are wide. Refused with the cause of its line, or for want of
+    /// memory.
     pub fn with_generator(
         self,
         alloc: Global,

@@ -74,16 +74,16 @@ impl Outline {
         both_elements(alloc, version, alphabet, allow_empty, left, right)
     }
 
-    // The relation of these two elements behind the others.
-    fn add_relation(self, left: Word, right: Word) -> Result<Outline, NoMemory>
-        requires few { length self.congruence.presentation.relations ≢ most_relations }
-        requires left { IsSide self left }
-        requires right { IsSide self right }
-        ensures { IfOk result (λ next. next ≡ add_relation self (left, right)) }
+    // Puts the relation of these two elements behind the others.
+    fn add_relation(&mut self, left: Word, right: Word) -> Result<(), NoMemory>
+        requires few { length self.old.congruence.presentation.relations ≢ most_relations }
+        requires left { IsSide self.old left }
+        requires right { IsSide self.old right }
+        ensures { OnOk result (self.new ≡ add_relation self.old (left, right)) }
     {
-        let Outline { mut presentation } = self;
-        match presentation.add(left, right) {
-            Ok(()) => Ok(Outline { presentation }),
+        let _alphabet = self.presentation.alphabet();
+        match self.presentation.add(left, right) {
+            Ok(()) => Ok(()),
             Err(AddFault::NoMemory) => Err(NoMemory),
             Err(_) => unreachable!(),
         }
@@ -112,21 +112,22 @@ impl Outline {
         self.sides(alloc, version, left, right)
     }
 
-    /// The relation of these two words behind the others. Refused with the cause of its line, or
-    /// for want of memory.
-    pub fn with_relation(
-        self,
+    /// Puts the relation of these two words behind the others. Refused with the cause of its line,
+    /// or for want of memory.
+    pub fn take_relation(
+        &mut self,
         alloc: Global,
         version: Version,
         tokens: &[&[u8]],
-    ) -> Result<Outline, LineFault>
-        ensures ok { IfOk result (λ next. related self (added_of version
-            (Problem.Presented self) Form.Relation (texts tokens.now)) ≡ Ok next) }
-        ensures err { IfErr result (IsLineFault (related self
-            (added_of version (Problem.Presented self) Form.Relation (texts tokens.now)))) }
+    ) -> Result<(), LineFault>
+        ensures ok { OnOk result (related self.old (added_of version
+            (Problem.Presented self.old) Form.Relation (texts tokens.now)) ≡ Ok self.new) }
+        ensures err { IfErr result (IsLineFault (related self.old
+            (added_of version (Problem.Presented self.old) Form.Relation (texts tokens.now)))) }
     {
         let (left, right) = self.relation_of(alloc, version, tokens)?;
-        Ok(self.add_relation(left, right)?)
+        self.add_relation(left, right)?;
+        Ok(())
     }
 
     // The letter of the alphabet that the token is.
@@ -147,46 +148,46 @@ impl Outline {
         MOST_RELATIONS < self.presentation.relations().len() + count
     }
 
-    // The relations by which the letter is an identity behind the others.
-    fn add_identity(self, e: Letter) -> Result<Outline, NoMemory>
-        requires within { e < length self.alphabet }
-        requires few { length self.congruence.presentation.relations
-            + length (identity_relations (length self.alphabet) e) ≤ most_relations }
-        ensures { IfOk result (λ next. next
-            ≡ add_relations self (identity_relations (length self.alphabet) e)) }
+    // Puts the relations by which the letter is an identity behind the others.
+    fn add_identity(&mut self, e: Letter) -> Result<(), NoMemory>
+        requires within { e < length self.old.alphabet }
+        requires few { length self.old.congruence.presentation.relations
+            + length (identity_relations (length self.old.alphabet) e) ≤ most_relations }
+        ensures { OnOk result (self.new
+            ≡ add_relations self.old (identity_relations (length self.old.alphabet) e)) }
     {
-        let Outline { mut presentation } = self;
-        match presentation.add_identity(e) {
-            Ok(()) => Ok(Outline { presentation }),
+        let _alphabet = self.presentation.alphabet();
+        match self.presentation.add_identity(e) {
+            Ok(()) => Ok(()),
             Err(AddFault::NoMemory) => Err(NoMemory),
             Err(_) => unreachable!(),
         }
     }
 
-    // The relations by which the letter is a zero behind the others.
-    fn add_zero(self, z: Letter) -> Result<Outline, NoMemory>
-        requires within { z < length self.alphabet }
-        requires few { length self.congruence.presentation.relations
-            + length (zero_relations (length self.alphabet) z) ≤ most_relations }
-        ensures { IfOk result (λ next. next
-            ≡ add_relations self (zero_relations (length self.alphabet) z)) }
+    // Puts the relations by which the letter is a zero behind the others.
+    fn add_zero(&mut self, z: Letter) -> Result<(), NoMemory>
+        requires within { z < length self.old.alphabet }
+        requires few { length self.old.congruence.presentation.relations
+            + length (zero_relations (length self.old.alphabet) z) ≤ most_relations }
+        ensures { OnOk result (self.new
+            ≡ add_relations self.old (zero_relations (length self.old.alphabet) z)) }
     {
-        let Outline { mut presentation } = self;
-        match presentation.add_zero(z) {
-            Ok(()) => Ok(Outline { presentation }),
+        let _alphabet = self.presentation.alphabet();
+        match self.presentation.add_zero(z) {
+            Ok(()) => Ok(()),
             Err(AddFault::NoMemory) => Err(NoMemory),
             Err(_) => unreachable!(),
         }
     }
 
-    // The relations by which the letters are inverse behind the others.
-    fn add_inverse(self, x: Letter, y: Letter, e: Option<Letter>) -> Result<Outline, NoMemory>
-        requires { AreInverses self x y e }
-        ensures { IfOk result (λ next. next ≡ add_relations self (inverse_relations x y e)) }
+    // Puts the relations by which the letters are inverse behind the others.
+    fn add_inverse(&mut self, x: Letter, y: Letter, e: Option<Letter>) -> Result<(), NoMemory>
+        requires { AreInverses self.old x y e }
+        ensures { OnOk result (self.new ≡ add_relations self.old (inverse_relations x y e)) }
     {
-        let Outline { mut presentation } = self;
-        match presentation.add_inverse(x, y, e) {
-            Ok(()) => Ok(Outline { presentation }),
+        let _alphabet = self.presentation.alphabet();
+        match self.presentation.add_inverse(x, y, e) {
+            Ok(()) => Ok(()),
             Err(AddFault::NoMemory) => Err(NoMemory),
             Err(_) => unreachable!(),
         }
@@ -210,26 +211,30 @@ impl Outline {
         Ok(self.letter(version, token)?)
     }
 
-    // The letter that the tokens name, with the relations of an identity.
-    fn with_identity(self, version: Version, tokens: &[&[u8]]) -> Result<Outline, LineFault>
-        ensures ok { IfOk result (λ next. related self (added_of version
-            (Problem.Presented self) (Form.OfRole Role.Identity) (texts tokens.now)) ≡ Ok next) }
-        ensures err { IfErr result (IsLineFault (related self (added_of version
-            (Problem.Presented self) (Form.OfRole Role.Identity) (texts tokens.now)))) }
+    // Puts the relations behind the others by which the letter that the tokens name is an identity.
+    fn take_identity(&mut self, version: Version, tokens: &[&[u8]]) -> Result<(), LineFault>
+        ensures ok { OnOk result (related self.old (added_of version
+            (Problem.Presented self.old) (Form.OfRole Role.Identity) (texts tokens.now))
+            ≡ Ok self.new) }
+        ensures err { IfErr result (IsLineFault (related self.old (added_of version
+            (Problem.Presented self.old) (Form.OfRole Role.Identity) (texts tokens.now)))) }
     {
         let letter = self.letter_for(version, tokens)?;
-        Ok(self.add_identity(letter)?)
+        self.add_identity(letter)?;
+        Ok(())
     }
 
-    // The letter that the tokens name, with the relations of a zero.
-    fn with_zero(self, version: Version, tokens: &[&[u8]]) -> Result<Outline, LineFault>
-        ensures ok { IfOk result (λ next. related self (added_of version
-            (Problem.Presented self) (Form.OfRole Role.Zero) (texts tokens.now)) ≡ Ok next) }
-        ensures err { IfErr result (IsLineFault (related self (added_of version
-            (Problem.Presented self) (Form.OfRole Role.Zero) (texts tokens.now)))) }
+    // Puts the relations behind the others by which the letter that the tokens name is a zero.
+    fn take_zero(&mut self, version: Version, tokens: &[&[u8]]) -> Result<(), LineFault>
+        ensures ok { OnOk result (related self.old (added_of version
+            (Problem.Presented self.old) (Form.OfRole Role.Zero) (texts tokens.now))
+            ≡ Ok self.new) }
+        ensures err { IfErr result (IsLineFault (related self.old (added_of version
+            (Problem.Presented self.old) (Form.OfRole Role.Zero) (texts tokens.now)))) }
     {
         let letter = self.letter_for(version, tokens)?;
-        Ok(self.add_zero(letter)?)
+        self.add_zero(letter)?;
+        Ok(())
     }
 
     // Two letters, where the relations that make them inverse are not too many.
@@ -280,34 +285,36 @@ impl Outline {
         }
     }
 
-    // The letters that the tokens name, with the relations of inverses.
-    fn with_inverse(self, version: Version, tokens: &[&[u8]]) -> Result<Outline, LineFault>
-        ensures ok { IfOk result (λ next. related self (added_of version
-            (Problem.Presented self) (Form.OfRole Role.Inverse) (texts tokens.now)) ≡ Ok next) }
-        ensures err { IfErr result (IsLineFault (related self (added_of version
-            (Problem.Presented self) (Form.OfRole Role.Inverse) (texts tokens.now)))) }
+    // Puts the relations behind the others by which the letters that the tokens name are inverse.
+    fn take_inverse(&mut self, version: Version, tokens: &[&[u8]]) -> Result<(), LineFault>
+        ensures ok { OnOk result (related self.old (added_of version
+            (Problem.Presented self.old) (Form.OfRole Role.Inverse) (texts tokens.now))
+            ≡ Ok self.new) }
+        ensures err { IfErr result (IsLineFault (related self.old (added_of version
+            (Problem.Presented self.old) (Form.OfRole Role.Inverse) (texts tokens.now)))) }
     {
         let (x, y, e) = self.inverse_letters(version, tokens)?;
-        Ok(self.add_inverse(x, y, e)?)
+        self.add_inverse(x, y, e)?;
+        Ok(())
     }
 
-    /// The relations behind the others by which letters have this role; the tokens name them.
+    /// Puts the relations behind the others by which letters have this role; the tokens name them.
     /// Refused with the cause of its line, or for want of memory.
-    pub fn with_role(
-        self,
+    pub fn take_role(
+        &mut self,
         version: Version,
         role: Role,
         tokens: &[&[u8]],
-    ) -> Result<Outline, LineFault>
-        ensures ok { IfOk result (λ next. related self (added_of version
-            (Problem.Presented self) (Form.OfRole role) (texts tokens.now)) ≡ Ok next) }
-        ensures err { IfErr result (IsLineFault (related self (added_of version
-            (Problem.Presented self) (Form.OfRole role) (texts tokens.now)))) }
+    ) -> Result<(), LineFault>
+        ensures ok { OnOk result (related self.old (added_of version
+            (Problem.Presented self.old) (Form.OfRole role) (texts tokens.now)) ≡ Ok self.new) }
+        ensures err { IfErr result (IsLineFault (related self.old (added_of version
+            (Problem.Presented self.old) (Form.OfRole role) (texts tokens.now)))) }
     {
         match role {
-            Role::Identity => self.with_identity(version, tokens),
-            Role::Zero => self.with_zero(version, tokens),
-            Role::Inverse => self.with_inverse(version, tokens),
+            Role::Identity => self.take_identity(version, tokens),
+            Role::Zero => self.take_zero(version, tokens),
+            Role::Inverse => self.take_inverse(version, tokens),
         }
     }
 

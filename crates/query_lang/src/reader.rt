@@ -271,8 +271,14 @@ impl Reader {
             (added_to self Form.Relation (texts tokens.now))) }
     {
         let version = self.version();
-        let outline = self.into_outline();
-        Ok(relating(version, outline.with_relation(alloc, version, tokens)?))
+        let mut outline = self.into_outline();
+        match outline.take_relation(alloc, version, tokens) {
+            Ok(()) => Ok(relating(version, outline)),
+            Err(fault) => {
+                drop(outline);
+                Err(fault)
+            }
+        }
     }
 
     fn add_role(self, role: Role, tokens: &[&[u8]]) -> Result<Reader, LineFault>
@@ -284,8 +290,14 @@ impl Reader {
             (added_to self (Form.OfRole role) (texts tokens.now))) }
     {
         let version = self.version();
-        let outline = self.into_outline();
-        Ok(relating(version, outline.with_role(version, role, tokens)?))
+        let mut outline = self.into_outline();
+        match outline.take_role(version, role, tokens) {
+            Ok(()) => Ok(relating(version, outline)),
+            Err(fault) => {
+                drop(outline);
+                Err(fault)
+            }
+        }
     }
 
     // A pair of this kind.

@@ -1,19 +1,17 @@
 use Rattle.std.proofs.Common.{Ok, sym, ap, ◌∙◌}
 use Rattle.problem.specs.declared.kinds.Problem.TheVariants.{Presented}
 use Rattle.line_parts.specs.Outcome.{and_then}
-use Rattle.line_parts.proofs.FaultLemmas.{handed_on}
 use Rattle.query_lang.specs.Grammar.{Partial, begin_with}
 use Rattle.query_lang.proofs.QueryLemmas.{carried, same_fault}
 use Rattle.query_lang.proofs.ReaderLemmas.{relation_is}
 use Rattle.query_lang.proofs.reader.Reader.add_relation.Goals as goal
 
-pub returns-in_err-with_relation-clause-err : goal.returns-in_err-with_relation-clause-err
-returns-in_err-with_relation-clause-err c =
-    handed_on _ _ _ c.from_residual.ensures.1
-    (same_fault _ _ _ (relation_is c.args.self c.into_outline-outline.result _ c.version-version.result c.version-version.ensures c.into_outline-outline.ensures.outline) (carried _ _ _ c.in_err-with_relation.ensures.err))
+pub returns-in-Err-clause-err : goal.returns-in-Err-clause-err
+returns-in-Err-clause-err c =
+    same_fault _ _ _ (relation_is c.args.self c.into_outline-outline.result _ c.version-version.result c.version-version.ensures c.into_outline-outline.ensures.outline) (carried _ _ _ c.in-Err.ensures.err)
 
-pub returns-clause-ok : goal.returns-clause-ok
-returns-clause-ok c =
+pub returns-in-Ok-clause-ok : goal.returns-in-Ok-clause-ok
+returns-in-Ok-clause-ok c =
     relation_is c.args.self c.into_outline-outline.result _ c.version-version.result c.version-version.ensures c.into_outline-outline.ensures.outline
-    ∙ ap (and_then (λ n. Ok (begin_with c.version-version.result (0, 0) (Presented n)))) c.in_ok-with_relation.ensures.ok
+    ∙ ap (and_then (λ n. Ok (begin_with c.version-version.result (0, 0) (Presented n)))) c.in-Ok.ensures.ok
     ∙ ap (λ (p : Partial). Ok p) (sym c.relating.ensures)

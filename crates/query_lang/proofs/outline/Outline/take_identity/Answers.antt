@@ -7,17 +7,17 @@ use Rattle.line_parts.proofs.FaultLemmas.{handed_on}
 use Rattle.query_lang.specs.Relations.{add_relations}
 use Rattle.query_lang.proofs.AddedLemmas.{identity_related}
 use Rattle.query_lang.proofs.QueryLemmas.{carried, same_fault}
-use Rattle.query_lang.proofs.outline.Outline.with_identity.Goals as goal
+use Rattle.query_lang.proofs.outline.Outline.take_identity.Goals as goal
 
 pub add_identity-requires-clause-few : goal.add_identity-requires-clause-few
 add_identity-requires-clause-few c = c.in_ok-letter.ensures.few (λ x. x ∷ [])
 
 pub returns-in_err-letter-clause-err : goal.returns-in_err-letter-clause-err
 returns-in_err-letter-clause-err c =
-    handed_on _ _ _ c.from_residual.ensures.1 (same_fault _ _ _ (identity_related c.args.version c.args.self (texts c.args.tokens.now)) (carried _ _ _ c.in_err-letter.ensures.err))
+    handed_on _ _ _ c.from_residual.ensures.1 (same_fault _ _ _ (identity_related c.args.version c.args.self.now (texts c.args.tokens.now)) (carried _ _ _ c.in_err-letter.ensures.err))
 
 pub returns-clause-ok : goal.returns-clause-ok
 returns-clause-ok c =
-    identity_related c.args.version c.args.self (texts c.args.tokens.now)
-    ∙ ap (and_then (λ (x : ℕ). Ok (add_relations c.args.self (identity_relations (length c.args.self.alphabet) x)))) c.in_ok-letter.ensures.ok
+    identity_related c.args.version c.args.self.now (texts c.args.tokens.now)
+    ∙ ap (and_then (λ (x : ℕ). Ok (add_relations c.args.self.now (identity_relations (length c.args.self.now.alphabet) x)))) c.in_ok-letter.ensures.ok
     ∙ ap (λ (o : Posed). Ok o) (sym c.in_ok-add_identity.ensures)
