@@ -33,30 +33,34 @@ fn multiply<E: Element, L: Ledger>(
     Ok(made)
 }
 
+// What stays while elements are found: the generators, and how many elements there may be.
+#[derive(Drop)]
+pub(crate) struct Enumerator<'a, E: Element> {
+    pub(crate) generators: &'a Vec<E>,
+    pub(crate) bound: usize,
+}
+
 // A call that may find more elements than the bound says so, and the growth is of no use then.
-impl<E: Element> Growth<E> {
+impl<'a, E: Element> Enumerator<'a, E> {
     // Takes in the generators.
-    pub(crate) fn take_generators(
-        &mut self,
-        generators: &Vec<E>,
-        bound: usize,
-    ) -> Result<bool, NoMemory>
-        requires some { 0 < length generators.now.items }
-        requires shape { HaveOneShape E.shape generators.now.items }
-        requires none { IsNew self.old }
-        ensures whole { result ≡ Ok false → length self.new.elements.keys ≤ bound }
+    pub(crate) fn take_generators(&self, growth: &mut Growth<E>) -> Result<bool, NoMemory>
+        requires some { 0 < length self.now.generators.now.items }
+        requires shape { HaveOneShape E.shape self.now.generators.now.items }
+        requires none { IsNew growth.old }
+        ensures whole { result ≡ Ok false → length growth.new.elements.keys ≤ self.now.bound }
         ensures known { result ≡ Ok false
-            → IsKnown E.product E.eq generators.now.items self.new 1 0 }
+            → IsKnown E.product E.eq self.now.generators.now.items growth.new 1 0 }
         ensures level { result ≡ Ok false
-            → IsLevel (words_of self.new.factors.items) 0 (length self.new.elements.keys) }
-        ensures over { result ≡ Ok true → IsOver E.product E.eq generators.now.items bound }
+            → IsLevel (words_of growth.new.factors.items) 0 (length growth.new.elements.keys) }
+        ensures over { result ≡ Ok true
+            → IsOver E.product E.eq self.now.generators.now.items self.now.bound }
     {
-        let alloc = *self.right.allocator();
-        for (letter, generator) in generators.iter().enumerate() {
+        let alloc = *growth.right.allocator();
+        for (letter, generator) in self.generators.iter().enumerate() {
             let copy = generator.copy(alloc)?;
             let factor = Factor::new(0, letter)?;
             let tail = Tail::new(letter, 0)?;
-            if self.goes_over(copy, factor, tail, bound)? {
+            if growth.goes_over(copy, factor, tail, self.bound)? {
                 return Ok(true);
             }
         }
@@ -66,113 +70,121 @@ impl<E: Element> Growth<E> {
     // The number of the product of an element by a letter, where the graphs tell it: without its
     // first letter, the element's word with the letter has a lesser word, and that one is read in
     // its place.
-    fn read_product(&self, generators: &Vec<E>, number: usize, letter: usize) -> Option<u32>
-        requires shape { HaveOneShape E.shape generators.now.items }
-        requires letter { letter < length generators.now.items }
-        requires at { IsMultiplied E.product E.eq generators.now.items self.now number letter }
+    fn read_product(&self, growth: &Growth<E>, number: usize, letter: usize) -> Option<u32>
+        requires shape { HaveOneShape E.shape self.now.generators.now.items }
+        requires letter { letter < length self.now.generators.now.items }
+        requires at { IsMultiplied E.product E.eq self.now.generators.now.items
+            growth.now number letter }
         ensures read { IfSome result (λ product. (unused : E)
-            → IsNumberIn (length generators.now.items) E.eq
-            (value_by E.product generators.now.items unused) (words_of self.now.factors.items)
-            product (parent (words_of self.now.factors.items) (number + 1) ++ letter ∷ [])) }
-        ensures least { let suffix = (tail_at self.now.tails.items number).suffix in
-            let rest = entry (length generators.now.items) self.now.right.items suffix letter in
-            result ≡ None → is_product self.now.factors.items rest suffix letter ≡ true }
+            → IsNumberIn (length self.now.generators.now.items) E.eq
+            (value_by E.product self.now.generators.now.items unused)
+            (words_of growth.now.factors.items)
+            product (parent (words_of growth.now.factors.items) (number + 1) ++ letter ∷ [])) }
+        ensures least { let suffix = (tail_at growth.now.tails.items number).suffix in
+            let rest = entry (length self.now.generators.now.items)
+            growth.now.right.items suffix letter in
+            result ≡ None → is_product growth.now.factors.items rest suffix letter ≡ true }
     {
-        let letters = generators.len();
-        let tail = self.tails[number];
-        let rest = entry(&self.right, letters, tail.suffix as usize, letter);
-        if is_product(&self.factors, rest, tail.suffix as usize, letter) {
+        let letters = self.generators.len();
+        let tail = growth.tails[number];
+        let rest = entry(&growth.right, letters, tail.suffix as usize, letter);
+        if is_product(&growth.factors, rest, tail.suffix as usize, letter) {
             return None;
         }
-        let factor = self.factors[rest];
+        let factor = growth.factors[rest];
         let product = entry(
-            &self.left,
+            &growth.left,
             letters,
             factor.prefix as usize,
             tail.first as usize,
         );
-        Some(number_at(&self.right, letters, product + 1, factor.last as usize))
+        Some(number_at(&growth.right, letters, product + 1, factor.last as usize))
     }
 
     // Takes in the product of an element by a letter, which is multiplied out.
     fn make_product<L: Ledger>(
-        &mut self,
-        generators: &Vec<E>,
-        bound: usize,
+        &self,
+        growth: &mut Growth<E>,
         number: usize,
         letter: usize,
         steps: &mut Steps<L>,
     ) -> Result<bool, NoMemory>
-        requires shape { HaveOneShape E.shape generators.now.items }
-        requires letter { letter < length generators.now.items }
-        requires at { IsMultiplied E.product E.eq generators.now.items self.old number letter }
-        requires least { let suffix = (tail_at self.old.tails.items number).suffix in
-            let rest = entry (length generators.now.items) self.old.right.items suffix letter in
-            is_product self.old.factors.items rest suffix letter ≡ true }
-        ensures whole { result ≡ Ok false → length self.new.elements.keys ≤ bound }
+        requires shape { HaveOneShape E.shape self.now.generators.now.items }
+        requires letter { letter < length self.now.generators.now.items }
+        requires at { IsMultiplied E.product E.eq self.now.generators.now.items
+            growth.old number letter }
+        requires least { let suffix = (tail_at growth.old.tails.items number).suffix in
+            let rest = entry (length self.now.generators.now.items)
+            growth.old.right.items suffix letter in
+            is_product growth.old.factors.items rest suffix letter ≡ true }
+        ensures whole { result ≡ Ok false → length growth.new.elements.keys ≤ self.now.bound }
         ensures step { result ≡ Ok false
-            → IsStep E.product E.eq generators.now.items self.old self.new
+            → IsStep E.product E.eq self.now.generators.now.items growth.old growth.new
             number (letter + 1) steps.old steps.new }
-        ensures over { result ≡ Ok true → IsOver E.product E.eq generators.now.items bound }
+        ensures over { result ≡ Ok true
+            → IsOver E.product E.eq self.now.generators.now.items self.now.bound }
         ensures counted { steps.old ≤ steps.new }
         ensures most { steps.new ≤ steps.old + 1 }
     {
-        let alloc = *self.right.allocator();
-        let made = multiply(alloc, &self.elements[number], &generators[letter], steps)?;
-        let tail = self.tail_of_product(generators.len(), number, letter)?;
+        let alloc = *growth.right.allocator();
+        let element = &growth.elements[number];
+        let made = multiply(alloc, element, &self.generators[letter], steps)?;
+        let tail = growth.tail_of_product(self.generators.len(), number, letter)?;
         let factor = Factor::new(number + 1, letter)?;
-        self.goes_over(made, factor, tail, bound)
+        growth.goes_over(made, factor, tail, self.bound)
     }
 
     // The same, where the product is multiplied out only if the graphs do not tell it.
     fn take_product<L: Ledger>(
-        &mut self,
-        generators: &Vec<E>,
-        bound: usize,
+        &self,
+        growth: &mut Growth<E>,
         number: usize,
         letter: usize,
         steps: &mut Steps<L>,
     ) -> Result<bool, NoMemory>
-        requires shape { HaveOneShape E.shape generators.now.items }
-        requires letter { letter < length generators.now.items }
-        requires few { length self.old.elements.keys ≤ bound }
-        requires at { IsMultiplied E.product E.eq generators.now.items self.old number letter }
-        ensures whole { result ≡ Ok false → length self.new.elements.keys ≤ bound }
+        requires shape { HaveOneShape E.shape self.now.generators.now.items }
+        requires letter { letter < length self.now.generators.now.items }
+        requires few { length growth.old.elements.keys ≤ self.now.bound }
+        requires at { IsMultiplied E.product E.eq self.now.generators.now.items
+            growth.old number letter }
+        ensures whole { result ≡ Ok false → length growth.new.elements.keys ≤ self.now.bound }
         ensures step { result ≡ Ok false
-            → IsStep E.product E.eq generators.now.items self.old self.new
+            → IsStep E.product E.eq self.now.generators.now.items growth.old growth.new
             number (letter + 1) steps.old steps.new }
-        ensures over { result ≡ Ok true → IsOver E.product E.eq generators.now.items bound }
+        ensures over { result ≡ Ok true
+            → IsOver E.product E.eq self.now.generators.now.items self.now.bound }
         ensures counted { steps.old ≤ steps.new }
         ensures most { steps.new ≤ steps.old + 1 }
     {
-        if let Some(product) = self.read_product(generators, number, letter) {
-            self.right.push(product)?;
+        if let Some(product) = self.read_product(growth, number, letter) {
+            growth.right.push(product)?;
             return Ok(false);
         }
-        self.make_product(generators, bound, number, letter, steps)
+        self.make_product(growth, number, letter, steps)
     }
 
     // Takes in the products of an element by each letter.
     fn take_products<L: Ledger>(
-        &mut self,
-        generators: &Vec<E>,
-        bound: usize,
+        &self,
+        growth: &mut Growth<E>,
         number: usize,
         steps: &mut Steps<L>,
     ) -> Result<bool, NoMemory>
-        requires shape { HaveOneShape E.shape generators.now.items }
-        requires few { length self.old.elements.keys ≤ bound }
-        requires at { IsMultiplied E.product E.eq generators.now.items self.old number 0 }
-        ensures whole { result ≡ Ok false → length self.new.elements.keys ≤ bound }
+        requires shape { HaveOneShape E.shape self.now.generators.now.items }
+        requires few { length growth.old.elements.keys ≤ self.now.bound }
+        requires at { IsMultiplied E.product E.eq self.now.generators.now.items
+            growth.old number 0 }
+        ensures whole { result ≡ Ok false → length growth.new.elements.keys ≤ self.now.bound }
         ensures step { result ≡ Ok false
-            → IsStep E.product E.eq generators.now.items self.old self.new
-            number (length generators.now.items) steps.old steps.new }
-        ensures over { result ≡ Ok true → IsOver E.product E.eq generators.now.items bound }
+            → IsStep E.product E.eq self.now.generators.now.items growth.old growth.new
+            number (length self.now.generators.now.items) steps.old steps.new }
+        ensures over { result ≡ Ok true
+            → IsOver E.product E.eq self.now.generators.now.items self.now.bound }
         ensures counted { steps.old ≤ steps.new }
-        ensures most { steps.new ≤ steps.old + length generators.now.items }
+        ensures most { steps.new ≤ steps.old + length self.now.generators.now.items }
     {
-        for letter in 0..generators.len() {
-            if self.take_product(generators, bound, number, letter, steps)? {
+        for letter in 0..self.generators.len() {
+            if self.take_product(growth, number, letter, steps)? {
                 return Ok(true);
             }
         }
@@ -182,30 +194,31 @@ impl<E: Element> Growth<E> {
     // Takes in the products of the elements whose words are of one length by each letter: those
     // from the first number to before the last.
     pub(crate) fn take_level<L: Ledger>(
-        &mut self,
-        generators: &Vec<E>,
-        bound: usize,
+        &self,
+        growth: &mut Growth<E>,
         first: usize,
         last: usize,
         steps: &mut Steps<L>,
     ) -> Result<bool, NoMemory>
-        requires shape { HaveOneShape E.shape generators.now.items }
-        requires some { 0 < length generators.now.items }
+        requires shape { HaveOneShape E.shape self.now.generators.now.items }
+        requires some { 0 < length self.now.generators.now.items }
         requires order { first ≤ last }
-        requires few { length self.old.elements.keys ≤ bound }
-        requires within { IsWithin E.product E.eq generators.now.items self.old first last first }
-        ensures whole { result ≡ Ok false → length self.new.elements.keys ≤ bound }
+        requires few { length growth.old.elements.keys ≤ self.now.bound }
+        requires within { IsWithin E.product E.eq self.now.generators.now.items
+            growth.old first last first }
+        ensures whole { result ≡ Ok false → length growth.new.elements.keys ≤ self.now.bound }
         ensures within { result ≡ Ok false
-            → IsWithin E.product E.eq generators.now.items self.new first last last }
-        ensures count { result ≡ Ok false → KeepsCount E.product E.eq generators.now.items
-            self.old self.new steps.old steps.new }
-        ensures over { result ≡ Ok true → IsOver E.product E.eq generators.now.items bound }
+            → IsWithin E.product E.eq self.now.generators.now.items growth.new first last last }
+        ensures count { result ≡ Ok false → KeepsCount E.product E.eq self.now.generators.now.items
+            growth.old growth.new steps.old steps.new }
+        ensures over { result ≡ Ok true
+            → IsOver E.product E.eq self.now.generators.now.items self.now.bound }
         ensures counted { steps.old ≤ steps.new }
-        ensures most { steps.new + first * length generators.now.items
-            ≤ steps.old + last * length generators.now.items }
+        ensures most { steps.new + first * length self.now.generators.now.items
+            ≤ steps.old + last * length self.now.generators.now.items }
     {
         for number in first..last {
-            if self.take_products(generators, bound, number, steps)? {
+            if self.take_products(growth, number, steps)? {
                 return Ok(true);
             }
         }

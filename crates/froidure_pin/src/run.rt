@@ -8,6 +8,7 @@ ghost use Rattle.froidure_pin.specs.Found.{IsTableOf};
 ghost use Rattle.froidure_pin.specs.Numbering.{IsNumbering};
 
 use super::growth::Growth;
+use super::products::Enumerator;
 use super::steps::Steps;
 use super::table::Table;
 use elements::Element;
@@ -62,15 +63,16 @@ impl FroidurePin {
         ensures counted { steps.old ≤ steps.new }
         ensures most { steps.new ≤ steps.old + bound * length generators.now.items }
     {
+        let enumerator = Enumerator { generators, bound };
         let mut growth = Growth::new(alloc);
-        if growth.take_generators(generators, bound)? {
+        if enumerator.take_generators(&mut growth)? {
             return Ok(Run::Over);
         }
         growth.begin_left(generators)?;
         let mut first = 0;
         while first < growth.elements.len() {
             let last = growth.elements.len();
-            if growth.take_level(generators, bound, first, last, steps)? {
+            if enumerator.take_level(&mut growth, first, last, steps)? {
                 return Ok(Run::Over);
             }
             growth.add_left_rows(generators, first, last)?;

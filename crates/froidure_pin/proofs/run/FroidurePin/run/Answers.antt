@@ -79,7 +79,7 @@ loop-first-preserved g c =
     let ok = ap Ok c.if-branch-2.false in
     let within = c.in_ok-take_level.ensures.within ok in
     let kept = c.in_ok-add_left_rows.ensures.kept in
-    let many : length (words_of c.take_level.new.self.factors.items) ≡ length c.take_level.new.self.elements.keys = grown_count setting unused c.take_level.new.self.elements.keys c.take_level.new.self.factors.items c.take_level.new.self.tails.items c.take_level.new.self.right.items (c.len-last.result + 1) 0 (within.known unused) in
+    let many : length (words_of c.take_level.new.growth.factors.items) ≡ length c.take_level.new.growth.elements.keys = grown_count setting unused c.take_level.new.growth.elements.keys c.take_level.new.growth.factors.items c.take_level.new.growth.tails.items c.take_level.new.growth.right.items (c.len-last.result + 1) 0 (within.known unused) in
     record {
       few = subst (λ (growth : Growth g.row.E.Denot). length growth.elements.keys ≤ c.args.bound) (sym kept) (c.in_ok-take_level.ensures.whole ok);
       reached = subst (λ (growth : Growth g.row.E.Denot). c.len-last.result ≤ length growth.elements.keys) (sym kept) (omega (arith, within.level.within, many));

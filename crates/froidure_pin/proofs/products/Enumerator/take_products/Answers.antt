@@ -1,7 +1,7 @@
 use Rattle.std.proofs.Common.{◌≡◌, length, ap, subst, arith, Ok}
 use Rattle.froidure_pin.specs.Kept.{IsStep}
 use Rattle.froidure_pin.proofs.Making.{step_none, step_on}
-use Rattle.froidure_pin.proofs.growth.Growth.take_products.Goals as goal
+use Rattle.froidure_pin.proofs.products.Enumerator.take_products.Goals as goal
 
 pub loop-letter-init : goal.loop-letter-init
 loop-letter-init g c = record {
@@ -24,5 +24,5 @@ loop-letter-preserved g c = record {
 
 pub returns-clause-step : goal.returns-clause-step
 returns-clause-step g c = λ _.
-    let full : c.loop-letter.letter ≡ length c.args.generators.now.items = omega (arith, c.loop-letter-test.false, c.loop-letter.auto.letter-end) in
-    subst (λ n. IsStep g.E.Values.product g.E.PartialEq.eq c.args.generators.now.items c.args.self.now c.loop-letter.self c.args.number n c.args.steps.now c.loop-letter.steps) full c.loop-letter.invariant.step
+    let full : c.loop-letter.letter ≡ length c.args.self.now.generators.now.items = omega (arith, c.loop-letter-test.false, c.loop-letter.auto.letter-end) in
+    subst (λ n. IsStep g.E.Values.product g.E.PartialEq.eq c.args.self.now.generators.now.items c.args.growth.now c.loop-letter.growth c.args.number n c.args.steps.now c.loop-letter.steps) full c.loop-letter.invariant.step
