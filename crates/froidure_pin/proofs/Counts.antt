@@ -1,12 +1,13 @@
 -- Steps are no more than elements and rules.
-use Rattle.std.proofs.Common.{◌≡◌, ℕ, ◌+◌, ◌≤◌, Bool, List, [], ◌∷◌, length, Option, None, Some, refl, arith, inl, inr}
+use Rattle.std.proofs.Common.{◌≡◌, ℕ, ◌+◌, ◌≤◌, List, [], ◌∷◌, length, Option, None, Some, refl, arith, inl, inr}
 use Rattle.theory.specs.Word.{Word}
 use Rattle.theory.specs.Listing.{IsAfter, IsListOf, IsStrictOrder}
 use Rattle.theory.specs.Class.{IsReducedRule, IsRuleList, RuleBefore}
 use Rattle.theory.proofs.Counting.{IsIn, pigeonhole}
 use Rattle.theory.proofs.ClassLaws.{rule_order}
+use Rattle.froidure_pin.specs.Found.{Generated, IsSame}
 use Rattle.froidure_pin.specs.Growing.{AreCounted}
-use Rattle.froidure_pin.proofs.Search.{IsSetting, R, r_sym, r_trans}
+use Rattle.froidure_pin.proofs.Search.{IsSetting, r_sym, r_trans}
 
 -- what has the property is in the list of all that have it
 list_has : {A : Type 0} (P : A → Type 0) (Less : A → A → Type 0) → IsStrictOrder P Less → (cursor : Option A) (xs : List A) → IsListOf P Less cursor xs → (y : A) → P y → IsAfter Less cursor y → IsIn y xs
@@ -17,8 +18,8 @@ list_has P Less order cursor (x ∷ xs) h y has after = elim (order.cases y x ha
   | inr (inr g) ↦ inr (list_has P Less order (Some x) xs h.1 y has g)
 ]
 
-module _ {V : Type 0} {shape : V → ℕ × ℕ} {product : V → V → V} {equal : V → V → Bool} {generators : List V} (setting : IsSetting shape product equal generators) (unused : V) where
-  pub counted_bound : (words : List Word) (n start steps : ℕ) (rules : List (Word × Word)) → AreCounted product equal generators unused words n start steps → IsRuleList (R setting unused) rules → steps ≤ start + (length words + length rules)
-  counted_bound words n start steps rules counted all =
-      let fewer : length counted.rules ≤ length rules = pigeonhole (λ (p q : Word × Word). p ≡ q) counted.rules rules counted.apart (λ p m. (p, list_has (λ p. IsReducedRule (R setting unused) p.0 p.1) RuleBefore (rule_order (R setting unused) (record { symmetric = r_sym setting unused; transitive = r_trans setting unused })) None rules all p (counted.reduced p m) tt, refl)) in
+module _ {V : Type 0} {shape : V → ℕ × ℕ} {s : Generated V} (setting : IsSetting shape s) where
+  pub counted_bound : {words : List Word} {n start steps : ℕ} (rules : List (Word × Word)) → AreCounted s words n start steps → IsRuleList (IsSame s) rules → steps ≤ start + (length words + length rules)
+  counted_bound rules counted all =
+      let fewer : length counted.rules ≤ length rules = pigeonhole (λ (p q : Word × Word). p ≡ q) counted.rules rules counted.apart (λ p m. (p, list_has (λ p. IsReducedRule (IsSame s) p.0 p.1) RuleBefore (rule_order (IsSame s) (record { symmetric = r_sym setting; transitive = r_trans setting })) None rules all p (counted.reduced p m) tt, refl)) in
       omega (arith, counted.few, fewer)

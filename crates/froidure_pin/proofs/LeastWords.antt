@@ -1,21 +1,21 @@
 -- Least words in ascending order, each found by its number.
-use Rattle.std.proofs.Common.{◌≡◌, ◌≢◌, ℕ, ◌<◌, ◌≤◌, Bool, List, [], ◌∷◌, length, get_or, None, sym, subst, arith, inl, inr}
+use Rattle.std.proofs.Common.{◌≡◌, ◌≢◌, ℕ, ◌<◌, ◌≤◌, List, [], ◌∷◌, length, get_or, None, sym, subst, arith, inl, inr}
 use Rattle.theory.specs.Word.{Word}
 use Rattle.theory.specs.ShortLex.{◌≺◌}
 use Rattle.theory.specs.Listing.{IsAscending}
 use Rattle.theory.specs.Class.{IsLeast}
 use Rattle.theory.proofs.Words.{order_cases, before_irrefl}
-use Rattle.froidure_pin.specs.Found.{parent}
+use Rattle.froidure_pin.specs.Found.{Generated, IsNumbered, IsSame, parent}
 use Rattle.froidure_pin.proofs.Order.{below_or_not, equal_or_below}
 use Rattle.froidure_pin.proofs.Starts.{at_in, ascending_between, parents_ascend}
-use Rattle.froidure_pin.proofs.Search.{IsSetting, R, Number, r_sym}
+use Rattle.froidure_pin.proofs.Search.{IsSetting, r_sym}
 
-module _ {V : Type 0} {shape : V → ℕ × ℕ} {product : V → V → V} {equal : V → V → Bool} {generators : List V} (setting : IsSetting shape product equal generators) (unused : V)
-    (words : List Word) (least_at : (m : ℕ) → m < length words → IsLeast (R setting unused) (get_or words m [])) (ascending : IsAscending ◌≺◌ None words) where
+module _ {V : Type 0} {shape : V → ℕ × ℕ} {s : Generated V} (setting : IsSetting shape s)
+    (words : List Word) (least_at : (m : ℕ) → m < length words → IsLeast (IsSame s) (get_or words m [])) (ascending : IsAscending ◌≺◌ None words) where
   -- a least word is the word of its number
-  pub least_word : (u : Word) (m : ℕ) → IsLeast (R setting unused) u → Number setting unused words m u → u ≡ get_or words m []
+  pub least_word : (u : Word) (m : ℕ) → IsLeast (IsSame s) u → IsNumbered s words m u → u ≡ get_or words m []
   least_word u m h n = elim (order_cases u (get_or words m [])) [
-    | inl l ↦ absurd ((least_at m n.0).none_less u (r_sym setting unused u (get_or words m []) n.1) l)
+    | inl l ↦ absurd ((least_at m n.0).none_less u (r_sym setting u (get_or words m []) n.1) l)
     | inr (inl e) ↦ e
     | inr (inr g) ↦ absurd (h.none_less (get_or words m []) n.1 g)
   ]

@@ -3,7 +3,7 @@ use Rattle.std.proofs.Common.{◌≡◌, ℕ, zero, suc, ◌+◌, ◌<◌, List,
 use Rattle.std.specs.Prelude.{Result}
 use Rattle.std.proofs.lemmas.List.{take_more}
 use Rattle.std.proofs.lemmas.List.Sums.{fold-append}
-use Rattle.std.proofs.lemmas.Option.{slice_get-get_or, slice_get_within, get_or_from_slice_get}
+use Rattle.std.proofs.lemmas.Option.{slice_get-get_or, get_or_from_slice_get}
 use Rattle.theory.specs.Word.{Word, IsOver}
 use Rattle.froidure_pin.specs.Numbering.{TableOf, right_number, letter_number, number_of}
 
@@ -31,7 +31,3 @@ number_more t (b ∷ u) (suc i) a some h e =
     let more : take (i + 1) u ≡ take i u ++ get_or u i 0 ∷ [] = take_more u i 0 (omega arith) in
     let letter : get_or u i 0 ≡ a = get_or_from_slice_get u i a 0 e in
     ap (λ n. number_of t (take n (b ∷ u))) place ∙ ap (fold (right_number t) (letter_number t b)) more ∙ fold-append (right_number t) (letter_number t b) (take i u) (get_or u i 0 ∷ []) ∙ ap (right_number t (fold (right_number t) (letter_number t b) (take i u))) letter
-
--- one word more
-pub words_more : (words : List Word) (i : ℕ) (w : Word) → slice_get words i ≡ Some w → take (i + 1) words ≡ take i words ++ w ∷ []
-words_more words i w e = take_more words i [] (slice_get_within words i w e) ∙ ap (λ u. take i words ++ u ∷ []) (get_or_from_slice_get words i w [] e)

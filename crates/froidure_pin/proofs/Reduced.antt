@@ -10,7 +10,7 @@ use Rattle.theory.proofs.Listings.{list_from_ascending}
 use Rattle.theory.proofs.ClassLaws.{IsPartialEquivalence, least_part, rule_order}
 use Rattle.theory.proofs.Completeness.{normal_unique}
 use Rattle.theory.proofs.ValueLaws.{value_kept_left, value_kept_right}
-use Rattle.froidure_pin.specs.Found.{AreFactors, parent, entry, words_of, factor_at}
+use Rattle.froidure_pin.specs.Found.{AreFactors, Generated, IsNumbered, IsSame, entry, factor_at, letters_of, parent, words_of}
 use Rattle.froidure_pin.specs.Numbering.{AreRows}
 use Rattle.froidure_pin.specs.Rules.{AreSuffixes, is_product, is_rule, rule_at, rules_to}
 use Rattle.froidure_pin.proofs.Order.{snoc, snoc_not_nil, ahead, letter_before, below_or_not, equal_or_below, empty_or_not}
@@ -19,7 +19,7 @@ use Rattle.froidure_pin.proofs.RuleSteps.{row_of_place, not_zero}
 use Rattle.froidure_pin.proofs.Factors.{factor_word, words_length}
 use Rattle.froidure_pin.proofs.Starts.{in_push, in_last}
 use Rattle.froidure_pin.proofs.LeastWords.{least_word, parents_rise, parent_once}
-use Rattle.froidure_pin.proofs.Search.{IsSetting, R, Number, semi, known, r_sym, r_trans, r_refl}
+use Rattle.froidure_pin.proofs.Search.{IsSetting, semi, known, r_sym, r_trans, r_refl}
 use Rattle.froidure_pin.specs.declared.parts.Factor.{Factor}
 
 -- the last letter, and what stands before it
@@ -136,33 +136,49 @@ proper_cases w a f some h = elim (snoc h.factor.after) [
         go [] (d ∷ x) e n = let rest : x ++ f ≡ [] = cc in absurd (some (back_nil x f rest))
         go (c ∷ t) (d ∷ x) e n = let rest : t ++ a ∷ [] ≡ x ++ f = cc in (c, t, x, refl, rest)
 
-module _ {V : Type 0} {shape : V → ℕ × ℕ} {product : V → V → V} {equal : V → V → Bool} {generators : List V} (setting : IsSetting shape product equal generators) (unused : V) where
+-- what stands behind the first letter
+pub tail_same : (c d : ℕ) (t u : Word) → c ∷ t ≡ d ∷ u → t ≡ u
+tail_same c d t u e = cc
+
+module _ {V : Type 0} {shape : V → ℕ × ℕ} {s : Generated V} (setting : IsSetting shape s) where
   abbrev pub Related : Word → Word → Type 0
-  Related = R setting unused
+  Related = IsSame s
 
   equivalence : IsPartialEquivalence Related
-  equivalence = record { symmetric = r_sym setting unused; transitive = r_trans setting unused }
+  equivalence = record { symmetric = r_sym setting; transitive = r_trans setting }
 
   -- a part of a least word is least
   pub part_least : (x f y : Word) → f ≢ [] → IsLeast Related (x ++ (f ++ y)) → IsLeast Related f
   part_least x f y some h =
-      let k : ℕ = length generators in
+      let k : ℕ = letters_of s in
       let whole : IsOver k (x ++ (f ++ y)) = h.element.left.1 in
       let rest : IsOver k (f ++ y) = over_right k x (f ++ y) whole in
-      let here = r_refl setting unused f (some, over_left k f y rest) in
+      let here = r_refl setting f (some, over_left k f y rest) in
       let kept : (v : Word) → Related f v → Related (x ++ (f ++ y)) (x ++ (v ++ y)) = λ v r.
-      value_kept_left (semi setting unused) (known setting unused) x (f ++ y) (v ++ y)
-      (value_kept_right (semi setting unused) (known setting unused) f v y r (over_right k f y rest)) (over_left k x (f ++ y) whole) in
+      value_kept_left (semi setting) (known setting) x (f ++ y) (v ++ y)
+      (value_kept_right (semi setting) (known setting) f v y r (over_right k f y rest)) (over_left k x (f ++ y) whole) in
       least_part Related x f y kept here h
 
-  module _ (factors : List Factor) (right suffixes : List ℕ) (earlier : AreFactors (length generators) factors) (rows : AreRows (length generators) (length factors) right)
-      (follow : AreSuffixes (length generators) factors right suffixes (length factors)) (some : 0 < length generators)
+  -- so is a proper factor of a word with a letter, where the word is least, and the rest with the letter
+  pub factor_least : (w : Word) (a : ℕ) → (w ≢ [] → IsLeast Related w) → ((c : ℕ) (rest : Word) → w ≡ c ∷ rest → IsLeast Related (rest ++ a ∷ [])) → (f : Word) → IsProperFactor f (w ++ a ∷ []) → f ≢ [] → IsLeast Related f
+  factor_least w a least rest_least f proper some = elim (proper_cases w a f some proper) [
+    | inl p ↦ part_least p.0 f p.1 some (subst (λ u. IsLeast Related u) p.2 (least (λ e. some (middle_nil p.0 f p.1 (sym p.2 ∙ e)))))
+    | inr p ↦ part_least p.2 f [] some (subst (λ u. IsLeast Related u) (p.4 ∙ ap (λ g. p.2 ++ g) (sym (append-nil f))) (rest_least p.0 p.1 p.3))
+  ]
+    where
+      middle_nil : (x f y : Word) → x ++ (f ++ y) ≡ [] → f ≡ []
+      middle_nil [] [] y e = refl
+      middle_nil [] (c ∷ f) y e = cc
+      middle_nil (c ∷ x) f y e = cc
+
+  module _ (factors : List Factor) (right suffixes : List ℕ) (earlier : AreFactors (letters_of s) factors) (rows : AreRows (letters_of s) (length factors) right)
+      (follow : AreSuffixes (letters_of s) factors right suffixes (length factors)) (some : 0 < letters_of s)
       (least_at : (m : ℕ) → m < length (words_of factors) → IsLeast Related (get_or (words_of factors) m []))
       (ascending : IsAscending ◌≺◌ None (words_of factors))
-      (number : (j a : ℕ) → j ≤ length (words_of factors) → a < length generators → Number setting unused (words_of factors) (entry (length generators) right j a) (parent (words_of factors) j ++ a ∷ []))
-      (every : (u : Word) → IsElement false (length generators) u → (m : ℕ) × Number setting unused (words_of factors) m u) where
+      (number : (j a : ℕ) → j ≤ length (words_of factors) → a < letters_of s → IsNumbered s (words_of factors) (entry (letters_of s) right j a) (parent (words_of factors) j ++ a ∷ []))
+      (every : (u : Word) → IsElement false (letters_of s) u → (m : ℕ) × IsNumbered s (words_of factors) m u) where
     abbrev k : ℕ
-    k = length generators
+    k = letters_of s
 
     abbrev words : List Word
     words = words_of factors
@@ -181,13 +197,13 @@ module _ {V : Type 0} {shape : V → ℕ × ℕ} {product : V → V → V} {equa
         let whole : word m ≡ parent words j ++ a ∷ [] = factor_word k factors earlier m (omega (arith, words_length factors)) ∙ (λ i. parent words (is.0 i) ++ is.1 i ∷ []) in
         subst (λ u. IsLeast Related u) whole (least_at m h)
 
-    product_test : (m j a : ℕ) → j ≤ length words → Number setting unused words m (parent words j ++ a ∷ []) → IsLeast Related (parent words j ++ a ∷ []) → is_product factors m j a ≡ true
+    product_test : (m j a : ℕ) → j ≤ length words → IsNumbered s words m (parent words j ++ a ∷ []) → IsLeast Related (parent words j ++ a ∷ []) → is_product factors m j a ≡ true
     product_test m j a h n least =
         let f : Factor = factor_at factors m in
         let inside : m < length factors = omega (arith, words_length factors, n.0) in
-        let same : parent words f.prefix ++ f.last ∷ [] ≡ parent words j ++ a ∷ [] = sym (factor_word k factors earlier m inside) ∙ sym (least_word setting unused words least_at ascending (parent words j ++ a ∷ []) m least n) in
+        let same : parent words f.prefix ++ f.last ∷ [] ≡ parent words j ++ a ∷ [] = sym (factor_word k factors earlier m inside) ∙ sym (least_word setting words least_at ascending (parent words j ++ a ∷ []) m least n) in
         let both = snoc_same (parent words f.prefix) (parent words j) f.last a same in
-        is_the_product factors m j a (parent_once setting unused words least_at ascending f.prefix j (omega (arith, earlier.earlier m inside, words_length factors)) h both.0) both.1
+        is_the_product factors m j a (parent_once setting words least_at ascending f.prefix j (omega (arith, earlier.earlier m inside, words_length factors)) h both.0) both.1
 
     -- what is left without the first letter
     suffix_is : (n j : ℕ) → j ≤ n → 0 < j → j ≤ length words → (c : ℕ) × (parent words j ≡ c ∷ parent words (get_or suffixes j 0)) × (get_or suffixes j 0 ≤ length words)
@@ -228,43 +244,28 @@ module _ {V : Type 0} {shape : V → ℕ × ℕ} {product : V → V → V} {equa
             let n_t = number s f.last r.2 (earlier.letter i inside) in
             let some_left : get_or suffixes (suc i) 0 ≡ m + 1 = next ∙ ap (λ b. if b then 0 else otherwise) (not_zero f.prefix p z) in
             let at_next : parent words (m + 1) ≡ word m = rw add-one refl in
-            let left : t ≡ parent words (get_or suffixes (suc i) 0) = least_word setting unused words least_at ascending t m least n_t ∙ sym at_next ∙ ap (λ q. parent words q) (sym some_left) in
+            let left : t ≡ parent words (get_or suffixes (suc i) 0) = least_word setting words least_at ascending t m least n_t ∙ sym at_next ∙ ap (λ q. parent words q) (sym some_left) in
             (r.0, whole ∙ ap (λ u. r.0 ∷ u) left, omega (arith, some_left, n_t.0))
 
     length_right : length right ≡ (length words + 1) * k
     length_right = let same : (length words + 1) * k ≡ (length factors + 1) * k = ap (λ n. (n + 1) * k) (words_length factors) in omega (arith, rows.count)
 
     -- a factor of a left side that is not all of it is least
-    factor_least : (j a : ℕ) → j ≤ length words → a < k → (j == 0 || is_product factors (entry k right (get_or suffixes j 0) a) (get_or suffixes j 0) a) ≡ true
+    side_factor : (j a : ℕ) → j ≤ length words → a < k → (j == 0 || is_product factors (entry k right (get_or suffixes j 0) a) (get_or suffixes j 0) a) ≡ true
         → (f : Word) → IsProperFactor f (parent words j ++ a ∷ []) → f ≢ [] → IsLeast Related f
-    factor_least j a h l test f proper full = elim (proper_cases (parent words j) a f full proper) [
-      | inl r ↦
-          let nonempty : parent words j ≢ [] = λ e. full (middle_nil r.0 f r.1 (sym r.2 ∙ e)) in
-          part_least r.0 f r.1 full (subst (λ u. IsLeast Related u) r.2 (parent_least j h nonempty))
-      | inr r ↦
-          let some_j : 0 < j = positive j r.0 r.1 r.3 in
-          let s = suffix_is j j (omega arith) some_j h in
-          let tails : r.1 ≡ parent words (get_or suffixes j 0) = tail_same r.0 s.0 r.1 (parent words (get_or suffixes j 0)) (sym r.3 ∙ s.1) in
-          let is : is_product factors (entry k right (get_or suffixes j 0) a) (get_or suffixes j 0) a ≡ true = elim (or_either (j == 0) (is_product factors (entry k right (get_or suffixes j 0) a) (get_or suffixes j 0) a) test) [
-            | inl z ↦ absurd (let none = eqb-true j 0 z in omega (arith, none))
-            | inr e ↦ e
-          ] in
-          let least = least_product (entry k right (get_or suffixes j 0) a) (get_or suffixes j 0) a (number (get_or suffixes j 0) a s.2 l).0 is in
-          let whole : parent words (get_or suffixes j 0) ++ a ∷ [] ≡ r.2 ++ (f ++ []) = ap (λ t. t ++ a ∷ []) (sym tails) ∙ r.4 ∙ ap (λ g. r.2 ++ g) (sym (append-nil f)) in
-          part_least r.2 f [] full (subst (λ u. IsLeast Related u) whole least)
-    ]
+    side_factor j a h l test = factor_least (parent words j) a (parent_least j h) (λ c rest e.
+        let some_j : 0 < j = positive j c rest e in
+        let s = suffix_is j j (omega arith) some_j h in
+        let same : rest ≡ parent words (get_or suffixes j 0) = tail_same c s.0 rest (parent words (get_or suffixes j 0)) (sym e ∙ s.1) in
+        let is : is_product factors (entry k right (get_or suffixes j 0) a) (get_or suffixes j 0) a ≡ true = elim (or_either (j == 0) (is_product factors (entry k right (get_or suffixes j 0) a) (get_or suffixes j 0) a) test) [
+          | inl z ↦ absurd (let none = eqb-true j 0 z in omega (arith, none))
+          | inr e ↦ e
+        ] in
+        subst (λ u. IsLeast Related (u ++ a ∷ [])) (sym same) (least_product (entry k right (get_or suffixes j 0) a) (get_or suffixes j 0) a (number (get_or suffixes j 0) a s.2 l).0 is))
       where
-        middle_nil : (x f y : Word) → x ++ (f ++ y) ≡ [] → f ≡ []
-        middle_nil [] [] y e = refl
-        middle_nil [] (c ∷ f) y e = cc
-        middle_nil (c ∷ x) f y e = cc
-
         positive : (j c : ℕ) (t : Word) → parent words j ≡ c ∷ t → 0 < j
         positive zero c t e = cc
         positive (suc j) c t e = omega arith
-
-        tail_same : (c d : ℕ) (t u : Word) → c ∷ t ≡ d ∷ u → t ≡ u
-        tail_same c d t u e = cc
 
     -- what is tested of a product is what makes it the left side of a rule
     product_rule : (m j a : ℕ) → j ≤ length words → a < k → m ≡ entry k right j a
@@ -273,16 +274,16 @@ module _ {V : Type 0} {shape : V → ℕ × ℕ} {product : V → V → V} {equa
     product_rule m j a h l is test =
         let u : Word = parent words j ++ a ∷ [] in
         let both = and_both (not (is_product factors m j a)) ((j == 0) || is_product factors (entry k right (get_or suffixes j 0) a) (get_or suffixes j 0) a) test in
-        let n = subst (λ q. Number setting unused words q u) (sym is) (number j a h l) in
+        let n = subst (λ q. IsNumbered s words q u) (sym is) (number j a h l) in
         let not_least : IsLeast Related u → ⊥ = λ g. true≢false (sym (product_test m j a h n g) ∙ not_true (is_product factors m j a) both.0) in
         record {
           normal = record { related = n.1; least = least_at m n.0 };
           falls = elim (order_cases (word m) u) [
             | inl less ↦ less
             | inr (inl e) ↦ absurd (not_least (subst (λ w. IsLeast Related w) e (least_at m n.0)))
-            | inr (inr g) ↦ absurd ((least_at m n.0).none_less u (r_sym setting unused u (word m) n.1) g)
+            | inr (inr g) ↦ absurd ((least_at m n.0).none_less u (r_sym setting u (word m) n.1) g)
           ];
-          factors = λ f proper r. factor_least j a h l both.1 f proper r.left.0;
+          factors = λ f proper r. side_factor j a h l both.1 f proper r.left.0;
         }
 
     rule_holds : (p : ℕ) → p < length right → is_rule k factors right suffixes p ≡ true → IsReducedRule Related (rule_at k factors right p).0 (rule_at k factors right p).1
@@ -301,7 +302,7 @@ module _ {V : Type 0} {shape : V → ℕ × ℕ} {product : V → V → V} {equa
       | inl z ↦ record { row = zero; within = omega arith; is = z }
       | inr full ↦
           let n = every q (least full).element.left in
-          record { row = suc n.0; within = omega (arith, n.1.0); is = least_word setting unused words least_at ascending q n.0 (least full) n.1 }
+          record { row = suc n.0; within = omega (arith, n.1.0); is = least_word setting words least_at ascending q n.0 (least full) n.1 }
     ]
 
     product_found : (j b : ℕ) (v : Word) → j ≤ length words → b < k → IsReducedRule Related (parent words j ++ b ∷ []) v
@@ -310,7 +311,7 @@ module _ {V : Type 0} {shape : V → ℕ × ℕ} {product : V → V → V} {equa
         let u : Word = parent words j ++ b ∷ [] in
         let m : ℕ = entry k right j b in
         let n = number j b h l in
-        let normal : v ≡ word m = normal_unique Related (r_sym setting unused) (r_trans setting unused) u v (word m) rule.normal (record { related = n.1; least = least_at m n.0 }) in
+        let normal : v ≡ word m = normal_unique Related (r_sym setting) (r_trans setting) u v (word m) rule.normal (record { related = n.1; least = least_at m n.0 }) in
         (and_true (not (is_product factors m j b)) ((j == 0) || is_product factors (entry k right (get_or suffixes j 0) b) (get_or suffixes j 0) b) (fresh (is_product factors m j b) refl) (rest j h refl), normal)
       where
         and_true : (x y : Bool) → x ≡ true → y ≡ true → (x && y) ≡ true
@@ -336,7 +337,7 @@ module _ {V : Type 0} {shape : V → ℕ × ℕ} {product : V → V → V} {equa
               factor = record { before = s.0 ∷ []; after = []; is = whole ∙ ap (λ w. s.0 ∷ w) (sym (append-nil t)) };
               proper = λ d. omega (arith, ap length d, ap length whole);
             } in
-            let least = rule.factors t proper (r_refl setting unused t n.1.left) in
+            let least = rule.factors t proper (r_refl setting t n.1.left) in
             or_right (suc i == 0) (is_product factors (entry k right (get_or suffixes (suc i) 0) b) (get_or suffixes (suc i) 0) b) (product_test (entry k right (get_or suffixes (suc i) 0) b) (get_or suffixes (suc i) 0) b s.2 n least)
 
     complete : (u v : Word) → IsReducedRule Related u v → (p : ℕ) × (p < length right) × (is_rule k factors right suffixes p ≡ true) × ((u, v) ≡ rule_at k factors right p)
@@ -349,7 +350,7 @@ module _ {V : Type 0} {shape : V → ℕ × ℕ} {product : V → V → V} {equa
           let front : r.0 ≢ [] → IsLeast Related r.0 = λ full. rule.factors r.0 (record {
             factor = record { before = []; after = r.1 ∷ []; is = r.2 };
             proper = λ d. omega (arith, ap length d, ap length r.2, length-append r.0 (r.1 ∷ []));
-          }) (r_refl setting unused r.0 (full, over_left k r.0 (r.1 ∷ []) over)) in
+          }) (r_refl setting r.0 (full, over_left k r.0 (r.1 ∷ []) over)) in
           let at = place_of r.0 front in
           let p : ℕ = at.row * k + b in
           let inside : p < length right = let row = row_below k at.row (length words + 1) b (omega (arith, at.within)) l in omega (arith, length_right, row) in
@@ -370,7 +371,7 @@ module _ {V : Type 0} {shape : V → ℕ × ℕ} {product : V → V → V} {equa
         let one = row_of_place k (length words) l some (omega (arith, length_right)) in
         let two = row_of_place k (length words) p some (omega (arith, length_right)) in
         elim (below_or_not (l / k) (p / k)) [
-          | inl before ↦ ahead (parent words (l / k)) (parent words (p / k)) (l % k) (p % k) (parents_rise setting unused words least_at ascending (l / k) (p / k) before two.0)
+          | inl before ↦ ahead (parent words (l / k)) (parent words (p / k)) (l % k) (p % k) (parents_rise setting words least_at ascending (l / k) (p / k) before two.0)
           | inr le ↦ elim (equal_or_below (p / k) (l / k) le) [
             | inl s ↦
                 let rows_same : p / k * k ≡ l / k * k = ap (λ n. n * k) s in

@@ -2,10 +2,10 @@
 use Rattle.std.specs.Prelude.{◌≡◌, ℕ, ◌+◌, ◌*◌, ◌<◌, ◌≤◌, Bool, List, [], ◌∷◌, ◌++◌, length, slice_index_or}
 use Rattle.theory.specs.Word.{Word}
 use Rattle.theory.specs.Class.{IsReducedRule}
-use Rattle.theory.specs.Value.{SameValue}
+use Rattle.theory.specs.Value.{HasMoreValues}
 use Rattle.theory.proofs.Counting.{AreApart, IsIn}
-use Rattle.elements.specs.Generators.{value_by}
-use Rattle.froidure_pin.specs.Found.{AreFactors, AreFound, IsNumberIn, entry, parent, words_of, factor_at, tail_at}
+use Rattle.froidure_pin.specs.Found.{AreFactors, AreFound, FoundLists, Generated, IsNumbered, IsSame, entry, factor_at, letters_of, parent, tail_at, value_in, words_in}
+use Rattle.froidure_pin.specs.Rules.{is_product}
 use Rattle.froidure_pin.specs.declared.parts.Factor.{Factor}
 use Rattle.froidure_pin.specs.declared.parts.Tail.{Tail}
 
@@ -43,51 +43,67 @@ pub record ReachesAsLong (k : ℕ) (words : List Word) (n number : ℕ) : Type 0
       → (j + 1 + 1) * k ≤ n
 
 -- what is found, as far as the place of row i and letter a
-pub record IsGrown {V : Type 0} (product : V → V → V) (equal : V → V → Bool) (generators : List V)
-    (unused : V) (elements : List V) (factors : List Factor) (tails : List Tail) (right : List ℕ)
-    (i a : ℕ) : Type 0 where
-  pub known : AreFactors (length generators) factors
-  pub placed : ArePlaced (length generators) factors (length right)
-  pub split : AreTails (words_of factors) tails
-  pub found : AreFound product equal generators unused (words_of factors) elements right i a
+pub record IsGrown {V : Type 0} (s : Generated V) (lists : FoundLists V) (i a : ℕ) : Type 0 where
+  pub known : AreFactors (letters_of s) lists.factors
+  pub placed : ArePlaced (letters_of s) lists.factors (length lists.right)
+  pub split : AreTails (words_in lists) lists.tails
+  pub found : AreFound s lists i a
+
+-- whether the word of a number without its first letter, with letter a behind, is one that is found
+abbrev pub is_rest_word : {V : Type 0} → ℕ → FoundLists V → ℕ → ℕ → Bool
+is_rest_word k lists number a =
+    let suffix = (tail_at lists.tails number).suffix in
+    is_product lists.factors (entry k lists.right suffix a) suffix a
 
 -- the numbers are those of letters times parents
-pub record AreLeftNumbers {V : Type 0} (product : V → V → V) (equal : V → V → Bool)
-    (generators : List V) (unused : V) (words : List Word) (left : List ℕ) : Type 0 where
-  pub numbers : (j b : ℕ) → b < length generators → j * length generators + b < length left
-      → IsNumberIn (length generators) equal (value_by product generators unused) words
-      (entry (length generators) left j b) (b ∷ parent words j)
+pub record AreLeftNumbers {V : Type 0} (s : Generated V) (words : List Word)
+    (left : List ℕ) : Type 0 where
+  pub numbers : (j b : ℕ) → b < letters_of s → j * letters_of s + b < length left
+      → IsNumbered s words (entry (letters_of s) left j b) (b ∷ parent words j)
 
--- the element of a number is being multiplied by the letters
-pub record IsAt {V : Type 0} (product : V → V → V) (equal : V → V → Bool) (generators : List V)
-    (unused : V) (elements : List V) (factors : List Factor) (tails : List Tail)
-    (right left : List ℕ) (number a : ℕ) : Type 0 where
-  pub within : number < length elements
-  pub grown : IsGrown product equal generators unused elements factors tails right (number + 1) a
-  pub left_numbers : AreLeftNumbers product equal generators unused (words_of factors) left
-  pub few : length left ≤ (number + 1) * length generators
-  pub shorter : ReachesShorter (length generators) (words_of factors) (length left) number
+-- the element of a number is being multiplied by the letters, and letter a is next
+pub record IsAt {V : Type 0} (s : Generated V) (lists : FoundLists V) (number a : ℕ) : Type 0 where
+  pub within : number < length lists.elements
+  pub grown : IsGrown s lists (number + 1) a
+  pub lefts : AreLeftNumbers s (words_in lists) lists.left
+  pub few : length lists.left ≤ (number + 1) * letters_of s
+  pub shorter : ReachesShorter (letters_of s) (words_in lists) (length lists.left) number
+
+-- the element of a number was multiplied by the letters before one: the levels stay
+pub record IsStep {V : Type 0} (s : Generated V) (old new : FoundLists V)
+    (number letter : ℕ) : Type 0 where
+  pub at : IsAt s new number letter
+  pub level : (first last : ℕ) → first ≤ number → number < last
+      → IsLevel (words_in old) first last → IsLevel (words_in new) first last
+  pub left : new.left ≡ old.left
+
+-- the words from the first to before the last are of one length: the elements before a number are
+-- multiplied on the right, and on the left those before the first
+pub record IsWithin {V : Type 0} (s : Generated V) (lists : FoundLists V)
+    (first last number : ℕ) : Type 0 where
+  pub grown : IsGrown s lists (number + 1) 0
+  pub lefts : AreLeftNumbers s (words_in lists) lists.left
+  pub rows : length lists.left ≡ (first + 1) * letters_of s
+  pub level : IsLevel (words_in lists) first last
 
 -- steps from a start are no more than the words and some reduced rules, whose left sides are at the
 -- first n places
-pub record AreCounted {V : Type 0} (product : V → V → V) (equal : V → V → Bool)
-    (generators : List V) (unused : V) (words : List Word) (n start steps : ℕ) : Type 0 where
+pub record AreCounted {V : Type 0} (s : Generated V) (words : List Word)
+    (n start steps : ℕ) : Type 0 where
   pub rules : List (Word × Word)
   pub apart : AreApart (λ (p q : Word × Word). p ≡ q) rules
-  pub reduced : (p : Word × Word) → IsIn p rules
-      → IsReducedRule
-      (SameValue (length generators) equal (value_by product generators unused)) p.0 p.1
+  pub reduced : (p : Word × Word) → IsIn p rules → IsReducedRule (IsSame s) p.0 p.1
   pub placed : (p : Word × Word) → IsIn p rules
-      → (j : ℕ) × (b : ℕ) × (j ≤ length words) × (b < length generators)
-      × (j * length generators + b < n) × (p.0 ≡ parent words j ++ b ∷ [])
+      → (j : ℕ) × (b : ℕ) × (j ≤ length words) × (b < letters_of s)
+      × (j * letters_of s + b < n) × (p.0 ≡ parent words j ++ b ∷ [])
   pub few : steps ≤ start + (length words + length rules)
 
--- one growth leads to another while the element of a number is multiplied: the levels stay, and
--- what was counted
-pub record GrowsTo {V : Type 0} (product : V → V → V) (equal : V → V → Bool) (generators : List V)
-    (unused : V) (factors later : List Factor) (n m number before after : ℕ) : Type 0 where
-  pub level : (first last : ℕ) → first ≤ number → number < last
-      → IsLevel (words_of factors) first last → IsLevel (words_of later) first last
-  pub counted : (start : ℕ) → AreCounted product equal generators unused
-      (words_of factors) n start before
-      → AreCounted product equal generators unused (words_of later) m start after
+-- steps from a start that were no more than words and reduced rules before are no more after
+abbrev pub KeepsCount : {V : Type 0} → Generated V → FoundLists V → FoundLists V → ℕ → ℕ → Type 0
+KeepsCount s old new before after = (start : ℕ)
+    → AreCounted s (words_in old) (length old.right) start before
+    → AreCounted s (words_in new) (length new.right) start after
+
+-- there are more elements than the bound
+abbrev pub IsOver : {V : Type 0} → Generated V → ℕ → Type 0
+IsOver s bound = HasMoreValues (letters_of s) s.equal (value_in s) bound

@@ -1,10 +1,9 @@
 // The products of the elements by each letter on the right.
 ghost use Rattle.std.specs.Prelude.{◌∷◌, [], ◌++◌, ◌≡◌, ◌+◌, ◌*◌, ◌<◌, ◌≤◌, length, IfOk, IfSome, OnOk, OnErr, Ok, None, true, false};
-ghost use Rattle.elements.specs.Generators.{HaveOneShape, value_by};
-ghost use Rattle.froidure_pin.specs.Found.{IsNumberIn, entry, parent, tail_at, words_of};
-ghost use Rattle.froidure_pin.specs.Growing.{IsLevel};
-ghost use Rattle.froidure_pin.specs.Kept.{IsKnown, IsMultiplied, IsNew, IsOver, IsStep, IsWithin, KeepsCount};
-ghost use Rattle.froidure_pin.specs.Rules.{is_product};
+ghost use Rattle.elements.specs.Generators.{HaveOneShape};
+ghost use Rattle.froidure_pin.specs.Found.{IsNumbered, generated, parent, words_of};
+ghost use Rattle.froidure_pin.specs.Growing.{IsAt, IsGrown, IsLevel, IsOver, IsStep, IsWithin, KeepsCount, is_rest_word};
+ghost use Rattle.froidure_pin.specs.Kept.{IsNew, lists_of};
 
 use super::growth::Growth;
 use super::parts::{Factor, Tail};
@@ -48,12 +47,14 @@ impl<'a, E: Element> Enumerator<'a, E> {
         requires shape { HaveOneShape E.shape self.now.generators.now.items }
         requires none { IsNew growth.old }
         ensures whole { result ≡ Ok false → length growth.new.elements.keys ≤ self.now.bound }
-        ensures known { result ≡ Ok false
-            → IsKnown E.product E.eq self.now.generators.now.items growth.new 1 0 }
+        ensures grown { result ≡ Ok false → (unused : E)
+            → IsGrown (generated E.product E.eq self.now.generators.now.items unused)
+            (lists_of growth.new) 1 0 }
         ensures level { result ≡ Ok false
             → IsLevel (words_of growth.new.factors.items) 0 (length growth.new.elements.keys) }
-        ensures over { result ≡ Ok true
-            → IsOver E.product E.eq self.now.generators.now.items self.now.bound }
+        ensures over { result ≡ Ok true → (unused : E)
+            → IsOver (generated E.product E.eq self.now.generators.now.items unused)
+            self.now.bound }
     {
         let alloc = *growth.right.allocator();
         for (letter, generator) in self.generators.iter().enumerate() {
@@ -73,17 +74,15 @@ impl<'a, E: Element> Enumerator<'a, E> {
     fn read_product(&self, growth: &Growth<E>, number: usize, letter: usize) -> Option<u32>
         requires shape { HaveOneShape E.shape self.now.generators.now.items }
         requires letter { letter < length self.now.generators.now.items }
-        requires at { IsMultiplied E.product E.eq self.now.generators.now.items
-            growth.now number letter }
+        requires at { (unused : E)
+            → IsAt (generated E.product E.eq self.now.generators.now.items unused)
+            (lists_of growth.now) number letter }
         ensures read { IfSome result (λ product. (unused : E)
-            → IsNumberIn (length self.now.generators.now.items) E.eq
-            (value_by E.product self.now.generators.now.items unused)
-            (words_of growth.now.factors.items)
-            product (parent (words_of growth.now.factors.items) (number + 1) ++ letter ∷ [])) }
-        ensures least { let suffix = (tail_at growth.now.tails.items number).suffix in
-            let rest = entry (length self.now.generators.now.items)
-            growth.now.right.items suffix letter in
-            result ≡ None → is_product growth.now.factors.items rest suffix letter ≡ true }
+            → IsNumbered (generated E.product E.eq self.now.generators.now.items unused)
+            (words_of growth.now.factors.items) product
+            (parent (words_of growth.now.factors.items) (number + 1) ++ letter ∷ [])) }
+        ensures least { result ≡ None → is_rest_word (length self.now.generators.now.items)
+            (lists_of growth.now) number letter ≡ true }
     {
         let letters = self.generators.len();
         let tail = growth.tails[number];
@@ -111,18 +110,21 @@ impl<'a, E: Element> Enumerator<'a, E> {
     ) -> Result<bool, NoMemory>
         requires shape { HaveOneShape E.shape self.now.generators.now.items }
         requires letter { letter < length self.now.generators.now.items }
-        requires at { IsMultiplied E.product E.eq self.now.generators.now.items
-            growth.old number letter }
-        requires least { let suffix = (tail_at growth.old.tails.items number).suffix in
-            let rest = entry (length self.now.generators.now.items)
-            growth.old.right.items suffix letter in
-            is_product growth.old.factors.items rest suffix letter ≡ true }
+        requires at { (unused : E)
+            → IsAt (generated E.product E.eq self.now.generators.now.items unused)
+            (lists_of growth.old) number letter }
+        requires least { is_rest_word (length self.now.generators.now.items)
+            (lists_of growth.old) number letter ≡ true }
         ensures whole { result ≡ Ok false → length growth.new.elements.keys ≤ self.now.bound }
-        ensures step { result ≡ Ok false
-            → IsStep E.product E.eq self.now.generators.now.items growth.old growth.new
-            number (letter + 1) steps.old steps.new }
-        ensures over { result ≡ Ok true
-            → IsOver E.product E.eq self.now.generators.now.items self.now.bound }
+        ensures step { result ≡ Ok false → (unused : E)
+            → IsStep (generated E.product E.eq self.now.generators.now.items unused)
+            (lists_of growth.old) (lists_of growth.new) number (letter + 1) }
+        ensures count { result ≡ Ok false → (unused : E)
+            → KeepsCount (generated E.product E.eq self.now.generators.now.items unused)
+            (lists_of growth.old) (lists_of growth.new) steps.old steps.new }
+        ensures over { result ≡ Ok true → (unused : E)
+            → IsOver (generated E.product E.eq self.now.generators.now.items unused)
+            self.now.bound }
         ensures counted { steps.old ≤ steps.new }
         ensures most { steps.new ≤ steps.old + 1 }
     {
@@ -145,14 +147,19 @@ impl<'a, E: Element> Enumerator<'a, E> {
         requires shape { HaveOneShape E.shape self.now.generators.now.items }
         requires letter { letter < length self.now.generators.now.items }
         requires few { length growth.old.elements.keys ≤ self.now.bound }
-        requires at { IsMultiplied E.product E.eq self.now.generators.now.items
-            growth.old number letter }
+        requires at { (unused : E)
+            → IsAt (generated E.product E.eq self.now.generators.now.items unused)
+            (lists_of growth.old) number letter }
         ensures whole { result ≡ Ok false → length growth.new.elements.keys ≤ self.now.bound }
-        ensures step { result ≡ Ok false
-            → IsStep E.product E.eq self.now.generators.now.items growth.old growth.new
-            number (letter + 1) steps.old steps.new }
-        ensures over { result ≡ Ok true
-            → IsOver E.product E.eq self.now.generators.now.items self.now.bound }
+        ensures step { result ≡ Ok false → (unused : E)
+            → IsStep (generated E.product E.eq self.now.generators.now.items unused)
+            (lists_of growth.old) (lists_of growth.new) number (letter + 1) }
+        ensures count { result ≡ Ok false → (unused : E)
+            → KeepsCount (generated E.product E.eq self.now.generators.now.items unused)
+            (lists_of growth.old) (lists_of growth.new) steps.old steps.new }
+        ensures over { result ≡ Ok true → (unused : E)
+            → IsOver (generated E.product E.eq self.now.generators.now.items unused)
+            self.now.bound }
         ensures counted { steps.old ≤ steps.new }
         ensures most { steps.new ≤ steps.old + 1 }
     {
@@ -172,14 +179,19 @@ impl<'a, E: Element> Enumerator<'a, E> {
     ) -> Result<bool, NoMemory>
         requires shape { HaveOneShape E.shape self.now.generators.now.items }
         requires few { length growth.old.elements.keys ≤ self.now.bound }
-        requires at { IsMultiplied E.product E.eq self.now.generators.now.items
-            growth.old number 0 }
+        requires at { (unused : E)
+            → IsAt (generated E.product E.eq self.now.generators.now.items unused)
+            (lists_of growth.old) number 0 }
         ensures whole { result ≡ Ok false → length growth.new.elements.keys ≤ self.now.bound }
-        ensures step { result ≡ Ok false
-            → IsStep E.product E.eq self.now.generators.now.items growth.old growth.new
-            number (length self.now.generators.now.items) steps.old steps.new }
-        ensures over { result ≡ Ok true
-            → IsOver E.product E.eq self.now.generators.now.items self.now.bound }
+        ensures step { result ≡ Ok false → (unused : E)
+            → IsStep (generated E.product E.eq self.now.generators.now.items unused)
+            (lists_of growth.old) (lists_of growth.new) number (length self.now.generators.now.items) }
+        ensures count { result ≡ Ok false → (unused : E)
+            → KeepsCount (generated E.product E.eq self.now.generators.now.items unused)
+            (lists_of growth.old) (lists_of growth.new) steps.old steps.new }
+        ensures over { result ≡ Ok true → (unused : E)
+            → IsOver (generated E.product E.eq self.now.generators.now.items unused)
+            self.now.bound }
         ensures counted { steps.old ≤ steps.new }
         ensures most { steps.new ≤ steps.old + length self.now.generators.now.items }
     {
@@ -201,18 +213,21 @@ impl<'a, E: Element> Enumerator<'a, E> {
         steps: &mut Steps<L>,
     ) -> Result<bool, NoMemory>
         requires shape { HaveOneShape E.shape self.now.generators.now.items }
-        requires some { 0 < length self.now.generators.now.items }
         requires order { first ≤ last }
         requires few { length growth.old.elements.keys ≤ self.now.bound }
-        requires within { IsWithin E.product E.eq self.now.generators.now.items
-            growth.old first last first }
+        requires within { (unused : E)
+            → IsWithin (generated E.product E.eq self.now.generators.now.items unused)
+            (lists_of growth.old) first last first }
         ensures whole { result ≡ Ok false → length growth.new.elements.keys ≤ self.now.bound }
-        ensures within { result ≡ Ok false
-            → IsWithin E.product E.eq self.now.generators.now.items growth.new first last last }
-        ensures count { result ≡ Ok false → KeepsCount E.product E.eq self.now.generators.now.items
-            growth.old growth.new steps.old steps.new }
-        ensures over { result ≡ Ok true
-            → IsOver E.product E.eq self.now.generators.now.items self.now.bound }
+        ensures within { result ≡ Ok false → (unused : E)
+            → IsWithin (generated E.product E.eq self.now.generators.now.items unused)
+            (lists_of growth.new) first last last }
+        ensures count { result ≡ Ok false → (unused : E)
+            → KeepsCount (generated E.product E.eq self.now.generators.now.items unused)
+            (lists_of growth.old) (lists_of growth.new) steps.old steps.new }
+        ensures over { result ≡ Ok true → (unused : E)
+            → IsOver (generated E.product E.eq self.now.generators.now.items unused)
+            self.now.bound }
         ensures counted { steps.old ≤ steps.new }
         ensures most { steps.new + first * length self.now.generators.now.items
             ≤ steps.old + last * length self.now.generators.now.items }

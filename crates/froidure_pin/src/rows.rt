@@ -1,9 +1,9 @@
 // Rows of numbers, one behind the other.
 ghost use Rattle.std.specs.Prelude.{◌≡◌, ℕ, ◌+◌, ◌*◌, ◌<◌, length, OnOk};
 ghost use Rattle.elements.specs.Generators.{HaveOneShape};
-ghost use Rattle.froidure_pin.specs.Found.{entry, words_of};
-ghost use Rattle.froidure_pin.specs.Growing.{ReachesAsLong};
-ghost use Rattle.froidure_pin.specs.Kept.{HasLeft, IsKnown, IsWithin};
+ghost use Rattle.froidure_pin.specs.Found.{entry, generated, words_of};
+ghost use Rattle.froidure_pin.specs.Growing.{AreLeftNumbers, IsGrown, IsWithin, ReachesAsLong};
+ghost use Rattle.froidure_pin.specs.Kept.{lists_of};
 
 use super::growth::Growth;
 use super::parts::Factor;
@@ -50,10 +50,13 @@ impl<E: Element> Growth<E> {
     pub(crate) fn begin_left(&mut self, generators: &Vec<E>) -> Result<(), NoMemory>
         requires shape { HaveOneShape E.shape generators.now.items }
         requires some { 0 < length generators.now.items }
-        requires known { IsKnown E.product E.eq generators.now.items self.old 1 0 }
+        requires grown { (unused : E)
+            → IsGrown (generated E.product E.eq generators.now.items unused) (lists_of self.old) 1 0 }
         ensures kept { self.new ≡ record self.old { left = self.new.left } }
         ensures rows { OnOk result (length self.new.left.items ≡ length generators.now.items) }
-        ensures left { OnOk result (HasLeft E.product E.eq generators.now.items self.new) }
+        ensures left { OnOk result ((unused : E)
+            → AreLeftNumbers (generated E.product E.eq generators.now.items unused)
+            (words_of self.new.factors.items) self.new.left.items) }
     {
         let alloc = *self.right.allocator();
         self.left = Vec::from_slice(alloc, &self.right[..generators.len()])?;
@@ -65,15 +68,20 @@ impl<E: Element> Growth<E> {
         requires shape { HaveOneShape E.shape generators.now.items }
         requires some { 0 < length generators.now.items }
         requires within { number < length self.old.elements.keys }
-        requires known { (row : ℕ) × IsKnown E.product E.eq generators.now.items self.old row 0 }
+        requires grown { (row : ℕ) × ((unused : E)
+            → IsGrown (generated E.product E.eq generators.now.items unused) (lists_of self.old) row 0) }
         requires reach { ReachesAsLong (length generators.now.items)
             (words_of self.old.factors.items) (length self.old.right.items) number }
         requires rows { length self.old.left.items ≡ (number + 1) * length generators.now.items }
-        requires left { HasLeft E.product E.eq generators.now.items self.old }
+        requires left { (unused : E)
+            → AreLeftNumbers (generated E.product E.eq generators.now.items unused)
+            (words_of self.old.factors.items) self.old.left.items }
         ensures kept { self.new ≡ record self.old { left = self.new.left } }
         ensures rows { OnOk result (length self.new.left.items
             ≡ (number + 1 + 1) * length generators.now.items) }
-        ensures left { OnOk result (HasLeft E.product E.eq generators.now.items self.new) }
+        ensures left { OnOk result ((unused : E)
+            → AreLeftNumbers (generated E.product E.eq generators.now.items unused)
+            (words_of self.new.factors.items) self.new.left.items) }
     {
         let letters = generators.len();
         for letter in 0..letters {
@@ -95,10 +103,13 @@ impl<E: Element> Growth<E> {
         requires shape { HaveOneShape E.shape generators.now.items }
         requires some { 0 < length generators.now.items }
         requires order { first < last }
-        requires within { IsWithin E.product E.eq generators.now.items self.old first last last }
+        requires within { (unused : E)
+            → IsWithin (generated E.product E.eq generators.now.items unused)
+            (lists_of self.old) first last last }
         ensures kept { self.new ≡ record self.old { left = self.new.left } }
-        ensures within { OnOk result (IsWithin E.product E.eq generators.now.items self.new
-            last (length self.new.elements.keys) last) }
+        ensures within { OnOk result ((unused : E)
+            → IsWithin (generated E.product E.eq generators.now.items unused)
+            (lists_of self.new) last (length self.new.elements.keys) last) }
     {
         for number in first..last {
             self.add_left_row(generators, number)?;

@@ -1,10 +1,12 @@
 // The elements, one length of words after another.
-ghost use Rattle.std.specs.Prelude.{◌≡◌, List, ◌+◌, ◌*◌, ◌<◌, ◌≤◌, ◌↔◌, length, IfOk, Ok};
+ghost use Rattle.std.specs.Prelude.{◌≡◌, List, ◌+◌, ◌*◌, ◌<◌, ◌≤◌, ◌↔◌, length, IfOk, Ok, true, false};
 ghost use Rattle.theory.specs.Class.{IsRuleList};
 ghost use Rattle.theory.specs.Value.{HasAtMostValues, HasMoreValues, SameValue};
 ghost use Rattle.theory.specs.Word.{Word};
 ghost use Rattle.elements.specs.Generators.{HaveOneShape, value_by};
-ghost use Rattle.froidure_pin.specs.Found.{IsTableOf};
+ghost use Rattle.froidure_pin.specs.Found.{IsTableOf, generated, words_of};
+ghost use Rattle.froidure_pin.specs.Growing.{AreCounted, IsOver, IsWithin};
+ghost use Rattle.froidure_pin.specs.Kept.{IsNew, lists_of};
 ghost use Rattle.froidure_pin.specs.Numbering.{IsNumbering};
 
 use super::growth::Growth;
@@ -63,20 +65,10 @@ impl FroidurePin {
         ensures counted { steps.old ≤ steps.new }
         ensures most { steps.new ≤ steps.old + bound * length generators.now.items }
     {
-        let enumerator = Enumerator { generators, bound };
         let mut growth = Growth::new(alloc);
-        if enumerator.take_generators(&mut growth)? {
+        let enumerator = Enumerator { generators, bound };
+        if enumerator.take_all(&mut growth, steps)? {
             return Ok(Run::Over);
-        }
-        growth.begin_left(generators)?;
-        let mut first = 0;
-        while first < growth.elements.len() {
-            let last = growth.elements.len();
-            if enumerator.take_level(&mut growth, first, last, steps)? {
-                return Ok(Run::Over);
-            }
-            growth.add_left_rows(generators, first, last)?;
-            first = last;
         }
         let letters = generators.len();
         Ok(Run::Whole(Table {
@@ -86,5 +78,49 @@ impl FroidurePin {
             right: growth.right,
             left: growth.left,
         }))
+    }
+}
+
+impl<'a, E: Element> Enumerator<'a, E> {
+    // Takes in all elements, one length of words after another, and says whether there are more
+    // than the bound; then the growth is of no use.
+    fn take_all<L: Ledger>(
+        &self,
+        growth: &mut Growth<E>,
+        steps: &mut Steps<L>,
+    ) -> Result<bool, NoMemory>
+        requires some { 0 < length self.now.generators.now.items }
+        requires shape { HaveOneShape E.shape self.now.generators.now.items }
+        requires none { IsNew growth.old }
+        ensures whole { result ≡ Ok false → length growth.new.elements.keys ≤ self.now.bound }
+        ensures within { let count = length growth.new.elements.keys in
+            result ≡ Ok false → (unused : E)
+            → IsWithin (generated E.product E.eq self.now.generators.now.items unused)
+            (lists_of growth.new) count count count }
+        ensures count { result ≡ Ok false → (unused : E)
+            → AreCounted (generated E.product E.eq self.now.generators.now.items unused)
+            (words_of growth.new.factors.items) (length growth.new.right.items)
+            steps.old steps.new }
+        ensures over { result ≡ Ok true → (unused : E)
+            → IsOver (generated E.product E.eq self.now.generators.now.items unused)
+            self.now.bound }
+        ensures counted { steps.old ≤ steps.new }
+        ensures most { steps.new
+            ≤ steps.old + self.now.bound * length self.now.generators.now.items }
+    {
+        if self.take_generators(growth)? {
+            return Ok(true);
+        }
+        growth.begin_left(self.generators)?;
+        let mut first = 0;
+        while first < growth.elements.len() {
+            let last = growth.elements.len();
+            if self.take_level(growth, first, last, steps)? {
+                return Ok(true);
+            }
+            growth.add_left_rows(self.generators, first, last)?;
+            first = last;
+        }
+        Ok(false)
     }
 }

@@ -1,6 +1,6 @@
-use Rattle.std.proofs.Common.{◌≡◌, List, length, take, sym, ap, subst, ◌∙◌, arith}
+use Rattle.std.proofs.Common.{◌≡◌, length, take, sym, ap, subst, ◌∙◌, arith}
 use Rattle.std.proofs.lemmas.List.{length-take-le}
-use Rattle.froidure_pin.specs.Found.{words_of}
+use Rattle.froidure_pin.specs.Found.{generated, words_of}
 use Rattle.froidure_pin.specs.Growing.{AreLeftNumbers}
 use Rattle.froidure_pin.proofs.OneShape.{some_value}
 use Rattle.froidure_pin.proofs.Search.{IsSetting}
@@ -10,7 +10,7 @@ use Rattle.froidure_pin.proofs.growth.Growth.begin_left.Goals as goal
 
 pub slice_bounds-from_slice-end : goal.slice_bounds-from_slice-end
 slice_bounds-from_slice-end g c =
-    let row = (c.requires.known (some_value c.args.generators.now.items c.requires.some)).found.count in
+    let row = (c.requires.grown (some_value c.args.generators.now.items c.requires.some)).found.count in
     sym (length-take-le c.len.result c.deref.result.now (omega (arith, c.len.ensures, row, ap length c.deref.ensures.value)))
 
 -- what was copied
@@ -21,11 +21,11 @@ copied g c =
 
 pub returns-clause-rows : goal.returns-clause-rows
 returns-clause-rows g c =
-    let row = (c.requires.known (some_value c.args.generators.now.items c.requires.some)).found.count in
+    let row = (c.requires.grown (some_value c.args.generators.now.items c.requires.some)).found.count in
     ap length (copied g c) ∙ length-take-le (length c.args.generators.now.items) c.args.self.now.right.items (omega (arith, row))
 
 pub returns-clause-left : goal.returns-clause-left
 returns-clause-left g c = λ unused.
-    let generators : List g.row.E.Denot = c.args.generators.now.items in
-    let setting : IsSetting g.E.Values.shape g.E.Values.product g.E.PartialEq.eq generators = record { products = g.met.E.Values.products; alike = g.met.E.Element.one_shape; shaped = c.requires.shape } in
-    subst (λ ns. AreLeftNumbers g.E.Values.product g.E.PartialEq.eq generators unused (words_of c.args.self.now.factors.items) ns) (sym (copied g c)) (left_first setting unused c.args.self.now.elements.keys c.args.self.now.factors.items c.args.self.now.tails.items c.args.self.now.right.items (c.requires.known unused))
+    let s = generated g.E.Values.product g.E.PartialEq.eq c.args.generators.now.items unused in
+    let setting : IsSetting g.E.Values.shape s = record { products = g.met.E.Values.products; alike = g.met.E.Element.one_shape; shaped = c.requires.shape } in
+    subst (λ left. AreLeftNumbers s (words_of c.args.self.now.factors.items) left) (sym (copied g c)) (left_first setting (c.requires.grown unused))

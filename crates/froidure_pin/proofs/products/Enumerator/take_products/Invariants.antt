@@ -1,5 +1,7 @@
 use Rattle.std.proofs.Common.{◌+◌, ◌≤◌, length}
-use Rattle.froidure_pin.specs.Kept.{IsStep}
+use Rattle.froidure_pin.specs.Found.{generated}
+use Rattle.froidure_pin.specs.Growing.{IsStep, KeepsCount}
+use Rattle.froidure_pin.specs.Kept.{lists_of}
 use Rattle.froidure_pin.proofs.products.Enumerator.take_products.Given as goal
 
 abbrev pub invariant-loop-letter : goal.invariant-loop-letter
@@ -7,5 +9,6 @@ invariant-loop-letter g l = record {
   few : length l.growth.elements.keys ≤ l.self.bound;
   counted : l.fn.steps ≤ l.steps;
   most : l.steps ≤ l.fn.steps + l.letter;
-  step : IsStep g.E.Values.product g.E.PartialEq.eq l.self.generators.now.items l.fn.growth l.growth l.number l.letter l.fn.steps l.steps;
+  step : (unused : g.row.E.Denot) → IsStep (generated g.E.Values.product g.E.PartialEq.eq l.self.generators.now.items unused) (lists_of l.fn.growth) (lists_of l.growth) l.number l.letter;
+  count : (unused : g.row.E.Denot) → KeepsCount (generated g.E.Values.product g.E.PartialEq.eq l.self.generators.now.items unused) (lists_of l.fn.growth) (lists_of l.growth) l.fn.steps l.steps;
 }
