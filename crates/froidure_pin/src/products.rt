@@ -185,7 +185,8 @@ impl<'a, E: Element> Enumerator<'a, E> {
         ensures whole { result ≡ Ok false → length growth.new.elements.keys ≤ self.now.bound }
         ensures step { result ≡ Ok false → (unused : E)
             → IsStep (generated E.product E.eq self.now.generators.now.items unused)
-            (lists_of growth.old) (lists_of growth.new) number (length self.now.generators.now.items) }
+            (lists_of growth.old) (lists_of growth.new) number
+            (length self.now.generators.now.items) }
         ensures count { result ≡ Ok false → (unused : E)
             → KeepsCount (generated E.product E.eq self.now.generators.now.items unused)
             (lists_of growth.old) (lists_of growth.new) steps.old steps.new }

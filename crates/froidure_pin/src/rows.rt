@@ -51,7 +51,8 @@ impl<E: Element> Growth<E> {
         requires shape { HaveOneShape E.shape generators.now.items }
         requires some { 0 < length generators.now.items }
         requires grown { (unused : E)
-            → IsGrown (generated E.product E.eq generators.now.items unused) (lists_of self.old) 1 0 }
+            → IsGrown (generated E.product E.eq generators.now.items unused)
+            (lists_of self.old) 1 0 }
         ensures kept { self.new ≡ record self.old { left = self.new.left } }
         ensures rows { OnOk result (length self.new.left.items ≡ length generators.now.items) }
         ensures left { OnOk result ((unused : E)
@@ -69,7 +70,8 @@ impl<E: Element> Growth<E> {
         requires some { 0 < length generators.now.items }
         requires within { number < length self.old.elements.keys }
         requires grown { (row : ℕ) × ((unused : E)
-            → IsGrown (generated E.product E.eq generators.now.items unused) (lists_of self.old) row 0) }
+            → IsGrown (generated E.product E.eq generators.now.items unused)
+            (lists_of self.old) row 0) }
         requires reach { ReachesAsLong (length generators.now.items)
             (words_of self.old.factors.items) (length self.old.right.items) number }
         requires rows { length self.old.left.items ≡ (number + 1) * length generators.now.items }

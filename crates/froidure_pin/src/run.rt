@@ -93,10 +93,10 @@ impl<'a, E: Element> Enumerator<'a, E> {
         requires shape { HaveOneShape E.shape self.now.generators.now.items }
         requires none { IsNew growth.old }
         ensures whole { result ≡ Ok false → length growth.new.elements.keys ≤ self.now.bound }
-        ensures within { let count = length growth.new.elements.keys in
+        ensures within { let end = length growth.new.elements.keys in
             result ≡ Ok false → (unused : E)
             → IsWithin (generated E.product E.eq self.now.generators.now.items unused)
-            (lists_of growth.new) count count count }
+            (lists_of growth.new) end end end }
         ensures count { result ≡ Ok false → (unused : E)
             → AreCounted (generated E.product E.eq self.now.generators.now.items unused)
             (words_of growth.new.factors.items) (length growth.new.right.items)
