@@ -1,5 +1,5 @@
 // Branches of the search.
-ghost use Rattle.std.specs.Prelude.{◌≡◌, ◌≤◌, ℕ, ◌++◌, ◌∷◌, [], option_to_list, true, false, IfOk, Option, MatchOption};
+ghost use Rattle.std.specs.Prelude.{◌≡◌, ◌≤◌, ℕ, ◌++◌, ◌∷◌, [], option_to_list, true, false, IfOk, MatchOption};
 ghost use Rattle.sims_one.specs.Known.{IsKnown, IsBranch};
 ghost use Rattle.theory.specs.Congruence.{Presentation as Relations};
 ghost use Rattle.sims_one.specs.Search.{NoneWithin};

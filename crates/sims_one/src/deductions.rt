@@ -1,5 +1,5 @@
 // Edges that follow from others by relations.
-ghost use Rattle.std.specs.Prelude.{◌≡◌, ◌≢◌, ℕ, ◌+◌, ◌*◌, ◌<◌, ◌≤◌, List, length, max, suc, slice_set, IfOk, Some, true};
+ghost use Rattle.std.specs.Prelude.{◌≡◌, ℕ, ◌*◌, ◌<◌, ◌≤◌, length, max, suc, IfOk};
 ghost use Rattle.theory.specs.Word.{IsOver};
 ghost use Rattle.sims_one.specs.Edges.{IsEdge};
 ghost use Rattle.sims_one.specs.Known.{Grows, Keeps, Extends};
