@@ -12,6 +12,13 @@ use std::alloc::Global;
 use std::marker::Model;
 use words::Letter;
 
+// Where an edge starts, and its letter.
+#[derive(Clone, Copy)]
+pub struct Edge {
+    pub node: usize,
+    pub letter: Letter,
+}
+
 // A word graph that also lists, for each node and letter, the nodes where the edges of the letter
 // into the node start. The lists are linked both ways, so that an edge is taken away at once.
 #[derive(Drop)]

@@ -14,7 +14,7 @@ ghost use Rattle.coincidence.specs.declared.due.Due.TheVariants.{Nothing};
 ghost use Rattle.coincidence.specs.Uses.{list_at, ArePeriods, AreUses, ArePlaces, IsDueAtPlaces, IsDueInPowers, IsDueBefore, IsDueBeforeAny, IsDueInSides};
 
 use crate::due::Due;
-use crate::edges::Edges;
+use crate::edges::{Edge, Edges};
 use crate::indexed::Indexed;
 use crate::periods::Periods;
 use crate::rings::comes_round;
@@ -182,31 +182,33 @@ pub fn due_at(edges: &Edges, node: usize, pairs: &Pairs) -> Due
     due_from(edges, node, pairs, 0)
 }
 
+// One side of the pair of a number, and the other.
+#[derive(Drop)]
+struct OneSide<'a> {
+    pairs: &'a Pairs,
+    number: usize,
+    side: &'a Word,
+    other: &'a Word,
+}
+
 // The side leads from the node back to it, and so does it from each node to which so many letters of
-// it, after which it stays as it is, lead again and again: there the relation is seen to hold too.
-fn note_round(
-    edges: &Edges,
-    node: usize,
-    relation: usize,
-    side: &Word,
-    count: usize,
-    seen: &mut Seen,
-)
-    requires within { count ≤ length side.now }
-    requires stays { turned count side.now ≡ side.now }
-    requires home { path_of edges.now.graph node side.now ≡ Some node }
+// it, after which it stays as it is, lead again and again: there the pair is seen to hold too.
+fn note_round(edges: &Edges, node: usize, one: &OneSide, count: usize, seen: &mut Seen)
+    requires within { count ≤ length one.now.side.now }
+    requires stays { turned count one.now.side.now ≡ one.now.side.now }
+    requires home { path_of edges.now.graph node one.now.side.now ≡ Some node }
     ensures { (n i : ℕ) → IsSeen seen.new n i → IsSeen seen.old n i
-        ⊎ ((i ≡ relation) × (path_of edges.now.graph n side.now ≡ Some n)) }
+        ⊎ ((i ≡ one.now.number) × (path_of edges.now.graph n one.now.side.now ≡ Some n)) }
 {
     let mut at = node;
-    for _ in 0..side.len() {
-        let Some(next) = prefix_path(edges, at, side, count) else {
+    for _ in 0..one.side.len() {
+        let Some(next) = prefix_path(edges, at, one.side, count) else {
             return;
         };
         if next == node {
             return;
         }
-        seen.note(next, relation);
+        seen.note(next, one.number);
         at = next;
     }
 }
@@ -233,7 +235,13 @@ fn note_held(edges: &Edges, node: usize, begun: &Begun, number: usize, seen: &mu
     let pair = begun.pairs.pair(number);
     let count = begun.periods.of(number);
     if pair.1.is_empty() && count < pair.0.len() && seen.has(node, number) {
-        note_round(edges, node, number, &pair.0, count, seen);
+        let one = OneSide {
+            pairs: begun.pairs,
+            number,
+            side: &pair.0,
+            other: &pair.1,
+        };
+        note_round(edges, node, &one, count, seen);
     }
 }
 
@@ -358,15 +366,6 @@ fn front_from(edges: &Edges, node: usize, side: &Word, place: usize) -> Option<u
         }
     }
     Some(at)
-}
-
-// One side of the pair of a number, and the other.
-#[derive(Drop)]
-struct OneSide<'a> {
-    pairs: &'a Pairs,
-    number: usize,
-    side: &'a Word,
-    other: &'a Word,
 }
 
 // A side of a pair that is read up to a place of it, where it has come to a node in the middle, and
@@ -510,31 +509,24 @@ fn may_cross(edges: &Edges, node: usize, letter: Letter, side: &Word, place: usi
 }
 
 // What a pair asks for where the one side, of which the count is the period, is read across the
-// edge of the letter from the node.
-fn due_along(
-    edges: &Edges,
-    node: usize,
-    letter: Letter,
-    one: &OneSide,
-    count: usize,
-    seen: &mut Seen,
-) -> Due
+// edge.
+fn due_along(edges: &Edges, edge: &Edge, one: &OneSide, count: usize, seen: &mut Seen) -> Due
     requires period { IsPeriod count one.now.side.now }
     requires pair { AreSidesOf one.now.pairs.now one.now.number one.now.side.now
         one.now.other.now }
     requires reached { EdgesReached edges.now.graph }
-    requires node { IsReached edges.now.graph node }
+    requires node { IsReached edges.now.graph edge.now.node }
     requires seen { HoldWhereSeen one.now.pairs.now edges.now.graph seen.old }
-    ensures due { IsDueAlong edges.now.graph node letter one.now.side.now one.now.side.now
-        one.now.other.now result }
+    ensures due { IsDueAlong edges.now.graph edge.now.node edge.now.letter one.now.side.now
+        one.now.side.now one.now.other.now result }
     ensures seen { HoldWhereSeen one.now.pairs.now edges.now.graph seen.new }
 {
-    if comes_round(edges, node, letter, one.side, count, one.other) {
+    if comes_round(edges, edge, one.side, count, one.other) {
         return Due::Nothing;
     }
     for place in 0..one.side.len() {
-        if may_cross(edges, node, letter, one.side, place) {
-            match due_across(edges, node, one, place, seen) {
+        if may_cross(edges, edge.node, edge.letter, one.side, place) {
+            match due_across(edges, edge.node, one, place, seen) {
                 Due::Nothing => {}
                 due => return due,
             }
@@ -603,6 +595,7 @@ fn due_in_powers(
         letter places.now result }
     ensures seen { HoldWhereSeen sides.now.pairs.now sides.now.edges.now.graph seen.new }
 {
+    let edge = Edge { node, letter };
     for k in 0..places.len() {
         let pair = sides.pairs.pair(places[k].0);
         let one = OneSide {
@@ -612,7 +605,7 @@ fn due_in_powers(
             other: other_side(pair, sides.second),
         };
         let count = sides.periods.of(places[k].0);
-        match due_along(sides.edges, node, letter, &one, count, seen) {
+        match due_along(sides.edges, &edge, &one, count, seen) {
             Due::Nothing => {}
             due => return due,
         }
@@ -689,17 +682,17 @@ fn due_in_sides(node: usize, letter: Letter, sides: &Sides, seen: &mut Seen) -> 
 // What the first sides of the relations ask for, or the second, across the edge.
 fn due_in_relations(
     edges: &Edges,
-    edge: (usize, Letter),
+    edge: &Edge,
     congruence: &Indexed,
     second: bool,
     seen: &mut Seen,
 ) -> Due
     requires reached { EdgesReached edges.now.graph }
-    requires node { IsReached edges.now.graph edge.0 }
+    requires node { IsReached edges.now.graph edge.now.node }
     requires seen { HoldWhereSeen congruence.now.congruence.presentation.relations edges.now.graph
         seen.old }
     ensures due { IsDueInSides second edges.now.graph
-        congruence.now.congruence.presentation.relations edge.0 edge.1 result }
+        congruence.now.congruence.presentation.relations edge.now.node edge.now.letter result }
     ensures seen { HoldWhereSeen congruence.now.congruence.presentation.relations edges.now.graph
         seen.new }
 {
@@ -710,7 +703,7 @@ fn due_in_relations(
         uses: congruence.uses(second),
         periods: congruence.periods(second),
     };
-    due_in_sides(edge.0, edge.1, &sides, seen)
+    due_in_sides(edge.node, edge.letter, &sides, seen)
 }
 
 /// What the relations ask for where a side is read across the edge of the letter from the node.
@@ -731,8 +724,9 @@ pub fn due_through(
     ensures seen { HoldWhereSeen congruence.now.congruence.presentation.relations edges.now.graph
         seen.new }
 {
-    match due_in_relations(edges, (node, letter), congruence, false, seen) {
-        Due::Nothing => due_in_relations(edges, (node, letter), congruence, true, seen),
+    let edge = Edge { node, letter };
+    match due_in_relations(edges, &edge, congruence, false, seen) {
+        Due::Nothing => due_in_relations(edges, &edge, congruence, true, seen),
         due => due,
     }
 }

@@ -4,7 +4,7 @@ ghost use Rattle.coincidence.specs.Reading.{IsDueAlong};
 ghost use Rattle.coincidence.specs.Rings.{IsLoneEdge, IsLoneWalk, IsPeriod, turned};
 ghost use Rattle.coincidence.specs.declared.due.Due.TheVariants.{Nothing};
 
-use crate::edges::Edges;
+use crate::edges::{Edge, Edges};
 use words::{Letter, Word};
 
 // The node whose edge of the letter leads to this node, where there is one alone.
@@ -61,19 +61,12 @@ fn is_ring(edges: &Edges, node: usize, side: &Word, place: usize) -> bool
 
 /// Whether the other side is empty, and the side a power that leads from the node, begun at each
 /// place with the letter, back to the node by edges each of which is the only one of its letter
-/// into its end. Then each read across the edge of the letter from the node begins on such a ring,
-/// and comes back. The count is the side's period.
-pub fn comes_round(
-    edges: &Edges,
-    node: usize,
-    letter: Letter,
-    side: &Word,
-    count: usize,
-    other: &Word,
-) -> bool
+/// into its end. Then each read across the edge begins on such a ring, and comes back. The count is
+/// the side's period.
+pub fn comes_round(edges: &Edges, edge: &Edge, side: &Word, count: usize, other: &Word) -> bool
     requires { IsPeriod count side.now }
-    ensures { result ≡ true
-        → IsDueAlong edges.now.graph node letter side.now side.now other.now Nothing }
+    ensures { result ≡ true → IsDueAlong edges.now.graph edge.now.node edge.now.letter side.now
+        side.now other.now Nothing }
 {
     if !other.is_empty() {
         return false;
@@ -82,7 +75,7 @@ pub fn comes_round(
         return false;
     }
     for place in 0..count {
-        if side.letter(place) == letter && !is_ring(edges, node, side, place) {
+        if side.letter(place) == edge.letter && !is_ring(edges, edge.node, side, place) {
             return false;
         }
     }

@@ -4,6 +4,6 @@ use Rattle.coincidence.proofs.reads.due_in_powers.Given as goal
 
 abbrev pub invariant-loop-k : goal.invariant-loop-k
 invariant-loop-k l = record {
-  quiet : AreQuietPowers l.sides.second l.sides.edges.now.graph l.sides.pairs.now l.node l.letter l.places l.k;
+  quiet : AreQuietPowers l.sides.second l.sides.edges.now.graph l.sides.pairs.now l.node l.fn.letter l.places l.k;
   seen : HoldWhereSeen l.sides.pairs.now l.sides.edges.now.graph l.seen;
 }

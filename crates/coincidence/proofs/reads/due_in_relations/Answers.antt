@@ -14,7 +14,7 @@ pub due_in_sides-requires-clause-seen : goal.due_in_sides-requires-clause-seen
 due_in_sides-requires-clause-seen c = subst (λ (z : List (Word × Word)). HoldWhereSeen z c.args.edges.now.graph c.args.seen.now) (sym c.relations.ensures) c.requires.seen
 
 pub returns-clause-due : goal.returns-clause-due
-returns-clause-due c = subst (λ (z : List (Word × Word)). IsDueInSides c.args.second c.args.edges.now.graph z c.args.edge.0 c.args.edge.1 c.due_in_sides.result) c.relations.ensures c.due_in_sides.ensures.due
+returns-clause-due c = subst (λ (z : List (Word × Word)). IsDueInSides c.args.second c.args.edges.now.graph z c.args.edge.now.node c.args.edge.now.letter c.due_in_sides.result) c.relations.ensures c.due_in_sides.ensures.due
 
 pub returns-clause-seen : goal.returns-clause-seen
 returns-clause-seen c = subst (λ (z : List (Word × Word)). HoldWhereSeen z c.args.edges.now.graph c.due_in_sides.new.seen) c.relations.ensures c.due_in_sides.ensures.seen
