@@ -14,7 +14,7 @@ use Rattle.coincidence.specs.Absorbing.{Extends, IsSameShape, IsRedirected, IsMo
 use Rattle.coincidence.specs.declared.pending.Pending.{Pending}
 use Rattle.coincidence.specs.declared.pending.Pending.TheVariants.{NewEdge}
 use Rattle.coincidence.proofs.ClassLaws.{relabel_same, relabel_other}
-use Rattle.coincidence.proofs.PendingLaws.{among_push, among_before, among_last}
+use Rattle.coincidence.proofs.PendingLaws.{among_push, among_before, among_last, extended, extended_last}
 
 -- an end is the node or not
 is_some : (x : Option ℕ) (m : ℕ) → (x ≡ Some m) ⊎ (x ≡ Some m → ⊥)
@@ -145,6 +145,14 @@ redirect_step old cur new lost kept a n before after r edge put shape = record {
     was : (p b : ℕ) → p ≡ n → b ≡ a → target old p b ≡ Some lost
     was p b e d = subst (λ z. target old z b ≡ Some lost) (sym e) (subst (λ z. target old n z ≡ Some lost) (sym d) first)
 
+pub redirecting_more : (old new : Graph) (lost kept a : ℕ) (before after more : List Pending) → Extends after more → IsRedirecting old new lost kept a before after → IsRedirecting old new lost kept a before more
+redirecting_more old new lost kept a before after more extends r = record {
+  shape = r.shape;
+  pending = λ x h. extends x (r.pending x h);
+  led = λ n e. elim (r.led n e) [ inl stays ↦ inl stays | inr led ↦ inr (led.0, extends (NewEdge n a) led.1) ];
+  other = r.other;
+}
+
 pub redirect_end : (old new : Graph) (lost kept a : ℕ) (before after : List Pending) → IsRedirecting old new lost kept a before after → ((n : ℕ) → target new n a ≡ Some lost → ⊥) → IsRedirected old new lost kept a before after
 redirect_end old new lost kept a before after r none = record {
   shape = r.shape;
@@ -181,20 +189,20 @@ module _ (k : ℕ) (g : Graph) (lost kept a to : ℕ) (is : IsGraph k g) (apart 
   kept_same : target (with_entry g lost a None) kept a ≡ target g kept a
   kept_same = gone_put.other kept a (λ both. apart (sym both.0))
 
-  pub moved_on : (queue : List (ℕ × ℕ)) (pending : List Pending) → target (with_entry g lost a None) kept a ≡ None
-      → IsMoved g (with_entry (with_entry g lost a None) kept a (Some to)) lost kept a queue queue pending (pending ++ NewEdge kept a ∷ [])
-  moved_on queue pending missing =
+  pub moved_on : (queue : List (ℕ × ℕ)) (pending pushed : List Pending) → target (with_entry g lost a None) kept a ≡ None → Extends (pending ++ NewEdge kept a ∷ []) pushed
+      → IsMoved g (with_entry (with_entry g lost a None) kept a (Some to)) lost kept a queue queue pending pushed
+  moved_on queue pending pushed missing more =
       let inside : kept < length (with_entry g lost a None) = omega (arith, hk, entry_length g lost a None) in
       let graph : IsGraph k (with_entry g lost a None) = gone_shape.graph k is in
       let put = entry_put (with_entry g lost a None) kept a (Some to) inside (omega (arith, graph.width kept [] inside, here.1)) in
       record {
         shape = shape_trans g (with_entry g lost a None) (with_entry (with_entry g lost a None) kept a (Some to)) gone_shape
             (shape_put k (with_entry g lost a None) kept a (Some to) graph inside here.1 (λ p e. let same : to ≡ p = some_same to p e in omega (arith, same, here.2, entry_length g lost a None)));
-        pending = λ x h. among_before x (NewEdge kept a) pending h;
+        pending = λ x h. extended x (NewEdge kept a) pending pushed more h;
         other = λ n b off. put.other n b (λ both. off (both.1, inr both.0)) ∙ gone_put.other n b (λ both. off (both.1, inl both.0));
         gone = put.other lost a (λ both. apart both.0) ∙ gone_put.put;
         none = λ e. absurd (let no : None ≡ Some to = sym e ∙ edge in let none : ⊥ = cc in none);
-        moved = λ p e _. (put.put ∙ ap (λ z. Some z) (one_edge p e), refl, among_last (NewEdge kept a) pending);
+        moved = λ p e _. (put.put ∙ ap (λ z. Some z) (one_edge p e), refl, extended_last (NewEdge kept a) pending pushed more);
         met = λ p end e f. absurd (let no : None ≡ Some end = sym missing ∙ kept_same ∙ f in let none : ⊥ = cc in none);
       }
 

@@ -4,10 +4,14 @@ use Rattle.std.specs.List.{range_with_len}
 use Rattle.std.proofs.lemmas.List.{length-map}
 use Rattle.std.proofs.lemmas.List.FromFn.{get_or-range_with_len, length-range_with_len}
 use Rattle.theory.specs.Congruence.{Congruence}
-use Rattle.theory.specs.Graph.{target}
+use Rattle.theory.specs.Word.{Word}
+use Rattle.theory.specs.Graph.{path, target}
+use Rattle.theory.proofs.GraphLaws.{path_append}
 use Rattle.word_graph.specs.Edges.{with_edge}
+use Rattle.coincidence.specs.Absorbing.{Extends}
 use Rattle.coincidence.specs.Closing.{IsDue}
 use Rattle.coincidence.specs.Cosets.{IsWhole, IsGathered}
+use Rattle.coincidence.specs.Holding.{HoldWhere}
 use Rattle.coincidence.specs.Joining.{IsJoined}
 use Rattle.coincidence.specs.Live.{IsOn}
 use Rattle.coincidence.specs.Marks.{AreCarried, IsCarried}
@@ -79,6 +83,17 @@ module _ (c : Congruence) (first now : Cosets) (from at : Option ℕ) (w : IsWho
     nodes = d.nodes;
   }
 
+  -- relations that held at marked nodes do so
+  pub drawing_holds : (pairs : List (Word × Word)) → HoldWhere pairs first.edges.graph first.marked.items → HoldWhere pairs now.edges.graph now.marked.items
+  drawing_holds pairs hold n on r s sides =
+      let was = d.marks.from n on in
+      let reach = w.lives.reached was.0 (w.marks was.0 was.1) in
+      let met = hold was.0 was.1 r s sides in
+      let here : path now.edges.graph 0 reach.0 ≡ Some n = d.carried.follows reach.0 was.0 reach.1 ∙ ap (λ z. Some z) was.2 in
+      let leads : (u : Word) → path first.edges.graph was.0 u ≡ Some met.0 → path now.edges.graph n u ≡ Some (slice_index d.class met.0) = λ u e.
+      sym (path_append now.edges.graph 0 n reach.0 u here) ∙ d.carried.follows (reach.0 ++ u) met.0 (path_append first.edges.graph 0 was.0 reach.0 u reach.1 ∙ e) in
+      (slice_index d.class met.0, leads r met.1, leads s met.2)
+
   -- entries were dropped
   pub drawing_dropped : (new : Cosets) → new ≡ record now { pending = new.pending; seen = new.seen } → IsWhole c new → IsDrawing c first new from at
   drawing_dropped new is whole = subst (λ z. IsDrawing c first z from at) (sym is) (record {
@@ -103,7 +118,7 @@ module _ (c : Congruence) (first now : Cosets) (from at : Option ℕ) (w : IsWho
     reach = due_reached c now.edges.graph at j a m due
 
     -- an edge is drawn
-    pub drawing_edge : target now.edges.graph j a ≡ None → new.edges.graph ≡ with_edge now.edges.graph j a m → new ≡ record now { edges = new.edges; pending = new.pending } → new.pending ≡ now.pending ++ NewEdge j a ∷ [] → IsDrawing c first new from at
+    pub drawing_edge : target now.edges.graph j a ≡ None → new.edges.graph ≡ with_edge now.edges.graph j a m → new ≡ record now { edges = new.edges; pending = new.pending } → Extends (now.pending ++ NewEdge j a ∷ []) new.pending → IsDrawing c first new from at
     drawing_edge none graph others pending =
         let on_j = d.whole.lives.lives j reach.0 in
         let on_m = d.whole.lives.lives m reach.1 in

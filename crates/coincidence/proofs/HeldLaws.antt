@@ -15,6 +15,7 @@ use Rattle.word_graph.specs.Edges.{with_edge, with_node}
 use Rattle.word_graph.proofs.EdgeLaws.{graph_edged, target_in}
 use Rattle.word_graph.proofs.WalkLaws.{some_same}
 use Rattle.cells.proofs.EntryLaws.{target_node}
+use Rattle.coincidence.specs.Absorbing.{Extends}
 use Rattle.coincidence.specs.Closing.{IsEdged}
 use Rattle.coincidence.specs.Cosets.{IsWhole, IsGathered}
 use Rattle.coincidence.specs.Joining.{IsJoined}
@@ -34,7 +35,7 @@ use Rattle.coincidence.proofs.FoldLaws.{edged_with}
 use Rattle.coincidence.proofs.FollowsLaws.{path_more}
 use Rattle.coincidence.proofs.KeptLaws.{kept_lives, kept_more}
 use Rattle.coincidence.proofs.MarkLaws.{marks_pushed, no_mark}
-use Rattle.coincidence.proofs.PendingLaws.{closed_renewed, closed_root, renewed_edged}
+use Rattle.coincidence.proofs.PendingLaws.{closed_more, closed_renewed, closed_root, renewed_edged}
 use Rattle.coincidence.proofs.SeenLaws.{seen_folded, seen_kept, seen_nothing}
 use Rattle.coincidence.proofs.StepLaws.{edged_live}
 use Rattle.coincidence.proofs.TableLaws.{define_edged, define_graph, define_live, on_inside, path_same, root_graph, root_live}
@@ -243,7 +244,7 @@ read_whole c t new is closed seen w = subst (IsWhole c) (sym is) (record {
 
 -- an edge more, which is pending
 module _ (c : Congruence) (t new : Cosets) (node letter to : ℕ) (w : IsWhole c t) (hn : IsOn t.live.items node) (ht : IsOn t.live.items to) (less : letter < c.presentation.letters) (none : target t.edges.graph node letter ≡ None)
-    (graph_is : new.edges.graph ≡ with_edge t.edges.graph node letter to) (others : new ≡ record t { edges = new.edges; pending = new.pending }) (pending_is : new.pending ≡ t.pending ++ NewEdge node letter ∷ []) where
+    (graph_is : new.edges.graph ≡ with_edge t.edges.graph node letter to) (others : new ≡ record t { edges = new.edges; pending = new.pending }) (more : Extends (t.pending ++ NewEdge node letter ∷ []) new.pending) where
   drawn_node : node < length t.edges.graph
   drawn_node = on_inside t.edges.graph t.live.items node w.lives hn
 
@@ -275,8 +276,8 @@ module _ (c : Congruence) (t new : Cosets) (node letter to : ℕ) (w : IsWhole c
     lives = subst (λ (g : Graph). IsLiveGraph g t.live.items) (sym graph_is) lives;
     shape = w.shape ∙ sym same ∙ ap length (sym graph_is);
     marks = w.marks;
-    closed = rw (graph_is, pending_is)
-        (closed_renewed c.presentation.relations t.edges.graph drawn t.live.items t.live.items t.pending later lives (renewed_edged t.edges.graph drawn t.live.items t.pending node letter to drawn_edge) w.closed);
+    closed = rw graph_is
+        (closed_more c.presentation.relations drawn t.live.items later new.pending more (closed_renewed c.presentation.relations t.edges.graph drawn t.live.items t.live.items t.pending later lives (renewed_edged t.edges.graph drawn t.live.items t.pending node letter to drawn_edge) w.closed));
     order = subst (λ (g : Graph). IsKept c.presentation.letters g t.marked.items t.order) (sym graph_is)
         (kept_lives c.presentation.letters t.edges.graph t.marked.items t.order.steps.items t.order.places.items t.order.row t.order.letter t.order.done w.order drawn t.live.items t.marked.items same
         (λ n b m e. (target_in c.presentation.letters drawn graph n b m e).1)
@@ -289,14 +290,14 @@ module _ (c : Congruence) (t new : Cosets) (node letter to : ℕ) (w : IsWhole c
   })
 
 -- the root alone
-pub root_whole : (c : Congruence) (t : Cosets) → IsWellFormed c → t.edges.graph ≡ bare c → t.live.items ≡ true ∷ [] → t.marked.items ≡ false ∷ [] → t.pending ≡ NewNode 0 ∷ [] → IsKept c.presentation.letters (bare c) (false ∷ []) t.order → t.seen ≡ [] → IsWhole c t
+pub root_whole : (c : Congruence) (t : Cosets) → IsWellFormed c → t.edges.graph ≡ bare c → t.live.items ≡ true ∷ [] → t.marked.items ≡ false ∷ [] → Extends (NewNode 0 ∷ []) t.pending → IsKept c.presentation.letters (bare c) (false ∷ []) t.order → t.seen ≡ [] → IsWhole c t
 root_whole c t is graph live marked pending kept none = record {
   congruence = is;
   graph = rw graph (root_graph c.presentation.letters);
   lives = rw (graph, live) (root_live c.presentation.letters);
   shape = ap length marked ∙ sym (ap length graph);
   marks = λ n on. absurd (no_mark n (subst (λ m. IsOn m n) marked on));
-  closed = rw (graph, live, pending) (closed_root c.presentation.relations (bare c) (true ∷ []) only_root);
+  closed = rw (graph, live) (closed_more c.presentation.relations (bare c) (true ∷ []) (NewNode 0 ∷ []) t.pending pending (closed_root c.presentation.relations (bare c) (true ∷ []) only_root));
   order = rw (graph, marked) kept;
   seen = seen_nothing c.presentation.relations t.edges.graph t.seen (ap length none);
 }
@@ -322,7 +323,7 @@ module _ (c : Congruence) (t new : Cosets) (node letter : ℕ) (w : IsWhole c t)
       w.lives.reached n (sym (get_or_append_left t.live.items (true ∷ []) false n (omega (arith, old, w.lives.shape))) ∙ is)
 
   pub defined_whole : new.edges.graph ≡ defined → new.live.items ≡ t.live.items ++ true ∷ [] → new.marked.items ≡ t.marked.items ++ false ∷ []
-      → new.pending ≡ (t.pending ++ NewEdge node letter ∷ []) ++ NewNode (length t.edges.graph) ∷ []
+      → Extends ((t.pending ++ NewEdge node letter ∷ []) ++ NewNode (length t.edges.graph) ∷ []) new.pending
       → new.order.places.items ≡ t.order.places.items ++ None ∷ [] → new.order.steps.items ≡ t.order.steps.items → new.order.row ≡ t.order.row → new.order.letter ≡ t.order.letter → new.order.done ≡ t.order.done
       → ((n i : ℕ) → IsSeen new.seen n i → IsSeen t.seen n i × (n < length t.edges.graph)) → IsWhole c new
   defined_whole graph live marked pending places steps row at done cut = record {
@@ -331,7 +332,8 @@ module _ (c : Congruence) (t new : Cosets) (node letter : ℕ) (w : IsWhole c t)
     lives = rw (graph, live) (define_live c.presentation.letters t.edges.graph t.live.items node letter w.graph w.lives on less none);
     shape = ap length marked ∙ length_push {X = Bool} t.marked.items false ∙ omega (arith, w.shape, longer, ap length graph);
     marks = λ n h. subst (λ is. IsOn is n) (sym live) (marks_pushed t.live.items t.marked.items (w.shape ∙ sym w.lives.shape) w.marks n (subst (λ is. IsOn is n) marked h));
-    closed = defined_closed c.presentation.letters t.edges.graph new.edges.graph t.live.items new.live.items t.pending new.pending node letter (length t.edges.graph) w.graph w.lives on less none refl graph live pending c.presentation.relations w.closed;
+    closed = closed_more c.presentation.relations new.edges.graph new.live.items ((t.pending ++ NewEdge node letter ∷ []) ++ NewNode (length t.edges.graph) ∷ []) new.pending pending
+        (defined_closed c.presentation.letters t.edges.graph new.edges.graph t.live.items new.live.items t.pending ((t.pending ++ NewEdge node letter ∷ []) ++ NewNode (length t.edges.graph) ∷ []) node letter (length t.edges.graph) w.graph w.lives on less none refl graph live refl c.presentation.relations w.closed);
     order = subst (λ (g : Graph). IsKept c.presentation.letters g new.marked.items new.order) (sym graph)
         (kept_added c.presentation.letters t.edges.graph t.marked.items new.marked.items t.order new.order t.live.items node letter w.graph w.lives on less none places steps row at done marked w.order);
     seen = subst (λ (g : Graph). HoldWhereSeen c.presentation.relations g new.seen) (sym graph)

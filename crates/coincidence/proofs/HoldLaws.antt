@@ -8,7 +8,7 @@ use Rattle.theory.specs.Graph.{Graph, target, path, IsClosedAt}
 use Rattle.word_graph.proofs.WalkLaws.{some_same}
 use Rattle.coincidence.specs.Closing.{IsEdged}
 use Rattle.coincidence.specs.Merging.{IsFolded}
-use Rattle.coincidence.specs.Holding.{HoldAt, HoldBefore, HoldOnceDrawn, MeetAt, MeetOrAsk}
+use Rattle.coincidence.specs.Holding.{HoldAt, HoldWhere, HoldBefore, HoldOnceDrawn, MeetAt, MeetOrAsk}
 use Rattle.coincidence.specs.DueSpec.{ReadsTo}
 use Rattle.coincidence.specs.Live.{IsOn}
 use Rattle.coincidence.specs.Pending.{IsAmong, IsClosedBut}
@@ -116,7 +116,7 @@ place_held_folded pairs old class new j a m t i at to folded one gone held = λ 
     go (Some x) held n e = subst (λ z. HoldBefore pairs new z i) (some_same (slice_index class x) n e) (drawn_folded pairs old class new j a m t x i folded one (held x refl))
 
 -- nothing is asked of nodes where they hold, nor of new ones
-pub closed_unmarked : (pairs : List (Word × Word)) (g : Graph) (live marked : List Bool) (pending : List Pending) → ((node : ℕ) → IsOn marked node → HoldAt pairs g node)
+pub closed_unmarked : (pairs : List (Word × Word)) (g : Graph) (live marked : List Bool) (pending : List Pending) → HoldWhere pairs g marked
     → ((node : ℕ) → IsOn live node → (IsOn marked node → ⊥) → IsAmong (NewNode node) pending) → IsClosedBut pairs g live pending
 closed_unmarked pairs g live marked pending hold all node r s a m j on old_node sides first second _ _ = go (get_or marked node false) refl
   where

@@ -1,12 +1,13 @@
 -- What is closed apart from new nodes and edges.
-use Rattle.std.proofs.Common.{◌≡◌, ℕ, ◌+◌, ◌-◌, ◌<◌, arith, length, take, get_or, List, [], ◌∷◌, ◌++◌, refl, sym, ◌∙◌, ap, ◌⊎◌, inl, inr, Bool, Option, Some, None, subst, option_and_then}
+use Rattle.std.proofs.Common.{◌≡◌, ℕ, ◌+◌, ◌-◌, ◌<◌, append_assoc, append-nil, arith, IfSome, length, take, get_or, List, [], ◌∷◌, ◌++◌, refl, sym, ◌∙◌, ap, ◌⊎◌, inl, inr, Bool, Option, Some, None, subst, option_and_then}
 use Rattle.std.proofs.lemmas.Bool.{cases_eq}
-use Rattle.std.proofs.lemmas.List.{take_all, take_more}
+use Rattle.std.proofs.lemmas.List.{nil_from_length, take_all, take_more}
 use Rattle.theory.specs.Word.{Word}
 use Rattle.theory.specs.Graph.{Graph, target, path, IsClosedAt}
 use Rattle.theory.proofs.GraphLaws.{path_append}
 use Rattle.word_graph.proofs.WalkLaws.{some_same}
 use Rattle.coincidence.specs.Live.{IsOn, IsLiveGraph}
+use Rattle.coincidence.specs.Absorbing.{Extends}
 use Rattle.coincidence.specs.Closing.{IsEdged}
 use Rattle.coincidence.specs.Drawing.{IsLast}
 use Rattle.coincidence.proofs.MarkLaws.{on_within}
@@ -68,12 +69,69 @@ closed_renewed pairs old new was is before after live renewed closed node r s a 
     renewed.kept j a m (path_live new is live node j s on second) (path_live new is live node m r on first)
     (closed node r s a m j here (λ k. old_node (renewed.pending (NewNode node) k)) sides r'.0 s'.0 r'.1 s'.1)
 
+-- what is in one list is in both
+pub among_left : {X : Type 0} (x : X) (xs ys : List X) → IsAmong x xs → IsAmong x (xs ++ ys)
+among_left x [] ys h = absurd h
+among_left x (z ∷ xs) ys (inl e) = inl e
+among_left x (z ∷ xs) ys (inr h) = inr (among_left x xs ys h)
+
+pub among_right : {X : Type 0} (x : X) (xs ys : List X) → IsAmong x ys → IsAmong x (xs ++ ys)
+among_right x [] ys h = h
+among_right x (z ∷ xs) ys h = inr (among_right x xs ys h)
+
+among_either : {X : Type 0} (x : X) (xs ys : List X) → IsAmong x (xs ++ ys) → IsAmong x xs ⊎ IsAmong x ys
+among_either x [] ys h = inr h
+among_either x (z ∷ xs) ys (inl e) = inl (inl e)
+among_either x (z ∷ xs) ys (inr h) = elim (among_either x xs ys h) [ inl k ↦ inl (inr k) | inr k ↦ inr k ]
+
+-- whatever was in a list, or is new, is in the next one
+pub extended : {X : Type 0} (x y : X) (old new : List X) → Extends (old ++ y ∷ []) new → IsAmong x old → IsAmong x new
+extended x y old new more h = more x (among_before x y old h)
+
+pub extended_last : {X : Type 0} (y : X) (old new : List X) → Extends (old ++ y ∷ []) new → IsAmong y new
+extended_last y old new more = more y (among_last y old)
+
+pub extended_twice : {X : Type 0} (y z : X) (old next new : List X) → Extends (old ++ y ∷ []) next → Extends (next ++ z ∷ []) new → Extends ((old ++ y ∷ []) ++ z ∷ []) new
+extended_twice y z old next new first second x h = elim (among_push x z (old ++ y ∷ []) h) [
+  | inl k ↦ extended x z next new second (first x k)
+  | inr e ↦ subst (λ w. IsAmong w new) (sym e) (extended_last z next new second)
+]
+
+-- an entry more in the first or the second of two lists
+pub second_pushed : {X : Type 0} (xs ys new : List X) (y : X) → new ≡ ys ++ y ∷ [] → Extends ((xs ++ ys) ++ y ∷ []) (xs ++ new)
+second_pushed xs ys new y is x h = elim (among_push x y (xs ++ ys) h) [
+  | inl k ↦ elim (among_either x xs ys k) [
+    | inl first ↦ among_left x xs new first
+    | inr second ↦ among_right x xs new (subst (IsAmong x) (sym is) (among_before x y ys second))
+  ]
+  | inr e ↦ among_right x xs new (subst (IsAmong x) (sym is) (subst (λ w. IsAmong w (ys ++ y ∷ [])) (sym e) (among_last y ys)))
+]
+
+pub first_pushed : {X : Type 0} (xs ys new : List X) (y : X) → new ≡ xs ++ y ∷ [] → Extends ((xs ++ ys) ++ y ∷ []) (new ++ ys)
+first_pushed xs ys new y is x h = elim (among_push x y (xs ++ ys) h) [
+  | inl k ↦ elim (among_either x xs ys k) [
+    | inl first ↦ among_left x new ys (subst (IsAmong x) (sym is) (among_before x y xs first))
+    | inr second ↦ among_right x new ys second
+  ]
+  | inr e ↦ among_left x new ys (subst (IsAmong x) (sym is) (subst (λ w. IsAmong w (xs ++ y ∷ [])) (sym e) (among_last y xs)))
+]
+
+-- what crosses no pending edge crosses none of fewer
+settled_fewer : (g : Graph) (fewer more : List Pending) → Extends fewer more → (n : ℕ) (u : Word) → IsSettled g more n u → IsSettled g fewer n u
+settled_fewer g fewer more extends n [] s = tt
+settled_fewer g fewer more extends n (a ∷ u) s = (λ k. s.0 (extends (NewEdge n a) k), λ next h. settled_fewer g fewer more extends next u (s.1 next h))
+
+-- what is closed but for some entries is so but for more
+pub closed_more : (pairs : List (Word × Word)) (g : Graph) (live : List Bool) (fewer more : List Pending) → Extends fewer more → IsClosedBut pairs g live fewer → IsClosedBut pairs g live more
+closed_more pairs g live fewer more extends closed node r s a m j on old_node sides first second clear clear' =
+    closed node r s a m j on (λ k. old_node (extends (NewNode node) k)) sides first second (settled_fewer g fewer more extends node r clear) (settled_fewer g fewer more extends node s clear')
+
 -- with one node more at the end, so many nodes are among the entries
-pub nodes_push : (pending : List Pending) (n : ℕ) → ((node : ℕ) → node < n → IsAmong (NewNode node) pending)
-    → (node : ℕ) → node < n + 1 → IsAmong (NewNode node) (pending ++ NewNode n ∷ [])
-nodes_push pending n all node less = elim (cases_eq node n) [
-  | inl e ↦ subst (λ z. IsAmong (NewNode z) (pending ++ NewNode n ∷ [])) (sym e) (among_last (NewNode n) pending)
-  | inr d ↦ among_before (NewNode node) (NewNode n) pending (all node (omega (arith, less, d)))
+pub nodes_push : (old new : List Pending) (n : ℕ) → Extends (old ++ NewNode n ∷ []) new → ((node : ℕ) → node < n → IsAmong (NewNode node) old)
+    → (node : ℕ) → node < n + 1 → IsAmong (NewNode node) new
+nodes_push old new n more all node less = elim (cases_eq node n) [
+  | inl e ↦ subst (λ z. IsAmong (NewNode z) new) (sym e) (extended_last (NewNode n) old new more)
+  | inr d ↦ extended (NewNode node) (NewNode n) old new more (all node (omega (arith, less, d)))
 ]
 
 -- nothing is asked of nodes that are all new
@@ -91,6 +149,18 @@ newest_entry entries entry some e = (
   take (length entries - 1) entries,
   sym (take_all ((length entries - 1) + 1) entries (omega (arith, some))) ∙ take_more entries (length entries - 1) entry (omega (arith, some)) ∙ ap (λ z. take (length entries - 1) entries ++ z ∷ []) (sym e),
 )
+
+-- so it is of both lists, if it is of the second, or the second is empty and it is of the first
+pub last_of_second : (edges nodes : List Pending) (entry : Option Pending) → 0 < length nodes → IsLast nodes entry → IsLast (edges ++ nodes) entry
+last_of_second edges nodes None some last = absurd (omega (arith, some, ap length last))
+last_of_second edges nodes (Some entry) some last = (edges ++ last.0, ap (λ z. edges ++ z) last.1 ∙ sym (append_assoc edges last.0 (entry ∷ [])))
+
+pub last_node_of : (edges nodes : List Pending) (entry : Option Pending) → IsLast nodes entry → IfSome entry (λ node. IsLast (edges ++ nodes) (Some node))
+last_node_of edges nodes None last = tt
+last_node_of edges nodes (Some entry) last = (edges ++ last.0, ap (λ z. edges ++ z) last.1 ∙ sym (append_assoc edges last.0 (entry ∷ [])))
+
+pub last_of_first : (edges nodes : List Pending) (entry : Option Pending) → length nodes ≡ 0 → IsLast edges entry → IsLast (edges ++ nodes) entry
+last_of_first edges nodes entry none last = subst (λ z. IsLast z entry) (sym (ap (λ z. edges ++ z) (nil_from_length nodes none) ∙ append-nil edges)) last
 
 -- with nothing pending all is closed
 settled_all : (g : Graph) (n : ℕ) (u : Word) → IsSettled g [] n u

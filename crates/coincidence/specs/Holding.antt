@@ -1,8 +1,9 @@
 -- Relations that hold at a node.
-use Rattle.std.specs.Prelude.{◌≡◌, ℕ, ◌<◌, ◌⊎◌, List, Some, slice_index_or}
+use Rattle.std.specs.Prelude.{◌≡◌, ℕ, ◌<◌, ◌⊎◌, Bool, List, Some, slice_index_or}
 use Rattle.theory.specs.Word.{Word}
 use Rattle.theory.specs.Congruence.{EitherWay}
 use Rattle.theory.specs.Graph.{Graph, path}
+use Rattle.coincidence.specs.Live.{IsOn}
 use Rattle.coincidence.specs.Reading.{IsAsked}
 use Rattle.coincidence.specs.declared.due.Due.{Due}
 use Rattle.coincidence.specs.declared.due.Due.TheVariants.{Nothing, Edge, Join}
@@ -33,3 +34,7 @@ HoldOnceDrawn pairs g node due place = (k : ℕ) (p : Word × Word) → k < plac
 abbrev pub HoldAt : List (Word × Word) → Graph → ℕ → Type 0
 HoldAt pairs g node = (r s : Word) → EitherWay pairs r s
     → (m : ℕ) × (path g node r ≡ Some m) × (path g node s ≡ Some m)
+
+-- so at each marked node
+abbrev pub HoldWhere : List (Word × Word) → Graph → List Bool → Type 0
+HoldWhere pairs g marked = (n : ℕ) → IsOn marked n → HoldAt pairs g n

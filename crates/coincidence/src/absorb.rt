@@ -5,7 +5,7 @@ ghost use Rattle.coincidence.specs.Links.{IsLinked};
 ghost use Rattle.coincidence.specs.Absorbing.{IsRedirected, IsMoved, IsAbsorbedAt, IsAbsorbed, Extends};
 
 use crate::edges::Edges;
-use crate::pending::{Pending, Worklist};
+use crate::pending::Worklist;
 use ports::NoMemory;
 use words::Letter;
 
@@ -26,7 +26,7 @@ fn redirect(
 {
     while let Some(source) = edges.first_source(lost, letter) {
         let _letters = edges.letters();
-        pending.push(Pending::NewEdge(source, letter))?;
+        pending.push_edge(source, letter)?;
         edges.remove_edge(source, letter);
         edges.set_edge(source, letter, kept);
     }
@@ -57,7 +57,7 @@ fn move_edge(
     edges.remove_edge(lost, letter);
     match edges.target(kept, letter) {
         None => {
-            pending.push(Pending::NewEdge(kept, letter))?;
+            pending.push_edge(kept, letter)?;
             edges.set_edge(kept, letter, to);
         }
         Some(other) => queue.push((to, other))?,

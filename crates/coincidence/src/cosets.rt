@@ -8,7 +8,7 @@ ghost use Rattle.coincidence.specs.Live.{IsOn};
 
 use crate::edges::Edges;
 use crate::order::Order;
-use crate::pending::{Pending, Worklist};
+use crate::pending::Worklist;
 use crate::seen::Seen;
 use ports::NoMemory;
 use std::alloc::Global;
@@ -50,7 +50,7 @@ impl Cosets {
         marked.push(false)?;
         let order = Order::new(alloc)?;
         let mut pending = Worklist::new(alloc);
-        pending.push(Pending::NewNode(0))?;
+        pending.push_node(0)?;
         Ok(Cosets {
             edges,
             live,
@@ -84,8 +84,8 @@ impl Cosets {
         self.live.push(true)?;
         self.marked.push(false)?;
         self.order.add_node()?;
-        self.pending.push(Pending::NewEdge(node, letter))?;
-        self.pending.push(Pending::NewNode(fresh))?;
+        self.pending.push_edge(node, letter)?;
+        self.pending.push_node(fresh)?;
         self.edges.add_node()?;
         self.edges.set_edge(node, letter, fresh);
         Ok(fresh)

@@ -1,12 +1,13 @@
 // What is new in a graph and not read yet.
-ghost use Rattle.std.specs.Prelude.{◌≡◌, ℕ, ◌<◌, List, [], ◌∷◌, ◌++◌, Bool, true, false, Option, Some, None, length, OnOk, OnErr};
+ghost use Rattle.std.specs.Prelude.{◌≡◌, ℕ, ◌<◌, List, [], ◌∷◌, ◌++◌, Bool, true, false, Some, length, OnOk, IfSome};
 ghost use Rattle.theory.specs.Graph.{Graph};
 ghost use Rattle.theory.specs.Word.{Word as Letters};
+ghost use Rattle.coincidence.specs.Absorbing.{Extends};
 ghost use Rattle.coincidence.specs.Drawing.{IsLast};
-ghost use Rattle.coincidence.specs.Holding.{HoldAt};
+ghost use Rattle.coincidence.specs.Holding.{HoldWhere};
 ghost use Rattle.coincidence.specs.Live.{IsOn};
 ghost use Rattle.coincidence.specs.Pending.{IsAmong, IsClosedBut};
-ghost use Rattle.coincidence.specs.declared.pending.Pending.TheVariants.{NewNode as Node};
+ghost use Rattle.coincidence.specs.declared.pending.Pending.TheVariants.{NewNode as Node, NewEdge as Edge};
 
 use ports::NoMemory;
 use std::alloc::Global;
@@ -15,6 +16,9 @@ use words::Letter;
 
 // All nodes are read where more than one entry is pending for so many nodes.
 const NODES_READ: usize = 8;
+
+// All nodes without a mark are read where more than one entry is pending for so many of them.
+const UNMARKED_READ: usize = 2;
 
 // A node or an edge that is new.
 #[derive(Clone, Copy)]
@@ -32,20 +36,33 @@ fn count_unmarked(live: &Vec<bool>, marked: &Vec<bool>) -> usize
         .count()
 }
 
-// What is pending, the newest last. An entry of a node that is lost stays until it comes to be
-// read, and asks for nothing then.
+// The newest of a list.
+fn newest(entries: &Vec<Pending>) -> Option<Pending>
+    ensures { IsLast entries.now.items result }
+{
+    let count = entries.len();
+    if 0 < count {
+        Some(entries[count - 1])
+    } else {
+        None
+    }
+}
+
+// What is pending: nodes, which are read first, and edges, of both the newest first. An entry of a
+// node that is lost stays until it comes to be read, and asks for nothing then.
 #[derive(Drop)]
 pub struct Worklist {
-    entries: Vec<Pending>,
+    edges: Vec<Pending>,
+    nodes: Vec<Pending>,
 }
 
 impl Model for Worklist {
-    ghost use Rattle.std.specs.Prelude.{List};
+    ghost use Rattle.std.specs.Prelude.{List, ◌++◌};
     ghost use Rattle.coincidence.specs.declared.pending.Pending.{Pending as Entry};
 
     ghost Value = { List Entry };
 
-    ghost view = { λ w. w.entries.items };
+    ghost view = { λ w. w.edges.items ++ w.nodes.items };
 }
 
 impl Worklist {
@@ -54,46 +71,80 @@ impl Worklist {
         ensures { result ≡ [] }
     {
         Worklist {
-            entries: Vec::new(alloc),
+            edges: Vec::new(alloc),
+            nodes: Vec::new(alloc),
         }
     }
 
-    /// One entry more. Only want of memory refuses it, and then nothing has changed.
-    pub fn push(&mut self, entry: Pending) -> Result<(), NoMemory>
-        ensures items { OnOk result (self.new ≡ self.old ++ entry ∷ []) }
-        ensures err { OnErr result (self.new ≡ self.old) }
+    /// A node more. Only want of memory refuses it.
+    pub fn push_node(&mut self, node: usize) -> Result<(), NoMemory>
+        ensures { OnOk result (Extends (self.old ++ Node node ∷ []) self.new) }
     {
-        self.entries.push(entry)?;
+        self.nodes.push(Pending::NewNode(node))?;
         Ok(())
     }
 
-    /// The newest entry.
+    /// An edge more. Only want of memory refuses it.
+    pub fn push_edge(&mut self, node: usize, letter: Letter) -> Result<(), NoMemory>
+        ensures { OnOk result (Extends (self.old ++ Edge node letter ∷ []) self.new) }
+    {
+        self.edges.push(Pending::NewEdge(node, letter))?;
+        Ok(())
+    }
+
+    /// Whether a node is pending.
+    pub fn has_node(&self) -> bool {
+        !self.nodes.is_empty()
+    }
+
+    /// The newest node.
+    pub fn last_node(&self) -> Option<Pending>
+        ensures { IfSome result (λ node. IsLast self.now (Some node)) }
+    {
+        newest(&self.nodes)
+    }
+
+    /// The newest node, or where none is pending the newest edge.
     pub fn last(&self) -> Option<Pending>
         ensures { IsLast self.now result }
     {
-        let count = self.entries.len();
+        let count = self.nodes.len();
         if 0 < count {
-            Some(self.entries[count - 1])
-        } else {
-            None
+            return newest(&self.nodes);
         }
+        newest(&self.edges)
     }
 
-    /// Takes the newest entry away.
+    /// Takes the last entry away.
     pub fn drop_last(&mut self)
         ensures { (front : List Pending) (entry : Pending) → self.old ≡ front ++ entry ∷ []
             → self.new ≡ front }
     {
-        self.entries.pop();
+        if self.nodes.is_empty() {
+            self.edges.pop();
+        } else {
+            self.nodes.pop();
+        }
+    }
+
+    // How many entries there are.
+    fn len(&self) -> usize {
+        self.nodes.len().saturating_add(self.edges.len())
+    }
+
+    // Nothing is pending any more.
+    fn clear(&mut self) {
+        self.edges.clear();
+        self.nodes.clear();
     }
 
     // Each of so many nodes is pending, and nothing else.
     fn take_nodes(&mut self, count: usize) -> Result<(), NoMemory>
         ensures { OnOk result ((node : ℕ) → node < count → IsAmong (Node node) self.new) }
     {
-        self.entries.clear();
+        self.clear();
         for node in 0..count {
-            self.entries.push(Pending::NewNode(node))?;
+            self.push_node(node)?;
         }
         Ok(())
     }
@@ -106,7 +157,7 @@ impl Worklist {
             (live : List Bool) → length live ≡ count → IsClosedBut pairs graph live self.old
             → IsClosedBut pairs graph live self.new) }
     {
-        if count / NODES_READ < self.entries.len() {
+        if count / NODES_READ < self.len() {
             self.take_nodes(count)?;
         }
         Ok(())
@@ -120,7 +171,7 @@ impl Worklist {
             → IsAmong entry self.new) }
     {
         if live && !marked {
-            self.entries.push(Pending::NewNode(node))?;
+            self.push_node(node)?;
         }
         Ok(())
     }
@@ -131,23 +182,22 @@ impl Worklist {
         ensures { OnOk result ((node : ℕ) → IsOn live.now.items node
             → (IsOn marked.now.items node → ⊥) → IsAmong (Node node) self.new) }
     {
-        self.entries.clear();
+        self.clear();
         for node in 0..live.len() {
             self.take_unmarked_node(live[node], marked[node], node)?;
         }
         Ok(())
     }
 
-    /// Where more is pending than there are live nodes without a mark, each of these is pending in
+    /// Where more is pending than half of the live nodes without a mark, each of these is pending in
     /// its place. At marked nodes the relations hold. Only want of memory refuses it.
     pub fn gather_unmarked(&mut self, live: &Vec<bool>, marked: &Vec<bool>) -> Result<(), NoMemory>
         requires { length marked.now.items ≡ length live.now.items }
         ensures { OnOk result ((pairs : List (Letters × Letters)) (graph : Graph)
-            → ((node : ℕ) → IsOn marked.now.items node → HoldAt pairs graph node)
-            → IsClosedBut pairs graph live.now.items self.old
+            → HoldWhere pairs graph marked.now.items → IsClosedBut pairs graph live.now.items self.old
             → IsClosedBut pairs graph live.now.items self.new) }
     {
-        if count_unmarked(live, marked) < self.entries.len() {
+        if count_unmarked(live, marked) / UNMARKED_READ < self.len() {
             self.take_unmarked(live, marked)?;
         }
         Ok(())

@@ -14,10 +14,10 @@ ghost use Rattle.coincidence.specs.Marks.{AllMarked, IsFirstUnmarked, KeepsMarks
 ghost use Rattle.coincidence.specs.Merged.{MergedNodes};
 ghost use Rattle.coincidence.specs.Table.{CosetTable, IsTable, IsLive, IsDefined, IsDrawn, HoldWhereMarked, links_of};
 
+use crate::closing::Reach;
 use crate::copies::word_graph;
 use crate::cosets::Cosets;
 use crate::indexed::Indexed;
-use crate::pending::Pending;
 use ports::NoMemory;
 use presentation::Congruence;
 use std::alloc::Global;
@@ -169,7 +169,7 @@ impl Table {
         if self.failed {
             return Err(NoMemory);
         }
-        let Ok(()) = self.cosets.pending.push(Pending::NewEdge(node, letter)) else {
+        let Ok(()) = self.cosets.pending.push_edge(node, letter) else {
             return Err(fail(&mut self.failed));
         };
         self.cosets.edges.set_edge(node, letter, to);
@@ -210,13 +210,14 @@ impl Table {
     }
 
     // Draws what follows from the relations, read at every node or at one alone, and from the
-    // pairs. At the one node so many relations, the first ones, hold.
-    fn close(&mut self, at: Option<usize>, held: usize) -> Result<(), NoMemory>
-        requires at { ForSome at (IsLive self.old) }
-        requires held { ForSome at (λ node. HoldBefore
-            self.old.congruence.presentation.relations self.old.graph node held) }
+    // pairs.
+    fn close(&mut self, reach: Reach) -> Result<(), NoMemory>
+        requires at { ForSome reach.at (IsLive self.old) }
+        requires held { ForSome reach.at (λ node. HoldBefore
+            self.old.congruence.presentation.relations self.old.graph node reach.held) }
+        requires hold { reach.marked ≡ true → HoldWhereMarked self.old }
         ensures relates { OnOk result (PathsRelate self.new.graph
-            (ClosedThere self.old.congruence self.old.graph at)) }
+            (ClosedThere self.old.congruence self.old.graph reach.at)) }
         ensures marks { OnOk result (KeepsMarks self.old.graph self.old.marked self.new.graph
             self.new.marked) }
         ensures numbers { OnOk result (KeepsNumbers self.old.graph self.new.graph) }
@@ -230,7 +231,7 @@ impl Table {
         if self.failed {
             return Err(NoMemory);
         }
-        match self.cosets.close(self.alloc, &self.congruence, at, held) {
+        match self.cosets.close(self.alloc, &self.congruence, reach) {
             Ok(()) => {
                 let _letters = self.cosets.edges.letters();
                 Ok(())
@@ -261,7 +262,11 @@ impl Table {
         ensures congruence { self.new.congruence ≡ self.old.congruence }
         ensures table { IsTable self.new }
     {
-        self.close(Some(node), held)
+        self.close(Reach {
+            at: Some(node),
+            held,
+            marked: false,
+        })
     }
 
     // All nodes are pending, where much is.
@@ -298,7 +303,11 @@ impl Table {
         ensures table { IsTable self.new }
     {
         self.gather()?;
-        self.close(None, 0)
+        self.close(Reach {
+            at: None,
+            held: 0,
+            marked: false,
+        })
     }
 
     // All live nodes without a mark are pending, where more is.
@@ -340,7 +349,11 @@ impl Table {
         ensures table { IsTable self.new }
     {
         self.gather_unmarked()?;
-        self.close(None, 0)
+        self.close(Reach {
+            at: None,
+            held: 0,
+            marked: true,
+        })
     }
 
     /// Marks the live node, and changes nothing else.

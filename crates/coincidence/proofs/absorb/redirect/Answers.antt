@@ -1,8 +1,9 @@
-use Rattle.std.proofs.Common.{◌≡◌, ◌<◌, Some, None, sym, ◌∙◌, subst, arith, length}
+use Rattle.std.proofs.Common.{◌≡◌, ◌<◌, ◌++◌, ◌∷◌, [], Some, None, sym, ◌∙◌, subst, arith, length}
 use Rattle.theory.specs.Graph.{Graph, target}
 use Rattle.word_graph.proofs.EdgeLaws.{target_in}
 use Rattle.cells.specs.Rows.{with_entry}
-use Rattle.coincidence.proofs.AbsorbLaws.{redirect_step, redirect_end, first_leads, none_leads, leading, remade_put, remade_shape, remade_count}
+use Rattle.coincidence.specs.declared.pending.Pending.TheVariants.{NewEdge}
+use Rattle.coincidence.proofs.AbsorbLaws.{redirect_step, redirecting_more, redirect_end, first_leads, none_leads, leading, remade_put, remade_shape, remade_count}
 use Rattle.coincidence.proofs.absorb.redirect.Goals as goal
 
 pub remove_edge-requires : goal.remove_edge-requires
@@ -41,9 +42,10 @@ loop-source-preserved c =
     let e = first_leads k c.loop-source.edges c.args.lost c.args.letter c.in-Some.source c.letters-letters.ensures (sym c.in-Some.ensures) in
     let at = target_in k g c.letters-letters.ensures.graph c.in-Some.source c.args.letter c.args.lost e in
     let hm : c.args.kept < length g = omega (arith, c.requires.kept, c.loop-source.invariant.shape.nodes) in
-    rw (c.set_edge.ensures, c.remove_edge.ensures, c.in_ok-push.ensures.items)
+    rw (c.set_edge.ensures, c.remove_edge.ensures)
+    (redirecting_more c.args.edges.now.graph (with_entry (with_entry g c.in-Some.source c.args.letter None) c.in-Some.source c.args.letter (Some c.args.kept)) c.args.lost c.args.kept c.args.letter c.args.pending.now (c.loop-source.pending ++ NewEdge c.in-Some.source c.args.letter ∷ []) c.push_edge.new.self c.in_ok-push_edge.ensures
     (redirect_step c.args.edges.now.graph g (with_entry (with_entry g c.in-Some.source c.args.letter None) c.in-Some.source c.args.letter (Some c.args.kept)) c.args.lost c.args.kept c.args.letter c.in-Some.source c.args.pending.now c.loop-source.pending
-    c.loop-source.invariant e (remade_put k g c.in-Some.source c.args.letter c.args.kept c.letters-letters.ensures.graph at.0 at.1 hm) (remade_shape k g c.in-Some.source c.args.letter c.args.kept c.letters-letters.ensures.graph at.0 at.1 hm))
+    c.loop-source.invariant e (remade_put k g c.in-Some.source c.args.letter c.args.kept c.letters-letters.ensures.graph at.0 at.1 hm) (remade_shape k g c.in-Some.source c.args.letter c.args.kept c.letters-letters.ensures.graph at.0 at.1 hm)))
 
 pub returns : goal.returns
 returns c = record {

@@ -6,7 +6,7 @@ use Rattle.coincidence.proofs.cosets.Cosets.close.Given as goal
 
 abbrev pub invariant-loop-node : goal.invariant-loop-node
 invariant-loop-node l = record {
-  drawing : IsDrawing l.congruence.congruence l.initial.self l.self l.fn.at l.place;
+  drawing : IsDrawing l.congruence.congruence l.initial.self l.self l.fn.reach.at l.place;
   held : ForSome l.place (λ n. HoldBefore l.congruence.congruence.presentation.relations l.self.edges.graph n l.held);
 }
 

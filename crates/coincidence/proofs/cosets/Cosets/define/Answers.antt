@@ -4,11 +4,12 @@ use Rattle.theory.specs.Graph.{Graph, target, IsGraph}
 use Rattle.word_graph.specs.Edges.{with_edge, with_node}
 use Rattle.cells.proofs.EntryLaws.{node_graph, target_node}
 use Rattle.coincidence.specs.Links.{Links, IsLinked}
+use Rattle.coincidence.specs.Absorbing.{Extends}
 use Rattle.coincidence.specs.declared.cosets.Cosets.{Cosets}
-use Rattle.coincidence.specs.declared.pending.Pending.{Pending}
 use Rattle.coincidence.specs.declared.pending.Pending.TheVariants.{NewNode, NewEdge}
 use Rattle.coincidence.proofs.FoldLaws.{width_is}
 use Rattle.coincidence.proofs.HeldLaws.{defined_whole}
+use Rattle.coincidence.proofs.PendingLaws.{extended_twice}
 use Rattle.coincidence.proofs.TableLaws.{on_inside}
 use Rattle.coincidence.proofs.cosets.Cosets.define.Goals as goal
 
@@ -55,7 +56,7 @@ returns-clause-whole c = λ k w.
       live = c.push.new.self;
       marked = c.push-2.new.self;
       order = c.add_node.new.self;
-      pending = c.push-4.new.self;
+      pending = c.push_node.new.self;
       replaced_by = c.args.self.now.replaced_by;
       seen = c.cut.new.self;
     } in
@@ -64,8 +65,9 @@ returns-clause-whole c = λ k w.
     let graph : c.set_edge.new.self.graph ≡ with_edge (with_node k.presentation.letters g) c.args.node c.args.letter (length g) = c.set_edge.ensures
     ∙ ap (λ (z : Graph). with_edge z c.args.node c.args.letter c.nodes-fresh.result) (more c.letters-letters.result k.presentation.letters c.args.self.now.edges c.add_node-2.new.self.graph c.letters-letters.ensures w.graph c.in_ok-add_node-2.ensures.ok)
     ∙ ap (λ z. with_edge (with_node k.presentation.letters g) c.args.node c.args.letter z) c.nodes-fresh.ensures in
-    let pending : c.push-4.new.self ≡ (c.args.self.now.pending ++ NewEdge c.args.node c.args.letter ∷ []) ++ NewNode (length g) ∷ [] =
-    c.in_ok-push-4.ensures.items ∙ ap (λ (z : List Pending). z ++ NewNode c.nodes-fresh.result ∷ []) c.in_ok-push-3.ensures.items ∙ ap (λ n. (c.args.self.now.pending ++ NewEdge c.args.node c.args.letter ∷ []) ++ NewNode n ∷ []) c.nodes-fresh.ensures in
+    let pending : Extends ((c.args.self.now.pending ++ NewEdge c.args.node c.args.letter ∷ []) ++ NewNode (length g) ∷ []) c.push_node.new.self =
+    extended_twice (NewEdge c.args.node c.args.letter) (NewNode (length g)) c.args.self.now.pending c.push_edge.new.self c.push_node.new.self c.in_ok-push_edge.ensures
+    (subst (λ n. Extends (c.push_edge.new.self ++ NewNode n ∷ []) c.push_node.new.self) c.nodes-fresh.ensures c.in_ok-push_node.ensures) in
     defined_whole k c.args.self.now new c.args.node c.args.letter w c.requires.node less c.requires.missing graph c.in_ok-push.ensures.items c.in_ok-push-2.ensures.items pending
     c.in_ok-add_node.ensures.places c.add_node.ensures.steps c.add_node.ensures.row c.add_node.ensures.letter c.add_node.ensures.done
     (λ n i h. let was = c.cut.ensures n i h in (was.0, omega (arith, was.1, c.nodes-fresh.ensures)))

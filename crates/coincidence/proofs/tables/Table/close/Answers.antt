@@ -3,13 +3,17 @@ use Rattle.std.specs.Option.{ForSome}
 use Rattle.theory.specs.Graph.{PathsRelate}
 use Rattle.coincidence.specs.Holding.{HoldBefore}
 use Rattle.coincidence.specs.Closing.{ClosedThere}
-use Rattle.coincidence.specs.Table.{CosetTable}
+use Rattle.coincidence.specs.Table.{CosetTable, HoldWhereMarked}
 use Rattle.coincidence.proofs.HeldLaws.{between, failed_held, held, seen}
 use Rattle.coincidence.proofs.tables.Table.close.Goals as goal
 
 pub close-requires-clause-held : goal.close-requires-clause-held
-close-requires-clause-held c = subst (λ (t : CosetTable). ForSome c.args.at (λ n. HoldBefore t.congruence.presentation.relations t.graph n c.args.held))
+close-requires-clause-held c = subst (λ (t : CosetTable). ForSome c.args.reach.at (λ n. HoldBefore t.congruence.presentation.relations t.graph n c.args.reach.held))
     (sym (seen c.self.inside.congruence.congruence c.self.inside.cosets c.self.inside.failed c.args.self.now c.if-self.false c.self.view_is)) c.requires.held
+
+pub close-requires-clause-hold : goal.close-requires-clause-hold
+close-requires-clause-hold c = λ marked. subst HoldWhereMarked
+    (sym (seen c.self.inside.congruence.congruence c.self.inside.cosets c.self.inside.failed c.args.self.now c.if-self.false c.self.view_is)) (c.requires.hold marked)
 
 pub invariant_of-self-in-Err : goal.invariant_of-self-in-Err
 invariant_of-self-in-Err c = rw (c.fail.ensures) (failed_held _ _ c.self.invariant.table.congruence)
@@ -25,5 +29,5 @@ returns-in-Ok-clause-table c = (held c.self.inside.congruence.congruence c.close
 
 pub returns-in-Ok-clause-relates : goal.returns-in-Ok-clause-relates
 returns-in-Ok-clause-relates c =
-    between (λ (old new : CosetTable). PathsRelate new.graph (ClosedThere old.congruence old.graph c.args.at))
+    between (λ (old new : CosetTable). PathsRelate new.graph (ClosedThere old.congruence old.graph c.args.reach.at))
     c.self.inside.congruence.congruence c.self.inside.failed c.self.inside.cosets c.close.new.self c.args.self.now c.if-self.false c.self.view_is c.in-Ok.ensures.relates

@@ -14,15 +14,15 @@ returns-in_default-clause-table c = rw (c.fail.ensures) ((failed_held c.self.ins
 pub invariant_of-self-2 : goal.invariant_of-self-2
 invariant_of-self-2 c =
     let view = sym (seen c.self.inside.congruence.congruence c.self.inside.cosets c.self.inside.failed c.args.self.now c.if-self.false c.self.view_is) in
-    let whole = drawn_whole c.self.inside.congruence.congruence c.self.inside.cosets (record c.self.inside.cosets { edges = c.set_edge.new.self; pending = c.push.new.self }) c.args.node c.args.letter c.args.to (c.self.invariant.whole c.if-self.false) (subst (λ (t : CosetTable). IsOn t.live c.args.node) view c.requires.node)
+    let whole = drawn_whole c.self.inside.congruence.congruence c.self.inside.cosets (record c.self.inside.cosets { edges = c.set_edge.new.self; pending = c.push_edge.new.self }) c.args.node c.args.letter c.args.to (c.self.invariant.whole c.if-self.false) (subst (λ (t : CosetTable). IsOn t.live c.args.node) view c.requires.node)
     (subst (λ (t : CosetTable). IsOn t.live c.args.to) view c.requires.to) (subst (λ (t : CosetTable). c.args.letter < t.congruence.presentation.letters) view c.requires.letter)
-    (subst (λ (t : CosetTable). target t.graph c.args.node c.args.letter ≡ None) view c.requires.missing) c.set_edge.ensures refl c.in-Ok.ensures.items in
-    held c.self.inside.congruence.congruence (record c.self.inside.cosets { edges = c.set_edge.new.self; pending = c.push.new.self }) c.self.inside.failed c.if-self.false whole c.letters-letters.ensures.lists
+    (subst (λ (t : CosetTable). target t.graph c.args.node c.args.letter ≡ None) view c.requires.missing) c.set_edge.ensures refl c.in-Ok.ensures in
+    held c.self.inside.congruence.congruence (record c.self.inside.cosets { edges = c.set_edge.new.self; pending = c.push_edge.new.self }) c.self.inside.failed c.if-self.false whole c.letters-letters.ensures.lists
 
 pub returns-clause-table : goal.returns-clause-table
 returns-clause-table c =
     let view = sym (seen c.self.inside.congruence.congruence c.self.inside.cosets c.self.inside.failed c.args.self.now c.if-self.false c.self.view_is) in
-    let whole = drawn_whole c.self.inside.congruence.congruence c.self.inside.cosets (record c.self.inside.cosets { edges = c.set_edge.new.self; pending = c.push.new.self }) c.args.node c.args.letter c.args.to (c.self.invariant.whole c.if-self.false) (subst (λ (t : CosetTable). IsOn t.live c.args.node) view c.requires.node)
+    let whole = drawn_whole c.self.inside.congruence.congruence c.self.inside.cosets (record c.self.inside.cosets { edges = c.set_edge.new.self; pending = c.push_edge.new.self }) c.args.node c.args.letter c.args.to (c.self.invariant.whole c.if-self.false) (subst (λ (t : CosetTable). IsOn t.live c.args.node) view c.requires.node)
     (subst (λ (t : CosetTable). IsOn t.live c.args.to) view c.requires.to) (subst (λ (t : CosetTable). c.args.letter < t.congruence.presentation.letters) view c.requires.letter)
-    (subst (λ (t : CosetTable). target t.graph c.args.node c.args.letter ≡ None) view c.requires.missing) c.set_edge.ensures refl c.in-Ok.ensures.items in
-    (held c.self.inside.congruence.congruence (record c.self.inside.cosets { edges = c.set_edge.new.self; pending = c.push.new.self }) c.self.inside.failed c.if-self.false whole c.letters-letters.ensures.lists).table
+    (subst (λ (t : CosetTable). target t.graph c.args.node c.args.letter ≡ None) view c.requires.missing) c.set_edge.ensures refl c.in-Ok.ensures in
+    (held c.self.inside.congruence.congruence (record c.self.inside.cosets { edges = c.set_edge.new.self; pending = c.push_edge.new.self }) c.self.inside.failed c.if-self.false whole c.letters-letters.ensures.lists).table
