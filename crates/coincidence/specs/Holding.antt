@@ -1,10 +1,12 @@
 -- Relations that hold at a node.
-use Rattle.std.specs.Prelude.{◌≡◌, ℕ, ◌<◌, ◌⊎◌, Bool, List, Some, slice_index_or}
+use Rattle.std.specs.Prelude.{◌≡◌, ℕ, ◌<◌, ◌⊎◌, Bool, true, List, Some, slice_index_or}
+use Rattle.std.specs.Option.{ForSome}
 use Rattle.theory.specs.Word.{Word}
 use Rattle.theory.specs.Congruence.{EitherWay}
 use Rattle.theory.specs.Graph.{Graph, path}
 use Rattle.coincidence.specs.Live.{IsOn}
 use Rattle.coincidence.specs.Reading.{IsAsked}
+use Rattle.coincidence.specs.declared.closing.Reach.{Reach}
 use Rattle.coincidence.specs.declared.due.Due.{Due}
 use Rattle.coincidence.specs.declared.due.Due.TheVariants.{Nothing, Edge, Join}
 
@@ -38,3 +40,11 @@ HoldAt pairs g node = (r s : Word) → EitherWay pairs r s
 -- so at each marked node
 abbrev pub HoldWhere : List (Word × Word) → Graph → List Bool → Type 0
 HoldWhere pairs g marked = (n : ℕ) → IsOn marked n → HoldAt pairs g n
+
+-- relations are read at a live node, if at one, where so many of them hold, and hold at marked
+-- nodes, if they are said to
+pub record IsReach (pairs : List (Word × Word)) (g : Graph) (live marked : List Bool)
+    (reach : Reach) : Type 0 where
+  pub at : ForSome reach.at (IsOn live)
+  pub held : ForSome reach.at (λ node. HoldBefore pairs g node reach.held)
+  pub hold : reach.marked ≡ true → HoldWhere pairs g marked

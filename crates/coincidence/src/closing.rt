@@ -4,7 +4,7 @@ ghost use Rattle.std.specs.Option.{ForSome};
 ghost use Rattle.theory.specs.Graph.{PathsRelate};
 ghost use Rattle.coincidence.specs.Closing.{ClosedThere};
 ghost use Rattle.coincidence.specs.DueSpec.{IsDueIn};
-ghost use Rattle.coincidence.specs.Holding.{HoldBefore, HoldOnceDrawn, HoldWhere};
+ghost use Rattle.coincidence.specs.Holding.{HoldBefore, HoldOnceDrawn, HoldWhere, IsReach};
 ghost use Rattle.coincidence.specs.Cosets.{IsGathered, IsWhole};
 ghost use Rattle.coincidence.specs.Live.{IsLiveGraph, IsOn};
 ghost use Rattle.coincidence.specs.Pending.{IsClosedBut};
@@ -252,13 +252,8 @@ impl Cosets {
         reach: Reach,
     ) -> Result<(), NoMemory>
         requires whole { IsWhole congruence.now.congruence self.old }
-        requires at { ForSome reach.at (IsOn self.old.live.items) }
-        requires held { ForSome reach.at (λ node. HoldBefore
-            congruence.now.congruence.presentation.relations self.old.edges.graph node
-            reach.held) }
-        requires hold { reach.marked ≡ true → HoldWhere
-            congruence.now.congruence.presentation.relations self.old.edges.graph
-            self.old.marked.items }
+        requires reach { IsReach congruence.now.congruence.presentation.relations
+            self.old.edges.graph self.old.live.items self.old.marked.items reach }
         ensures whole { OnOk result (IsWhole congruence.now.congruence self.new) }
         ensures relates { OnOk result (PathsRelate self.new.edges.graph
             (ClosedThere congruence.now.congruence self.old.edges.graph reach.at)) }

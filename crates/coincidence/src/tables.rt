@@ -8,7 +8,7 @@ ghost use Rattle.theory.specs.Graph.{target as target_of, path, SameEnd, PathsRe
 ghost use Rattle.word_graph.specs.Standard.{IsStandardGraph};
 ghost use Rattle.word_graph.specs.Walk.{IsFirstMissing};
 ghost use Rattle.coincidence.specs.Closing.{ClosedThere};
-ghost use Rattle.coincidence.specs.Holding.{HoldBefore, MeetAt};
+ghost use Rattle.coincidence.specs.Holding.{HoldBefore, IsReach, MeetAt};
 ghost use Rattle.coincidence.specs.Links.{IsSources};
 ghost use Rattle.coincidence.specs.Marks.{AllMarked, IsFirstUnmarked, KeepsMarks, KeepsNumbers};
 ghost use Rattle.coincidence.specs.Merged.{MergedNodes};
@@ -212,10 +212,8 @@ impl Table {
     // Draws what follows from the relations, read at every node or at one alone, and from the
     // pairs.
     fn close(&mut self, reach: Reach) -> Result<(), NoMemory>
-        requires at { ForSome reach.at (IsLive self.old) }
-        requires held { ForSome reach.at (λ node. HoldBefore
-            self.old.congruence.presentation.relations self.old.graph node reach.held) }
-        requires hold { reach.marked ≡ true → HoldWhereMarked self.old }
+        requires { IsReach self.old.congruence.presentation.relations self.old.graph
+            self.old.live self.old.marked reach }
         ensures relates { OnOk result (PathsRelate self.new.graph
             (ClosedThere self.old.congruence self.old.graph reach.at)) }
         ensures marks { OnOk result (KeepsMarks self.old.graph self.old.marked self.new.graph

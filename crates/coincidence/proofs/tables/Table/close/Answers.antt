@@ -1,19 +1,14 @@
 use Rattle.std.proofs.Common.{sym, subst}
-use Rattle.std.specs.Option.{ForSome}
 use Rattle.theory.specs.Graph.{PathsRelate}
-use Rattle.coincidence.specs.Holding.{HoldBefore}
+use Rattle.coincidence.specs.Holding.{IsReach}
 use Rattle.coincidence.specs.Closing.{ClosedThere}
-use Rattle.coincidence.specs.Table.{CosetTable, HoldWhereMarked}
+use Rattle.coincidence.specs.Table.{CosetTable}
 use Rattle.coincidence.proofs.HeldLaws.{between, failed_held, held, seen}
 use Rattle.coincidence.proofs.tables.Table.close.Goals as goal
 
-pub close-requires-clause-held : goal.close-requires-clause-held
-close-requires-clause-held c = subst (λ (t : CosetTable). ForSome c.args.reach.at (λ n. HoldBefore t.congruence.presentation.relations t.graph n c.args.reach.held))
-    (sym (seen c.self.inside.congruence.congruence c.self.inside.cosets c.self.inside.failed c.args.self.now c.if-self.false c.self.view_is)) c.requires.held
-
-pub close-requires-clause-hold : goal.close-requires-clause-hold
-close-requires-clause-hold c = λ marked. subst HoldWhereMarked
-    (sym (seen c.self.inside.congruence.congruence c.self.inside.cosets c.self.inside.failed c.args.self.now c.if-self.false c.self.view_is)) (c.requires.hold marked)
+pub close-requires-clause-reach : goal.close-requires-clause-reach
+close-requires-clause-reach c = subst (λ (t : CosetTable). IsReach t.congruence.presentation.relations t.graph t.live t.marked c.args.reach)
+    (sym (seen c.self.inside.congruence.congruence c.self.inside.cosets c.self.inside.failed c.args.self.now c.if-self.false c.self.view_is)) c.requires
 
 pub invariant_of-self-in-Err : goal.invariant_of-self-in-Err
 invariant_of-self-in-Err c = rw (c.fail.ensures) (failed_held _ _ c.self.invariant.table.congruence)

@@ -1,6 +1,7 @@
-use Rattle.std.proofs.Common.{OnOk, Result, Ok, Err, subst}
+use Rattle.std.proofs.Common.{◌≡◌, OnOk, Result, Ok, Err, false, true, subst}
 use Rattle.word_graph.proofs.WalkLaws.{some_same}
 use Rattle.coincidence.specs.Holding.{HoldBefore}
+use Rattle.coincidence.specs.Table.{IsLive}
 use Rattle.coincidence.proofs.CloseLaws.{closed_at_word}
 use Rattle.coincidence.proofs.tables.Table.close_at.Goals as goal
 
@@ -13,5 +14,9 @@ returns-clause-relates c =
     on_ok c.close.result (λ relates w at. closed_at_word c.args.self.now.congruence c.args.self.now.graph c.close.new.self.graph c.args.node w at relates)
     c.close.ensures.relates
 
-pub close-requires-clause-held : goal.close-requires-clause-held
-close-requires-clause-held c = λ n is. subst (λ z. HoldBefore c.args.self.now.congruence.presentation.relations c.args.self.now.graph z c.args.held) (some_same c.args.node n is) c.requires.held
+pub close-requires : goal.close-requires
+close-requires c = record {
+  at = λ n is. subst (IsLive c.args.self.now) (some_same c.args.node n is) c.requires.node;
+  held = λ n is. subst (λ z. HoldBefore c.args.self.now.congruence.presentation.relations c.args.self.now.graph z c.args.held) (some_same c.args.node n is) c.requires.held;
+  hold = λ e. let no : false ≡ true = e in cc;
+}
