@@ -1,5 +1,6 @@
 -- The bytes of an answer, from those of its lines.
-use Rattle.std.proofs.Common.{inl, inr, ℕ, List, [], ◌∷◌, Ok, Err, true, ◌≡◌, ◌∙◌, ap, subst, sym}
+use Rattle.std.proofs.Common.{inl, inr, ℕ, List, [], ◌∷◌, Result, Ok, Err, true, ◌≡◌, ◌∙◌, ap, subst, sym}
+use Rattle.std.specs.Result.{result_and}
 use Rattle.ports.specs.declared.sink.Sink.{Ghosts}
 use Rattle.ports.specs.declared.fault.WriteFault.{WriteFault}
 use Rattle.ports.specs.Writes.{Writes, WritesBytes}
@@ -28,17 +29,22 @@ module _ {K : Type 0} (sink : Ghosts K) (p : Problem) (b : Budgets) (bound : ℕ
     defined_bytes : (bytes : List ℕ) → AreBytesOf (AreLines p asked q) bytes → AreAnswerBytes p b bound q Defined bytes
     defined_bytes bytes h = record { lines = h.lines; are_such = record { comes = comes; are_lines = subst (λ n. AreLines p n q h.lines) same h.are_such }; are_bytes = h.are_bytes }
 
-    -- the lines of a query for which what it waits for comes about
-    pub defined_told : (value : Unit {0}) → Writes sink (λ _. AreBytesOf (AreLines p asked q)) old new (Ok value) → Writes sink (AreAnswerBytes p b bound q) old new (Ok Defined)
-    defined_told value = answered sink old new value Defined defined_bytes
+    defined_and : (r : Result (Unit {0}) WriteFault) → Writes sink (λ _. AreBytesOf (AreLines p asked q)) old new r → Writes sink (AreAnswerBytes p b bound q) old new (result_and r (Ok Defined))
+    defined_and (Ok value) = answered sink old new value Defined defined_bytes
+    defined_and (Err fault) = faulted sink old new fault (λ bytes c. elim c [ inl none ↦ inl none | inr some ↦ inr (Defined, defined_bytes bytes some.1) ])
 
-    pub defined_begun : (fault : WriteFault) → Writes sink {T = Unit {0}} (λ _. AreBytesOf (AreLines p asked q)) old new (Err fault) → Writes sink (AreAnswerBytes p b bound q) old new (Err fault)
-    defined_begun fault = faulted sink old new fault (λ bytes c. elim c [ inl none ↦ inl none | inr some ↦ inr (Defined, defined_bytes bytes some.1) ])
+    -- the lines of a query for which what it waits for comes about
+    pub defined_told : (r : Result (Unit {0}) WriteFault) (s : Result Answered WriteFault) → s ≡ result_and r (Ok Defined) → Writes sink (λ _. AreBytesOf (AreLines p asked q)) old new r → Writes sink (AreAnswerBytes p b bound q) old new s
+    defined_told r s is h = subst (λ s. Writes sink (AreAnswerBytes p b bound q) old new s) (sym is) (defined_and r h)
 
   -- an answer of one line
   module _ (told : Answered) (line : List ℕ) (is_answer : IsAnswer p b bound q (line ∷ []) (is_undecided told)) where
-    pub line_told : (value : Unit {0}) → WritesBytes sink line old new (Ok value) → Writes sink (AreAnswerBytes p b bound q) old new (Ok told)
-    line_told value = answered sink old new value told (λ bytes e. record { lines = line ∷ []; are_such = is_answer; are_bytes = e ∙ one_line line })
+    line_bytes : (bytes : List ℕ) → bytes ≡ line → AreAnswerBytes p b bound q told bytes
+    line_bytes bytes e = record { lines = line ∷ []; are_such = is_answer; are_bytes = e ∙ one_line line }
 
-    pub line_begun : (fault : WriteFault) → WritesBytes sink {T = Unit {0}} line old new (Err fault) → Writes sink (AreAnswerBytes p b bound q) old new (Err fault)
-    line_begun fault = faulted sink old new fault (λ bytes e. inr (told, record { lines = line ∷ []; are_such = is_answer; are_bytes = e ∙ one_line line }))
+    line_and : (r : Result (Unit {0}) WriteFault) → WritesBytes sink line old new r → Writes sink (AreAnswerBytes p b bound q) old new (result_and r (Ok told))
+    line_and (Ok value) = answered sink old new value told line_bytes
+    line_and (Err fault) = faulted sink old new fault (λ bytes e. inr (told, line_bytes bytes e))
+
+    pub line_told : (r : Result (Unit {0}) WriteFault) (s : Result Answered WriteFault) → s ≡ result_and r (Ok told) → WritesBytes sink line old new r → Writes sink (AreAnswerBytes p b bound q) old new s
+    line_told r s is h = subst (λ s. Writes sink (AreAnswerBytes p b bound q) old new s) (sym is) (line_and r h)

@@ -1,5 +1,6 @@
 -- The lines of queries, and their bytes.
-use Rattle.std.proofs.Common.{◌≡◌, ℕ, List, [], ◌∷◌, Result, sym, subst, append-nil}
+use Rattle.std.proofs.Common.{◌≡◌, ℕ, List, [], ◌∷◌, ◌++◌, Result, codes, sym, ap, ap₂, ◌∙◌, subst, append-nil}
+use Rattle.std.proofs.lemmas.List.{append_assoc}
 use Rattle.ports.specs.declared.sink.Sink.{Ghosts}
 use Rattle.ports.specs.declared.fault.WriteFault.{WriteFault}
 use Rattle.ports.specs.Writes.{Writes, WritesBytes}
@@ -18,3 +19,7 @@ writes_lines sink p bound q r lines is are_lines bytes old new result e =
 -- the bytes of one line
 pub one_line : (line : List ℕ) → line ≡ bytes_of (line ∷ [])
 one_line line = sym (append-nil line)
+
+-- a line of a name and a text
+pub line_put : (name text begun whole given : List ℕ) → begun ≡ name → whole ≡ begun ++ given → given ≡ text → whole ++ codes "\n" ≡ name ++ (text ++ codes "\n")
+line_put name text begun whole given b w g = ap (λ line. line ++ codes "\n") (w ∙ ap₂ ◌++◌ b g) ∙ append_assoc name text (codes "\n")

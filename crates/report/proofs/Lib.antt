@@ -5,4 +5,5 @@ pub mod UniqueAnswer
 pub mod SolvedLemmas
 pub mod TableAnswers
 pub mod NeedLaws
+pub mod KeptLaws
 pub mod AnswersLaws

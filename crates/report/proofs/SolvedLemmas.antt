@@ -1,18 +1,18 @@
 -- The answers where the problem is decided.
-use Rattle.std.proofs.Common.{◌≡◌, ◌↔◌, All, ℕ, Bool, true, false, IsTrue, true≢false, inl, inr, if◌then◌else◌, List, [], ◌∷◌, ◌++◌, map, length, Option, Result, refl, sym, ap, subst, ◌∙◌}
+use Rattle.std.proofs.Common.{◌≡◌, ◌↔◌, All, ℕ, Bool, true, false, IsTrue, true≢false, inl, inr, if◌then◌else◌, List, [], ◌∷◌, ◌++◌, map, length, Option, Result, refl, sym, ap, subst, subst₂, ◌∙◌}
 use Rattle.std.proofs.lemmas.Bool.{le-leb, lt-leb}
 use Rattle.ports.specs.declared.sink.Sink.{Ghosts}
 use Rattle.ports.specs.declared.fault.WriteFault.{WriteFault}
 use Rattle.ports.specs.Writes.{Writes}
 use Rattle.ports.proofs.WriteLemmas.{meant_weaker}
-use Rattle.theory.specs.Word.{Word, IsOver}
+use Rattle.theory.specs.Word.{Word, IsElement, IsOver}
 use Rattle.theory.specs.ShortLex.{◌≺◌}
 use Rattle.theory.specs.Listing.{IsPage}
 use Rattle.theory.specs.Class.{IsLeast, IsNormal, HasIndex, IsInfinite, IsRuleList}
 use Rattle.froidure_pin.specs.declared.tables.CayleyTables.{CayleyTables}
 use Rattle.cayley.specs.Tables.{edge}
 use Rattle.problem.specs.declared.kinds.Problem.{Problem}
-use Rattle.problem.specs.Problem.{SameClassOf, SameValueOf, HasOneShape, IsWellPosed, count_of, is_presented, letters_of, pairs_of}
+use Rattle.problem.specs.Problem.{SameClassOf, SameValueOf, HasOneShape, IsWellPosed, count_of, has_empty_word, is_presented, letters_of, pairs_of}
 use Rattle.problem.proofs.RelatedByValue.{related_by_value}
 use Rattle.congruence_classes.specs.declared.indexes.Index.{Index}
 use Rattle.congruence_classes.specs.declared.indexes.Index.TheVariants.{Finite, Infinite, Over}
@@ -84,6 +84,19 @@ module _ (p s : Problem) (solved : s ≡ p) where
     module _ (q : Query) (count : ℕ) (after asked : Option Word) (letters : List ℕ) (is : q ≡ query.Classes count after) (same : asked ≡ after) (over : letters ≡ letters_of p) where
       pub solved_page : {K : Type 0} (sink : Ghosts K) (old new : K) (r : Result (Unit {0}) WriteFault) → Writes sink (λ _. AreBytesOf (ArePageLines (IsLeast (SameClassOf s)) ◌≺◌ (word_line letters) asked count)) old new r → Writes sink (λ _. AreBytesOf (AreLines p bound q)) old new r
       solved_page sink old new r = meant_weaker sink old new r (λ _ bytes h. record { lines = h.lines; are_such = page q count after asked letters is same over h.lines h.are_such; are_bytes = h.are_bytes })
+
+-- the lines of the problem that was solved are those of the query
+pub solved_told : {K : Type 0} (sink : Ghosts K) (s p : Problem) (bound : ℕ) (r q : Query) → s ≡ p → q ≡ r → (old new : K) (result : Result (Unit {0}) WriteFault)
+    → Writes sink (λ _. AreBytesOf (AreLines s bound r)) old new result → Writes sink (λ _. AreBytesOf (AreLines p bound q)) old new result
+solved_told sink s p bound r q solved is old new result = subst₂ (λ (p : Problem) (q : Query). Writes sink (λ _. AreBytesOf (AreLines p bound q)) old new result) solved (sym is)
+
+-- each letter of it is one
+pub counted : (p s : Problem) → s ≡ p → count_of p ≡ length (letters_of p) → count_of s ≡ length (letters_of s)
+counted p s solved one_each = subst (λ (q : Problem). count_of q ≡ length (letters_of q)) (sym solved) one_each
+
+-- an element over the letters is one over so many
+pub element_counted : (p : Problem) (w : Word) → count_of p ≡ length (letters_of p) → IsElement (has_empty_word p) (length (letters_of p)) w → IsElement (has_empty_word p) (count_of p) w
+element_counted p w one_each = subst (λ k. IsElement (has_empty_word p) k w) (sym one_each)
 
 -- what asks for generators is there only where they are given
 is_generated : (p : Problem) (q r : Query) → q ≡ r → needs_generators r ≡ true → IsQueryOf p q → is_presented p ≡ false

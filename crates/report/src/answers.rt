@@ -1,11 +1,9 @@
 // The answers of queries.
-ghost use Rattle.std.specs.Prelude.{◌≡◌, ◌<◌, IfOk, IsSome, MatchOption, OnOk};
+ghost use Rattle.std.specs.Prelude.{◌≡◌, ◌<◌, IfOk, IsSome, OnOk};
 ghost use Rattle.ports.specs.Writes.{Writes};
-ghost use Rattle.congruence.specs.Verdicts.{IsVerdictOf};
 ghost use Rattle.problem.specs.Problem.{IsPosable};
 ghost use Rattle.query_lang.specs.Query.{IsQueryOf};
 ghost use Rattle.report.specs.Answer.{awaited_by};
-ghost use Rattle.report.specs.Chains.{IsLogOf};
 ghost use Rattle.report.specs.Gains.{AreAnswerBytes};
 ghost use Rattle.report.specs.Kept.{HasElements, HasFound, KeepsFound, KeepsOf, KeepsSettings};
 
@@ -41,7 +39,7 @@ fn write_decided<O: Sink>(
 ) -> Result<Answered, WriteFault>
     requires query { IsQueryOf problem.now query.now }
     requires kept { KeepsOf problem.now state.old }
-    requires found { MatchOption state.old.verdict ⊥ (IsVerdictOf problem.now state.old.budgets) }
+    requires found { IsSome state.old.verdict }
     requires waits { awaited_by query.now ≡ Awaited.Decision }
     ensures kept { KeepsOf problem.now state.new }
     ensures settings { KeepsSettings state.old state.new }
@@ -56,12 +54,11 @@ fn write_decided<O: Sink>(
     match &mut state.verdict {
         Some(Verdict::Known(solved)) => {
             let elements = &mut state.elements;
-            write_solved(alloc, problem, solved, elements, query, bound, sink)?;
-            Ok(Answered::Defined)
+            let written = write_solved(alloc, problem, solved, elements, query, bound, sink);
+            written.and(Ok(Answered::Defined))
         }
         Some(Verdict::Undecided(_)) => {
-            write_all(sink, b"undecided\n")?;
-            Ok(Answered::Undecided)
+            write_all(sink, b"undecided\n").and(Ok(Answered::Undecided))
         }
         None => unreachable!(),
     }
@@ -77,8 +74,8 @@ fn write_completed<O: Sink>(
 ) -> Result<Answered, WriteFault>
     requires query { IsQueryOf problem.now query.now }
     requires posable { IsPosable problem.now }
-    requires kept { MatchOption state.now.completion ⊥
-        (IsLogOf problem.now state.now.budgets.length) }
+    requires kept { KeepsOf problem.now state.now }
+    requires found { IsSome state.now.completion }
     requires waits { awaited_by query.now ≡ Awaited.Log }
     ensures { Writes O.Sink (AreAnswerBytes problem.now state.now.budgets state.now.classes
         query.now) sink.old sink.new result }
@@ -87,11 +84,9 @@ fn write_completed<O: Sink>(
         unreachable!()
     };
     if completion.is_decided() {
-        write_logged(alloc, problem, completion, query, sink)?;
-        Ok(Answered::Defined)
+        write_logged(alloc, problem, completion, query, sink).and(Ok(Answered::Defined))
     } else {
-        write_all(sink, b"chain unlogged\n")?;
-        Ok(Answered::Undecided)
+        write_all(sink, b"chain unlogged\n").and(Ok(Answered::Undecided))
     }
 }
 
@@ -133,8 +128,8 @@ pub fn write_answer<R: Threads + Sync, O: Sink, G: Gate + Sync>(
     let problem = script.problem();
     match awaited_by(query) {
         Awaited::Nothing => {
-            write_told(rt, alloc, problem, query, state.workers(), sink, gate)?;
-            Ok(Answered::Defined)
+            let workers = state.workers();
+            write_told(rt, alloc, problem, query, workers, sink, gate).and(Ok(Answered::Defined))
         }
         Awaited::Decision => {
             state.decide(rt, alloc, problem, gate)?;

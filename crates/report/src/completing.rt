@@ -53,7 +53,14 @@ pub fn logged_completion(
         unreachable!()
     };
     let relations = with_its_pairs(alloc, congruence)?;
-    let mut completion = Completion::logged(alloc, &relations, length)?;
-    run(&mut completion)?;
-    Ok(completion)
+    let logged = Completion::logged(alloc, &relations, length);
+    drop(relations);
+    let mut completion = logged?;
+    match run(&mut completion) {
+        Ok(()) => Ok(completion),
+        Err(fault) => {
+            drop(completion);
+            Err(fault)
+        }
+    }
 }

@@ -35,8 +35,8 @@ fn write_one<R: Threads + Sync, O: Sink, G: Gate + Sync>(
     requires workers { 0 < state.old.workers }
     ensures kept { KeepsOf script.now.problem state.new }
     ensures settings { KeepsSettings state.old state.new }
-    ensures written { WritesLines O.Sink (state_bounds state.old) script.now.problem (query.now ∷ [])
-        out.old out.new result }
+    ensures written { WritesLines O.Sink (state_bounds state.old) script.now.problem
+        (query.now ∷ []) out.old out.new result }
 {
     let answered = write_answer(rt, alloc, script, query, state, out, gate)?;
     Ok(left_undecided(answered))

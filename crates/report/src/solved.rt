@@ -1,5 +1,5 @@
 // The answers where the problem is decided.
-ghost use Rattle.std.specs.Prelude.{◌≡◌, length, IfOk, OnOk};
+ghost use Rattle.std.specs.Prelude.{◌≡◌, ℕ, length, IfOk, OnOk};
 ghost use Rattle.std.specs.Option.{option_copied};
 ghost use Rattle.ports.specs.Writes.{Writes};
 ghost use Rattle.theory.specs.Class.{IsLeast};
@@ -67,6 +67,75 @@ fn write_classes<O: Sink>(
     write_end(next.is_some(), sink)
 }
 
+// Writes the number of classes, that it is above the bound, or that there are infinitely many.
+fn write_index<O: Sink>(
+    alloc: Global,
+    solved: &mut Solved,
+    bound: usize,
+    sink: &mut O,
+) -> Result<(), WriteFault>
+    ensures kept { solved.new ≡ solved.old }
+    ensures written { Writes O.Sink (λ _. AreBytesOf
+        (AreLines solved.old.problem bound Query.Index)) sink.old sink.new result }
+{
+    match solved.index(bound)? {
+        Index::Finite(count) => write_count(alloc, count, sink),
+        Index::Infinite => write_infinite(sink),
+        Index::Over => write_over(alloc, bound, sink),
+    }
+}
+
+// Writes whether two words are of one class.
+fn write_same_class<O: Sink>(
+    solved: &Solved,
+    left: &Word,
+    right: &Word,
+    sink: &mut O,
+) -> Result<(), WriteFault>
+    requires one_each { count_of solved.now.problem ≡ length (letters_of solved.now.problem) }
+    requires query { IsQueryOf solved.now.problem (Query.Equal left.now right.now) }
+    ensures { (bound : ℕ) → Writes O.Sink (λ _. AreBytesOf
+        (AreLines solved.now.problem bound (Query.Equal left.now right.now)))
+        sink.old sink.new result }
+{
+    write_equal(solved.equal(left, right)?, sink)
+}
+
+// Writes the normal form of a word.
+fn write_normal<O: Sink>(
+    alloc: Global,
+    alphabet: &Alphabet,
+    solved: &Solved,
+    word: &Word,
+    sink: &mut O,
+) -> Result<(), WriteFault>
+    requires letters { letters_of solved.now.problem ≡ alphabet.now }
+    requires one_each { count_of solved.now.problem ≡ length alphabet.now }
+    requires query { IsQueryOf solved.now.problem (Query.Normal word.now) }
+    ensures { (bound : ℕ) → Writes O.Sink (λ _. AreBytesOf
+        (AreLines solved.now.problem bound (Query.Normal word.now))) sink.old sink.new result }
+{
+    let normal = solved.normal(word)?;
+    write_normal_form(alloc, alphabet, &normal, sink)
+}
+
+// Writes the reduced rules.
+fn write_rule_list<O: Sink>(
+    alloc: Global,
+    alphabet: &Alphabet,
+    solved: &Solved,
+    sink: &mut O,
+) -> Result<(), WriteFault>
+    requires letters { letters_of solved.now.problem ≡ alphabet.now }
+    requires one_each { count_of solved.now.problem ≡ length alphabet.now }
+    requires query { IsQueryOf solved.now.problem Query.RuleList }
+    ensures { (bound : ℕ) → Writes O.Sink (λ _. AreBytesOf
+        (AreLines solved.now.problem bound Query.RuleList)) sink.old sink.new result }
+{
+    let rules = solved.rules()?.into_vec();
+    write_rules(alloc, alphabet, &rules, sink)
+}
+
 /// Writes the answer of a query that waits for the problem's decision, from what is known of it,
 /// which stays the same, and of its elements, of which more may be known afterwards.
 pub fn write_solved<O: Sink>(
@@ -91,23 +160,13 @@ pub fn write_solved<O: Sink>(
 {
     let alphabet = problem.alphabet();
     match query {
-        Query::Index => match solved.index(bound)? {
-            Index::Finite(count) => write_count(alloc, count, sink),
-            Index::Infinite => write_infinite(sink),
-            Index::Over => write_over(alloc, bound, sink),
-        },
-        Query::Equal(left, right) => write_equal(solved.equal(left, right)?, sink),
-        Query::Normal(word) => {
-            let normal = solved.normal(word)?;
-            write_normal_form(alloc, alphabet, &normal, sink)
-        }
+        Query::Index => write_index(alloc, solved, bound, sink),
+        Query::Equal(left, right) => write_same_class(solved, left, right, sink),
+        Query::Normal(word) => write_normal(alloc, alphabet, solved, word, sink),
         Query::Classes { count, after } => {
             write_classes(alloc, alphabet, solved, *count, after.as_ref(), sink)
         }
-        Query::RuleList => {
-            let rules = solved.rules()?.into_vec();
-            write_rules(alloc, alphabet, &rules, sink)
-        }
+        Query::RuleList => write_rule_list(alloc, alphabet, solved, sink),
         Query::Cayley => write_cayley(alloc, problem, solved.tables(), sink),
         Query::Green(relation) => {
             let tables = solved.tables();

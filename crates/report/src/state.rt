@@ -1,5 +1,5 @@
 // What is known while the queries of a script are answered.
-ghost use Rattle.std.specs.Prelude.{◌≡◌, ◌<◌, true, None, Some, OnOk, MatchOption};
+ghost use Rattle.std.specs.Prelude.{◌≡◌, ◌<◌, true, None, Some, IsSome, OnOk, MatchOption};
 ghost use Rattle.problem.specs.declared.kinds.Problem.{Problem as Posed};
 ghost use Rattle.problem.specs.Problem.{IsPosable, is_presented};
 ghost use Rattle.report.specs.Answers.{state_bounds};
@@ -60,12 +60,13 @@ impl State {
         ensures kept { KeepsOf problem.now self.new }
         ensures settings { KeepsSettings self.old self.new }
         ensures stays { KeepsFound self.old self.new }
-        ensures found { OnOk result (MatchOption self.new.verdict ⊥ (λ _. Unit {0})) }
+        ensures found { OnOk result (IsSome self.new.verdict) }
     {
-        if self.verdict.is_none() {
-            let verdict = solve(rt, alloc, problem, &self.budgets, self.workers, gate)?;
-            drop(replace(&mut self.verdict, Some(verdict)));
+        if self.verdict.is_some() {
+            return Ok(());
         }
+        let verdict = solve(rt, alloc, problem, &self.budgets, self.workers, gate)?;
+        drop(replace(&mut self.verdict, Some(verdict)));
         Ok(())
     }
 
@@ -77,12 +78,13 @@ impl State {
         ensures kept { KeepsOf problem.now self.new }
         ensures settings { KeepsSettings self.old self.new }
         ensures stays { KeepsFound self.old self.new }
-        ensures found { OnOk result (MatchOption self.new.completion ⊥ (λ _. Unit {0})) }
+        ensures found { OnOk result (IsSome self.new.completion) }
     {
-        if self.completion.is_none() {
-            let completion = logged_completion(alloc, problem, self.budgets.length)?;
-            drop(replace(&mut self.completion, Some(completion)));
+        if self.completion.is_some() {
+            return Ok(());
         }
+        let completion = logged_completion(alloc, problem, self.budgets.length)?;
+        drop(replace(&mut self.completion, Some(completion)));
         Ok(())
     }
 

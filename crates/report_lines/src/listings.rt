@@ -1,6 +1,6 @@
 // Answers of many lines.
 ghost use Rattle.std.specs.Prelude.{◌++◌, ◌∷◌, [], map, length, false, All};
-ghost use Rattle.ports.specs.Writes.{WritesBytes};
+ghost use Rattle.ports.specs.Writes.{TellsRefusals, WritesBytes};
 ghost use Rattle.theory.specs.Word.{IsOver};
 ghost use Rattle.report_lines.specs.LineBytes.{bytes_of};
 ghost use Rattle.report_lines.specs.Lines.{end_line, rule_line, word_line};
@@ -24,10 +24,11 @@ pub fn write_word<O: Sink>(
     line.write(sink)
 }
 
-/// Writes the line that ends a listing, which tells whether there is more than was listed. Refusals
-/// are those of `Line::write`.
+/// Writes the line that ends a listing, which tells whether there is more than was listed. It asks
+/// for no memory; refusals are those of `write_all`.
 pub fn write_end<O: Sink>(more: bool, sink: &mut O) -> Result<(), WriteFault>
-    ensures { WritesBytes O.Sink (end_line more) sink.old sink.new result }
+    ensures bytes { WritesBytes O.Sink (end_line more) sink.old sink.new result }
+    ensures refusals { TellsRefusals O.Sink sink.old sink.new result }
 {
     if more {
         write_all(sink, b"more\n")

@@ -1,6 +1,6 @@
 // Answers of one line.
 ghost use Rattle.std.specs.Prelude.{length};
-ghost use Rattle.ports.specs.Writes.{WritesBytes};
+ghost use Rattle.ports.specs.Writes.{TellsRefusals, WritesBytes};
 ghost use Rattle.theory.specs.Word.{IsOver};
 ghost use Rattle.report_lines.specs.Lines.{count_line, over_line, infinite_line, equal_line, normal_line};
 
@@ -28,16 +28,19 @@ pub fn write_over<O: Sink>(alloc: Global, bound: usize, sink: &mut O) -> Result<
     line.write(sink)
 }
 
-/// Writes that there are infinitely many classes. Refusals are those of `Line::write`.
+/// Writes that there are infinitely many classes. It asks for no memory; refusals are those of
+/// `write_all`.
 pub fn write_infinite<O: Sink>(sink: &mut O) -> Result<(), WriteFault>
-    ensures { WritesBytes O.Sink infinite_line sink.old sink.new result }
+    ensures bytes { WritesBytes O.Sink infinite_line sink.old sink.new result }
+    ensures refusals { TellsRefusals O.Sink sink.old sink.new result }
 {
     write_all(sink, b"index infinite\n")
 }
 
-/// Writes whether two words are related. Refusals are those of `Line::write`.
+/// Writes whether two words are related. It asks for no memory; refusals are those of `write_all`.
 pub fn write_equal<O: Sink>(same: bool, sink: &mut O) -> Result<(), WriteFault>
-    ensures { WritesBytes O.Sink (equal_line same) sink.old sink.new result }
+    ensures bytes { WritesBytes O.Sink (equal_line same) sink.old sink.new result }
+    ensures refusals { TellsRefusals O.Sink sink.old sink.new result }
 {
     if same {
         write_all(sink, b"equal yes\n")

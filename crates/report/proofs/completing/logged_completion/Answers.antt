@@ -3,9 +3,9 @@ use Rattle.report.specs.Chains.{IsLogOf}
 use Rattle.report.proofs.ChainAnswers.{log_of}
 use Rattle.report.proofs.completing.logged_completion.Goals as goal
 
-pub returns : goal.returns
-returns c =
+pub returns-in-Ok : goal.returns-in-Ok
+returns-in-Ok c =
     subst (λ p. IsLogOf p c.args.length c.run.new.completion) (sym c.in-Presented.is)
     (log_of c.in-Presented.congruence c.args.length c.run.new.completion
-    (c.in_ok-run.ensures.presentation ∙ c.in_ok-completion.ensures.presentation ∙ c.in_ok-relations.ensures)
-    (c.in_ok-run.ensures.length ∙ c.in_ok-completion.ensures.length) (c.in_ok-run.ensures.logged ∙ c.in_ok-completion.ensures.logged) c.in_ok-run.ensures.ended)
+    (c.in-Ok.ensures.presentation ∙ c.in_ok-completion.ensures.presentation ∙ c.in_ok-relations.ensures)
+    (c.in-Ok.ensures.length ∙ c.in_ok-completion.ensures.length) (c.in-Ok.ensures.logged ∙ c.in_ok-completion.ensures.logged) c.in-Ok.ensures.ended)

@@ -48,7 +48,7 @@ pub returns-in-None-clause-written : goal.returns-in-None-clause-written
 returns-in-None-clause-written g c =
     let P : Word → Type 0 = IsLeast (SameClassOf c.args.solved.now.problem) in
     let last = none_found P ◌≺◌ c.in_ok-word.field-0 (option_copied c.as_ref.result) c.loop.cursor c.as_ref.ensures.value c.in-None.is (moved_found c.loop.solved c.args.solved.now c.loop.invariant.kept (option_copied c.as_ref.result) c.in_ok-word.field-0 c.in_ok-word.ensures.next) in
-    page_ended P ◌≺◌ (shortlex_strict P) (word_line c.args.alphabet.now) (option_copied c.args.after) g.O.Sink c.loop.cursor c.loop.counter _ _ c.loop.invariant.begun c.args.count _ _ (omega (arith, c.loop-test.true)) last c.write_end.ensures
+    page_ended P ◌≺◌ (shortlex_strict P) (word_line c.args.alphabet.now) (option_copied c.args.after) g.O.Sink c.loop.cursor c.loop.counter _ _ c.loop.invariant.begun c.args.count _ _ (omega (arith, c.loop-test.true)) last c.write_end.ensures.bytes
 
 pub loop-preserved : goal.loop-preserved
 loop-preserved g c =
@@ -71,4 +71,4 @@ returns-clause-written g c =
     let all : c.loop.counter ≡ c.args.count = omega (arith, c.loop-test.false, c.loop.auto.counter-end) in
     let next = subst (λ cursor. Found P ◌≺◌ cursor c.in_ok-next.next) c.as_ref-2.ensures.value (moved_found c.loop.solved c.args.solved.now c.loop.invariant.kept (option_copied c.as_ref-2.result) c.in_ok-next.next c.in_ok-next.ensures.next) in
     subst (λ n. Writes g.O.Sink (λ _. AreBytesOf (ArePageLines P ◌≺◌ (word_line c.args.alphabet.now) (option_copied c.args.after) n)) c.args.sink.now c.write_end-2.new.sink c.write_end-2.result) all
-    (page_full P ◌≺◌ (shortlex_strict P) (word_line c.args.alphabet.now) (option_copied c.args.after) g.O.Sink c.loop.cursor c.loop.counter _ c.loop.sink c.loop.invariant.begun c.in_ok-next.next c.is_some.result _ _ next c.is_some.ensures c.write_end-2.ensures)
+    (page_full P ◌≺◌ (shortlex_strict P) (word_line c.args.alphabet.now) (option_copied c.args.after) g.O.Sink c.loop.cursor c.loop.counter _ c.loop.sink c.loop.invariant.begun c.in_ok-next.next c.is_some.result _ _ next c.is_some.ensures c.write_end-2.ensures.bytes)

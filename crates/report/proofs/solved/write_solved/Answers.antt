@@ -1,87 +1,93 @@
-use Rattle.std.proofs.Common.{ℕ, Bool, false, List, [], ◌∷◌, ◌++◌, map, refl, sym, ap, subst, ◌∙◌, OnOk}
+use Rattle.std.proofs.Common.{◌≡◌, ℕ, false, List, [], ◌∷◌, ◌++◌, refl, sym, subst, subst₂, OnOk}
 use Rattle.std.specs.Option.{option_copied}
-use Rattle.ports.proofs.WriteLemmas.{handed_on, refused}
-use Rattle.theory.specs.Word.{Word}
-use Rattle.theory.specs.Class.{IsRuleList}
 use Rattle.froidure_pin.specs.declared.tables.CayleyTables.{CayleyTables}
 use Rattle.cayley.specs.Tables.{edge}
 use Rattle.problem.specs.declared.kinds.Problem.{Problem}
-use Rattle.problem.specs.Problem.{SameClassOf, count_of, letters_of}
+use Rattle.problem.specs.Problem.{count_of, letters_of}
 use Rattle.element_tables.specs.CayleyGraphs.{AreTablesFor}
 use Rattle.query_lang.specs.declared.script.Query.{Query}
 use Rattle.query_lang.specs.declared.script.Query.TheVariants as query
-use Rattle.report_lines.specs.Lines.{count_line, over_line, infinite_line, equal_line, normal_line, rule_line, cayley_lines, end_line}
-use Rattle.report_lines.specs.LineBytes.{bytes_of}
+use Rattle.query_lang.specs.Query.{IsQueryOf}
+use Rattle.report_lines.specs.Lines.{cayley_lines, end_line}
 use Rattle.report.specs.Kept.{HasElements}
-use Rattle.report.proofs.AnswerLemmas.{writes_lines, one_line}
-use Rattle.report.proofs.SolvedLemmas.{solved_count, solved_infinite, solved_over, solved_equal, normal_over, solved_normal, solved_rules, solved_rules_over, solved_page, solved_cayley, solved_shape, solved_unpaired}
+use Rattle.report.proofs.AnswerLemmas.{writes_lines}
+use Rattle.report.proofs.KeptLaws.{known_stays, none_needed}
+use Rattle.report.proofs.SolvedLemmas.{counted, solved_cayley, solved_page, solved_shape, solved_told, solved_unpaired}
 use Rattle.report.proofs.TableAnswers.{lines_told}
 use Rattle.report.proofs.solved.write_solved.Goals as goal
 
-pub returns-in-Finite-clause-written : goal.returns-in-Finite-clause-written
-returns-in-Finite-clause-written g c =
-    let lines : List (List ℕ) = count_line c.in-Finite.count ∷ [] in
-    writes_lines g.O.Sink c.args.problem.now c.args.bound c.args.query.now query.Index lines c.in-Index.is
-    (solved_count c.args.problem.now c.args.solved.now.problem c.requires.solved c.args.bound c.in_ok-count-in-Index.field-0 c.in-Finite.count c.in-Finite.is c.in_ok-count-in-Index.ensures.index)
-    _ _ _ _ (one_line (count_line c.in-Finite.count)) c.write_count.ensures
+-- the query that was matched is one of the problem that was solved
+asked : (p s : Problem) (q r : Query) → s ≡ p → q ≡ r → IsQueryOf p q → IsQueryOf s r
+asked p s q r solved is = subst₂ IsQueryOf (sym solved) is
 
-pub returns-in-Over-clause-written : goal.returns-in-Over-clause-written
-returns-in-Over-clause-written g c =
-    let lines : List (List ℕ) = over_line c.args.bound ∷ [] in
-    writes_lines g.O.Sink c.args.problem.now c.args.bound c.args.query.now query.Index lines c.in-Index.is
-    (solved_over c.args.problem.now c.args.solved.now.problem c.requires.solved c.args.bound c.in_ok-count-in-Index.field-0 c.in-Over.is c.in_ok-count-in-Index.ensures.index)
-    _ _ _ _ (one_line (over_line c.args.bound)) c.write_over.ensures
+-- what is known of the elements stays, and is enough for a query that needs nothing of them
+pub returns-in-Index-clause-keeps : goal.returns-in-Index-clause-keeps
+returns-in-Index-clause-keeps g c = known_stays c.args.elements.now
 
-pub returns-in-Infinite-clause-written : goal.returns-in-Infinite-clause-written
-returns-in-Infinite-clause-written g c =
-    let lines : List (List ℕ) = infinite_line ∷ [] in
-    writes_lines g.O.Sink c.args.problem.now c.args.bound c.args.query.now query.Index lines c.in-Index.is
-    (solved_infinite c.args.problem.now c.args.solved.now.problem c.requires.solved c.args.bound c.in_ok-count-in-Index.field-0 c.in-Infinite.is c.in_ok-count-in-Index.ensures.index)
-    _ _ _ _ (one_line infinite_line) c.write_infinite.ensures
+pub returns-in-Index-clause-found : goal.returns-in-Index-clause-found
+returns-in-Index-clause-found g c = none_needed c.write_index.result c.args.query.now query.Index c.args.elements.now c.in-Index.is tt
 
-pub returns-in_ok-equal-in-Equal-clause-written : goal.returns-in_ok-equal-in-Equal-clause-written
-returns-in_ok-equal-in-Equal-clause-written g c =
-    let same : Bool = c.in_ok-equal-in-Equal.field-0 in
-    let lines : List (List ℕ) = equal_line same ∷ [] in
-    writes_lines g.O.Sink c.args.problem.now c.args.bound c.args.query.now (query.Equal c.in-Equal.left c.in-Equal.right) lines c.in-Equal.is
-    (solved_equal c.args.problem.now c.args.solved.now.problem c.requires.solved c.args.bound c.in-Equal.left c.in-Equal.right same c.in_ok-equal-in-Equal.ensures)
-    _ _ _ _ (one_line (equal_line same)) c.write_equal.ensures
+pub returns-in-Index-clause-written : goal.returns-in-Index-clause-written
+returns-in-Index-clause-written g c = solved_told g.O.Sink c.args.solved.now.problem c.args.problem.now c.args.bound query.Index c.args.query.now c.requires.solved c.in-Index.is _ _ _ c.write_index.ensures.written
 
-pub returns-in_err-equal-in-Equal-clause-written : goal.returns-in_err-equal-in-Equal-clause-written
-returns-in_err-equal-in-Equal-clause-written g c = handed_on g.O.Sink _ _ _ _ c.from_residual-in_err-equal-in-Equal.ensures.1 (refused g.O.Sink c.args.sink.now)
+pub write_same_class-requires-clause-one_each : goal.write_same_class-requires-clause-one_each
+write_same_class-requires-clause-one_each g c = counted c.args.problem.now c.args.solved.now.problem c.requires.solved c.alphabet-alphabet.ensures.one_each
 
-pub write_normal_form-requires : goal.write_normal_form-requires
-write_normal_form-requires g c =
-    normal_over c.args.problem.now c.args.solved.now.problem c.requires.solved c.alphabet-alphabet.result.now c.in_ok-normal-in-Normal.normal c.alphabet-alphabet.ensures.letters c.alphabet-alphabet.ensures.one_each
-    c.in_ok-normal-in-Normal.ensures.least
+pub write_same_class-requires-clause-query : goal.write_same_class-requires-clause-query
+write_same_class-requires-clause-query g c = asked c.args.problem.now c.args.solved.now.problem c.args.query.now (query.Equal c.in-Equal.left c.in-Equal.right) c.requires.solved c.in-Equal.is c.requires.query
 
-pub returns-in_ok-normal-in-Normal-clause-written : goal.returns-in_ok-normal-in-Normal-clause-written
-returns-in_ok-normal-in-Normal-clause-written g c =
-    let letters : List ℕ = letters_of c.args.problem.now in
-    let normal : Word = c.in_ok-normal-in-Normal.normal in
-    let lines : List (List ℕ) = normal_line letters normal ∷ [] in
-    writes_lines g.O.Sink c.args.problem.now c.args.bound c.args.query.now (query.Normal c.in-Normal.word) lines c.in-Normal.is
-    (solved_normal c.args.problem.now c.args.solved.now.problem c.requires.solved c.args.bound c.in-Normal.word normal c.in_ok-normal-in-Normal.ensures)
-    _ _ _ _ (ap (λ ls. normal_line ls normal) c.alphabet-alphabet.ensures.letters ∙ one_line (normal_line letters normal)) c.write_normal_form.ensures
+pub returns-in-Equal-clause-keeps : goal.returns-in-Equal-clause-keeps
+returns-in-Equal-clause-keeps g c = known_stays c.args.elements.now
+
+pub returns-in-Equal-clause-found : goal.returns-in-Equal-clause-found
+returns-in-Equal-clause-found g c = none_needed c.write_same_class.result c.args.query.now (query.Equal c.in-Equal.left c.in-Equal.right) c.args.elements.now c.in-Equal.is tt
+
+pub returns-in-Equal-clause-written : goal.returns-in-Equal-clause-written
+returns-in-Equal-clause-written g c =
+    solved_told g.O.Sink c.args.solved.now.problem c.args.problem.now c.args.bound (query.Equal c.in-Equal.left c.in-Equal.right) c.args.query.now c.requires.solved c.in-Equal.is _ _ _ (c.write_same_class.ensures c.args.bound)
+
+pub write_normal-requires-clause-query : goal.write_normal-requires-clause-query
+write_normal-requires-clause-query g c = asked c.args.problem.now c.args.solved.now.problem c.args.query.now (query.Normal c.in-Normal.word) c.requires.solved c.in-Normal.is c.requires.query
+
+pub returns-in-Normal-clause-keeps : goal.returns-in-Normal-clause-keeps
+returns-in-Normal-clause-keeps g c = known_stays c.args.elements.now
+
+pub returns-in-Normal-clause-found : goal.returns-in-Normal-clause-found
+returns-in-Normal-clause-found g c = none_needed c.write_normal.result c.args.query.now (query.Normal c.in-Normal.word) c.args.elements.now c.in-Normal.is tt
+
+pub returns-in-Normal-clause-written : goal.returns-in-Normal-clause-written
+returns-in-Normal-clause-written g c =
+    solved_told g.O.Sink c.args.solved.now.problem c.args.problem.now c.args.bound (query.Normal c.in-Normal.word) c.args.query.now c.requires.solved c.in-Normal.is _ _ _ (c.write_normal.ensures c.args.bound)
+
+pub returns-in-Classes-clause-keeps : goal.returns-in-Classes-clause-keeps
+returns-in-Classes-clause-keeps g c = known_stays c.args.elements.now
+
+pub returns-in-Classes-clause-found : goal.returns-in-Classes-clause-found
+returns-in-Classes-clause-found g c = none_needed c.write_classes.result c.args.query.now (query.Classes c.in-Classes.count c.in-Classes.after) c.args.elements.now c.in-Classes.is tt
 
 pub returns-in-Classes-clause-written : goal.returns-in-Classes-clause-written
 returns-in-Classes-clause-written g c =
     solved_page c.args.problem.now c.args.solved.now.problem c.requires.solved c.args.bound c.args.query.now c.in-Classes.count c.in-Classes.after (option_copied c.as_ref.result) c.alphabet-alphabet.result.now
     c.in-Classes.is c.as_ref.ensures.value c.alphabet-alphabet.ensures.letters g.O.Sink _ _ _ c.write_classes.ensures.written
 
-pub write_rules-requires : goal.write_rules-requires
-write_rules-requires g c =
-    solved_rules_over c.args.problem.now c.args.solved.now.problem c.requires.solved c.alphabet-alphabet.result.now c.into_vec-rules.result.items c.alphabet-alphabet.ensures.letters c.alphabet-alphabet.ensures.one_each
-    (subst (IsRuleList (SameClassOf c.args.solved.now.problem)) (sym c.into_vec-rules.ensures.rules) c.in_ok-rules-in-RuleList.ensures)
+pub write_rule_list-requires-clause-query : goal.write_rule_list-requires-clause-query
+write_rule_list-requires-clause-query g c = asked c.args.problem.now c.args.solved.now.problem c.args.query.now query.RuleList c.requires.solved c.in-RuleList.is c.requires.query
 
-pub returns-in_ok-rules-in-RuleList-clause-written : goal.returns-in_ok-rules-in-RuleList-clause-written
-returns-in_ok-rules-in-RuleList-clause-written g c =
-    let rules : List (Word × Word) = c.into_vec-rules.result.items in
-    let lines : List (List ℕ) = map (rule_line (letters_of c.args.problem.now)) rules ++ end_line false ∷ [] in
-    let listed = subst (IsRuleList (SameClassOf c.args.solved.now.problem)) (sym c.into_vec-rules.ensures.rules) c.in_ok-rules-in-RuleList.ensures in
-    writes_lines g.O.Sink c.args.problem.now c.args.bound c.args.query.now query.RuleList lines c.in-RuleList.is
-    (solved_rules c.args.problem.now c.args.solved.now.problem c.requires.solved c.args.bound rules listed)
-    _ _ _ _ (ap (λ ls. bytes_of (map (rule_line ls) rules ++ end_line false ∷ [])) c.alphabet-alphabet.ensures.letters) c.write_rules.ensures
+pub returns-in-RuleList-clause-keeps : goal.returns-in-RuleList-clause-keeps
+returns-in-RuleList-clause-keeps g c = known_stays c.args.elements.now
+
+pub returns-in-RuleList-clause-found : goal.returns-in-RuleList-clause-found
+returns-in-RuleList-clause-found g c = none_needed c.write_rule_list.result c.args.query.now query.RuleList c.args.elements.now c.in-RuleList.is tt
+
+pub returns-in-RuleList-clause-written : goal.returns-in-RuleList-clause-written
+returns-in-RuleList-clause-written g c =
+    solved_told g.O.Sink c.args.solved.now.problem c.args.problem.now c.args.bound query.RuleList c.args.query.now c.requires.solved c.in-RuleList.is _ _ _ (c.write_rule_list.ensures c.args.bound)
+
+pub returns-in-Cayley-clause-keeps : goal.returns-in-Cayley-clause-keeps
+returns-in-Cayley-clause-keeps g c = known_stays c.args.elements.now
+
+pub returns-in-Cayley-clause-found : goal.returns-in-Cayley-clause-found
+returns-in-Cayley-clause-found g c = none_needed c.write_cayley.result c.args.query.now query.Cayley c.args.elements.now c.in-Cayley.is tt
 
 pub returns-in-Cayley-clause-written : goal.returns-in-Cayley-clause-written
 returns-in-Cayley-clause-written g c =

@@ -35,4 +35,4 @@ returns g c =
     let f : ℕ → List ℕ = row_line c.args.problem.now c.args.tables.now in
     listing_ended g.O.Sink f rows (end_line false) _ c.loop-number.sink _ _
     (lines_done f rows g.O.Sink c.loop-number.number _ _ c.loop-number.invariant (omega (arith, c.len-number-end.ensures, c.loop-number-test.false, length-range_with_len 0 (length c.args.tables.now.words))))
-    c.write_end.ensures
+    c.write_end.ensures.bytes

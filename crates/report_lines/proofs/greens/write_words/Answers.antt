@@ -28,7 +28,7 @@ returns g c =
     let f : ℕ → List ℕ = λ i. word_line (letters_of c.args.problem.now) (slice_index_or c.args.tables.now.words i []) in
     let numbers : List ℕ = c.args.numbers.now in
     listing_ended g.O.Sink f numbers (end_line false) _ c.loop-number.sink _ _
-    (lines_done f numbers g.O.Sink c.loop-number.number-index _ _ c.loop-number.invariant (omega (arith, c.loop-number-test.false))) c.write_end.ensures
+    (lines_done f numbers g.O.Sink c.loop-number.number-index _ _ c.loop-number.invariant (omega (arith, c.loop-number-test.false))) c.write_end.ensures.bytes
 
 pub write_word-requires : goal.write_word-requires
 write_word-requires g c =

@@ -39,4 +39,4 @@ returns g c =
     let all = ap (λ rs. bytes_of (map f rs ++ end_line false ∷ [])) c.deref-rule-items.ensures.value in
     same_bytes g.O.Sink _ _ _ _ _ all
     (listing_ended g.O.Sink f rules (end_line false) _ c.loop-rule.sink _ _
-    (lines_done f rules g.O.Sink c.loop-rule.rule-index _ _ c.loop-rule.invariant (omega (arith, c.loop-rule-test.false))) c.write_end.ensures)
+    (lines_done f rules g.O.Sink c.loop-rule.rule-index _ _ c.loop-rule.invariant (omega (arith, c.loop-rule-test.false))) c.write_end.ensures.bytes)

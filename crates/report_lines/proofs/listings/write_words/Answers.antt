@@ -39,4 +39,4 @@ returns g c =
     let all = ap (λ rs. bytes_of (map f rs ++ end_line false ∷ [])) c.deref-word-items.ensures.value in
     same_bytes g.O.Sink _ _ _ _ _ all
     (listing_ended g.O.Sink f words (end_line false) _ c.loop-word.sink _ _
-    (lines_done f words g.O.Sink c.loop-word.word-index _ _ c.loop-word.invariant (omega (arith, c.loop-word-test.false))) c.write_end.ensures)
+    (lines_done f words g.O.Sink c.loop-word.word-index _ _ c.loop-word.invariant (omega (arith, c.loop-word-test.false))) c.write_end.ensures.bytes)

@@ -21,4 +21,4 @@ returns g c =
     let same : c.deref-table-items.result.now ≡ tables = c.deref-table-items.ensures.value in
     listing_ended g.O.Sink graph_line tables (end_line c.args.page.now.more) _ c.loop-table.sink _ _
     (lines_done graph_line tables g.O.Sink c.loop-table.table-index _ _ c.loop-table.invariant
-    (subst (λ ts. length ts ≤ c.loop-table.table-index) same (omega (arith, c.loop-table-test.false)))) c.write_end.ensures
+    (subst (λ ts. length ts ≤ c.loop-table.table-index) same (omega (arith, c.loop-table-test.false)))) c.write_end.ensures.bytes

@@ -21,4 +21,4 @@ pub returns : goal.returns
 returns g c =
     let lines : List (List ℕ) = c.self.inside.lines.items in
     same_bytes g.O.Sink (bytes_in lines) (bytes_in c.args.self.now.lines) _ _ _ (ap (λ (s : TextLines). bytes_in s.lines) c.self.view_is)
-    (listing_ended g.O.Sink (λ (line : List ℕ). line ++ codes "\n") lines (end_line false) _ _ _ _ c.in_ok-write_lines.ensures c.write_end.ensures)
+    (listing_ended g.O.Sink (λ (line : List ℕ). line ++ codes "\n") lines (end_line false) _ _ _ _ c.in_ok-write_lines.ensures c.write_end.ensures.bytes)
