@@ -25,7 +25,7 @@ use words::Word;
 const NEWER_AT_MOST: usize = 32;
 
 // A table with many states is dear: so many of them are worth one newer rule more.
-const STATES_FOR_ONE_MORE: usize = 256;
+const STATES_FOR_ONE_MORE: usize = 32;
 
 /// A list of rewriting rules that changes often. Words are reduced by the
 /// [`IndexAutomaton`](crate::IndexAutomaton) of the rules that were there some time ago, and the
