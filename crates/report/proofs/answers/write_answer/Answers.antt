@@ -1,7 +1,6 @@
 use Rattle.std.proofs.Common.{◌≡◌, ◌∙◌, OnOk, refl, subst, subst₂, sym}
 use Rattle.ports.specs.Writes.{Writes}
 use Rattle.ports.proofs.WriteLemmas.{handed_on, refused}
-use Rattle.problem.specs.declared.budgets.Budgets.{Budgets}
 use Rattle.problem.specs.declared.kinds.Problem.{Problem}
 use Rattle.report_lines.specs.LineBytes.{AreBytesOf}
 use Rattle.report_lines.proofs.ResultLaws.{of_each}

@@ -1,6 +1,6 @@
 use Rattle.std.proofs.Common.{◌≡◌, Bool, true, Some, IfSome, refl, sym, ◌∙◌, ap, subst}
 use Rattle.congruence.specs.declared.solving.Verdict.{Verdict}
-use Rattle.congruence.specs.declared.solving.Verdict.TheVariants.{Known, Undecided}
+use Rattle.congruence.specs.declared.solving.Verdict.TheVariants.{Known}
 use Rattle.congruence.specs.Verdicts.{IsVerdictOf}
 use Rattle.report_lines.specs.Lines.{undecided_line}
 use Rattle.report_lines.proofs.ResultLaws.{of_each}

@@ -1,4 +1,4 @@
-use Rattle.std.proofs.Common.{Bool, List, ℕ, [], ◌∷◌, refl}
+use Rattle.std.proofs.Common.{Bool, [], ◌∷◌, refl}
 use Rattle.ports.proofs.WriteLemmas.{handed_on, refused}
 use Rattle.problem.specs.declared.kinds.Problem.{Problem}
 use Rattle.query_lang.specs.declared.script.Query.TheVariants as query
