@@ -189,12 +189,13 @@ impl Worklist {
         Ok(())
     }
 
-    /// Where more is pending than half of the live nodes without a mark, each of these is pending in
-    /// its place. At marked nodes the relations hold. Only want of memory refuses it.
+    /// Where more is pending than half of the live nodes without a mark, each of these is pending
+    /// in its place. At marked nodes the relations hold. Only want of memory refuses it.
     pub fn gather_unmarked(&mut self, live: &Vec<bool>, marked: &Vec<bool>) -> Result<(), NoMemory>
         requires { length marked.now.items ≡ length live.now.items }
         ensures { OnOk result ((pairs : List (Letters × Letters)) (graph : Graph)
-            → HoldWhere pairs graph marked.now.items → IsClosedBut pairs graph live.now.items self.old
+            → HoldWhere pairs graph marked.now.items
+            → IsClosedBut pairs graph live.now.items self.old
             → IsClosedBut pairs graph live.now.items self.new) }
     {
         if count_unmarked(live, marked) / UNMARKED_READ < self.len() {

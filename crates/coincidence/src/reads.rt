@@ -191,8 +191,8 @@ struct OneSide<'a> {
     other: &'a Word,
 }
 
-// The side leads from the node back to it, and so does it from each node to which so many letters of
-// it, after which it stays as it is, lead again and again: there the pair is seen to hold too.
+// The side leads from the node back to it, and so does it from each node to which so many letters
+// of it, after which it stays as it is, lead again and again: there the pair is seen to hold too.
 fn note_round(edges: &Edges, node: usize, one: &OneSide, count: usize, seen: &mut Seen)
     requires within { count ≤ length one.now.side.now }
     requires stays { turned count one.now.side.now ≡ one.now.side.now }

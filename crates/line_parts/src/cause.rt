@@ -46,8 +46,8 @@ pub enum Cause {
     /// A pair is of another kind than the first one.
     MixedKinds = 18,
     /// The rules or a chain are asked for, and the script has right or left pairs; or the Cayley
-    /// graphs, the classes of one of Green's relations, the idempotents, tables of low index, a meet
-    /// or a join are, and it has pairs.
+    /// graphs, the classes of one of Green's relations, the idempotents, tables of low index, a
+    /// meet or a join are, and it has pairs.
     QueryNotAllowed = 19,
     /// A table is out of form, not standard, or of too many classes, or one of its edges leads into
     /// the root, and the script poses no monoid.

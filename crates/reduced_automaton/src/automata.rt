@@ -95,7 +95,8 @@ impl Automaton {
     }
 
     /// Where the state's word with the letter leads: `None` exactly where a left side stands at its
-    /// end, and else the longest state that does. It takes no memory.
+    /// end, and else the longest state that does. It takes no memory. It is for those who walk the
+    /// automaton themselves; the program makes no call of it.
     pub fn step_from(&self, state: usize, letter: Letter) -> Option<usize>
         requires { state < length self.now.states }
         ensures { Leads self.now.rules self.now.states

@@ -29,7 +29,11 @@ impl Model for Texts {
 
     ghost Value = { JoinedTexts };
 
-    ghost view = { λ t. record { bytes = t.bytes.items; blocks = t.blocks.items; count = t.count } };
+    ghost view = { λ t. record {
+      bytes = t.bytes.items;
+      blocks = t.blocks.items;
+      count = t.count;
+    } };
 }
 
 impl Texts {

@@ -102,8 +102,8 @@ pub fn beginning_is_prefix()
         → TakesPrefix old new report }
 {}
 
-/// An input is refused for one fault: it is too long, or else it has one first faulty line, with one
-/// cause.
+/// An input is refused for one fault: it is too long, or else it has one first faulty line, with
+/// one cause.
 pub fn refusal_is_one()
     ensures { (input : List ℕ) (one other : Fault)
         → IsRefusal input one → IsRefusal input other → one ≡ other }
