@@ -6,13 +6,14 @@ use presentation::{Congruence, Kind, Pairs, Presentation};
 use race::{Progress, Racer};
 use std::alloc::Global;
 use std::sync::atomic::{AtomicBool, Ordering};
+use word_powers::read_powers;
 use words::{Alphabet, Word};
 
 /// The word of a text with powers; `None` where it is none.
 pub fn word(alloc: Global, alphabet: &Alphabet, text: &str) -> Option<Word>
     ensures { IfSome result (IsOver (length alphabet.now)) }
 {
-    alphabet.read_powers(alloc, text.as_bytes(), true).ok()
+    read_powers(alphabet, alloc, text.as_bytes(), true).ok()
 }
 
 // Adds the relation of two texts.

@@ -6,14 +6,14 @@ use Rattle.std.proofs.lemmas.Option.{get_or_from_slice_get, slice_get_past, slic
 use Rattle.std.proofs.Math.Seq.{get_or-append_seam, take-append_seam}
 use Rattle.theory.specs.Word.{Word}
 use Rattle.words.specs.Alphabet.{IsAlphabet, place_of}
-use Rattle.words.specs.Powers.{IsFaultAt, IsLong, IsOutcome, IsPowerFault, IsReadable, IsStrangeByte, IsStranger, IsWordText, StandsFor}
-use Rattle.words.specs.PowerSteps.{State, done, is_whole, outset, run, step}
+use Rattle.word_powers.specs.Powers.{IsFaultAt, IsLong, IsOutcome, IsPowerFault, IsReadable, IsStrangeByte, IsStranger, IsWordText, StandsFor}
+use Rattle.word_powers.specs.PowerSteps.{State, done, is_whole, outset, run, step}
 use Rattle.words.specs.WordText.{is_empty_text, most_letters}
-use Rattle.words.specs.declared.fault.PowerFault.{PowerFault}
-use Rattle.words.specs.declared.fault.PowerFault.TheVariants.{EmptyWord, NotInAlphabet, BadPower, TooLong, NoMemory}
-use Rattle.words.proofs.PowerFaults.{fault_end, fault_here, one_word, word_end}
-use Rattle.words.proofs.PowerOutcomes.{filled_word, tells_empty, tells_long, tells_place, tells_stranger}
-use Rattle.words.proofs.PowerRuns.{run-append}
+use Rattle.word_powers.specs.declared.fault.PowerFault.{PowerFault}
+use Rattle.word_powers.specs.declared.fault.PowerFault.TheVariants.{EmptyWord, NotInAlphabet, BadPower, TooLong, NoMemory}
+use Rattle.word_powers.proofs.PowerFaults.{fault_end, fault_here, one_word, word_end}
+use Rattle.word_powers.proofs.PowerOutcomes.{filled_word, tells_empty, tells_long, tells_place, tells_stranger}
+use Rattle.word_powers.proofs.PowerRuns.{run-append}
 use Rattle.line_parts.specs.Faults.{IsLineFault, fault_of_powers}
 use Rattle.line_parts.specs.LineWords.{with_power_cause}
 use Rattle.line_parts.specs.Token.{is_digit}

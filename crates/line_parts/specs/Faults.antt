@@ -6,8 +6,8 @@ use Rattle.words.specs.declared.fault.AlphabetFault.{AlphabetFault}
 use Rattle.words.specs.declared.fault.AlphabetFault.TheVariants as alphabet
 use Rattle.words.specs.declared.fault.WordFault.{WordFault}
 use Rattle.words.specs.declared.fault.WordFault.TheVariants as word
-use Rattle.words.specs.declared.fault.PowerFault.{PowerFault}
-use Rattle.words.specs.declared.fault.PowerFault.TheVariants as power
+use Rattle.word_powers.specs.declared.fault.PowerFault.{PowerFault}
+use Rattle.word_powers.specs.declared.fault.PowerFault.TheVariants as power
 use Rattle.word_graph.specs.declared.fault.TableFault.{TableFault}
 use Rattle.word_graph.specs.declared.fault.TableFault.TheVariants as table
 use Rattle.line_parts.specs.declared.cause.Cause.{Cause}

@@ -6,8 +6,8 @@ use Rattle.theory.specs.Word.{Word}
 use Rattle.words.specs.WordText.{word_of}
 use Rattle.words.specs.declared.fault.WordFault.{WordFault}
 use Rattle.words.specs.declared.fault.WordFault.TheVariants as fault
-use Rattle.words.specs.declared.fault.PowerFault.{PowerFault}
-use Rattle.words.specs.declared.fault.PowerFault.TheVariants as power
+use Rattle.word_powers.specs.declared.fault.PowerFault.{PowerFault}
+use Rattle.word_powers.specs.declared.fault.PowerFault.TheVariants as power
 use Rattle.line_parts.specs.declared.version.Version.{Version}
 use Rattle.line_parts.specs.declared.version.Version.TheVariants.{One, Two}
 use Rattle.line_parts.specs.declared.cause.Cause.{Cause}

@@ -2,10 +2,10 @@
 use Rattle.std.specs.Prelude.{ℕ, suc, Bool, not, ◌&&◌, ◌==◌, is_none, nat_le, List, [], ◌∷◌, length, if◌then◌else◌, Option, Some, None, Result, Ok, Err}
 use Rattle.theory.specs.Word.{Word}
 use Rattle.words.specs.Alphabet.{place_of}
-use Rattle.words.specs.PowerSteps.{State, done, is_whole, outset, step}
+use Rattle.word_powers.specs.PowerSteps.{State, done, is_whole, outset, step}
 use Rattle.words.specs.WordText.{is_empty_text, most_letters}
-use Rattle.words.specs.declared.fault.PowerFault.{PowerFault}
-use Rattle.words.specs.declared.fault.PowerFault.TheVariants.{EmptyWord, NotInAlphabet, BadPower, TooLong}
+use Rattle.word_powers.specs.declared.fault.PowerFault.{PowerFault}
+use Rattle.word_powers.specs.declared.fault.PowerFault.TheVariants.{EmptyWord, NotInAlphabet, BadPower, TooLong}
 use Rattle.line_parts.specs.Token.{is_digit}
 
 -- whether a byte stands in no word: no letter, no digit and none of `(`, `)` and `^`

@@ -3,7 +3,7 @@ ghost use Rattle.std.specs.Prelude.{◌≡◌, ℕ, Bool, ◌↔◌, List, Some,
 ghost use Rattle.theory.specs.Graph.{Graph};
 ghost use Rattle.theory.specs.Word.{Word};
 ghost use Rattle.words.specs.Alphabet.{IsAlphabet};
-ghost use Rattle.words.specs.Powers.{IsOutcome, IsReadable, IsWordText};
+ghost use Rattle.word_powers.specs.Powers.{IsOutcome, IsReadable, IsWordText};
 ghost use Rattle.line_parts.specs.declared.cause.Cause.TheVariants.{BadTable, TableBreaksRelation};
 ghost use Rattle.line_parts.specs.PowerWords.{powers_of};
 ghost use Rattle.line_parts.specs.Tables.{BreaksRelation, IsCongruenceTable, IsLowTable, IsTable, IsTextOf, congruence_table_of, low_table_of};

@@ -8,7 +8,8 @@ use ports::NoMemory;
 use std::alloc::{AllocError, AllocFailed};
 use std::marker::Model;
 use word_graph::TableFault;
-use words::{AlphabetFault, PowerFault, WordFault};
+use word_powers::PowerFault;
+use words::{AlphabetFault, WordFault};
 
 /// Why a line is refused: for its cause, or for want of memory. Contracts see the cause, if there
 /// is one.

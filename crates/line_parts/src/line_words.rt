@@ -11,6 +11,7 @@ use crate::tokens::relation_of;
 use crate::version::Version;
 use std::alloc::Global;
 use theory::Relation;
+use word_powers::read_powers;
 use words::{Alphabet, Word};
 
 /// The word over the alphabet, with powers in the second version, which is empty only where that is
@@ -32,7 +33,7 @@ pub fn element_of(
     let _letters = alphabet.len();
     match version {
         Version::One => Ok(alphabet.read_word(alloc, token, allow_empty)?),
-        Version::Two => Ok(alphabet.read_powers(alloc, token, allow_empty)?),
+        Version::Two => Ok(read_powers(alphabet, alloc, token, allow_empty)?),
     }
 }
 

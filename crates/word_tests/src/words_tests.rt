@@ -1,6 +1,7 @@
 // Where texts of alphabets and words go wrong.
 use std::test::Fail;
-use words::{Alphabet, AlphabetFault, Letter, MARKER, PowerFault, WordFault};
+use word_powers::{PowerFault, read_powers};
+use words::{Alphabet, AlphabetFault, Letter, MARKER, WordFault};
 
 // Why the text is no alphabet of lower case.
 const NARROW: [(&[u8], Option<AlphabetFault>); 6] = [
@@ -93,7 +94,7 @@ fn tells_where_powers_go_wrong(rt: HostRuntime) -> Result<(), Fail> {
     let alloc = rt.alloc();
     let alphabet = Alphabet::new(alloc, b"ab")?;
     for (text, want) in &POWERS {
-        let fault = alphabet.read_powers(alloc, text, false).err();
+        let fault = read_powers(&alphabet, alloc, text, false).err();
         assert_eq!(rt; fault, Some(*want));
     }
     Ok(())

@@ -1,15 +1,5 @@
 pub mod Symbols
 pub mod AlphabetLemmas
-pub mod PowerFaults
-pub mod PowerKept
-pub mod PowerMarked
-pub mod PowerOutcomes
-pub mod PowerPlaces
-pub mod PowerPlain
-pub mod PowerReads
-pub mod PowerRuns
-pub mod PowerSigns
-pub mod PowerTexts
 pub mod TextLemmas
 pub mod TextLaws
 pub mod PieceLaws

@@ -1,6 +1,3 @@
 pub mod Alphabet
-pub mod PowerMarks
-pub mod PowerSteps
-pub mod Powers
 pub mod WordText
 pub mod Pieces

@@ -1,7 +1,6 @@
 // Why bytes make no alphabet, or no word.
 ghost use Rattle.std.specs.Prelude.{◌≡◌};
 ghost use Rattle.words.specs.declared.fault.AlphabetFault.TheVariants as alphabet_fault;
-ghost use Rattle.words.specs.declared.fault.PowerFault.TheVariants as power_fault;
 ghost use Rattle.words.specs.declared.fault.WordFault.TheVariants as word_fault;
 
 use ports::NoMemory;
@@ -42,26 +41,6 @@ pub enum WordFault {
     NoMemory,
 }
 
-/// Why bytes are no word with powers over an alphabet. Places count from 0.
-#[derive(Clone, Copy, Debug, PartialEq, Eq, Error)]
-pub enum PowerFault {
-    /// The word is empty, and may not be.
-    #[error("the word is empty")]
-    EmptyWord,
-    /// The byte at this place is no letter of the alphabet, and stands in no word.
-    #[error("byte {0} of the word is not in the alphabet")]
-    NotInAlphabet(usize),
-    /// No word goes on with the byte at this place, or the word ends too early there.
-    #[error("byte {0} of the word is not well placed")]
-    BadPower(usize),
-    /// The text stands for more than 4,096 letters.
-    #[error("the word is too long")]
-    TooLong,
-    /// Memory ran out.
-    #[error("out of memory")]
-    NoMemory,
-}
-
 impl From<AllocError> for AlphabetFault {
     ghost from_gives = { λ _ e. e ≡ alphabet_fault.NoMemory };
 
@@ -75,13 +54,5 @@ impl From<NoMemory> for WordFault {
 
     fn from(_error: NoMemory) -> WordFault {
         WordFault::NoMemory
-    }
-}
-
-impl From<NoMemory> for PowerFault {
-    ghost from_gives = { λ _ e. e ≡ power_fault.NoMemory };
-
-    fn from(_error: NoMemory) -> PowerFault {
-        PowerFault::NoMemory
     }
 }

@@ -133,9 +133,9 @@ impl Word {
         self.letters.as_slice()
     }
 
-    // Puts the letters from one place up to another at the end. Refused only where memory is
-    // wanting.
-    pub(crate) fn append_within(&mut self, start: usize, end: usize) -> Result<(), NoMemory>
+    /// Puts the letters from one place up to another at the end. Refused only where memory is
+    /// wanting.
+    pub fn append_within(&mut self, start: usize, end: usize) -> Result<(), NoMemory>
         requires ordered { start ≤ end }
         requires within { end ≤ length self.old }
         ensures { OnOk result (self.new ≡ self.old ++ slice_range self.old start end) }

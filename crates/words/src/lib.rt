@@ -10,9 +10,8 @@ pub mod facts;
 mod fault;
 mod letters;
 mod order;
-mod powers;
 
 pub use alphabets::{Alphabet, MARKER, is_letter};
-pub use fault::{AlphabetFault, PowerFault, WordFault};
+pub use fault::{AlphabetFault, WordFault};
 pub use letters::{Letter, Word};
 pub use order::shortlex;

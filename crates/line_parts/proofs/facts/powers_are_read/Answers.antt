@@ -1,5 +1,5 @@
 use Rattle.std.proofs.Common.{subst}
-use Rattle.words.specs.Powers.{IsOutcome}
+use Rattle.word_powers.specs.Powers.{IsOutcome}
 use Rattle.line_parts.proofs.PowerWordLaws.{outcome, powers_read}
 use Rattle.line_parts.proofs.facts.powers_are_read.Goals as goal
 

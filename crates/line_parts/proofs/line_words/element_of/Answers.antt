@@ -1,5 +1,5 @@
 use Rattle.std.proofs.Common.{◌∙◌, sym, ap, subst}
-use Rattle.words.specs.Powers.{IsOutcome}
+use Rattle.word_powers.specs.Powers.{IsOutcome}
 use Rattle.line_parts.specs.Faults.{IsLineFault, fault_of_powers, fault_of_word}
 use Rattle.line_parts.specs.LineWords.{element_of, with_cause, with_power_cause}
 use Rattle.line_parts.proofs.FaultLemmas.{handed_on, word_refused}

@@ -1,0 +1,10 @@
+pub mod PowerFaults
+pub mod PowerKept
+pub mod PowerMarked
+pub mod PowerOutcomes
+pub mod PowerPlaces
+pub mod PowerPlain
+pub mod PowerReads
+pub mod PowerRuns
+pub mod PowerSigns
+pub mod PowerTexts
