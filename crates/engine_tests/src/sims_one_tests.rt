@@ -6,13 +6,14 @@ use presentation::Presentation;
 use sims_one::Sims;
 use std::alloc::Global;
 use std::process::Abort;
+use table_texts::{print_table, read_table};
 use word_graph::WordGraph;
 
 // Has the search go on behind the table of a text.
 fn resume(alloc: Global, presentation: &Presentation, sims: &mut Sims, text: &str) -> Option<()>
     requires { sims.old.presentation ≡ presentation.now.presentation }
 {
-    let table = WordGraph::read_table(alloc, presentation.letters(), text.as_bytes()).ok()?;
+    let table = read_table(alloc, presentation.letters(), text.as_bytes()).ok()?;
     if table.is_standard() {
         sims.resume(&table).ok()
     } else {
@@ -23,7 +24,7 @@ fn resume(alloc: Global, presentation: &Presentation, sims: &mut Sims, text: &st
 // Whether the next table is that of the text.
 fn is_next(alloc: Global, sims: &mut Sims, text: &str) -> Option<bool> {
     let table = sims.next().ok()??;
-    let printed = table.print_table(alloc).ok()?;
+    let printed = print_table(&table, alloc).ok()?;
     Some(printed.as_slice() == text.as_bytes())
 }
 

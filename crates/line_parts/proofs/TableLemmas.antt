@@ -17,12 +17,12 @@ use Rattle.theory.specs.Word.{Word}
 use Rattle.word_graph.specs.Numbered.{IsSeenTo, max_from}
 use Rattle.word_graph.specs.Standard.{IsStandardGraph}
 use Rattle.word_graph.specs.Table.{targets_of}
-use Rattle.word_graph.specs.TableText.{IsBadField, IsBadRow, IsFaultless, IsLeastFault, table_read}
-use Rattle.word_graph.specs.declared.fault.TableFault.{TableFault}
-use Rattle.word_graph.specs.declared.fault.TableFault.TheVariants as fault
+use Rattle.table_texts.specs.TableText.{IsBadField, IsBadRow, IsFaultless, IsLeastFault, table_read}
+use Rattle.table_texts.specs.declared.fault.TableFault.{TableFault}
+use Rattle.table_texts.specs.declared.fault.TableFault.TheVariants as fault
 use Rattle.word_graph.proofs.NumberLaws.{seen_end, seen_more, seen_standard, seen_start}
 use Rattle.word_graph.proofs.RowLaws.{rows_exact}
-use Rattle.word_graph.proofs.TableLaws.{read_graph}
+use Rattle.table_texts.proofs.GraphLaws.{read_graph}
 use Rattle.line_parts.specs.declared.cause.Cause.{Cause}
 use Rattle.line_parts.specs.declared.cause.Cause.TheVariants.{BadTable, TableBreaksRelation}
 use Rattle.line_parts.specs.Faults.{IsLineFault, fault_of_table}

@@ -8,8 +8,8 @@ use Rattle.words.specs.declared.fault.WordFault.{WordFault}
 use Rattle.words.specs.declared.fault.WordFault.TheVariants as word
 use Rattle.word_powers.specs.declared.fault.PowerFault.{PowerFault}
 use Rattle.word_powers.specs.declared.fault.PowerFault.TheVariants as power
-use Rattle.word_graph.specs.declared.fault.TableFault.{TableFault}
-use Rattle.word_graph.specs.declared.fault.TableFault.TheVariants as table
+use Rattle.table_texts.specs.declared.fault.TableFault.{TableFault}
+use Rattle.table_texts.specs.declared.fault.TableFault.TheVariants as table
 use Rattle.line_parts.specs.declared.cause.Cause.{Cause}
 use Rattle.line_parts.specs.declared.cause.Cause.TheVariants.{NotALetter, RepeatedLetter, WrongNumberOfEntries, BadEntry, NotInjective, NotInAlphabet, WordTooLong, EmptyWord, BadPower, BadTable}
 

@@ -9,7 +9,7 @@ use Rattle.theory.specs.Word.{Word}
 use Rattle.word_graph.specs.Numbered.{max_from}
 use Rattle.word_graph.specs.Standard.{IsStandardGraph}
 use Rattle.word_graph.specs.Table.{targets_of}
-use Rattle.word_graph.specs.TableText.{IsFaultless, table_read}
+use Rattle.table_texts.specs.TableText.{IsFaultless, table_read}
 use Rattle.line_parts.specs.declared.cause.Cause.{Cause}
 use Rattle.line_parts.specs.declared.cause.Cause.TheVariants.{BadTable, TableBreaksRelation}
 use Rattle.line_parts.specs.LineWords.{two_tokens}

@@ -7,7 +7,7 @@ use elements::ElementFault;
 use ports::NoMemory;
 use std::alloc::{AllocError, AllocFailed};
 use std::marker::Model;
-use word_graph::TableFault;
+use table_texts::TableFault;
 use word_powers::PowerFault;
 use words::{AlphabetFault, WordFault};
 

@@ -10,6 +10,7 @@ use crate::fault::LineFault;
 use crate::line_words::two_tokens;
 use ports::NoMemory;
 use std::alloc::Global;
+use table_texts::read_table;
 use word_graph::{MOST_LETTERS, WordGraph};
 use words::Word;
 
@@ -34,7 +35,7 @@ fn table_of(
     ensures table { IfOk result (IsTable is_monoid letters) }
     ensures err { IfErr result (IsLineFault (table_of is_monoid letters token.now)) }
 {
-    let table = WordGraph::read_table(alloc, letters, token)?;
+    let table = read_table(alloc, letters, token)?;
     if !table.is_standard() {
         return Err(LineFault::refused(Cause::BadTable));
     }

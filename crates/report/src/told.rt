@@ -3,7 +3,7 @@ ghost use Rattle.std.specs.Prelude.{◌≡◌, ℕ, ◌++◌, ◌<◌, codes, le
 ghost use Rattle.ports.specs.Writes.{Writes, WritesBytes};
 ghost use Rattle.theory.specs.Lattice.{Meet, Join};
 ghost use Rattle.theory.specs.Word.{IsElement};
-ghost use Rattle.word_graph.specs.TableText.{table_text};
+ghost use Rattle.table_texts.specs.TableText.{table_text};
 ghost use Rattle.lattice.specs.Tables.{AreTables, HaveOneWidth};
 ghost use Rattle.problem.specs.Problem.{is_presented, letters_of, value_text};
 ghost use Rattle.query_lang.specs.Query.{IsQueryOf};

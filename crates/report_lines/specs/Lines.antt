@@ -4,7 +4,7 @@ use Rattle.std.specs.List.{flat_map, join_by, range_with_len}
 use Rattle.theory.specs.Word.{Word}
 use Rattle.theory.specs.Graph.{Graph}
 use Rattle.theory.specs.LowIndex.{Rows, graph_of}
-use Rattle.word_graph.specs.TableText.{table_text}
+use Rattle.table_texts.specs.TableText.{table_text}
 use Rattle.words.specs.WordText.{text_of}
 
 abbrev pub undecided_line : List ℕ

@@ -2,13 +2,14 @@
 ghost use Rattle.std.specs.Prelude.{◌≡◌, ◌++◌, [], length, decimal, codes, OnOk, IfOk};
 ghost use Rattle.theory.specs.Word.{IsOver};
 ghost use Rattle.words.specs.WordText.{text_of};
-ghost use Rattle.word_graph.specs.TableText.{table_text};
+ghost use Rattle.table_texts.specs.TableText.{table_text};
 ghost use Rattle.ports.specs.Writes.{WritesBytes};
 
 use itoa::Buffer;
 use ports::{NoMemory, Sink, WriteFault, write_all};
 use std::alloc::Global;
 use std::marker::Model;
+use table_texts::print_table;
 use word_graph::WordGraph;
 use words::{Alphabet, Word};
 
@@ -58,7 +59,7 @@ impl Line {
     pub(crate) fn of_table(alloc: Global, table: &WordGraph) -> Result<Line, NoMemory>
         ensures { IfOk result (λ line. line ≡ table_text table.now) }
     {
-        let bytes = table.print_table(alloc)?;
+        let bytes = print_table(table, alloc)?;
         Ok(Line { bytes })
     }
 
@@ -95,7 +96,7 @@ impl Line {
     pub fn table(&mut self, alloc: Global, table: &WordGraph) -> Result<(), NoMemory>
         ensures { OnOk result (self.new ≡ self.old ++ table_text table.now) }
     {
-        self.text(table.print_table(alloc)?.as_slice())
+        self.text(print_table(table, alloc)?.as_slice())
     }
 
     /// Ends the line with a line feed, writes it, and leaves it empty for the next one, with its

@@ -9,11 +9,8 @@ pub mod StandardLaws
 pub mod NodeCounts
 pub mod WordLaws
 pub mod NumberLaws
-pub mod ReadLaws
 pub mod TableLaws
-pub mod PrintLaws
 pub mod WalkThere
-pub mod ReprintLaws
 pub mod LevelLaws
 pub mod LevelSteps
 pub mod ImageLaws

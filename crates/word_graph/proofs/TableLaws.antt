@@ -1,20 +1,16 @@
 -- Complete graphs as lists of targets, and their order.
-use Rattle.std.proofs.Common.{◌≡◌, ℕ, zero, suc, ◌+◌, ◌*◌, ◌<◌, List, [], ◌∷◌, ◌++◌, length, map, take, drop, get_or, slice_get, All, Option, Some, None, refl, sym, ◌∙◌, ap, arith, inl, inr, nat_cmp, Ordering, Less, Equal, Greater, ap₂, subst₂, min, true, false, not, ◌==◌, nat_lt, if◌then◌else◌, option_and_then}
+use Rattle.std.proofs.Common.{◌≡◌, ℕ, zero, suc, ◌+◌, ◌*◌, ◌<◌, List, [], ◌∷◌, ◌++◌, length, map, take, drop, get_or, All, Option, Some, refl, sym, ◌∙◌, ap, arith, nat_cmp, Ordering, Less, Equal, Greater, ap₂, subst₂, min, true, false, not, ◌==◌}
 use Rattle.std.specs.Ordering.{ordering_then, ordering_index}
 use Rattle.std.specs.Cmp.Lexicographic.{slice_cmp}
-use Rattle.std.specs.Option.{unwrap_or, option_to_list}
+use Rattle.std.specs.Option.{option_to_list}
 use Rattle.std.specs.List.{flat_map}
 use Rattle.std.proofs.lemmas.List.{length-map, map-append, take-map, drop-map, get_or-map, length-drop, length-take-le, take-append-drop, drop_more, nil_from_length}
-use Rattle.std.proofs.lemmas.Bool.{cases_lt, cases_eq}
 use Rattle.std.proofs.lemmas.List.Elements.{All-cons, All-map}
 use Rattle.std.proofs.lemmas.Grind.{flat_map-append}
-use Rattle.theory.specs.Graph.{Graph, target, IsGraph}
+use Rattle.theory.specs.Graph.{Graph, IsGraph}
 use Rattle.theory.specs.LowIndex.{Rows, graph_of, entries}
 use Rattle.theory.proofs.TableLaws.{target_within}
-use Rattle.std.proofs.lemmas.List.Splits.{length-slice_split}
-use Rattle.std.proofs.lemmas.Option.{slice_get-get_or}
 use Rattle.cells.specs.Rows.{flat, rows_of}
-use Rattle.word_graph.specs.TableText.{IsFaultAt, table_read, rows_cut, fields_cut, row_read, target_read, number_of}
 use Rattle.word_graph.specs.Table.{HasWidth, targets_of, cut}
 
 -- two lists from a place on
@@ -116,41 +112,3 @@ pub tied : (o p : Ordering) → false ≡ not (ordering_index o == 1) → orderi
 tied Less p h = cc
 tied Equal p h = refl
 tied Greater p h = cc
-
--- tables with no fault are graphs
-module _ (k : ℕ) (text : List ℕ) (good : (place : ℕ) → IsFaultAt k (table_read text) place → ⊥) where
-  pieces_some : 0 < length (rows_cut text)
-  pieces_some = omega (arith, length-slice_split (λ b. b == 47) text)
-
-  read_width : (i : ℕ) (d : List (Option ℕ)) → i < length (table_read text) → length (get_or (table_read text) i d) ≡ k
-  read_width i d h = elim (cases_eq (length (get_or (table_read text) i d)) k) [
-    | inl e ↦ e
-    | inr n ↦ absurd (good (i * k + min (length (get_or (table_read text) i d)) k) (inr (inl (record {
-      row = i;
-      fields = get_or (table_read text) i d;
-      row_is = slice_get-get_or (table_read text) i d h;
-      bad = n;
-      place_is = refl;
-    }))))
-  ]
-
-  number_within : (n m : ℕ) (o : Option ℕ) → option_and_then (λ j. if nat_lt j n then Some j else None) o ≡ Some m → m < n
-  number_within n m None e = cc
-  number_within n m (Some j) e = elim (cases_lt j n) [ inl h ↦ grind (arith, h, e) | inr h ↦ grind (arith, h, e) ]
-
-  row_nodes : (n : ℕ) (fields : List (List ℕ)) (letter next : ℕ) → unwrap_or (slice_get (map (target_read n) fields) letter) None ≡ Some next → next < n
-  row_nodes n [] letter next e = cc
-  row_nodes n (f ∷ fields) zero next e = number_within n next (number_of f) e
-  row_nodes n (f ∷ fields) (suc letter) next e = row_nodes n fields letter next e
-
-  nodes_in : (n : ℕ) (pieces : List (List ℕ)) (node letter next : ℕ) → target (map (row_read n) pieces) node letter ≡ Some next → next < n
-  nodes_in n [] node letter next e = cc
-  nodes_in n (p ∷ pieces) zero letter next e = row_nodes n (fields_cut p) letter next e
-  nodes_in n (p ∷ pieces) (suc node) letter next e = nodes_in n pieces node letter next e
-
-  pub read_graph : IsGraph k (table_read text)
-  read_graph = record {
-    rooted = omega (arith, length-map (rows_cut text) (row_read (length (rows_cut text))), pieces_some);
-    width = read_width;
-    nodes = λ node letter next e. omega (arith, length-map (rows_cut text) (row_read (length (rows_cut text))), nodes_in (length (rows_cut text)) (rows_cut text) node letter next e);
-  }

@@ -5,7 +5,6 @@ pub mod Steps
 pub mod Renumber
 pub mod Standard
 pub mod Numbered
-pub mod TableText
 pub mod Table
 pub mod Levels
 pub mod Backwards

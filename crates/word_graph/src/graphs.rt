@@ -68,8 +68,8 @@ impl WordGraph {
         Ok(WordGraph { letters, rows })
     }
 
-    // The graph whose rows stand one behind another in these entries.
-    pub(crate) fn of_entries(nodes: usize, letters: usize, entries: Vec<Entry>) -> WordGraph
+    /// The graph whose rows stand one behind another in these entries.
+    pub fn of_entries(nodes: usize, letters: usize, entries: Vec<Entry>) -> WordGraph
         requires few { letters ≤ MOST_LETTERS }
         requires room { nodes ≤ NUMBERS_AT_MOST }
         requires whole { length entries.items ≡ nodes * letters }
@@ -80,8 +80,8 @@ impl WordGraph {
         WordGraph { letters, rows }
     }
 
-    // The rows.
-    pub(crate) fn rows(&self) -> &Cells
+    /// The rows: for each node and letter, where the edge leads.
+    pub fn rows(&self) -> &Cells
         ensures { result.now ≡ self.now }
     {
         let _letters = &self.letters;

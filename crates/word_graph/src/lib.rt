@@ -5,14 +5,10 @@
 #![tactic(auto)]
 
 mod backwards;
-pub mod facts;
-mod fault;
 mod graphs;
 mod rows;
 mod tables;
-mod texts;
 mod two_sided;
 mod walks;
 
-pub use fault::TableFault;
 pub use graphs::{MOST_LETTERS, WordGraph};

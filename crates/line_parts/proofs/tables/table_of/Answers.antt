@@ -1,8 +1,8 @@
 use Rattle.std.proofs.Common.{◌≡◌, true, sym, ap, ◌∙◌, subst, Err, true≢false}
 use Rattle.theory.specs.Lattice.{HasFreeRoot}
 use Rattle.word_graph.specs.Standard.{IsStandardGraph}
-use Rattle.word_graph.specs.TableText.{table_read}
-use Rattle.word_graph.specs.declared.fault.TableFault.{TableFault}
+use Rattle.table_texts.specs.TableText.{table_read}
+use Rattle.table_texts.specs.declared.fault.TableFault.{TableFault}
 use Rattle.line_parts.specs.Faults.{IsLineFault}
 use Rattle.line_parts.specs.Tables.{IsTable, table_of}
 use Rattle.line_parts.proofs.FaultLemmas.{handed_on}

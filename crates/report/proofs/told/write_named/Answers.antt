@@ -1,6 +1,6 @@
 use Rattle.std.proofs.Common.{refl}
 use Rattle.ports.proofs.WriteLemmas.{bytes_refused, handed_on, same_bytes}
-use Rattle.word_graph.specs.TableText.{table_text}
+use Rattle.table_texts.specs.TableText.{table_text}
 use Rattle.report.proofs.AnswerLemmas.{line_put}
 use Rattle.report.proofs.told.write_named.Goals as goal
 

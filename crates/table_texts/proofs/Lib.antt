@@ -1,0 +1,4 @@
+pub mod ReadLaws
+pub mod PrintLaws
+pub mod ReprintLaws
+pub mod GraphLaws
