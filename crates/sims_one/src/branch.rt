@@ -6,11 +6,10 @@ ghost use Rattle.sims_one.specs.Search.{NoneWithin};
 ghost use Rattle.sims_one.specs.Targets.{AreAllowed, IsFront};
 
 use crate::deductions::extend;
+use crate::indexed::Indexed;
 use crate::known::{Known, Mark};
-use crate::places::Places;
 use crate::sims::MOST_CLASSES;
 use ports::NoMemory;
-use presentation::Presentation;
 use std::alloc::Global;
 
 /// What is known behind all targets of a branch, and for each of them how much was known before.
@@ -26,26 +25,24 @@ pub struct Branch {
     /// The targets.
     pub targets: Vec<usize>,
     levels: Levels,
-    places: Places,
     /// How many targets have been put.
     pub steps: usize,
 }
 
 impl Branch {
     /// The branch of all tables. Refused only where memory is wanting.
-    pub fn new(alloc: Global, presentation: &Presentation) -> Result<Branch, NoMemory>
+    pub fn new(alloc: Global, presentation: &Indexed) -> Result<Branch, NoMemory>
         ensures targets { IfOk result (λ b. b.targets.items ≡ []) }
         ensures branch { IfOk result (λ b. (p : Relations) (n : ℕ)
             → IsBranch p n b.targets.items b.levels) }
     {
-        let places = Places::new(alloc, presentation)?;
+        let known = Known::new(alloc, presentation.letters())?;
         Ok(Branch {
             targets: Vec::new(alloc),
             levels: Levels {
-                known: Known::new(alloc),
+                known,
                 marks: Vec::new(alloc),
             },
-            places,
             steps: 0,
         })
     }
@@ -64,7 +61,7 @@ impl Branch {
     /// wanting, and then the branch is any.
     pub fn enter(
         &mut self,
-        presentation: &Presentation,
+        presentation: &Indexed,
         classes: usize,
         target: usize,
     ) -> Result<bool, NoMemory>
@@ -86,13 +83,7 @@ impl Branch {
     {
         let place = self.targets.len();
         let mark = self.levels.known.mark();
-        if !extend(
-            presentation,
-            &self.places,
-            &mut self.levels.known,
-            place,
-            target,
-        )? {
+        if !extend(presentation, &mut self.levels.known, place, target)? {
             self.levels.known.forget(mark);
             return Ok(false);
         }

@@ -4,12 +4,12 @@ ghost use Rattle.theory.specs.Word.{IsOver};
 ghost use Rattle.sims_one.specs.Edges.{IsEdge};
 ghost use Rattle.sims_one.specs.Known.{Grows, Keeps, Extends};
 
+use crate::indexed::Indexed;
 use crate::known::Known;
 use crate::paths::MOST_NODES;
-use crate::places::{Place, Places};
+use crate::places::Place;
 use crate::trail::{Edge, MOST_EDGES};
 use ports::NoMemory;
-use presentation::Presentation;
 use words::Word;
 
 // A side of the relation of this number.
@@ -30,7 +30,7 @@ fn side_of(pair: &(Word, Word), second: bool) -> &Word
 // Reads a relation at a node. Where both sides lead from it but for the last letter of one, the
 // edge of this letter is known from now on. False where they lead to two nodes.
 fn read(
-    presentation: &Presentation,
+    presentation: &Indexed,
     known: &mut Known,
     relation: usize,
     node: usize,
@@ -65,7 +65,7 @@ fn read(
 // Reads a relation at each node from which so many first letters of a side lead to the node. False
 // where its sides lead to two nodes.
 fn read_back(
-    presentation: &Presentation,
+    presentation: &Indexed,
     known: &mut Known,
     side: &Side,
     count: usize,
@@ -99,7 +99,7 @@ fn read_back(
 // the side leads on from the edge. Else nothing follows from the edge there. False where the sides
 // lead to two nodes.
 fn read_place(
-    presentation: &Presentation,
+    presentation: &Indexed,
     known: &mut Known,
     place: Place,
     edge: Edge,
@@ -127,19 +127,14 @@ fn read_place(
 }
 
 // Reads each relation that goes over the edge. False where one fails.
-fn read_edge(
-    presentation: &Presentation,
-    places: &Places,
-    known: &mut Known,
-    edge: Edge,
-) -> Result<bool, NoMemory>
+fn read_edge(presentation: &Indexed, known: &mut Known, edge: Edge) -> Result<bool, NoMemory>
     requires few { known.old.nodes ≤ MOST_NODES }
     requires edge { IsEdge edge }
     ensures nodes { known.new.nodes ≡ known.old.nodes }
     ensures keeps { IfOk result (λ holds.
         Keeps presentation.now.presentation known.old known.new holds) }
 {
-    for place in places.of(edge.letter) {
+    for place in presentation.places().of(edge.letter) {
         if !read_place(presentation, known, *place, edge)? {
             return Ok(false);
         }
@@ -148,12 +143,7 @@ fn read_edge(
 }
 
 // Reads the relations that go over the edges known, from this one on. False where one fails.
-fn read_edges(
-    presentation: &Presentation,
-    places: &Places,
-    known: &mut Known,
-    first: usize,
-) -> Result<bool, NoMemory>
+fn read_edges(presentation: &Indexed, known: &mut Known, first: usize) -> Result<bool, NoMemory>
     requires few { known.old.nodes ≤ MOST_NODES }
     ensures nodes { known.new.nodes ≡ known.old.nodes }
     ensures keeps { IfOk result (λ holds.
@@ -163,7 +153,7 @@ fn read_edges(
         let Some(edge) = known.edge(number) else {
             return Ok(true);
         };
-        if !read_edge(presentation, places, known, edge)? {
+        if !read_edge(presentation, known, edge)? {
             return Ok(false);
         }
     }
@@ -171,7 +161,7 @@ fn read_edges(
 }
 
 // Reads each relation at the node. False where one fails.
-fn read_node(presentation: &Presentation, known: &mut Known, node: usize) -> Result<bool, NoMemory>
+fn read_node(presentation: &Indexed, known: &mut Known, node: usize) -> Result<bool, NoMemory>
     requires node { node < known.old.nodes }
     requires few { known.old.nodes ≤ MOST_NODES }
     ensures nodes { known.new.nodes ≡ known.old.nodes }
@@ -188,7 +178,7 @@ fn read_node(presentation: &Presentation, known: &mut Known, node: usize) -> Res
 
 // Reads each relation at the node unless it has been seen before. False where one fails.
 fn read_new_node(
-    presentation: &Presentation,
+    presentation: &Indexed,
     known: &mut Known,
     seen: usize,
     node: usize,
@@ -208,8 +198,7 @@ fn read_new_node(
 /// Puts the target at the place, which is known from now on, with all that follows from it. False
 /// where another target is known there, or where a relation fails: then no table has it.
 pub fn extend(
-    presentation: &Presentation,
-    places: &Places,
+    presentation: &Indexed,
     known: &mut Known,
     place: usize,
     target: usize,
@@ -233,5 +222,5 @@ pub fn extend(
     if !read_new_node(presentation, known, seen, target)? {
         return Ok(false);
     }
-    read_edges(presentation, places, known, first)
+    read_edges(presentation, known, first)
 }

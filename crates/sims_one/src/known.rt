@@ -1,5 +1,5 @@
 // Edges that each table behind a front part has.
-ghost use Rattle.std.specs.Prelude.{◌≡◌, ℕ, ◌+◌, ◌*◌, ◌<◌, ◌≤◌, ◌++◌, ◌∷◌, [], List, length, take, drop, replicate, slice_get, slice_index_or, slice_set, None, Some, IfSome, OnOk};
+ghost use Rattle.std.specs.Prelude.{◌≡◌, ℕ, ◌+◌, ◌*◌, ◌<◌, ◌≤◌, ◌++◌, ◌∷◌, [], List, length, take, drop, replicate, slice_get, slice_index_or, slice_set, None, Some, IfOk, IfSome, OnOk};
 ghost use Rattle.theory.specs.Word.{IsOver};
 ghost use Rattle.sims_one.specs.Targets.{path_in};
 ghost use Rattle.sims_one.specs.Edges.{IsEdge, without};
@@ -7,7 +7,7 @@ ghost use Rattle.sims_one.specs.Known.{HasEdges};
 
 use crate::paths::MOST_NODES;
 use crate::sources::{NodeSet, Sources};
-use crate::trail::{Edge, MOST_EDGES, MOST_LETTERS, Trail};
+use crate::trail::{Edge, MOST_EDGES, Trail};
 use ports::NoMemory;
 use std::alloc::Global;
 use std::marker::Model;
@@ -109,17 +109,19 @@ pub struct End {
 }
 
 impl Known {
-    /// The root alone, and no edge.
-    pub fn new(alloc: Global) -> Known
-        ensures nodes { result.nodes ≡ 1 }
-        ensures edges { (u : List ℕ) → HasEdges result.targets u }
+    /// The root alone, and no edge, in tables of so many letters. Refused only where memory is
+    /// wanting.
+    pub fn new(alloc: Global, letters: usize) -> Result<Known, NoMemory>
+        ensures nodes { IfOk result (λ known. known.nodes ≡ 1) }
+        ensures edges { IfOk result (λ known. (u : List ℕ) → HasEdges known.targets u) }
     {
-        Known {
+        let sources = Sources::new(alloc, letters)?;
+        Ok(Known {
             nodes: 1,
             targets: Targets::none(),
-            sources: Sources::none(),
+            sources,
             trail: Trail::new(alloc),
-        }
+        })
     }
 
     /// The target at a place, where it is known.
@@ -133,10 +135,7 @@ impl Known {
 
     /// The nodes from which known edges of the letter lead to the node. They are told for speed
     /// alone: no contract says which they are.
-    pub fn sources(&self, node: usize, letter: usize) -> NodeSet
-        requires node { node < MOST_NODES }
-        requires letter { letter < MOST_LETTERS }
-    {
+    pub fn sources(&self, node: usize, letter: usize) -> NodeSet {
         self.sources.of(node, letter)
     }
 

@@ -13,6 +13,7 @@ mod cut;
 mod deductions;
 pub mod facts;
 mod groups;
+mod indexed;
 mod known;
 mod pages;
 mod parts;

@@ -12,6 +12,8 @@ ghost use Rattle.sims_one.specs.Fronts.{lists_in};
 ghost use Rattle.sims_one.specs.Pages.{IsTablePage, IsPageOf};
 
 use crate::batches::tables_by_parts;
+use crate::indexed::Indexed;
+use crate::places::Places;
 use crate::request::Request;
 use crate::sims::MOST_CLASSES;
 use crate::within::{table_graph, tables_within};
@@ -140,8 +142,10 @@ pub fn page<T: Threads + Sync, G: Gate + Sync>(
         page.tables.items page.more) }
 {
     let cursor = cursor_targets(alloc, presentation, after)?;
+    let places = Places::new(alloc, presentation)?;
+    let indexed = Indexed::new(presentation, &places);
     let request = Request {
-        presentation,
+        presentation: &indexed,
         classes: n,
         two_sided: false,
         cursor: cursor.as_slice(),
@@ -172,8 +176,10 @@ pub fn page_two_sided<T: Threads + Sync, G: Gate + Sync>(
         page.tables.items page.more) }
 {
     let cursor = cursor_targets(alloc, presentation, after)?;
+    let places = Places::new(alloc, presentation)?;
+    let indexed = Indexed::new(presentation, &places);
     let request = Request {
-        presentation,
+        presentation: &indexed,
         classes: n,
         two_sided: true,
         cursor: cursor.as_slice(),

@@ -5,7 +5,8 @@ ghost use Rattle.presentation.specs.Presented.{IsPresented};
 ghost use Rattle.word_graph.specs.Numbered.{max_from};
 ghost use Rattle.sims_one.specs.Targets.{path_in, Agree, IsSound};
 
-use presentation::{Pairs, Presentation};
+use crate::indexed::Indexed;
+use presentation::Pairs;
 use words::{Letter, Word};
 
 /// The most nodes of a table.
@@ -88,7 +89,7 @@ fn agree_at(letters: usize, targets: &[usize], node: usize, pairs: &Pairs) -> bo
 }
 
 /// Whether the relations hold at the nodes seen, as far as targets are there.
-pub fn is_sound(presentation: &Presentation, targets: &[usize]) -> bool
+pub fn is_sound(presentation: &Indexed, targets: &[usize]) -> bool
     requires { All (λ m. m < MOST_NODES) targets.now }
     ensures { IsTrue result ↔ IsSound presentation.now.presentation targets.now }
 {

@@ -1,5 +1,5 @@
 // What a page asks for.
-use presentation::Presentation;
+use crate::indexed::Indexed;
 
 /// The tables that are asked for: those of at most so many classes at which the relations hold, or
 /// the two-sided ones among them alone, after the cursor, or from the first on where it has no
@@ -7,7 +7,7 @@ use presentation::Presentation;
 #[derive(Clone, Copy)]
 pub struct Request<'a> {
     /// The presentation.
-    pub presentation: &'a Presentation,
+    pub presentation: &'a Indexed<'a>,
     /// The most classes.
     pub classes: usize,
     /// Whether two-sided tables alone are wanted.

@@ -5,16 +5,16 @@ ghost use Rattle.sims_one.specs.Known.{HasEdges, IsBranch};
 ghost use Rattle.sims_one.specs.Search.{IsLeastWithin, NoneWithin, IsLeastBeyond, NoneBeyond, IsLeastAfter, NoneAfter, NoneFrom, IsCursor, IsFoundBranch};
 
 use crate::branch::Branch;
+use crate::indexed::Indexed;
 use crate::known::Known;
 use crate::paths::is_sound;
 use crate::sims::MOST_CLASSES;
 use crate::trail::MOST_EDGES;
 use ports::NoMemory;
-use presentation::Presentation;
 use std::alloc::Global;
 
 /// The most nodes of a table of at most so many classes: in a semigroup the root is no class.
-pub fn most_nodes(presentation: &Presentation, classes: usize) -> usize
+pub fn most_nodes(presentation: &Indexed, classes: usize) -> usize
     requires { classes ≤ MOST_CLASSES }
     ensures { result ≡ most_nodes presentation.now.presentation.is_monoid classes }
 {
@@ -26,14 +26,14 @@ pub fn most_nodes(presentation: &Presentation, classes: usize) -> usize
 }
 
 /// The least target of a table: in a semigroup no edge leads to the root.
-pub fn least_target(presentation: &Presentation) -> usize
+pub fn least_target(presentation: &Indexed) -> usize
     ensures { result ≡ least_target presentation.now.presentation.is_monoid }
 {
     if presentation.is_monoid() { 0 } else { 1 }
 }
 
 // Whether the target is one that a table of at most so many classes may have.
-fn is_allowed(presentation: &Presentation, classes: usize, target: usize) -> bool
+fn is_allowed(presentation: &Indexed, classes: usize, target: usize) -> bool
     requires { classes ≤ MOST_CLASSES }
     ensures { IsTrue result ↔ ((least_target presentation.now.presentation.is_monoid ≤ target)
         × (target < most_nodes presentation.now.presentation.is_monoid classes)) }
@@ -56,12 +56,7 @@ pub fn least_candidate(known: &Known, place: usize, first: usize) -> usize
 
 /// The targets to be tried at the place are below this one: those that a table may have, up to the
 /// next new node, and where the target is known, no greater.
-pub fn candidate_limit(
-    presentation: &Presentation,
-    classes: usize,
-    known: &Known,
-    place: usize,
-) -> usize
+pub fn candidate_limit(presentation: &Indexed, classes: usize, known: &Known, place: usize) -> usize
     requires classes { classes ≤ MOST_CLASSES }
     requires place { place < MOST_EDGES }
     requires few { known.now.nodes ≤ 17 }
@@ -82,11 +77,7 @@ pub fn candidate_limit(
 /// targets, and tells that there is one; else leaves the targets as they are. Refused only where
 /// memory is wanting, and then the branch is any.
 #[cycle(search)]
-pub fn search(
-    presentation: &Presentation,
-    classes: usize,
-    branch: &mut Branch,
-) -> Result<bool, NoMemory>
+pub fn search(presentation: &Indexed, classes: usize, branch: &mut Branch) -> Result<bool, NoMemory>
     requires classes { classes ≤ MOST_CLASSES }
     requires branch { IsBranch presentation.now.presentation classes
         branch.old.targets.items branch.old.levels }
@@ -111,7 +102,7 @@ pub fn search(
 /// memory is wanting, and then the branch is any.
 #[cycle(search)]
 pub fn search_from(
-    presentation: &Presentation,
+    presentation: &Indexed,
     classes: usize,
     branch: &mut Branch,
     first: usize,
@@ -147,7 +138,7 @@ pub fn search_from(
 /// The search behind the targets with one more.
 #[cycle(search)]
 pub fn search_with(
-    presentation: &Presentation,
+    presentation: &Indexed,
     classes: usize,
     branch: &mut Branch,
     target: usize,
@@ -184,7 +175,7 @@ pub fn search_with(
 /// and then the branch is any.
 #[cycle(search_after)]
 pub fn search_after(
-    presentation: &Presentation,
+    presentation: &Indexed,
     classes: usize,
     cursor: &[usize],
     branch: &mut Branch,
@@ -220,7 +211,7 @@ pub fn search_after(
 /// The search after the cursor behind the targets with one of the cursor more.
 #[cycle(search_after)]
 pub fn search_along(
-    presentation: &Presentation,
+    presentation: &Indexed,
     classes: usize,
     cursor: &[usize],
     branch: &mut Branch,
@@ -260,7 +251,7 @@ pub fn search_along(
 /// goes on behind as many of its targets as are kept, and tells that there is one. Refused only
 /// where memory is wanting.
 pub fn search_next(
-    presentation: &Presentation,
+    presentation: &Indexed,
     classes: usize,
     branch: &mut Branch,
     kept: usize,
@@ -295,7 +286,7 @@ pub fn search_next(
 // of all where the cursor has no target. Refused only where memory is wanting.
 fn find_after(
     alloc: Global,
-    presentation: &Presentation,
+    presentation: &Indexed,
     classes: usize,
     cursor: &[usize],
 ) -> Result<Option<Branch>, NoMemory>
@@ -325,7 +316,7 @@ fn find_after(
 /// cursor, where there is one, spares the way to it. Refused only where memory is wanting.
 pub fn find_next(
     alloc: Global,
-    presentation: &Presentation,
+    presentation: &Indexed,
     classes: usize,
     cursor: &[usize],
     branch: Option<Branch>,

@@ -9,7 +9,9 @@ ghost use Rattle.sims_one.specs.Targets.{cursor_of, table_of};
 ghost use Rattle.sims_one.specs.Search.{Search, IsNextGraph, IsFound, IsCursor};
 
 use crate::branch::Branch;
+use crate::indexed::Indexed;
 use crate::paths::greatest;
+use crate::places::Places;
 use crate::search::find_next;
 use ports::NoMemory;
 use presentation::Presentation;
@@ -39,6 +41,7 @@ struct Found {
 pub struct Sims {
     alloc: Global,
     presentation: Presentation,
+    places: Places,
     classes: usize,
     last: Vec<usize>,
     branch: Option<Branch>,
@@ -82,9 +85,11 @@ impl Sims {
         }) }
     {
         let presentation = presentation.copy(alloc)?;
+        let places = Places::new(alloc, &presentation)?;
         Ok(Sims {
             alloc,
             presentation,
+            places,
             classes: n,
             last: Vec::new(alloc),
             branch: None,
@@ -129,10 +134,11 @@ impl Sims {
     {
         let letters = self.presentation.letters();
         let _relations = self.presentation.relations();
+        let indexed = Indexed::new(&self.presentation, &self.places);
         let branch = self.branch.take();
         let Some(branch) = find_next(
             self.alloc,
-            &self.presentation,
+            &indexed,
             self.classes,
             self.last.as_slice(),
             branch,

@@ -3,7 +3,9 @@ ghost use Rattle.std.specs.Prelude.{◌<◌, IfSome};
 ghost use Rattle.sims_one.specs.Edges.{IsEdge};
 
 use crate::paths::MOST_NODES;
-use crate::trail::{Edge, MOST_EDGES, MOST_LETTERS};
+use crate::trail::Edge;
+use ports::NoMemory;
+use std::alloc::Global;
 
 /// A set of nodes, a bit for each.
 #[derive(Clone, Copy)]
@@ -43,38 +45,50 @@ impl NodeSet {
 /// say where to read, and no contract says which they are.
 #[derive(Drop)]
 pub struct Sources {
-    sets: [NodeSet; MOST_EDGES],
+    letters: usize,
+    sets: Vec<NodeSet>,
 }
 
 impl Sources {
-    /// No edge is known.
-    pub fn none() -> Sources {
-        Sources {
-            sets: [NodeSet { bits: 0 }; MOST_EDGES],
-        }
+    /// No edge is known, in tables of so many letters. Refused only where memory is wanting.
+    pub fn new(alloc: Global, letters: usize) -> Result<Sources, NoMemory> {
+        let count = MOST_NODES.saturating_mul(letters);
+        let sets = vec![in alloc; NodeSet { bits: 0 }; count]?;
+        Ok(Sources { letters, sets })
+    }
+
+    // The place of the set of the letter at the node.
+    fn place(&self, node: usize, letter: usize) -> usize {
+        node.saturating_mul(self.letters).saturating_add(letter)
     }
 
     /// From where edges of the letter lead to the node.
-    pub fn of(&self, node: usize, letter: usize) -> NodeSet
-        requires node { node < MOST_NODES }
-        requires letter { letter < MOST_LETTERS }
-    {
-        self.sets[node * MOST_LETTERS + letter]
+    pub fn of(&self, node: usize, letter: usize) -> NodeSet {
+        let place = self.place(node, letter);
+        if place < self.sets.len() {
+            self.sets[place]
+        } else {
+            NodeSet { bits: 0 }
+        }
     }
 
     /// The edge leads to the target from now on.
     pub fn add(&mut self, edge: Edge, target: usize)
-        requires edge { IsEdge edge }
-        requires target { target < MOST_NODES }
+        requires { IsEdge edge }
     {
-        self.sets[target * MOST_LETTERS + edge.letter].insert(edge.node);
+        let place = self.place(target, edge.letter);
+        if place < self.sets.len() {
+            self.sets[place].insert(edge.node);
+        }
     }
 
     /// The edge does not lead to the target any more.
     pub fn remove(&mut self, edge: Edge, target: usize)
-        requires edge { IsEdge edge }
-        requires target { target < MOST_NODES }
+        requires { IsEdge edge }
     {
-        self.sets[target * MOST_LETTERS + edge.letter].remove(edge.node);
+        let place = self.place(target, edge.letter);
+        if place < self.sets.len() {
+            self.sets[place].remove(edge.node);
+        }
     }
 }

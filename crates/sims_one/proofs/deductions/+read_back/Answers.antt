@@ -1,14 +1,6 @@
-use Rattle.std.proofs.Common.{◌-◌, ◌<◌, ◌∙◌, true, false, arith}
+use Rattle.std.proofs.Common.{◌∙◌, true, false}
 use Rattle.sims_one.proofs.EdgeLaws.{kept_to}
-use Rattle.sims_one.proofs.PathLaws.{letter_over}
 use Rattle.sims_one.proofs.deductions.+read_back.Goals as goal
-
-pub sources-starts-requires-clause-letter : goal.sources-starts-requires-clause-letter
-sources-starts-requires-clause-letter t c =
-    let p = c.args.presentation.now.presentation in
-    let over = letter_over p.letters c.args.side.now.word.now (c.args.count - 1) c.letter.result c.requires.side c.letter.ensures in
-    let small : c.number.result < 53 = omega (arith, over, c.number.ensures, c.letters-letters.ensures.letters, c.letters-letters.ensures.few) in
-    small
 
 pub returns-then-not-branch-clause-keeps : goal.returns-then-not-branch-clause-keeps
 returns-then-not-branch-clause-keeps t c =

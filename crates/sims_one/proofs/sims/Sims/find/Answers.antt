@@ -1,5 +1,6 @@
 use Rattle.std.proofs.Common.{◌≡◌, ◌+◌, ◌*◌, ◌<◌, ℕ, List, All, length, subst, sym, ap, ◌∙◌, arith}
 use Rattle.theory.specs.Congruence.{AreElements}
+use Rattle.presentation.specs.Presented.{Presented}
 use Rattle.theory.specs.Listing.{IsLast}
 use Rattle.theory.specs.LowIndex.{IsLowIndex, TableLess, graph_of}
 use Rattle.word_graph.specs.Table.{cut}
@@ -13,7 +14,8 @@ use Rattle.sims_one.proofs.sims.Sims.find.Goals as goal
 pub returns-in_default-clause-found : goal.returns-in_default-clause-found
 returns-in_default-clause-found c =
     let p = c.self.inside.presentation.presentation in
-    let none : NoneAfter p c.self.inside.classes c.as_slice.result.now = rw c.in_default.is at c.in_ok-branch.ensures in
+    let none : NoneAfter p c.self.inside.classes c.as_slice.result.now =
+    subst (λ (q : Presented). NoneAfter q.presentation c.self.inside.classes c.as_slice.result.now) c.new-indexed.ensures (rw c.in_default.is at c.in_ok-branch.ensures) in
     let some : 0 < p.letters = omega (arith, c.letters-letters.ensures.letters, c.letters-letters.ensures.some) in
     subst (λ (s : Search). IsLast (IsLowIndex s.presentation s.classes) TableLess s.after) c.self.view_is
     (last_of p c.self.inside.classes some c.relations-relations.ensures.presented.elements c.self.inside.last.items c.self.invariant.cursor
@@ -22,7 +24,8 @@ returns-in_default-clause-found c =
 pub of_targets-requires-clause-full : goal.of_targets-requires-clause-full
 of_targets-requires-clause-full c =
     let p = c.self.inside.presentation.presentation in
-    let found : IsFoundBranch p c.self.inside.classes c.as_slice.result.now c.in-Some.branch.targets.items c.in-Some.branch.levels = rw c.in-Some.is at c.in_ok-branch.ensures in
+    let found : IsFoundBranch p c.self.inside.classes c.as_slice.result.now c.in-Some.branch.targets.items c.in-Some.branch.levels =
+    subst (λ (q : Presented). IsFoundBranch q.presentation c.self.inside.classes c.as_slice.result.now c.in-Some.branch.targets.items c.in-Some.branch.levels) c.new-indexed.ensures (rw c.in-Some.is at c.in_ok-branch.ensures) in
     let same : c.in_ok-targets.targets.items ≡ c.in-Some.branch.targets.items = c.in_ok-targets.ensures.items ∙ c.as_slice-2.ensures.value in
     let nodes : c.greatest-nodes.result + 1 ≡ seen c.in-Some.branch.targets.items = omega (arith, c.greatest-nodes.ensures, ap seen (c.as_slice-3.ensures.value ∙ same)) in
     let long : length c.as_slice-4.result.now ≡ p.letters * seen c.in-Some.branch.targets.items = ap length (c.as_slice-4.ensures.value ∙ same) ∙ found.least.table.full in
@@ -35,7 +38,8 @@ of_targets-requires-clause-full c =
 pub of_targets-requires-clause-nodes : goal.of_targets-requires-clause-nodes
 of_targets-requires-clause-nodes c =
     let p = c.self.inside.presentation.presentation in
-    let found : IsFoundBranch p c.self.inside.classes c.as_slice.result.now c.in-Some.branch.targets.items c.in-Some.branch.levels = rw c.in-Some.is at c.in_ok-branch.ensures in
+    let found : IsFoundBranch p c.self.inside.classes c.as_slice.result.now c.in-Some.branch.targets.items c.in-Some.branch.levels =
+    subst (λ (q : Presented). IsFoundBranch q.presentation c.self.inside.classes c.as_slice.result.now c.in-Some.branch.targets.items c.in-Some.branch.levels) c.new-indexed.ensures (rw c.in-Some.is at c.in_ok-branch.ensures) in
     let some : 0 < p.letters = omega (arith, c.letters-letters.ensures.letters, c.letters-letters.ensures.some) in
     let same : c.in_ok-targets.targets.items ≡ c.in-Some.branch.targets.items = c.in_ok-targets.ensures.items ∙ c.as_slice-2.ensures.value in
     let within = found_nodes p c.self.inside.classes some c.relations-relations.ensures.presented.elements c.in-Some.branch.targets.items found.least.table in
@@ -48,7 +52,8 @@ returns-clause-found c =
     let p = c.self.inside.presentation.presentation in
     let ts : List ℕ = c.in_ok-targets.targets.items in
     let levels = c.in-Some.branch.levels in
-    let came : IsFoundBranch p c.self.inside.classes c.as_slice.result.now c.in-Some.branch.targets.items levels = rw c.in-Some.is at c.in_ok-branch.ensures in
+    let came : IsFoundBranch p c.self.inside.classes c.as_slice.result.now c.in-Some.branch.targets.items levels =
+    subst (λ (q : Presented). IsFoundBranch q.presentation c.self.inside.classes c.as_slice.result.now c.in-Some.branch.targets.items levels) c.new-indexed.ensures (rw c.in-Some.is at c.in_ok-branch.ensures) in
     let same : c.in-Some.branch.targets.items ≡ ts = sym (c.in_ok-targets.ensures.items ∙ c.as_slice-2.ensures.value) in
     let found : IsLeastAfter p c.self.inside.classes c.as_slice.result.now ts = subst (λ (xs : List ℕ). IsLeastAfter p c.self.inside.classes c.as_slice.result.now xs) same came.least in
     let branch : IsBranch p c.self.inside.classes ts levels = subst (λ (xs : List ℕ). IsBranch p c.self.inside.classes xs levels) same came.branch in
