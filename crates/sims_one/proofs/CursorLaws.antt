@@ -9,6 +9,13 @@ use Rattle.sims_one.specs.Search.{Before, IsLeastWithin, NoneWithin, IsLeastBeyo
 use Rattle.sims_one.proofs.FrontLaws.{allowed_front, full_ends, before_itself, before_both, before_heads, common_front, Compared, compared}
 use Rattle.sims_one.proofs.FrontLaws.Compared.{begins, below, above}
 
+-- what goes on behind t and one more target goes on behind t
+pub within_less : (t : List ℕ) (m : ℕ) (u : List ℕ) → IsWithin (t ++ m ∷ []) u → IsWithin t u
+within_less t m u w = record { rest = m ∷ w.rest; is = w.is ∙ append_assoc t (m ∷ []) w.rest }
+
+pub beyond_within : (t : List ℕ) (first : ℕ) (u : List ℕ) → IsBeyond t first u → IsWithin t u
+beyond_within t first u b = record { rest = b.target ∷ b.rest; is = b.is }
+
 module _ (p : Presentation) (n : ℕ) where
   -- a table has a target
   some_target : 0 < p.letters → (u : List ℕ) → IsTable p n u → (m : ℕ) × (rest : List ℕ) × (u ≡ m ∷ rest)

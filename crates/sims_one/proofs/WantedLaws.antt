@@ -6,13 +6,13 @@ use Rattle.theory.specs.Graph.{Graph, IsGraph, IsCompleteTable}
 use Rattle.theory.specs.LowIndex.{graph_of}
 use Rattle.theory.specs.TwoSidedTable.{IsTwoSidedTable}
 use Rattle.theory.proofs.LatticeLaws.{standard_table}
-use Rattle.sims_one.specs.Targets.{table_of, IsTable, IsWithin, IsFront, AreAllowed}
-use Rattle.sims_one.specs.Search.{Before, NoneFrom, IsLeastAfter, NoneWithin}
+use Rattle.sims_one.specs.Targets.{seen, table_of, IsTable, IsWithin, IsFront, AreAllowed}
+use Rattle.sims_one.specs.Search.{Before, NoneFrom, IsLeastAfter, IsLeastWithin, NoneWithin}
 use Rattle.sims_one.specs.Known.{IsBranch}
 use Rattle.sims_one.specs.declared.branch.Levels.{Levels}
 use Rattle.sims_one.specs.Asked.{AreFirst, AddsWanted, Asked, IsWanted, IsWantedWithin, IsFirstWithin, AreTablesWithin}
 use Rattle.sims_one.specs.Fronts.{IsOpen}
-use Rattle.sims_one.proofs.FrontLaws.{before_itself, front_front, allowed_front}
+use Rattle.sims_one.proofs.FrontLaws.{before_itself, front_front, allowed_front, times_more}
 use Rattle.sims_one.proofs.PlaceLaws.{at_place}
 use Rattle.sims_one.proofs.LowIndexLaws.{low_index_of}
 use Rattle.sims_one.proofs.CutLaws.{before_trans, before_cases}
@@ -98,6 +98,19 @@ module _ (a : Asked) (front : List ℕ) where
     after = l.after;
     least = λ u table w after less. l.least u table after less;
   }
+
+  -- the least table of a front part behind which all comes after an old one
+  pub first_behind : (old targets : List ℕ) (levels : Levels) → 0 < a.presentation.letters → IsLeastWithin a.presentation a.classes front targets
+      → ((u : List ℕ) → 0 < length u → IsWithin front u → Before old u) → IsBranch a.presentation a.classes targets levels → IsFirstWithin a front old targets levels
+  first_behind old targets levels some l behind branch =
+      let long : 0 < length targets = omega (arith, l.table.full, times_more a.presentation.letters 1 (seen targets) (omega arith), some) in
+      record {
+        branch = branch;
+        table = l.table;
+        within = l.within;
+        after = behind targets long l.within;
+        least = λ u table w after less. l.least u table w less;
+      }
 
 module _ (a : Asked) (t : List ℕ) (table : IsTable a.presentation a.classes t) where
   pub wanted_any : a.two_sided ≡ false → IsTrue true ↔ IsWanted a t

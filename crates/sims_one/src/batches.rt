@@ -7,8 +7,8 @@ use crate::cut::{first_fronts, split_all};
 use crate::request::Request;
 use crate::runs::run_parts;
 use crate::table_parts::TablePart;
+use crate::team::Team;
 use ports::{Gate, NoMemory};
-use std::alloc::Global;
 use std::cmp::min;
 use std::thread::Threads;
 
@@ -30,25 +30,17 @@ const FIRST_SHARE: usize = 2;
 
 const MOST_SHARE: usize = 256;
 
-// A search that has taken fewer steps needs no threads after the first batch: they would take
-// longer. So many parts of it are a batch then.
-const FEW_STEPS: usize = 8192;
-
-const SMALL_BATCH: usize = 8;
-
-// A search: the front parts behind which it has still to go, the tables before these, how many
-// parts of the next batch with threads each worker has, and how many steps it has taken.
+// A search: the front parts behind which it has still to go, the tables before these, and how many
+// parts of the next batch each worker has.
 #[derive(Drop)]
 struct Sweep {
     fronts: Vec<Vec<usize>>,
     tables: Vec<Vec<usize>>,
     share: usize,
-    steps: usize,
 }
 
 // The parts of these front parts.
 fn parts_of<'a>(
-    alloc: Global,
     request: &Request<'a>,
     fronts: &[Vec<usize>],
 ) -> Result<Vec<TablePart<'a>>, NoMemory>
@@ -57,21 +49,12 @@ fn parts_of<'a>(
     ensures { IfOk result (λ parts. part_tasks parts.items
         ≡ map (λ t. (asked request.now, t)) (lists_in fronts.now)) }
 {
-    let mut parts = Vec::new(alloc);
+    let mut parts = Vec::new(request.alloc);
     for front in fronts {
-        let front = Vec::from_slice(alloc, front.as_slice())?;
-        parts.push(TablePart::new(alloc, request, front))?;
+        let front = Vec::from_slice(request.alloc, front.as_slice())?;
+        parts.push(TablePart::new(request, front))?;
     }
     Ok(parts)
-}
-
-// How many steps the parts have taken.
-fn steps_of(parts: &[TablePart]) -> usize {
-    let mut steps: usize = 0;
-    for part in parts {
-        steps = steps.saturating_add(part.steps());
-    }
-    steps
 }
 
 // Puts what the parts have found behind the tables.
@@ -88,17 +71,16 @@ fn add_tables(tables: &mut Vec<Vec<usize>>, parts: Vec<TablePart>) -> Result<(),
 
 impl Sweep {
     // The whole search, cut at the first target.
-    fn new(alloc: Global, request: &Request) -> Result<Sweep, NoMemory>
+    fn new(request: &Request) -> Result<Sweep, NoMemory>
         requires { IsAsked (asked request.now) }
         ensures { IfOk result (λ s. AreJoined (asked request.now)
             (lists_in s.fronts.items) (lists_in s.tables.items)) }
     {
-        let fronts = first_fronts(alloc, request)?;
+        let fronts = first_fronts(request)?;
         Ok(Sweep {
             fronts,
-            tables: Vec::new(alloc),
+            tables: Vec::new(request.alloc),
             share: FIRST_SHARE,
-            steps: 0,
         })
     }
 
@@ -113,63 +95,34 @@ impl Sweep {
     }
 
     // Makes the front parts longer, unless fewer than two would be left of more.
-    fn split(&mut self, alloc: Global, request: &Request) -> Result<(), NoMemory>
+    fn split(&mut self, request: &Request) -> Result<(), NoMemory>
         requires asked { IsAsked (asked request.now) }
         requires joined { AreJoined (asked request.now)
             (lists_in self.old.fronts.items) (lists_in self.old.tables.items) }
         ensures { OnOk result (AreJoined (asked request.now)
             (lists_in self.new.fronts.items) (lists_in self.new.tables.items)) }
     {
-        let longer = split_all(alloc, request, self.fronts.as_slice())?;
+        let longer = split_all(request, self.fronts.as_slice())?;
         if longer.len() > 1 || self.fronts.len() < 2 {
             self.fronts = longer;
         }
         Ok(())
     }
 
-    // Whether the first batch was run, and the search has taken few steps.
-    fn is_small(&self) -> bool {
-        0 < self.steps && self.steps < FEW_STEPS
-    }
-
-    // How many workers run the next batch, of so many that there are.
-    fn batch_workers(&self, workers: usize) -> usize
-        requires { 1 ≤ workers }
-        ensures { 1 ≤ result }
-    {
-        if self.is_small() { 1 } else { workers }
-    }
-
     // How many parts the next batch has.
     fn batch_size(&self, workers: usize) -> usize
         ensures { 1 ≤ result }
     {
-        if self.is_small() {
-            SMALL_BATCH
-        } else {
-            workers.saturating_mul(self.share).max(1)
-        }
-    }
-
-    // How many parts each worker has of the batch with threads after the next one.
-    fn next_share(&self) -> usize {
-        if self.is_small() {
-            self.share
-        } else {
-            min(self.share.saturating_mul(2), MOST_SHARE)
-        }
+        workers.saturating_mul(self.share).max(1)
     }
 
     // Searches behind the next front parts, a batch of them.
     fn run_batch<T: Threads + Sync, G: Gate + Sync>(
         &mut self,
-        rt: &T,
-        alloc: Global,
+        team: &Team<T, G>,
         request: &Request,
-        workers: usize,
-        gate: &G,
     ) -> Result<(), NoMemory>
-        requires workers { 1 ≤ workers }
+        requires workers { 1 ≤ team.now.workers }
         requires asked { IsAsked (asked request.now) }
         requires some { 0 < length self.old.fronts.items }
         requires joined { AreJoined (asked request.now)
@@ -179,20 +132,18 @@ impl Sweep {
         ensures fewer { OnOk result (length self.new.fronts.items
             < length self.old.fronts.items) }
     {
-        let workers = self.batch_workers(workers);
-        let most = min(self.batch_size(workers), self.fronts.len());
-        self.share = self.next_share();
+        let most = min(self.batch_size(team.workers), self.fronts.len());
+        self.share = min(self.share.saturating_mul(2), MOST_SHARE);
         let rest = self.fronts.split_off(most)?;
-        let mut parts = parts_of(alloc, request, self.fronts.as_slice())?;
+        let mut parts = parts_of(request, self.fronts.as_slice())?;
         self.fronts = rest;
-        run_parts(rt, alloc, &mut parts, workers, gate)?;
-        self.steps = self.steps.saturating_add(steps_of(&parts));
+        run_parts(team.rt, request.alloc, &mut parts, team.workers, team.gate)?;
         add_tables(&mut self.tables, parts)
     }
 
     // Makes the front parts longer until there are enough, but not more often than a small search
     // is worth.
-    fn grow(&mut self, alloc: Global, request: &Request, enough: usize) -> Result<(), NoMemory>
+    fn grow(&mut self, request: &Request, enough: usize) -> Result<(), NoMemory>
         requires asked { IsAsked (asked request.now) }
         requires joined { AreJoined (asked request.now)
             (lists_in self.old.fronts.items) (lists_in self.old.tables.items) }
@@ -203,7 +154,7 @@ impl Sweep {
             if self.fronts.len() >= enough {
                 return Ok(());
             }
-            self.split(alloc, request)?;
+            self.split(request)?;
         }
         Ok(())
     }
@@ -211,14 +162,11 @@ impl Sweep {
     // Batches, while there are at least so many front parts and the search is not over.
     fn run<T: Threads + Sync, G: Gate + Sync>(
         &mut self,
-        rt: &T,
-        alloc: Global,
+        team: &Team<T, G>,
         request: &Request,
-        workers: usize,
-        gate: &G,
         least: usize,
     ) -> Result<(), NoMemory>
-        requires workers { 1 ≤ workers }
+        requires workers { 1 ≤ team.now.workers }
         requires asked { IsAsked (asked request.now) }
         requires joined { AreJoined (asked request.now)
             (lists_in self.old.fronts.items) (lists_in self.old.tables.items) }
@@ -231,7 +179,7 @@ impl Sweep {
             if self.is_over(request) {
                 return Ok(());
             }
-            self.run_batch(rt, alloc, request, workers, gate)?;
+            self.run_batch(team, request)?;
         }
         Ok(())
     }
@@ -240,26 +188,23 @@ impl Sweep {
     // the list have most of the search behind them.
     fn run_wide<T: Threads + Sync, G: Gate + Sync>(
         &mut self,
-        rt: &T,
-        alloc: Global,
+        team: &Team<T, G>,
         request: &Request,
-        workers: usize,
-        gate: &G,
     ) -> Result<(), NoMemory>
-        requires workers { 1 ≤ workers }
+        requires workers { 1 ≤ team.now.workers }
         requires asked { IsAsked (asked request.now) }
         requires joined { AreJoined (asked request.now)
             (lists_in self.old.fronts.items) (lists_in self.old.tables.items) }
         ensures { OnOk result (AreJoined (asked request.now)
             (lists_in self.new.fronts.items) (lists_in self.new.tables.items)) }
     {
-        let few = workers.saturating_mul(FEW);
+        let few = team.workers.saturating_mul(FEW);
         for _ in 0..ROUNDS {
-            self.run(rt, alloc, request, workers, gate, few)?;
+            self.run(team, request, few)?;
             if self.is_over(request) {
                 return Ok(());
             }
-            self.split(alloc, request)?;
+            self.split(request)?;
         }
         Ok(())
     }
@@ -269,22 +214,19 @@ impl Sweep {
 /// longer until there are enough of them, and again each time that few are left. Refused only where
 /// memory is wanting.
 pub fn tables_by_parts<T: Threads + Sync, G: Gate + Sync>(
-    rt: &T,
-    alloc: Global,
+    team: &Team<T, G>,
     request: &Request,
-    workers: usize,
-    gate: &G,
 ) -> Result<Vec<Vec<usize>>, NoMemory>
-    requires workers { 1 ≤ workers }
+    requires workers { 1 ≤ team.now.workers }
     requires asked { IsAsked (asked request.now) }
     ensures { IfOk result (λ ts. AreTables (asked request.now) (lists_in ts.items)) }
 {
-    let mut sweep = Sweep::new(alloc, request)?;
-    let enough = workers.saturating_mul(ENOUGH);
-    sweep.grow(alloc, request, enough)?;
+    let mut sweep = Sweep::new(request)?;
+    let enough = team.workers.saturating_mul(ENOUGH);
+    sweep.grow(request, enough)?;
     if sweep.fronts.len() >= enough {
-        sweep.run_wide(rt, alloc, request, workers, gate)?;
+        sweep.run_wide(team, request)?;
     }
-    sweep.run(rt, alloc, request, workers, gate, 1)?;
+    sweep.run(team, request, 1)?;
     Ok(sweep.tables)
 }

@@ -25,8 +25,8 @@ pub struct Branch {
     /// The targets.
     pub targets: Vec<usize>,
     levels: Levels,
-    /// How many targets have been put.
-    pub steps: usize,
+    /// How many targets may still be put in a search.
+    pub left: usize,
 }
 
 impl Branch {
@@ -43,7 +43,7 @@ impl Branch {
                 known,
                 marks: Vec::new(alloc),
             },
-            steps: 0,
+            left: usize::MAX,
         })
     }
 
@@ -89,7 +89,6 @@ impl Branch {
         }
         self.levels.marks.push(mark)?;
         self.targets.push(target)?;
-        self.steps = self.steps.saturating_add(1);
         Ok(true)
     }
 

@@ -9,7 +9,6 @@ use crate::request::Request;
 use crate::search::{candidate_limit, least_candidate, least_target, most_nodes};
 use crate::within::{branch_of, place_of};
 use ports::NoMemory;
-use std::alloc::Global;
 use std::cmp::Ordering;
 
 // How many targets front parts gain at a time.
@@ -19,7 +18,6 @@ const DEPTH: usize = 3;
 // behind which there is no table after the cursor. The targets of a whole table stay as they are.
 #[cycle(grow)]
 fn grow(
-    alloc: Global,
     request: &Request,
     branch: &mut Branch,
     depth: usize,
@@ -40,13 +38,13 @@ fn grow(
     let place = branch.targets.len();
     let known = branch.known();
     if depth == 0 || request.presentation.letters() * known.nodes <= place {
-        fronts.push(Vec::from_slice(alloc, &branch.targets)?)?;
+        fronts.push(Vec::from_slice(request.alloc, &branch.targets)?)?;
         return Ok(());
     }
     let least = least_candidate(known, place, least_target(request.presentation));
     let limit = candidate_limit(request.presentation, request.classes, known, place);
     for target in least..limit {
-        grow_with(alloc, request, branch, target, depth - 1, fronts)?;
+        grow_with(request, branch, target, depth - 1, fronts)?;
     }
     Ok(())
 }
@@ -54,7 +52,6 @@ fn grow(
 // The same behind the targets of the branch with one more.
 #[cycle(grow)]
 fn grow_with(
-    alloc: Global,
     request: &Request,
     branch: &mut Branch,
     target: usize,
@@ -75,58 +72,49 @@ fn grow_with(
     if !branch.enter(request.presentation, request.classes, target)? {
         return Ok(());
     }
-    grow(alloc, request, branch, depth, fronts)?;
+    grow(request, branch, depth, fronts)?;
     branch.pop();
     Ok(())
 }
 
 // Adds the front parts with a few targets more than this one, as `grow` does.
-fn split(
-    alloc: Global,
-    request: &Request,
-    front: &[usize],
-    fronts: &mut Vec<Vec<usize>>,
-) -> Result<(), NoMemory>
+fn split(request: &Request, front: &[usize], fronts: &mut Vec<Vec<usize>>) -> Result<(), NoMemory>
     requires asked { IsAsked (asked request.now) }
     requires opened { IsOpen (asked request.now) front.now }
     ensures { OnOk result (AddsLonger (asked request.now) front.now
         (lists_in fronts.old.items) (lists_in fronts.new.items)) }
 {
-    let Some(mut branch) = branch_of(alloc, request, front)? else {
+    let Some(mut branch) = branch_of(request, front)? else {
         return Ok(());
     };
-    grow(alloc, request, &mut branch, DEPTH, fronts)
+    grow(request, &mut branch, DEPTH, fronts)
 }
 
 /// The front parts of one target, in order. Refused only where memory is wanting.
-pub fn first_fronts(alloc: Global, request: &Request) -> Result<Vec<Vec<usize>>, NoMemory>
+pub fn first_fronts(request: &Request) -> Result<Vec<Vec<usize>>, NoMemory>
     requires { request.now.classes ≤ 16 }
     ensures { IfOk result (λ fronts. AreJoined (asked request.now) (lists_in fronts.items) []) }
 {
     let _letters = request.presentation.letters();
     let limit = most_nodes(request.presentation, request.classes).min(2);
-    let mut fronts = Vec::new(alloc);
+    let mut fronts = Vec::new(request.alloc);
     for target in least_target(request.presentation)..limit {
-        fronts.push(Vec::from_slice(alloc, &[target])?)?;
+        fronts.push(Vec::from_slice(request.alloc, &[target])?)?;
     }
     Ok(fronts)
 }
 
 /// The front parts with a few targets more, in order, but for those behind which there is no table
 /// after the cursor. Refused only where memory is wanting.
-pub fn split_all(
-    alloc: Global,
-    request: &Request,
-    fronts: &[Vec<usize>],
-) -> Result<Vec<Vec<usize>>, NoMemory>
+pub fn split_all(request: &Request, fronts: &[Vec<usize>]) -> Result<Vec<Vec<usize>>, NoMemory>
     requires asked { IsAsked (asked request.now) }
     requires opened { AreOpen (asked request.now) (lists_in fronts.now) }
     ensures { IfOk result (λ longer. AreLonger (asked request.now)
         (lists_in fronts.now) (lists_in longer.items)) }
 {
-    let mut all = Vec::new(alloc);
+    let mut all = Vec::new(request.alloc);
     for front in fronts {
-        split(alloc, request, front, &mut all)?;
+        split(request, front, &mut all)?;
     }
     Ok(all)
 }

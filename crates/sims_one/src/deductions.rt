@@ -5,7 +5,7 @@ ghost use Rattle.sims_one.specs.Edges.{IsEdge};
 ghost use Rattle.sims_one.specs.Known.{Grows, Keeps, Extends};
 
 use crate::indexed::Indexed;
-use crate::known::Known;
+use crate::known::{End, Known};
 use crate::paths::MOST_NODES;
 use crate::places::Place;
 use crate::trail::{Edge, MOST_EDGES};
@@ -80,43 +80,86 @@ fn read_back(
         Keeps presentation.now.presentation known.old known.new holds) }
 {
     let _letters = presentation.letters();
-    if known.nodes <= node {
+    let back = known.go_back(side.word, count, node);
+    if known.nodes <= back.node {
         return Ok(true);
     }
-    if count == 0 {
-        return read(presentation, known, side.relation, node);
+    if back.length == 0 {
+        return read(presentation, known, side.relation, back.node);
     }
-    let mut starts = known.sources(node, side.word.letter(count - 1).number());
+    let letter = side.word.letter(back.length - 1).number();
+    let mut starts = known.sources(back.node, letter);
     while let Some(start) = starts.pop() {
-        if !read_back(presentation, known, side, count - 1, start)? {
+        if !read_back(presentation, known, side, back.length - 1, start)? {
             return Ok(false);
         }
     }
     Ok(true)
 }
 
+// The end from which edges go on along the letters behind the place: where not all letters that
+// led to the end are behind it, the target of its edge.
+fn shared_end(place: &Place, target: usize, end: End) -> End
+    requires target { target < MOST_NODES }
+    requires end { end.node < MOST_NODES }
+    ensures { result.node < MOST_NODES }
+{
+    if place.shared < end.length {
+        End {
+            length: 0,
+            node: target,
+        }
+    } else {
+        end
+    }
+}
+
+// How far known edges lead along the letters behind the place from the target of its edge, where
+// they lead to the end along those behind the last place that was not covered.
+fn lead_on(presentation: &Indexed, known: &Known, place: &Place, target: usize, end: End) -> End
+    requires target { target < MOST_NODES }
+    requires end { end.node < MOST_NODES }
+    ensures { result.node < MOST_NODES }
+{
+    if place.is_covered() || end.length < place.shared {
+        return end;
+    }
+    let letters = presentation.letters();
+    let relations = presentation.relations();
+    if relations.len() <= place.relation {
+        return end;
+    }
+    let word = side_of(relations.pair(place.relation), place.second);
+    let from = shared_end(place, target, end);
+    let first = place.before.saturating_add(1).saturating_add(from.length);
+    known.go_on(letters, from, word, first)
+}
+
 // Reads the relation of the place at each node from which its side goes over the edge there, where
-// the side leads on from the edge. Else nothing follows from the edge there. False where the sides
-// lead to two nodes.
+// known edges lead along all letters behind, perhaps but for the last: so far do they lead. Else
+// nothing follows from the edge there. False where the sides lead to two nodes.
 fn read_place(
     presentation: &Indexed,
     known: &mut Known,
-    place: Place,
+    place: &Place,
     edge: Edge,
+    length: usize,
 ) -> Result<bool, NoMemory>
-    requires few { known.old.nodes ≤ MOST_NODES }
-    requires edge { IsEdge edge }
+    requires { known.old.nodes ≤ MOST_NODES }
     ensures nodes { known.new.nodes ≡ known.old.nodes }
     ensures keeps { IfOk result (λ holds.
         Keeps presentation.now.presentation known.old known.new holds) }
 {
-    let letters = presentation.letters();
+    if length.saturating_add(1) < place.behind {
+        return Ok(true);
+    }
+    let _letters = presentation.letters();
     let relations = presentation.relations();
     if relations.len() <= place.relation {
         return Ok(true);
     }
     let word = side_of(relations.pair(place.relation), place.second);
-    if word.len() <= place.before || !known.leads_on(letters, edge.node, word, place.before) {
+    if word.len() <= place.before {
         return Ok(true);
     }
     let side = Side {
@@ -126,7 +169,7 @@ fn read_place(
     read_back(presentation, known, &side, place.before, edge.node)
 }
 
-// Reads each relation that goes over the edge. False where one fails.
+// Reads the relations that go over the edge. False where one fails.
 fn read_edge(presentation: &Indexed, known: &mut Known, edge: Edge) -> Result<bool, NoMemory>
     requires few { known.old.nodes ≤ MOST_NODES }
     requires edge { IsEdge edge }
@@ -134,8 +177,16 @@ fn read_edge(presentation: &Indexed, known: &mut Known, edge: Edge) -> Result<bo
     ensures keeps { IfOk result (λ holds.
         Keeps presentation.now.presentation known.old known.new holds) }
 {
+    let Some(target) = known.target(edge.place) else {
+        return Ok(true);
+    };
+    let mut end = End {
+        length: 0,
+        node: target,
+    };
     for place in presentation.places().of(edge.letter) {
-        if !read_place(presentation, known, *place, edge)? {
+        end = lead_on(presentation, known, place, target, end);
+        if !read_place(presentation, known, place, edge, end.length)? {
             return Ok(false);
         }
     }
@@ -160,7 +211,7 @@ fn read_edges(presentation: &Indexed, known: &mut Known, first: usize) -> Result
     Ok(true)
 }
 
-// Reads each relation at the node. False where one fails.
+// Reads each relation at the node that can lead from one without edges. False where one fails.
 fn read_node(presentation: &Indexed, known: &mut Known, node: usize) -> Result<bool, NoMemory>
     requires node { node < known.old.nodes }
     requires few { known.old.nodes ≤ MOST_NODES }
@@ -168,15 +219,19 @@ fn read_node(presentation: &Indexed, known: &mut Known, node: usize) -> Result<b
     ensures keeps { IfOk result (λ holds.
         Keeps presentation.now.presentation known.old known.new holds) }
 {
-    for relation in 0..presentation.relations().len() {
-        if !read(presentation, known, relation, node)? {
+    let count = presentation.relations().len();
+    for relation in presentation.places().short() {
+        if count <= *relation {
+            return Ok(true);
+        }
+        if !read(presentation, known, *relation, node)? {
             return Ok(false);
         }
     }
     Ok(true)
 }
 
-// Reads each relation at the node unless it has been seen before. False where one fails.
+// Reads the relations at the node unless it has been seen before. False where one fails.
 fn read_new_node(
     presentation: &Indexed,
     known: &mut Known,

@@ -240,20 +240,45 @@ impl Known {
         }
     }
 
-    /// Whether the letters of the word from this one on lead from the node by known edges, perhaps
-    /// but for the last.
-    pub fn leads_on(&self, letters: usize, node: usize, word: &Word, first: usize) -> bool
-        requires node { node < MOST_NODES }
+    /// How far known edges lead along the letters of the word from this one on, behind others that
+    /// lead to the end. Their number is told for speed alone.
+    pub fn go_on(&self, letters: usize, end: End, word: &Word, first: usize) -> End
+        requires node { end.node < MOST_NODES }
         requires letters { letters ≤ 53 }
         requires word { IsOver letters word.now }
+        ensures { result.node < MOST_NODES }
     {
-        let mut at = node;
+        let mut at = end.node;
         for i in first..word.len() {
             match self.target(at * letters + word.letter(i).number()) {
-                None => return i + 1 == word.len(),
+                None => return End {
+                    length: end.length.saturating_add(i.saturating_sub(first)),
+                    node: at,
+                },
                 Some(next) => at = next,
             }
         }
-        true
+        End {
+            length: end.length.saturating_add(word.len().saturating_sub(first)),
+            node: at,
+        }
+    }
+
+    /// How far back so many first letters of the word lead to the node, as long as one known edge
+    /// alone leads on. The node is told for speed alone.
+    pub fn go_back(&self, word: &Word, count: usize, node: usize) -> End
+        requires { count ≤ length word.now }
+        ensures { result.length ≤ count }
+    {
+        let mut at = node;
+        let mut length = count;
+        while 0 < length {
+            let Some(start) = self.sources.only(at, word.letter(length - 1).number()) else {
+                return End { length, node: at };
+            };
+            at = start;
+            length -= 1;
+        }
+        End { length, node: at }
     }
 }

@@ -13,6 +13,7 @@ mod cut;
 mod deductions;
 pub mod facts;
 mod groups;
+mod halt;
 mod indexed;
 mod known;
 mod pages;
@@ -25,6 +26,7 @@ mod search;
 mod sims;
 mod sources;
 mod table_parts;
+mod team;
 mod trail;
 mod within;
 

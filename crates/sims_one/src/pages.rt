@@ -12,16 +12,21 @@ ghost use Rattle.sims_one.specs.Fronts.{lists_in};
 ghost use Rattle.sims_one.specs.Pages.{IsTablePage, IsPageOf};
 
 use crate::batches::tables_by_parts;
+use crate::halt::Halt;
 use crate::indexed::Indexed;
 use crate::places::Places;
 use crate::request::Request;
 use crate::sims::MOST_CLASSES;
+use crate::team::Team;
 use crate::within::{table_graph, tables_within};
 use ports::{Gate, NoMemory};
 use presentation::Presentation;
 use std::alloc::Global;
 use std::thread::Threads;
 use word_graph::WordGraph;
+
+// A search that takes no more steps is done before it could be cut and threads be started.
+const FEW_STEPS: usize = 8192;
 
 /// A page of tables.
 #[derive(Drop)]
@@ -54,25 +59,27 @@ fn cursor_targets(
 
 // The tables that are asked for, one more than the page has, and perhaps others behind these.
 fn find_tables<T: Threads + Sync, G: Gate + Sync>(
-    rt: &T,
-    alloc: Global,
+    team: &Team<T, G>,
     request: &Request,
-    workers: usize,
-    gate: &G,
 ) -> Result<Vec<Vec<usize>>, NoMemory>
-    requires workers { 1 ≤ workers }
+    requires workers { 1 ≤ team.now.workers }
     requires asked { IsAsked (asked request.now) }
     ensures { IfOk result (λ ts. AreTables (asked request.now) (lists_in ts.items)) }
 {
-    if workers == 1 {
-        tables_within(alloc, request, &[], &mut 0)
+    let steps = if team.workers == 1 {
+        usize::MAX
     } else {
-        tables_by_parts(rt, alloc, request, workers, gate)
+        FEW_STEPS
+    };
+    match tables_within(request, &[], steps) {
+        Ok(tables) => Ok(tables),
+        Err(Halt::NoMemory) => Err(NoMemory),
+        Err(Halt::Steps) => tables_by_parts(team, request),
     }
 }
 
 // The tables of the page as graphs, and whether there are more.
-fn page_with(alloc: Global, request: &Request, found: &[Vec<usize>]) -> Result<TablePage, NoMemory>
+fn page_with(request: &Request, found: &[Vec<usize>]) -> Result<TablePage, NoMemory>
     requires { AreTables (asked request.now) (lists_in found.now) }
     ensures tables { IfOk result (λ page. page.tables.items ≡ map (λ u. graph_of
         (table_of request.now.presentation.now.presentation.letters u))
@@ -84,29 +91,26 @@ fn page_with(alloc: Global, request: &Request, found: &[Vec<usize>]) -> Result<T
 {
     let more = request.count < found.len();
     let count = request.count.min(found.len());
-    let mut tables = Vec::new(alloc);
+    let mut tables = Vec::new(request.alloc);
     for i in 0..count {
-        tables.push(table_graph(alloc, request, found[i].as_slice())?)?;
+        tables.push(table_graph(request, found[i].as_slice())?)?;
     }
     Ok(TablePage { tables, more })
 }
 
 // The page of what is asked for.
 fn page_of<T: Threads + Sync, G: Gate + Sync>(
-    rt: &T,
-    alloc: Global,
+    team: &Team<T, G>,
     request: &Request,
-    workers: usize,
-    gate: &G,
 ) -> Result<TablePage, NoMemory>
-    requires workers { 1 ≤ workers }
+    requires workers { 1 ≤ team.now.workers }
     requires asked { IsAsked (asked request.now) }
     ensures { IfOk result (λ page. IsPageOf (asked request.now) page.tables.items page.more) }
 {
     let _letters = request.presentation.letters();
     let _relations = request.presentation.relations();
-    let found = find_tables(rt, alloc, request, workers, gate)?;
-    page_with(alloc, request, found.as_slice())
+    let found = find_tables(team, request)?;
+    page_with(request, found.as_slice())
 }
 
 /// A page: the first `count` standard tables of at most `n` classes at which the relations of a
@@ -114,12 +118,12 @@ fn page_of<T: Threads + Sync, G: Gate + Sync>(
 /// further one (Sims 1994, 5.6; libsemigroups, `Sims1`). The table that they come after is standard
 /// over the letters of the presentation, and need not be a table of the search.
 ///
-/// The page is the same for every number of workers. With one worker it is one search. With more
-/// the search is cut at the first targets of tables into parts, which run in batches by
-/// [`run_parts`], each batch once the one before it has ended; the batch that fills the page is the
-/// last one. The parts of a batch pass the gate with their numbers in it. In a monoid, with `n`
-/// above 1 and no cursor, the first batch has at least two parts. While the search has taken few
-/// steps, the batches after the first have one worker. Refused only where memory is wanting.
+/// The page is the same for every number of workers. With one worker it is one search, and so it is
+/// with more where that takes few steps. A longer search is cut at the first targets of tables into
+/// parts, which run in batches by [`run_parts`], each batch once the one before it has ended; the
+/// batch that fills the page is the last one. The parts of a batch pass the gate with their numbers
+/// in it. In a monoid, with `n` above 1 and no cursor, the first batch has at least two parts.
+/// Refused only where memory is wanting.
 ///
 /// [`run_parts`]: crate::run_parts
 pub fn page<T: Threads + Sync, G: Gate + Sync>(
@@ -144,14 +148,16 @@ pub fn page<T: Threads + Sync, G: Gate + Sync>(
     let cursor = cursor_targets(alloc, presentation, after)?;
     let places = Places::new(alloc, presentation)?;
     let indexed = Indexed::new(presentation, &places);
+    let team = Team { rt, workers, gate };
     let request = Request {
+        alloc,
         presentation: &indexed,
         classes: n,
         two_sided: false,
         cursor: cursor.as_slice(),
         count,
     };
-    page_of(rt, alloc, &request, workers, gate)
+    page_of(&team, &request)
 }
 
 /// The same of the two-sided tables alone, which are those of two-sided congruences (Sims 1994,
@@ -178,12 +184,14 @@ pub fn page_two_sided<T: Threads + Sync, G: Gate + Sync>(
     let cursor = cursor_targets(alloc, presentation, after)?;
     let places = Places::new(alloc, presentation)?;
     let indexed = Indexed::new(presentation, &places);
+    let team = Team { rt, workers, gate };
     let request = Request {
+        alloc,
         presentation: &indexed,
         classes: n,
         two_sided: true,
         cursor: cursor.as_slice(),
         count,
     };
-    page_of(rt, alloc, &request, workers, gate)
+    page_of(&team, &request)
 }

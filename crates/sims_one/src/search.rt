@@ -5,6 +5,7 @@ ghost use Rattle.sims_one.specs.Known.{HasEdges, IsBranch};
 ghost use Rattle.sims_one.specs.Search.{IsLeastWithin, NoneWithin, IsLeastBeyond, NoneBeyond, IsLeastAfter, NoneAfter, NoneFrom, IsCursor, IsFoundBranch};
 
 use crate::branch::Branch;
+use crate::halt::Halt;
 use crate::indexed::Indexed;
 use crate::known::Known;
 use crate::paths::is_sound;
@@ -74,10 +75,10 @@ pub fn candidate_limit(presentation: &Indexed, classes: usize, known: &Known, pl
 }
 
 /// Makes of the branch that of the least table of at most so many classes that goes on behind its
-/// targets, and tells that there is one; else leaves the targets as they are. Refused only where
-/// memory is wanting, and then the branch is any.
+/// targets, and tells that there is one; else leaves the targets as they are. It ends early only
+/// where memory is wanting, or no step is left to the branch, and then the branch is any.
 #[cycle(search)]
-pub fn search(presentation: &Indexed, classes: usize, branch: &mut Branch) -> Result<bool, NoMemory>
+pub fn search(presentation: &Indexed, classes: usize, branch: &mut Branch) -> Result<bool, Halt>
     requires classes { classes ≤ MOST_CLASSES }
     requires branch { IsBranch presentation.now.presentation classes
         branch.old.targets.items branch.old.levels }
@@ -98,15 +99,15 @@ pub fn search(presentation: &Indexed, classes: usize, branch: &mut Branch) -> Re
 
 /// Makes of the branch that of the least table of at most so many classes that goes on behind its
 /// targets with one that is not below the first, and tells that there is one; else leaves the
-/// targets as they are. A target is wanting in the rows of the nodes seen. Refused only where
-/// memory is wanting, and then the branch is any.
+/// targets as they are. A target is wanting in the rows of the nodes seen. It ends early as
+/// `search` does.
 #[cycle(search)]
 pub fn search_from(
     presentation: &Indexed,
     classes: usize,
     branch: &mut Branch,
     first: usize,
-) -> Result<bool, NoMemory>
+) -> Result<bool, Halt>
     requires classes { classes ≤ MOST_CLASSES }
     requires branch { IsBranch presentation.now.presentation classes
         branch.old.targets.items branch.old.levels }
@@ -142,7 +143,7 @@ pub fn search_with(
     classes: usize,
     branch: &mut Branch,
     target: usize,
-) -> Result<bool, NoMemory>
+) -> Result<bool, Halt>
     requires classes { classes ≤ MOST_CLASSES }
     requires branch { IsBranch presentation.now.presentation classes
         branch.old.targets.items branch.old.levels }
@@ -159,6 +160,10 @@ pub fn search_with(
     ensures same { IfOk result (λ b. b ≡ false
         → branch.new.targets.items ≡ branch.old.targets.items) }
 {
+    if branch.left == 0 {
+        return Err(Halt::Steps);
+    }
+    branch.left -= 1;
     if !branch.enter(presentation, classes, target)? {
         return Ok(false);
     }
@@ -171,15 +176,14 @@ pub fn search_with(
 
 /// Makes of the branch that of the least table of at most so many classes after the cursor, and
 /// tells that there is one; else leaves the targets as they are, and no table after the cursor goes
-/// on behind them. They are the first targets of the cursor. Refused only where memory is wanting,
-/// and then the branch is any.
+/// on behind them. They are the first targets of the cursor. It ends early as `search` does.
 #[cycle(search_after)]
 pub fn search_after(
     presentation: &Indexed,
     classes: usize,
     cursor: &[usize],
     branch: &mut Branch,
-) -> Result<bool, NoMemory>
+) -> Result<bool, Halt>
     requires classes { classes ≤ MOST_CLASSES }
     requires cursor { IsFront presentation.now.presentation.letters cursor.now }
     requires full { length cursor.now ≡ presentation.now.presentation.letters * seen cursor.now }
@@ -216,7 +220,7 @@ pub fn search_along(
     cursor: &[usize],
     branch: &mut Branch,
     target: usize,
-) -> Result<bool, NoMemory>
+) -> Result<bool, Halt>
     requires classes { classes ≤ MOST_CLASSES }
     requires cursor { IsFront presentation.now.presentation.letters cursor.now }
     requires full { length cursor.now ≡ presentation.now.presentation.letters * seen cursor.now }
@@ -248,14 +252,14 @@ pub fn search_along(
 }
 
 /// Makes of the branch of a table that of the least table of at most so many classes after it that
-/// goes on behind as many of its targets as are kept, and tells that there is one. Refused only
-/// where memory is wanting.
+/// goes on behind as many of its targets as are kept, and tells that there is one. It ends early as
+/// `search` does.
 pub fn search_next(
     presentation: &Indexed,
     classes: usize,
     branch: &mut Branch,
     kept: usize,
-) -> Result<bool, NoMemory>
+) -> Result<bool, Halt>
     requires classes { classes ≤ MOST_CLASSES }
     requires branch { IsBranch presentation.now.presentation classes
         branch.old.targets.items branch.old.levels }

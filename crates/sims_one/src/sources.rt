@@ -28,6 +28,14 @@ impl NodeSet {
         self.bits &= !(1 << node);
     }
 
+    // The node that it has, where it has one alone.
+    fn only(&self) -> Option<usize> {
+        if self.bits == 0 || self.bits & (self.bits - 1) != 0 {
+            return None;
+        }
+        Some(self.bits.trailing_zeros() as usize)
+    }
+
     /// Takes the least node out.
     pub fn pop(&mut self) -> Option<usize>
         ensures { IfSome result (λ _. self.new.bits < self.old.bits) }
@@ -60,6 +68,11 @@ impl Sources {
     // The place of the set of the letter at the node.
     fn place(&self, node: usize, letter: usize) -> usize {
         node.saturating_mul(self.letters).saturating_add(letter)
+    }
+
+    /// From where an edge of the letter leads to the node, where one alone does.
+    pub fn only(&self, node: usize, letter: usize) -> Option<usize> {
+        self.of(node, letter).only()
     }
 
     /// From where edges of the letter lead to the node.

@@ -7,17 +7,14 @@ use crate::parts::Part;
 use crate::request::Request;
 use crate::within::tables_within;
 use ports::NoMemory;
-use std::alloc::Global;
 use std::marker::Model;
 
 /// The part of a search that looks for the tables behind a front part.
 #[derive(Drop)]
 pub struct TablePart<'a> {
-    alloc: Global,
     request: Request<'a>,
     front: Vec<usize>,
     tables: Vec<Vec<usize>>,
-    steps: usize,
 }
 
 impl<'a> Model for TablePart<'a> {
@@ -40,7 +37,7 @@ impl<'a> Model for TablePart<'a> {
 
 impl<'a> TablePart<'a> {
     /// The part of this front part.
-    pub fn new(alloc: Global, request: &Request<'a>, front: Vec<usize>) -> TablePart<'a>
+    pub fn new(request: &Request<'a>, front: Vec<usize>) -> TablePart<'a>
         requires asked { IsAsked (asked request.now) }
         requires opened { IsOpen (asked request.now) front.items }
         ensures { result ≡ record {
@@ -50,17 +47,10 @@ impl<'a> TablePart<'a> {
         } }
     {
         TablePart {
-            alloc,
             request: *request,
             front,
-            tables: Vec::new(alloc),
-            steps: 0,
+            tables: Vec::new(request.alloc),
         }
-    }
-
-    /// How many steps its search has taken.
-    pub fn steps(&self) -> usize {
-        self.steps
     }
 
     /// What it has found.
@@ -82,12 +72,7 @@ impl<'a> Part for TablePart<'a> {
     ghost is_done = { λ s. AreTablesWithin s.asked s.front s.tables };
 
     fn run(&mut self) -> Result<(), NoMemory> {
-        self.tables = tables_within(
-            self.alloc,
-            &self.request,
-            self.front.as_slice(),
-            &mut self.steps,
-        )?;
+        self.tables = tables_within(&self.request, self.front.as_slice(), usize::MAX)?;
         Ok(())
     }
 }

@@ -9,11 +9,11 @@ ghost use Rattle.sims_one.specs.Asked.{asked, IsAsked, IsWanted, IsFirstWithin, 
 ghost use Rattle.sims_one.specs.Fronts.{IsOpen, lists_in};
 
 use crate::branch::Branch;
+use crate::halt::Halt;
 use crate::paths::greatest;
 use crate::request::Request;
 use crate::search::{search, search_after, search_next};
 use ports::NoMemory;
-use std::alloc::Global;
 use std::cmp::Ordering;
 use word_graph::WordGraph;
 
@@ -45,11 +45,7 @@ pub fn place_of(front: &[usize], cursor: &[usize]) -> Ordering
 
 /// The branch of the front part. `None` only where no table goes on behind it. Refused only where
 /// memory is wanting.
-pub fn branch_of(
-    alloc: Global,
-    request: &Request,
-    front: &[usize],
-) -> Result<Option<Branch>, NoMemory>
+pub fn branch_of(request: &Request, front: &[usize]) -> Result<Option<Branch>, NoMemory>
     requires few { request.now.classes ≤ 16 }
     requires opened { IsOpen (asked request.now) front.now }
     ensures { IfOk result (λ found. MatchOption found
@@ -57,7 +53,7 @@ pub fn branch_of(
         (λ b. IsBranch request.now.presentation.now.presentation request.now.classes
         b.targets.items b.levels × (b.targets.items ≡ front.now))) }
 {
-    let mut branch = Branch::new(alloc, request.presentation)?;
+    let mut branch = Branch::new(request.alloc, request.presentation)?;
     for target in front {
         if !branch.enter(request.presentation, request.classes, *target)? {
             return Ok(None);
@@ -68,7 +64,7 @@ pub fn branch_of(
 
 // Makes of the branch of a front part that of the least table after the cursor that goes on behind
 // it, and tells that there is one.
-fn search_place(request: &Request, place: Ordering, branch: &mut Branch) -> Result<bool, NoMemory>
+fn search_place(request: &Request, place: Ordering, branch: &mut Branch) -> Result<bool, Halt>
     requires asked { IsAsked (asked request.now) }
     requires branch { IsBranch request.now.presentation.now.presentation request.now.classes
         branch.old.targets.items branch.old.levels }
@@ -96,13 +92,8 @@ fn search_place(request: &Request, place: Ordering, branch: &mut Branch) -> Resu
 }
 
 // The branch of the least table after the cursor that goes on behind the front part. `None` exactly
-// where there is none. Sets how many steps the search has taken.
-fn first_within(
-    alloc: Global,
-    request: &Request,
-    front: &[usize],
-    steps: &mut usize,
-) -> Result<Option<Branch>, NoMemory>
+// where there is none. The search may take so many steps.
+fn first_within(request: &Request, front: &[usize], steps: usize) -> Result<Option<Branch>, Halt>
     requires asked { IsAsked (asked request.now) }
     requires opened { IsOpen (asked request.now) front.now }
     ensures { IfOk result (λ found. MatchOption found
@@ -115,31 +106,30 @@ fn first_within(
     if place == Ordering::Less {
         return Ok(None);
     }
-    let Some(mut branch) = branch_of(alloc, request, front)? else {
+    let Some(mut branch) = branch_of(request, front)? else {
         return Ok(None);
     };
-    let found = search_place(request, place, &mut branch)?;
-    *steps = branch.steps;
-    if found { Ok(Some(branch)) } else { Ok(None) }
+    branch.left = steps;
+    if search_place(request, place, &mut branch)? {
+        Ok(Some(branch))
+    } else {
+        Ok(None)
+    }
 }
 
 /// The table of these targets as a graph. Refused only where memory is wanting.
-pub fn table_graph(
-    alloc: Global,
-    request: &Request,
-    targets: &[usize],
-) -> Result<WordGraph, NoMemory>
+pub fn table_graph(request: &Request, targets: &[usize]) -> Result<WordGraph, NoMemory>
     requires { IsTable request.now.presentation.now.presentation request.now.classes targets.now }
     ensures { IfOk result (λ g. g
         ≡ graph_of (table_of request.now.presentation.now.presentation.letters targets.now)) }
 {
     let letters = request.presentation.letters();
     let _relations = request.presentation.relations();
-    WordGraph::of_targets(alloc, letters, greatest(targets) + 1, targets)
+    WordGraph::of_targets(request.alloc, letters, greatest(targets) + 1, targets)
 }
 
 // Whether the table is asked for, before or after the cursor.
-fn is_wanted(alloc: Global, request: &Request, targets: &[usize]) -> Result<bool, NoMemory>
+fn is_wanted(request: &Request, targets: &[usize]) -> Result<bool, NoMemory>
     requires { IsTable request.now.presentation.now.presentation request.now.classes targets.now }
     ensures { IfOk result (λ b. IsTrue b ↔ IsWanted (asked request.now) targets.now) }
 {
@@ -148,13 +138,12 @@ fn is_wanted(alloc: Global, request: &Request, targets: &[usize]) -> Result<bool
     }
     let _letters = request.presentation.letters();
     let _relations = request.presentation.relations();
-    let graph = table_graph(alloc, request, targets)?;
-    graph.is_two_sided(alloc)
+    let graph = table_graph(request, targets)?;
+    graph.is_two_sided(request.alloc)
 }
 
 // Puts the table behind the others where it is asked for.
 fn add_wanted(
-    alloc: Global,
     request: &Request,
     targets: &[usize],
     tables: &mut Vec<Vec<usize>>,
@@ -163,34 +152,32 @@ fn add_wanted(
     ensures { OnOk result (AddsWanted (asked request.now) targets.now
         (lists_in tables.old.items) (lists_in tables.new.items)) }
 {
-    if is_wanted(alloc, request, targets)? {
-        tables.push(Vec::from_slice(alloc, targets)?)?;
+    if is_wanted(request, targets)? {
+        tables.push(Vec::from_slice(request.alloc, targets)?)?;
     }
     Ok(())
 }
 
 /// The first tables that go on behind the front part and are asked for, in order, one more than a
-/// page has; all of them where they are fewer. Sets how many steps the search has taken. Refused
-/// only where memory is wanting.
+/// page has; all of them where they are fewer. The search may take so many steps. It ends early
+/// only where it would take more, or where memory is wanting.
 pub fn tables_within(
-    alloc: Global,
     request: &Request,
     front: &[usize],
-    steps: &mut usize,
-) -> Result<Vec<Vec<usize>>, NoMemory>
+    steps: usize,
+) -> Result<Vec<Vec<usize>>, Halt>
     requires asked { IsAsked (asked request.now) }
     requires opened { IsOpen (asked request.now) front.now }
     ensures { IfOk result (λ ts. AreTablesWithin (asked request.now) front.now
         (lists_in ts.items)) }
 {
     let _letters = request.presentation.letters();
-    let mut tables = Vec::new(alloc);
-    let Some(mut branch) = first_within(alloc, request, front, steps)? else {
+    let mut tables = Vec::new(request.alloc);
+    let Some(mut branch) = first_within(request, front, steps)? else {
         return Ok(tables);
     };
     loop {
-        *steps = branch.steps;
-        add_wanted(alloc, request, &branch.targets, &mut tables)?;
+        add_wanted(request, &branch.targets, &mut tables)?;
         if tables.len() > request.count {
             return Ok(tables);
         }

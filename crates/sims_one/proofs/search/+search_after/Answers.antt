@@ -5,7 +5,7 @@ use Rattle.sims_one.specs.Search.{IsLeastBeyond, NoneBeyond, NoneFrom}
 use Rattle.sims_one.proofs.EdgeLaws.{on_ok}
 use Rattle.sims_one.proofs.FrontLaws.{front_front, front_next, front_wants, allowed_push, few_seen}
 use Rattle.sims_one.proofs.BranchLaws.{popped}
-use Rattle.sims_one.proofs.CursorLaws.{from_start, from_more, from_found, next_within, whole_within, within_long, along}
+use Rattle.sims_one.proofs.CursorLaws.{from_start, from_more, from_found, next_within, whole_within, within_long, within_less, beyond_within, along}
 use Rattle.sims_one.proofs.search.+search_after.Goals as goal
 
 pub search_after-returns-then-cursor-place-clause-none : goal.search_after-returns-then-cursor-place-clause-none
@@ -53,6 +53,17 @@ search_after-search_from-requires-clause-wanting t c =
     let target : ℕ = get_or cursor c.len-place.result 0 in
     let same : c.search_along.new.branch.targets.items ≡ ts = c.in_ok-search_along.ensures.same c.if-branch.false in
     subst (λ (xs : List ℕ). length xs < p.letters * seen xs) (sym same) (front_wants p.letters ts target within.rest (front_along p.letters cursor ts target c.requires.cursor within))
+
+pub search_after-returns-then-branch-clause-within : goal.search_after-returns-then-branch-clause-within
+search_after-returns-then-branch-clause-within t c = λ _.
+    within_less c.args.branch.now.targets.items (get_or c.args.cursor.now c.len-place.result 0) c.search_along.new.branch.targets.items (c.in_ok-search_along.ensures.within c.if-branch.true)
+
+pub search_after-returns-clause-within : goal.search_after-returns-clause-within
+search_after-returns-clause-within t c =
+    let found : List ℕ = c.search_from.new.branch.targets.items in
+    let same : c.search_along.new.branch.targets.items ≡ c.args.branch.now.targets.items = c.in_ok-search_along.ensures.same c.if-branch.false in
+    on_ok c.search_from.result _ _ c.search_from.ensures.found
+    (λ b h yes. subst (λ (xs : List ℕ). IsWithin xs found) same (beyond_within c.search_along.new.branch.targets.items (get_or c.args.cursor.now c.len-place.result 0 + 1) found (h yes).beyond))
 
 pub search_after-returns-clause-found : goal.search_after-returns-clause-found
 search_after-returns-clause-found t c =

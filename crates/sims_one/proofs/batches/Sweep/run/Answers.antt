@@ -7,6 +7,6 @@ use Rattle.sims_one.proofs.batches.Sweep.run.Goals as goal
 pub returns-clause-over : goal.returns-clause-over
 returns-clause-over g c = λ one.
     let a = asked c.args.request.now in
-    let us = lists_in c.loop-alloc.self.tables.items in
-    let none : length c.loop-alloc.self.fronts.items ≡ 0 = omega (arith, one, c.loop-alloc-test.false, c.len.ensures, c.loop-alloc.self.fronts.ok.0) in
-    joined_end a us (subst (λ ts. AreJoined a ts us) (no_lists c.loop-alloc.self.fronts.items none) c.loop-alloc.invariant)
+    let us = lists_in c.loop-self.self.tables.items in
+    let none : length c.loop-self.self.fronts.items ≡ 0 = omega (arith, one, c.loop-self-test.false, c.len.ensures, c.loop-self.self.fronts.ok.0) in
+    joined_end a us (subst (λ ts. AreJoined a ts us) (no_lists c.loop-self.self.fronts.items none) c.loop-self.invariant)

@@ -1,7 +1,7 @@
 use Rattle.std.proofs.Common.{arith}
 use Rattle.sims_one.proofs.PathLaws.{letter_over}
 use Rattle.sims_one.proofs.EdgeLaws.{place_within}
-use Rattle.sims_one.proofs.known.Known.leads_on.Goals as goal
+use Rattle.sims_one.proofs.known.Known.go_on.Goals as goal
 
 pub target-requires : goal.target-requires
 target-requires c =
