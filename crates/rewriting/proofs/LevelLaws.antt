@@ -8,7 +8,7 @@ use Rattle.theory.specs.Graph.{Graph, target}
 use Rattle.theory.proofs.Words.{over_left, over_right}
 use Rattle.theory.proofs.FactsLaws.{last_letter}
 use Rattle.rewriting.specs.Rules.{AreOver}
-use Rattle.rewriting.specs.Tries.{left_at, state_of, words_of, longer, IsChild, IsTrie, IsOrder, IsOrderTo, IsChildOf, Gathers, AreChildren}
+use Rattle.rewriting.specs.Tries.{left_at, state_of, words_of, longer, IsChild, IsTrie, IsOrder, IsOrderTo, IsChildOf, Gathers, AreChildren, Tree}
 use Rattle.rewriting.proofs.StateLists.{contains_at, item_at}
 use Rattle.rewriting.proofs.TrieLaws.{words_count}
 use Rattle.rewriting.specs.declared.tries.Prefix.{Prefix}
@@ -85,8 +85,8 @@ state_short rules prefixes most few n h =
     let at : get_or (words_of rules prefixes) n [] ≡ take p.count (left_at rules p.rule) = get_or-map (state_of rules) prefixes n (record { rule = 0; count = 0 }) [] h in
     omega (arith, ap length at, length-take p.count (left_at rules p.rule), few p.rule)
 
-module _ (k : ℕ) (rules : List (Word × Word)) (states : List Word) (children lefts : Graph) (is : IsTrie k rules states children lefts) where
-  pub order_start : IsOrderTo states 0 (0 ∷ []) (0 ∷ [])
+module _ (rules : List (Word × Word)) (t : Tree) (is : IsTrie rules t) where
+  pub order_start : IsOrderTo t.states 0 (0 ∷ []) (0 ∷ [])
   order_start = record {
     within = λ j h. (at j h, omega (arith, ap length (root j h)));
     each = λ n h short. (0, omega arith, zero_is n h short);
@@ -98,53 +98,53 @@ module _ (k : ℕ) (rules : List (Word × Word)) (states : List Word) (children 
       first : (j : ℕ) → j < 1 → get_or {A = ℕ} (0 ∷ []) j 0 ≡ 0
       first j h = let e : j ≡ 0 = omega (arith, h) in ap (λ (i : ℕ). get_or {A = ℕ} (0 ∷ []) i 0) e
 
-      at : (j : ℕ) → j < 1 → get_or (0 ∷ []) j 0 < length states
-      at j h = subst (λ z. z < length states) (sym (first j h)) is.prefixes.some
+      at : (j : ℕ) → j < 1 → get_or (0 ∷ []) j 0 < length t.states
+      at j h = subst (λ z. z < length t.states) (sym (first j h)) is.prefixes.some
 
-      root : (j : ℕ) → j < 1 → get_or states (get_or (0 ∷ []) j 0) [] ≡ []
-      root j h = ap (λ z. get_or states z []) (first j h) ∙ is.prefixes.root
+      root : (j : ℕ) → j < 1 → get_or t.states (get_or (0 ∷ []) j 0) [] ≡ []
+      root j h = ap (λ z. get_or t.states z []) (first j h) ∙ is.prefixes.root
 
-      zero_is : (n : ℕ) → n < length states → length (get_or states n []) ≤ 0 → 0 ≡ n
-      zero_is n h short = is.distinct 0 n is.prefixes.some h (is.prefixes.root ∙ nil (get_or states n []) short)
+      zero_is : (n : ℕ) → n < length t.states → length (get_or t.states n []) ≤ 0 → 0 ≡ n
+      zero_is n h short = is.distinct 0 n is.prefixes.some h (is.prefixes.root ∙ nil (get_or t.states n []) short)
         where
           nil : (u : Word) → length u ≤ 0 → [] ≡ u
           nil [] h = refl
           nil (a ∷ u) h = absurd (omega (arith, h))
 
-  module _ (over : (n : ℕ) → IsOver k (get_or states n [])) (most : ℕ) (order level next : List ℕ) (before : IsOrderTo states most order level) (made : AreChildren k children level (length level) next) where
-    next_at : (x : ℕ) → Contains next x → (x < length states) × (length (get_or states x []) ≡ most + 1)
+  module _ (over : (n : ℕ) → IsOver t.letters (get_or t.states n [])) (most : ℕ) (order level next : List ℕ) (before : IsOrderTo t.states most order level) (made : AreChildren t.letters t.children level (length level) next) where
+    next_at : (x : ℕ) → Contains next x → (x < length t.states) × (length (get_or t.states x []) ≡ most + 1)
     next_at x h =
         let f = made.from x h in
         let at = before.level_within f.0 f.2 in
-        let c = subst (λ t. IsChild states (longer states (get_or level f.0 0) f.3.letter) t) f.3.is (is.child (get_or level f.0 0) f.3.letter at.0 f.3.below) in
-        (c.0, omega (arith, ap length c.1, length-append (get_or states (get_or level f.0 0) []) (f.3.letter ∷ []), at.1))
+        let c = subst (λ to. IsChild t.states (longer t.states (get_or level f.0 0) f.3.letter) to) f.3.is (is.child (get_or level f.0 0) f.3.letter at.0 f.3.below) in
+        (c.0, omega (arith, ap length c.1, length-append (get_or t.states (get_or level f.0 0) []) (f.3.letter ∷ []), at.1))
 
-    next_within : (j : ℕ) → j < length next → (get_or next j 0 < length states) × (length (get_or states (get_or next j 0) []) ≡ most + 1)
+    next_within : (j : ℕ) → j < length next → (get_or next j 0 < length t.states) × (length (get_or t.states (get_or next j 0) []) ≡ most + 1)
     next_within j h = next_at (get_or next j 0) (j, h, get_or_default next j (get_or next j 0) 0 h)
 
-    word_is : (m n a : ℕ) (p : Word) → get_or states m [] ≡ p → get_or states n [] ≡ p ++ a ∷ [] → longer states m a ≡ get_or states n []
+    word_is : (m n a : ℕ) (p : Word) → get_or t.states m [] ≡ p → get_or t.states n [] ≡ p ++ a ∷ [] → longer t.states m a ≡ get_or t.states n []
     word_is m n a p parent is_n = ap (λ u. u ++ a ∷ []) parent ∙ sym is_n
 
-    next_each : (n : ℕ) → n < length states → length (get_or states n []) ≡ most + 1 → Contains next n
-    next_each n h long = elim (last_letter (get_or states n [])) [
+    next_each : (n : ℕ) → n < length t.states → length (get_or t.states n []) ≡ most + 1 → Contains next n
+    next_each n h long = elim (last_letter (get_or t.states n [])) [
       | inl e ↦ absurd (omega (arith, ap length e, long))
       | inr l ↦
-          let there = is.prefixes.closed l.0 l.1 (n, h, get_or_default states n (l.0 ++ l.1 ∷ []) [] h ∙ l.2) in
-          let parent : get_or states there.0 [] ≡ l.0 = item_at states l.0 [] there in
-          let size : length (get_or states there.0 []) ≡ most = omega (arith, ap length parent, ap length l.2, length-append l.0 (l.1 ∷ []), long) in
+          let there = is.prefixes.closed l.0 l.1 (n, h, get_or_default t.states n (l.0 ++ l.1 ∷ []) [] h ∙ l.2) in
+          let parent : get_or t.states there.0 [] ≡ l.0 = item_at t.states l.0 [] there in
+          let size : length (get_or t.states there.0 []) ≡ most = omega (arith, ap length parent, ap length l.2, length-append l.0 (l.1 ∷ []), long) in
           let has = before.level_each there.0 there.1 size in
           let at : get_or level has.0 0 ≡ there.0 = item_at level there.0 0 has in
-          let below : l.1 < k = (over_right k l.0 (l.1 ∷ []) (subst (λ u. IsOver k u) l.2 (over n))).0 in
-          go there.0 l.1 below (word_is there.0 n l.1 l.0 parent l.2) (target children there.0 l.1) refl (is.child there.0 l.1 there.1 below) has.0 has.1 at
+          let below : l.1 < t.letters = (over_right t.letters l.0 (l.1 ∷ []) (subst (λ u. IsOver t.letters u) l.2 (over n))).0 in
+          go there.0 l.1 below (word_is there.0 n l.1 l.0 parent l.2) (target t.children there.0 l.1) refl (is.child there.0 l.1 there.1 below) has.0 has.1 at
     ]
       where
-        go : (m a : ℕ) → a < k → longer states m a ≡ get_or states n [] → (t : Option ℕ) → target children m a ≡ t → IsChild states (longer states m a) t
+        go : (m a : ℕ) → a < t.letters → longer t.states m a ≡ get_or t.states n [] → (to : Option ℕ) → target t.children m a ≡ to → IsChild t.states (longer t.states m a) to
             → (j : ℕ) → j < length level → get_or level j 0 ≡ m → Contains next n
-        go m a below word None e c j inside at = absurd (c (contains_at states (longer states m a) n h (sym word)))
+        go m a below word None e c j inside at = absurd (c (contains_at t.states (longer t.states m a) n h (sym word)))
         go m a below word (Some x) e c j inside at =
             let same : x ≡ n = is.distinct x n c.0 h (c.1 ∙ word) in
             subst (λ z. Contains next z) same
-            (made.all j x inside inside (record { letter = a; below = below; is = ap (λ z. target children z a) at ∙ e }))
+            (made.all j x inside inside (record { letter = a; below = below; is = ap (λ z. target t.children z a) at ∙ e }))
 
     size : length (order ++ next) ≡ length order + length next
     size = length-append order next
@@ -156,9 +156,9 @@ module _ (k : ℕ) (rules : List (Word × Word)) (states : List Word) (children 
     at_next j h = get_or-append_right order next (length order) j 0 refl h
 
     letters : ℕ → ℕ
-    letters x = length (get_or states x [])
+    letters x = length (get_or t.states x [])
 
-    pub order_step : IsOrderTo states (most + 1) (order ++ next) next
+    pub order_step : IsOrderTo t.states (most + 1) (order ++ next) next
     order_step = record {
       within = within;
       each = each;
@@ -167,27 +167,27 @@ module _ (k : ℕ) (rules : List (Word × Word)) (states : List Word) (children 
       level_each = next_each;
     }
       where
-        within : (j : ℕ) → j < length (order ++ next) → (get_or (order ++ next) j 0 < length states) × (length (get_or states (get_or (order ++ next) j 0) []) ≤ most + 1)
+        within : (j : ℕ) → j < length (order ++ next) → (get_or (order ++ next) j 0 < length t.states) × (length (get_or t.states (get_or (order ++ next) j 0) []) ≤ most + 1)
         within j h = elim (cases_lt j (length order)) [
-          | inl l ↦ let w = before.within j l in subst (λ z. (z < length states) × (length (get_or states z []) ≤ most + 1)) (sym (at_order j l)) (w.0, omega (arith, w.1))
-          | inr m ↦ let w = next_within (j - length order) (omega (arith, m, h, size)) in subst (λ z. (z < length states) × (length (get_or states z []) ≤ most + 1)) (sym (at_next j m)) (w.0, omega (arith, w.1))
+          | inl l ↦ let w = before.within j l in subst (λ z. (z < length t.states) × (length (get_or t.states z []) ≤ most + 1)) (sym (at_order j l)) (w.0, omega (arith, w.1))
+          | inr m ↦ let w = next_within (j - length order) (omega (arith, m, h, size)) in subst (λ z. (z < length t.states) × (length (get_or t.states z []) ≤ most + 1)) (sym (at_next j m)) (w.0, omega (arith, w.1))
         ]
 
-        each : (n : ℕ) → n < length states → length (get_or states n []) ≤ most + 1 → Contains (order ++ next) n
-        each n h short = elim (cases_eq (length (get_or states n [])) (most + 1)) [
+        each : (n : ℕ) → n < length t.states → length (get_or t.states n []) ≤ most + 1 → Contains (order ++ next) n
+        each n h short = elim (cases_eq (length (get_or t.states n [])) (most + 1)) [
           | inl e ↦ Contains-append_right order next n (next_each n h e)
           | inr d ↦ Contains-append_left order next n (before.each n h (omega (arith, short, d)))
         ]
 
-        rises : (i j : ℕ) → i ≤ j → j < length (order ++ next) → length (get_or states (get_or (order ++ next) i 0) []) ≤ length (get_or states (get_or (order ++ next) j 0) [])
+        rises : (i j : ℕ) → i ≤ j → j < length (order ++ next) → length (get_or t.states (get_or (order ++ next) i 0) []) ≤ length (get_or t.states (get_or (order ++ next) j 0) [])
         rises i j h l = elim (cases_lt j (length order)) [
           | inl lj ↦
               let old = before.rises i j h lj in
-              omega (arith, old, ap (λ z. length (get_or states z [])) (at_order i (omega (arith, h, lj))), ap (λ z. length (get_or states z [])) (at_order j lj))
+              omega (arith, old, ap (λ z. length (get_or t.states z [])) (at_order i (omega (arith, h, lj))), ap (λ z. length (get_or t.states z [])) (at_order j lj))
           | inr mj ↦
               let top = next_within (j - length order) (omega (arith, mj, l, size)) in
               let low = within i (omega (arith, h, l)) in
-              omega (arith, low.1, top.1, ap (λ z. length (get_or states z [])) (at_next j mj))
+              omega (arith, low.1, top.1, ap (λ z. length (get_or t.states z [])) (at_next j mj))
         ]
 
 -- the order at the end

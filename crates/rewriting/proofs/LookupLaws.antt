@@ -1,7 +1,7 @@
 -- What the table and a scan of the newer rules tell of a word and a letter.
-use Rattle.std.proofs.Common.{◌≡◌, ℕ, zero, suc, ◌+◌, ◌-◌, ◌<◌, ◌≤◌, Bool, true, false, IsTrue, ◌↔◌, List, [], ◌∷◌, ◌++◌, length, take, drop, reverse, set, get_or, eqb, refl, sym, ◌∙◌, ap, subst, arith, inl, inr, Option, Some, None, Contains, length-append}
+use Rattle.std.proofs.Common.{◌≡◌, ℕ, zero, suc, ◌+◌, ◌-◌, ◌<◌, ◌≤◌, Bool, true, IsTrue, ◌↔◌, List, [], ◌∷◌, ◌++◌, length, take, drop, reverse, set, get_or, eqb, refl, sym, ◌∙◌, ap, subst, arith, inl, inr, Option, Some, None, Contains, length-append}
 use Rattle.std.specs.Cmp.Lexicographic.{pointwise}
-use Rattle.std.proofs.lemmas.Bool.{cases_Bool, cases_eq, cases_lt}
+use Rattle.std.proofs.lemmas.Bool.{cases_eq, cases_lt}
 use Rattle.std.proofs.lemmas.Bool.Decides.{Decides-eqb}
 use Rattle.std.proofs.lemmas.Slice.Eq.{ends_is}
 use Rattle.std.proofs.lemmas.List.{append_assoc, append-nil, get_or_default, get_or-set_same, get_or-set_other, length-set, same_from_push}
@@ -207,24 +207,15 @@ right_lookup rules new lookup place right is within e =
     ]
 
 -- a test of the left side of a rule at the end
-pub end_tested : (rules : List (Word × Word)) (u : Word) (place : ℕ) (rule : Word × Word) (left : Word) (r : Bool) → place < length rules → rule ≡ get_or rules place rule
-    → left ≡ rule.0 → IsTrue r ↔ StandsLast u left → (r ≡ true → EndsAt rules u place) × (r ≡ false → EndsAt rules u place → ⊥)
-end_tested rules u place rule left r within read left_is tested = (
+pub ends_tested : (rules : List (Word × Word)) (u : Word) (place : ℕ) (rule : Word × Word) (left : Word) (r : Bool) → place < length rules → rule ≡ get_or rules place rule
+    → left ≡ rule.0 → IsTrue r ↔ StandsLast u left → IsTrue r ↔ EndsAt rules u place
+ends_tested rules u place rule left r within read left_is tested = (
   λ t. let at = tested.0 t in record { within = within; before = at.before; is = at.is ∙ ap (λ w. at.before ++ w) same },
-  λ f ends. let t : r ≡ true = tested.1 (record { before = ends.before; is = ends.is ∙ ap (λ w. ends.before ++ w) (sym same) }) in let bad : ⊥ = cc in bad,
+  λ ends. tested.1 (record { before = ends.before; is = ends.is ∙ ap (λ w. ends.before ++ w) (sym same) }),
 )
   where
     same : left ≡ left_at rules place
     same = left_is ∙ ap (λ (p : Word × Word). p.0) (rule_read rules rules place rule refl within read)
-
--- the same both ways
-pub ends_tested : (rules : List (Word × Word)) (u : Word) (place : ℕ) (rule : Word × Word) (left : Word) (r : Bool) → place < length rules → rule ≡ get_or rules place rule
-    → left ≡ rule.0 → IsTrue r ↔ StandsLast u left → IsTrue r ↔ EndsAt rules u place
-ends_tested rules u place rule left r within read left_is tested =
-    let test = end_tested rules u place rule left r within read left_is tested in (
-      test.0,
-      λ ends. elim (cases_Bool r) [ inl t ↦ t | inr f ↦ absurd (test.1 f ends) ],
-    )
 
 -- a word without its last letter stands at the end before the letter
 pub last_tested : (u : Word) (a : ℕ) (word : Word) (last b : ℕ) (r : Bool) → last + 1 ≡ length word → b ≡ get_or word last b → b ≡ a
@@ -260,11 +251,11 @@ module _ (rules : List (Word × Word)) (lookup : Lookup) (word : Word) (r : Redu
         (last_read rules (states_by by.is) word r.done.items (r.rest.items ++ a ∷ []) r.states.items size state by.reducing size_is state_is);
   }
 
-  pub letter_steps : (t : ℕ) (end : Option ℕ) → ((at : IsAtLetter rules lookup read state) → IsStep rules (reads_to at) (read ++ a ∷ []) t end)
-      → IsAtStep rules (states_by by.is) word r a t end
-  letter_steps t end step = record {
+  pub letter_steps : (next : ℕ × Option ℕ) → ((at : IsAtLetter rules lookup read state) → IsStep rules (reads_to at) (read ++ a ∷ []) next.0 next.1)
+      → IsAtStep rules (states_by by.is) word r a next
+  letter_steps next step = record {
     reducing = by.reducing;
-    step = subst (λ u. IsStep rules (states_by by.is) (u ++ a ∷ []) t end) read_is (step letter_at);
+    step = subst (λ u. IsStep rules (states_by by.is) (u ++ a ∷ []) next.0 next.1) read_is (step letter_at);
   }
 
 -- where reading begins

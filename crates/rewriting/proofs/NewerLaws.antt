@@ -3,7 +3,7 @@ use Rattle.std.proofs.Common.{◌≡◌, ◌≢◌, ℕ, ◌+◌, ◌-◌, ◌*�
 use Rattle.std.proofs.Math.ListN.{replicate}
 use Rattle.std.proofs.Math.Seq.{drop-append-add}
 use Rattle.std.proofs.lemmas.Bool.{cases_eq, cases_lt}
-use Rattle.std.proofs.lemmas.List.{drop-append-le, take_rest, get_or-replicate, get_or_append_left, get_or_push, get_or-set_same, get_or-set_other}
+use Rattle.std.proofs.lemmas.List.{drop-append-le, take_rest, get_or_read, get_or-replicate, get_or_append_left, get_or_push, get_or-set_same, get_or-set_other}
 use Rattle.theory.specs.Word.{Word}
 use Rattle.rewriting.specs.States.{EndsAt}
 use Rattle.rewriting.specs.Tries.{left_at}
@@ -29,15 +29,22 @@ module _ (keys : ℕ → ℕ) (count : ℕ) where
   latest_here : IsLatest keys (count + 1) (keys count) (Some count)
   latest_here = (omega arith, refl, λ n above within e. omega (arith, above, within))
 
--- the same keys
-latest_same : (f g : ℕ → ℕ) → ((n : ℕ) → f n ≡ g n) → (count key : ℕ) (o : Option ℕ) → IsLatest f count key o → IsLatest g count key o
-latest_same f g same count key None l = λ n within e. l n within (same n ∙ e)
-latest_same f g same count key (Some m) l = (l.0, sym (same m) ∙ l.1, λ n above within e. l.2 n above within (same n ∙ e))
-
 -- the same keys below the count
 latest_below : (f g : ℕ → ℕ) (count : ℕ) → ((n : ℕ) → n < count → f n ≡ g n) → (key : ℕ) (o : Option ℕ) → IsLatest f count key o → IsLatest g count key o
 latest_below f g count same key None l = λ n within e. l n within (same n within ∙ e)
 latest_below f g count same key (Some m) l = (l.0, sym (same m l.0) ∙ l.1, λ n above within e. l.2 n above within (same n within ∙ e))
+
+-- other rules with the same keys
+newer_as : (rules new : List (Word × Word)) (first count : ℕ) (newer : Newer)
+    → ((n : ℕ) → n < count → newer_key rules first newer.depth n ≡ newer_key new first newer.depth n) → AreNewerTo rules first count newer → AreNewerTo new first count newer
+newer_as rules new first count newer alike to = record {
+  all = to.all;
+  latest = λ key h. latest_below (newer_key rules first newer.depth) (newer_key new first newer.depth) count alike key (get_or newer.latest.items key None) (to.latest key h);
+  before = λ number h.
+      subst (λ k. IsLatest (newer_key new first newer.depth) number k (get_or newer.before.items number None)) (alike number h)
+      (latest_below (newer_key rules first newer.depth) (newer_key new first newer.depth) number (λ n below. alike n (omega (arith, below, h)))
+      (newer_key rules first newer.depth number) (get_or newer.before.items number None) (to.before number h));
+}
 
 -- no rule yet
 pub newer_start : (rules : List (Word × Word)) (first : ℕ) (newer : Newer) → newer.before.items ≡ [] → ((key : ℕ) → key < 256 → get_or newer.latest.items key None ≡ None)
@@ -70,23 +77,8 @@ same_newer rules new first newer size same are = record {
   count = are.count ∙ sym size;
   some = are.some;
   long = λ place from within. subst (λ (l : Word). newer.depth ≤ length l) (sym (same place)) (are.long place from (omega (arith, within, size)));
-  to = record {
-    all = refl;
-    latest = λ key h. latest_same old now alike (length newer.before.items) key (get_or newer.latest.items key None) (are.to.latest key h);
-    before = λ number h.
-        subst (λ k. IsLatest now number k (get_or newer.before.items number None)) (alike number)
-        (latest_same old now alike number (old number) (get_or newer.before.items number None) (are.to.before number h));
-  };
+  to = newer_as rules new first (length newer.before.items) newer (λ n h. ap (end_key newer.depth) (sym (same (first + n)))) are.to;
 }
-  where
-    old : ℕ → ℕ
-    old = newer_key rules first newer.depth
-
-    now : ℕ → ℕ
-    now = newer_key new first newer.depth
-
-    alike : (n : ℕ) → newer_key rules first newer.depth n ≡ newer_key new first newer.depth n
-    alike n = ap (end_key newer.depth) (sym (same (first + n)))
 
 -- one rule more
 module _ (rules : List (Word × Word)) (first count : ℕ) (old new : Newer) (to : AreNewerTo rules first count old) (depth : new.depth ≡ old.depth) (room : length old.latest.items ≡ 256)
@@ -154,19 +146,8 @@ module _ (rules : List (Word × Word)) (first : ℕ) (old new : Newer) (last : W
   last_left : left_at with_last (length rules) ≡ last.0
   last_left = ap (λ (r : Word × Word). r.0) (get_or_push rules last ([], []) (length rules) refl)
 
-  alike : (n : ℕ) → n < count → newer_key rules first old.depth n ≡ newer_key with_last first old.depth n
-  alike n h = ap (end_key old.depth) (same_left (first + n) (omega (arith, h, are.count)))
-
   others : AreNewerTo with_last first count old
-  others = record {
-    all = refl;
-    latest = λ key h.
-        latest_below (newer_key rules first old.depth) (newer_key with_last first old.depth) count alike key (get_or old.latest.items key None) (are.to.latest key h);
-    before = λ number h.
-        subst (λ k. IsLatest (newer_key with_last first old.depth) number k (get_or old.before.items number None)) (alike number h)
-        (latest_below (newer_key rules first old.depth) (newer_key with_last first old.depth) number (λ n below. alike n (omega (arith, below, h)))
-        (newer_key rules first old.depth number) (get_or old.before.items number None) (are.to.before number h));
-  }
+  others = newer_as rules with_last first count old (λ n h. ap (end_key old.depth) (same_left (first + n) (omega (arith, h, are.count)))) are.to
 
   pub newer_with_last : AreNewer with_last first new
   newer_with_last = record {
@@ -208,24 +189,27 @@ ends_keyed rules depth done a place some long ends =
         ∙ drop-append-le (length done - (depth - 1)) done (a ∷ []) (omega (arith, some, long, size))
 
 -- a search from the last rule of a key: none behind a bound ends there
-pub record IsSought (rules : List (Word × Word)) (first depth count key : ℕ) (u : Word) (at : Option ℕ) : Type 0 where
+pub record IsSought (rules : List (Word × Word)) (first : ℕ) (newer : Newer) (key : ℕ) (u : Word) (at : Option ℕ) : Type 0 where
   pub bound : ℕ
-  pub few : bound ≤ count
-  pub latest : IsLatest (newer_key rules first depth) bound key at
-  pub behind : (n : ℕ) → bound ≤ n → n < count → EndsAt rules u (first + n) → ⊥
+  pub few : bound ≤ length newer.before.items
+  pub latest : IsLatest (newer_key rules first newer.depth) bound key at
+  pub behind : (n : ℕ) → bound ≤ n → n < length newer.before.items → EndsAt rules u (first + n) → ⊥
 
 -- how many numbers are left
 abbrev pub height : Option ℕ → ℕ
 height None = 0
 height (Some n) = n + 1
 
-module _ (rules : List (Word × Word)) (first : ℕ) (newer : Newer) (are : AreNewer rules first newer) (done : Word) (a key : ℕ) (few : key < 256)
-    (key_is : key ≡ (key_from 0 (drop (length done - (newer.depth - 1)) done) * 7 + a) % 256) where
+module _ (rules : List (Word × Word)) (first : ℕ) (newer : Newer) (are : AreNewer rules first newer) (done : Word) (a rest key : ℕ) (few : key < 256)
+    (rest_is : rest ≡ key_from 0 (take (length done - (length done - (newer.depth - 1))) (drop (length done - (newer.depth - 1)) done))) (made : key ≡ (rest * 7 + a) % 256) where
+  key_is : key ≡ (key_from 0 (drop (length done - (newer.depth - 1)) done) * 7 + a) % 256
+  key_is = made ∙ ap (λ r. (r * 7 + a) % 256) (rest_is ∙ ap (key_from 0) (take_rest done (length done - (newer.depth - 1))))
+
   keyed : (n : ℕ) → n < length newer.before.items → EndsAt rules (done ++ a ∷ []) (first + n) → newer_key rules first newer.depth n ≡ key
   keyed n within ends =
       ends_keyed rules newer.depth done a (first + n) are.some (are.long (first + n) (omega arith) (omega (arith, within, are.count))) ends ∙ sym key_is
 
-  pub sought_start : (at : Option ℕ) → at ≡ get_or newer.latest.items key None → IsSought rules first newer.depth (length newer.before.items) key (done ++ a ∷ []) at
+  pub sought_start : (at : Option ℕ) → at ≡ get_or newer.latest.items key None → IsSought rules first newer key (done ++ a ∷ []) at
   sought_start at read = record {
     bound = length newer.before.items;
     few = omega arith;
@@ -233,7 +217,7 @@ module _ (rules : List (Word × Word)) (first : ℕ) (newer : Newer) (are : AreN
     behind = λ n past within ends. omega (arith, past, within);
   }
 
-  module _ (at : Option ℕ) (sought : IsSought rules first newer.depth (length newer.before.items) key (done ++ a ∷ []) at) where
+  module _ (at : Option ℕ) (sought : IsSought rules first newer key (done ++ a ∷ []) at) where
     pub sought_end : at ≡ None → (place : ℕ) → first ≤ place → EndsAt rules (done ++ a ∷ []) place → ⊥
     sought_end none place from ends =
         let n : ℕ = place - first in
@@ -256,8 +240,8 @@ module _ (rules : List (Word × Word)) (first : ℕ) (newer : Newer) (are : AreN
       pub sought_within : number < length newer.before.items
       sought_within = omega (arith, here_is.0, sought.few)
 
-      pub sought_on : (next : Option ℕ) → next ≡ get_or newer.before.items number None → (EndsAt rules (done ++ a ∷ []) (first + number) → ⊥)
-          → IsSought rules first newer.depth (length newer.before.items) key (done ++ a ∷ []) next × (height next < height at)
+      pub sought_on : (next : Option ℕ) → next ≡ get_or newer.before.items number next → (EndsAt rules (done ++ a ∷ []) (first + number) → ⊥)
+          → IsSought rules first newer key (done ++ a ∷ []) next × (height next < height at)
       sought_on next read none = (
         record {
           bound = number;
@@ -275,17 +259,11 @@ module _ (rules : List (Word × Word)) (first : ℕ) (newer : Newer) (are : AreN
       )
         where
           latest : IsLatest (newer_key rules first newer.depth) number key next
-          latest = subst₂ (λ (k : ℕ) (o : Option ℕ). IsLatest (newer_key rules first newer.depth) number k o) here_is.1 (sym read) (are.to.before number sought_within)
+          latest = subst₂ (λ (k : ℕ) (o : Option ℕ). IsLatest (newer_key rules first newer.depth) number k o) here_is.1 (sym (get_or_read newer.before.items number next sought_within read None)) (are.to.before number sought_within)
 
           lower : (o : Option ℕ) → IsLatest (newer_key rules first newer.depth) number key o → height o < number + 1
           lower None l = omega arith
           lower (Some m) l = omega (arith, l.0)
-
--- the key, as the code makes it
-pub key_read : (done : Word) (others a rest key : ℕ) → rest ≡ key_from 0 (take (length done - (length done - others)) (drop (length done - others) done)) → key ≡ (rest * 7 + a) % 256
-    → key ≡ (key_from 0 (drop (length done - others) done) * 7 + a) % 256
-key_read done others a rest key rest_is key_is =
-    key_is ∙ ap (λ r. (r * 7 + a) % 256) (rest_is ∙ ap (key_from 0) (take_rest done (length done - others)))
 
 pub no_number : (o : Option ℕ) → ((n : ℕ) → o ≡ Some n → ⊥) → o ≡ None
 no_number None none = refl

@@ -207,26 +207,26 @@ step_read rules falling states are done state a t (Some number) last reads = rec
 }
 
 -- a step of a reduction, by what stands at the end
-module _ (rules : List (Word × Word)) (falling : AreFalling rules) (states : List Word) (word : Word) (r : Reduction) (a t : ℕ) (end : Option ℕ)
-    (at : IsAtStep rules states word r a t end) where
+module _ (rules : List (Word × Word)) (falling : AreFalling rules) (states : List Word) (word : Word) (r : Reduction) (a : ℕ) (step : ℕ × Option ℕ)
+    (at : IsAtStep rules states word r a step) where
   abbrev Follows : Word → Word → List ℕ → Type 0
   Follows d q p = IsReducing rules states word d q p × (weight rules word d q < weight_at rules word a r)
 
   -- a letter is read
-  pub letter_follows : (done rest : Word) (path : List ℕ) → end ≡ None → done ≡ r.done.items ++ a ∷ [] → path ≡ r.states.items ++ t ∷ [] → rest ≡ r.rest.items
+  pub letter_follows : (done rest : Word) (path : List ℕ) → step.1 ≡ None → done ≡ r.done.items ++ a ∷ [] → path ≡ r.states.items ++ step.0 ∷ [] → rest ≡ r.rest.items
       → IsReducing rules states word done rest path × (weight rules word done rest < weight_at rules word a r)
   letter_follows done rest path none d p q =
-      let n : IsStep rules states (r.done.items ++ a ∷ []) t None = subst (λ e. IsStep rules states (r.done.items ++ a ∷ []) t e) none at.step in
+      let n : IsStep rules states (r.done.items ++ a ∷ []) step.0 None = subst (λ e. IsStep rules states (r.done.items ++ a ∷ []) step.0 e) none at.step in
       subst (λ (u : Word). Follows u rest path) (sym d)
       (subst₂ (λ (v : Word) (s : List ℕ). Follows (r.done.items ++ a ∷ []) v s) (sym q) (sym p) (
-        push_by rules falling states word r.done.items r.rest.items r.states.items a t at.reducing n.0 n.1,
-        push_less rules falling states word r.done.items r.rest.items r.states.items a t at.reducing,
+        push_by rules falling states word r.done.items r.rest.items r.states.items a step.0 at.reducing n.0 n.1,
+        push_less rules falling states word r.done.items r.rest.items r.states.items a step.0 at.reducing,
       ))
 
   -- a rule is applied
-  module _ (number : ℕ) (some : end ≡ Some number) where
+  module _ (number : ℕ) (some : step.1 ≡ Some number) where
     pub rule_ends : EndsAt rules (r.done.items ++ a ∷ []) number
-    rule_ends = subst (λ e. IsStep rules states (r.done.items ++ a ∷ []) t e) some at.step
+    rule_ends = subst (λ e. IsStep rules states (r.done.items ++ a ∷ []) step.0 e) some at.step
 
     module _ (rule : Word × Word) (read : rule ≡ get_or rules number rule) where
       left_is : left_at rules number ≡ rule.0
@@ -234,16 +234,16 @@ module _ (rules : List (Word × Word)) (falling : AreFalling rules) (states : Li
 
       pub rule_some : 0 < length rule.0
       rule_some =
-          subst (λ w. 0 < length w) left_is (left_some rules falling states word r.done.items r.rest.items r.states.items a t at.reducing number rule_ends)
+          subst (λ w. 0 < length w) left_is (left_some rules falling states word r.done.items r.rest.items r.states.items a step.0 at.reducing number rule_ends)
 
       pub rule_within : length rule.0 ≤ length r.done.items + 1
       rule_within =
-          subst (λ w. length w ≤ length r.done.items + 1) left_is (left_within rules falling states word r.done.items r.rest.items r.states.items a t at.reducing number rule_ends)
+          subst (λ w. length w ≤ length r.done.items + 1) left_is (left_within rules falling states word r.done.items r.rest.items r.states.items a step.0 at.reducing number rule_ends)
 
       pub rule_follows : (done rest : Word) (path : List ℕ) → done ≡ take (kept r rule.0) r.done.items → path ≡ take (kept r rule.0 + 1) r.states.items
           → rest ≡ r.rest.items ++ reverse rule.1 → IsReducing rules states word done rest path × (weight rules word done rest < weight_at rules word a r)
       rule_follows done rest path d p q =
-          back_to rules falling states word r.done.items r.rest.items r.states.items a t at.reducing number rule_ends rule done rest path read d q p
+          back_to rules falling states word r.done.items r.rest.items r.states.items a step.0 at.reducing number rule_ends rule done rest path read d q p
 
 -- the last state, as the code reads it
 pub last_read : (rules : List (Word × Word)) (states : List Word) (word done rest : Word) (path : List ℕ) (size state : ℕ) → IsReducing rules states word done rest path
@@ -254,11 +254,11 @@ last_read rules states word done rest path size state is size_is state_is =
     (is.longest (length done) (omega arith))
 
 -- the step that a table tells
-pub read_steps : (rules : List (Word × Word)) → AreFalling rules → (states : List Word) → AreStates rules states → (word : Word) (r : Reduction) (a size state t : ℕ) (end : Option ℕ)
+pub read_steps : (rules : List (Word × Word)) → AreFalling rules → (states : List Word) → AreStates rules states → (word : Word) (r : Reduction) (a size state : ℕ) (step : ℕ × Option ℕ)
     → IsReducing rules states word r.done.items (r.rest.items ++ a ∷ []) r.states.items → size ≡ length r.done.items → state ≡ get_or r.states.items size state
-    → Reads rules states (longer states state a) t end → IsAtStep rules states word r a t end
-read_steps rules falling states are word r a size state t end is size_is state_is reads = record {
+    → Reads rules states (longer states state a) step.0 step.1 → IsAtStep rules states word r a step
+read_steps rules falling states are word r a size state step is size_is state_is reads = record {
   reducing = is;
-  step = step_read rules falling states are r.done.items state a t end
+  step = step_read rules falling states are r.done.items state a step.0 step.1
       (last_read rules states word r.done.items (r.rest.items ++ a ∷ []) r.states.items size state is size_is state_is) reads;
 }

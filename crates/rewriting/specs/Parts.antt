@@ -1,36 +1,30 @@
 -- Rules out of which those are taken in whose left sides a word stands.
-use Rattle.std.specs.Prelude.{◌≡◌, ℕ, ◌<◌, ◌≤◌, List, length, not, slice_index_or, Option, None, Some}
+use Rattle.std.specs.Prelude.{◌≡◌, ℕ, ◌+◌, List, [], ◌∷◌, cond, length, not, take, slice_index_or, Option, None, Some}
 use Rattle.std.specs.List.{filter}
-use Rattle.theory.specs.Word.{Word, IsFactor}
+use Rattle.theory.specs.Word.{Word}
 use Rattle.rewriting.specs.Rules.{stands_in}
-use Rattle.rewriting.specs.Tries.{left_at}
 use Rattle.rewriting.specs.declared.parts.Parts.{Parts}
 
--- where each rule has gone, and where those before a place end
-pub record AreMoved (left : Word) (rules kept : List (Word × Word)) (moved : List (Option ℕ))
-    (old_first first : ℕ) : Type 0 where
-  pub count : length moved ≡ length rules
-  pub there : (place to : ℕ) → slice_index_or moved place None ≡ Some to
-      → (to < length kept) × (left_at kept to ≡ left_at rules place)
-  pub gone : (place : ℕ) → place < length rules → slice_index_or moved place None ≡ None
-      → IsFactor left (left_at rules place)
-  pub all : (to : ℕ) → to < length kept
-      → (place : ℕ) × (place < length rules) × (slice_index_or moved place None ≡ Some to)
-  pub before : (place to : ℕ) → slice_index_or moved place None ≡ Some to → place < old_first
-      → to < first
-  pub behind : (place to : ℕ) → slice_index_or moved place None ≡ Some to → old_first ≤ place
-      → first ≤ to
-  pub few : first ≤ length kept
-  pub early : length rules ≤ old_first → first ≡ length kept
+-- the rules that are kept
+abbrev pub kept_of : Word → List (Word × Word) → List (Word × Word)
+kept_of left = filter (λ r. not (stands_in left r.0))
+
+-- where each rule goes, when so many before the first are kept
+abbrev pub places_of : Word → ℕ → List (Word × Word) → List (Option ℕ)
+places_of left n [] = []
+places_of left n (r ∷ rs) = cond (stands_in left r.0) None (Some n)
+    ∷ places_of left (cond (stands_in left r.0) n (n + 1)) rs
 
 -- where the rule at a place has gone, if there is one
 abbrev pub through : List (Option ℕ) → Option ℕ → Option ℕ
 through moved None = None
 through moved (Some place) = slice_index_or moved place None
 
--- the rules that are kept, those that are gone, and where each has gone
-pub record AreParts (left : Word) (rules : List (Word × Word)) (old_first : ℕ)
+-- the rules that are kept, those that are gone, where each has gone, and how many of the first
+-- ones, so many, are kept
+pub record AreParts (left : Word) (rules : List (Word × Word)) (count : ℕ)
     (parts : Parts) : Type 0 where
-  pub kept : parts.kept.items ≡ filter (λ r. not (stands_in left r.0)) rules
+  pub kept : parts.kept.items ≡ kept_of left rules
   pub gone : parts.gone.items ≡ filter (λ r. stands_in left r.0) rules
-  pub moved : AreMoved left rules parts.kept.items parts.moved.items old_first parts.first
+  pub moved : parts.moved.items ≡ places_of left 0 rules
+  pub first : parts.first ≡ length (kept_of left (take count rules))

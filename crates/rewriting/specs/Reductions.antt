@@ -57,10 +57,10 @@ IsReductionAt rules states word letter r =
 -- a reduction of the word, but that the letter is read next, where a left side or else a state
 -- ends
 pub record IsAtStep (rules : List (Word × Word)) (states : List Word) (word : Word) (r : Reduction)
-    (letter next : ℕ) (end : Option ℕ) : Type 0 where
+    (letter : ℕ) (to : ℕ × Option ℕ) : Type 0 where
   pub reducing : IsReducing rules states word r.done.items (r.rest.items ++ letter ∷ [])
       r.states.items
-  pub step : IsStep rules states (r.done.items ++ letter ∷ []) next end
+  pub step : IsStep rules states (r.done.items ++ letter ∷ []) to.0 to.1
 
 -- the weight of a reduction
 abbrev pub weight_of : List (Word × Word) → Word → Reduction → ℕ

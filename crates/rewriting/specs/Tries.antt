@@ -1,7 +1,7 @@
 -- The tree of the states, and the tables that are read from it (Aho and Corasick 1975).
 use Rattle.std.specs.Prelude.{◌≡◌, ◌≢◌, ℕ, ◌+◌, ◌<◌, ◌≤◌, ◌⊎◌, List, [], ◌∷◌, ◌++◌, length, map, take, drop, slice_index_or, slice_set, Contains, Option, None, Some, unwrap_or}
 use Rattle.theory.specs.Word.{Word}
-use Rattle.theory.specs.Graph.{Graph, target}
+use Rattle.theory.specs.Graph.{Graph, IsComplete, target}
 use Rattle.cells.specs.Rows.{AreRows, with_entry, with_node}
 use Rattle.rewriting.specs.States.{ArePrefixes, AreStatesTo, EndsAt, Grown, HasEnd, IsLongest}
 use Rattle.rewriting.specs.declared.tries.Prefix.{Prefix}
@@ -10,6 +10,11 @@ use Rattle.rewriting.specs.declared.tries.Trie.{Trie}
 -- the left side of the rule at a place
 abbrev pub left_at : List (Word × Word) → ℕ → Word
 left_at rules number = (slice_index_or rules number ([], [])).0
+
+-- the number of letters of a left side, or 0 where there is no rule
+abbrev pub IsLeftLength : List (Word × Word) → ℕ → Type 0
+IsLeftLength rules n = ((rules ≡ []) × (n ≡ 0))
+    ⊎ ((place : ℕ) × (place < length rules) × (length (left_at rules place) ≡ n))
 
 -- the word of a prefix: so many letters of the left side of a rule
 abbrev pub state_of : List (Word × Word) → Prefix → Word
@@ -45,90 +50,97 @@ pub record IsProperFront (rules : List (Word × Word)) (u : Word) : Type 0 where
 abbrev pub IsStateWord : List (Word × Word) → Word → Type 0
 IsStateWord rules u = (u ≡ []) ⊎ IsProperFront rules u
 
+-- a tree of words over so many letters: its states, and for each state and letter the state that
+-- they make, and the rule whose left side they make
+pub record Tree : Type 0 where
+  pub letters : ℕ
+  pub states : List Word
+  pub children : Graph
+  pub lefts : Graph
+
 -- the states are distinct, and there is a row for each
-pub record IsTrie (k : ℕ) (rules : List (Word × Word)) (states : List Word)
-    (children lefts : Graph) : Type 0 where
-  pub prefixes : ArePrefixes states
-  pub distinct : (i j : ℕ) → i < length states → j < length states
-      → slice_index_or states i [] ≡ slice_index_or states j [] → i ≡ j
-  pub only : (n : ℕ) → n < length states → IsStateWord rules (slice_index_or states n [])
-  pub child_rows : AreRows (length states) k children
-  pub left_rows : AreRows (length states) k lefts
-  pub child : (n a : ℕ) → n < length states → a < k
-      → IsChild states (longer states n a) (target children n a)
-  pub left : (n a : ℕ) → n < length states → a < k
-      → IsLeft rules (longer states n a) (target lefts n a)
+pub record IsTrie (rules : List (Word × Word)) (t : Tree) : Type 0 where
+  pub prefixes : ArePrefixes t.states
+  pub distinct : (i j : ℕ) → i < length t.states → j < length t.states
+      → slice_index_or t.states i [] ≡ slice_index_or t.states j [] → i ≡ j
+  pub only : (n : ℕ) → n < length t.states → IsStateWord rules (slice_index_or t.states n [])
+  pub child_rows : AreRows (length t.states) t.letters t.children
+  pub left_rows : AreRows (length t.states) t.letters t.lefts
+  pub child : (n a : ℕ) → n < length t.states → a < t.letters
+      → IsChild t.states (longer t.states n a) (target t.children n a)
+  pub left : (n a : ℕ) → n < length t.states → a < t.letters
+      → IsLeft rules (longer t.states n a) (target t.lefts n a)
 
 -- the left side of a rule is marked at its last letter
-pub record IsMarked (k : ℕ) (states : List Word) (lefts : Graph)
-    (left : Word) : Type 0 where
+pub record IsMarked (t : Tree) (left : Word) : Type 0 where
   pub node : ℕ
   pub letter : ℕ
   pub number : ℕ
-  pub node_within : node < length states
-  pub letter_within : letter < k
-  pub is : left ≡ longer states node letter
-  pub marked : target lefts node letter ≡ Some number
+  pub node_within : node < length t.states
+  pub letter_within : letter < t.letters
+  pub is : left ≡ longer t.states node letter
+  pub marked : target t.lefts node letter ≡ Some number
 
 -- the left sides of the first rules are marked, so many
-abbrev pub AreMarkedTo : ℕ → List (Word × Word) → ℕ → List Word → Graph → Type 0
-AreMarkedTo k rules number states lefts = (n : ℕ) → n < number → n < length rules
-    → IsMarked k states lefts (left_at rules n)
+abbrev pub AreMarkedTo : List (Word × Word) → ℕ → Tree → Type 0
+AreMarkedTo rules number t = (n : ℕ) → n < number → n < length rules → IsMarked t (left_at rules n)
 
--- the states, children and marks of the first rules, so many
-pub record IsGrown (k : ℕ) (rules : List (Word × Word)) (number : ℕ) (states : List Word)
-    (children lefts : Graph) : Type 0 where
-  pub trie : IsTrie k rules states children lefts
-  pub are : AreStatesTo rules number states
-  pub marked : AreMarkedTo k rules number states lefts
+-- the tree of the first rules, so many
+pub record IsGrown (rules : List (Word × Word)) (number : ℕ) (t : Tree) : Type 0 where
+  pub trie : IsTrie rules t
+  pub are : AreStatesTo rules number t.states
+  pub marked : AreMarkedTo rules number t
 
--- the tree while a left side is read, up to a node
-pub record IsGrowing (k : ℕ) (rules : List (Word × Word)) (number : ℕ) (old : List Word)
-    (left : Word) (count : ℕ) (states : List Word) (children lefts : Graph)
+-- the tree while a left side is read, so many letters of it, up to a node
+pub record IsGrowing (rules : List (Word × Word)) (old : Tree) (read : Prefix) (t : Tree)
     (node : ℕ) : Type 0 where
-  pub trie : IsTrie k rules states children lefts
-  pub marked : AreMarkedTo k rules number states lefts
-  pub grown : Grown old left (count + 1) states
-  pub within : node < length states
-  pub is : slice_index_or states node [] ≡ take count left
+  pub letters : t.letters ≡ old.letters
+  pub trie : IsTrie rules t
+  pub marked : AreMarkedTo rules read.rule t
+  pub grown : Grown old.states (left_at rules read.rule) (read.count + 1) t.states
+  pub within : node < length t.states
+  pub is : slice_index_or t.states node [] ≡ state_of rules read
 
 -- the child that is there
-pub record IsThere (node letter : ℕ) (prefixes new_prefixes : List Prefix)
-    (children lefts new_children new_lefts : Graph) (to : ℕ) : Type 0 where
-  pub found : target children node letter ≡ Some to
-  pub same_prefixes : new_prefixes ≡ prefixes
-  pub same_children : new_children ≡ children
-  pub same_lefts : new_lefts ≡ lefts
+pub record IsThere (node letter : ℕ) (old new : Trie) (to : ℕ) : Type 0 where
+  pub found : target old.children node letter ≡ Some to
+  pub same : new ≡ old
 
 -- a new child
-pub record IsNew (k node letter : ℕ) (prefix : Prefix) (prefixes new_prefixes : List Prefix)
-    (children lefts new_children new_lefts : Graph) (to : ℕ) : Type 0 where
-  pub missing : target children node letter ≡ None
-  pub number : to ≡ length children
-  pub more_prefixes : new_prefixes ≡ prefixes ++ prefix ∷ []
-  pub more_children : new_children ≡ with_entry (with_node k children) node letter (Some to)
-  pub more_lefts : new_lefts ≡ with_node k lefts
+pub record IsNew (node letter : ℕ) (prefix : Prefix) (old new : Trie) (to : ℕ) : Type 0 where
+  pub missing : target old.children node letter ≡ None
+  pub number : to ≡ length old.children
+  pub letters : new.letters ≡ old.letters
+  pub prefixes : new.prefixes.items ≡ old.prefixes.items ++ prefix ∷ []
+  pub children : new.children
+      ≡ with_entry (with_node old.letters old.children) node letter (Some to)
+  pub lefts : new.lefts ≡ with_node old.letters old.lefts
 
 -- the child by the letter in the old tree, which the new one has if the old one has none
-abbrev pub FindsChild : ℕ → ℕ → ℕ → Prefix → Trie → Trie → ℕ → Type 0
-FindsChild k node letter prefix old new to =
-    IsThere node letter old.prefixes.items new.prefixes.items
-    old.children old.lefts new.children new.lefts to
-    ⊎ IsNew k node letter prefix old.prefixes.items new.prefixes.items
-    old.children old.lefts new.children new.lefts to
+abbrev pub FindsChild : ℕ → ℕ → Prefix → Trie → Trie → ℕ → Type 0
+FindsChild node letter prefix old new to =
+    IsThere node letter old new to ⊎ IsNew node letter prefix old new to
 
 -- the words of the states of a tree
 abbrev pub states_of : List (Word × Word) → Trie → List Word
 states_of rules trie = words_of rules trie.prefixes.items
 
+-- a tree as the code keeps it
+abbrev pub tree_of : List (Word × Word) → Trie → Tree
+tree_of rules trie = record {
+  letters = trie.letters;
+  states = states_of rules trie;
+  children = trie.children;
+  lefts = trie.lefts;
+}
+
 -- the tree of the first rules, so many
-abbrev pub IsTreeTo : ℕ → List (Word × Word) → ℕ → Trie → Type 0
-IsTreeTo k rules number trie =
-    IsGrown k rules number (states_of rules trie) trie.children trie.lefts
+abbrev pub IsTreeTo : List (Word × Word) → ℕ → Trie → Type 0
+IsTreeTo rules number trie = IsGrown rules number (tree_of rules trie)
 
 -- the tree of all rules
-abbrev pub IsTreeOf : ℕ → List (Word × Word) → Trie → Type 0
-IsTreeOf k rules = IsTreeTo k rules (length rules)
+abbrev pub IsTreeOf : List (Word × Word) → Trie → Type 0
+IsTreeOf rules = IsTreeTo rules (length rules)
 
 -- numbers of states, each once or more, the shorter states first
 pub record IsOrder (states : List Word) (order : List ℕ) : Type 0 where
@@ -197,36 +209,49 @@ IsDone order place letter n a =
 abbrev pub state_at : Graph → ℕ → ℕ → ℕ
 state_at targets node letter = unwrap_or (target targets node letter) 0
 
--- rows of so many states and letters, and numbers of states in them
-pub record AreTables (k n : ℕ) (targets : Graph) (links : List ℕ) (ends : Graph) : Type 0 where
-  pub some : 0 < n
-  pub target_rows : AreRows n k targets
-  pub end_rows : AreRows n k ends
-  pub links_count : length links ≡ n
-  pub targets_within : (i a : ℕ) → state_at targets i a < n
-  pub links_within : (i : ℕ) → i < n → slice_index_or links i 0 < n
+-- the tables while they are filled: for each state and letter a state and an end, and for each state
+-- a link
+pub record Filling : Type 0 where
+  pub targets : Graph
+  pub links : List ℕ
+  pub ends : Graph
 
--- the entries before the place and the letter are right
-pub record IsLinkedTo (k : ℕ) (rules : List (Word × Word)) (states : List Word)
-    (children : Graph) (order : List ℕ) (place letter : ℕ) (targets : Graph) (links : List ℕ)
-    (ends : Graph) : Type 0 where
-  pub reads : (n a : ℕ) → n < length states → a < k → IsDone order place letter n a
-      → Reads rules states (longer states n a) (state_at targets n a) (target ends n a)
-  pub there : (n a : ℕ) → n < length states → a < k → IsDone order place letter n a
-      → (to : ℕ) × (target targets n a ≡ Some to)
+-- rows for the states of a tree, and numbers of states in them
+pub record AreTables (t : Tree) (f : Filling) : Type 0 where
+  pub some : 0 < length t.states
+  pub target_rows : AreRows (length t.states) t.letters f.targets
+  pub end_rows : AreRows (length t.states) t.letters f.ends
+  pub links_count : length f.links ≡ length t.states
+  pub targets_within : (i a : ℕ) → state_at f.targets i a < length t.states
+  pub links_within : (i : ℕ) → i < length t.states → slice_index_or f.links i 0 < length t.states
+
+-- the entries before the place in the order and the letter are right
+pub record IsLinkedTo (rules : List (Word × Word)) (t : Tree) (order : List ℕ) (place letter : ℕ)
+    (f : Filling) : Type 0 where
+  pub reads : (n a : ℕ) → n < length t.states → a < t.letters → IsDone order place letter n a
+      → Reads rules t.states (longer t.states n a) (state_at f.targets n a) (target f.ends n a)
+  pub there : (n a : ℕ) → n < length t.states → a < t.letters → IsDone order place letter n a
+      → (to : ℕ) × (target f.targets n a ≡ Some to)
   -- the link of a state leads to the longest state at its end that is not all of it
-  pub link : (n a to : ℕ) → n < length states → a < k → IsDone order place letter n a
-      → target children n a ≡ Some to
-      → IsLongest states (drop 1 (slice_index_or states to [])) (slice_index_or links to 0)
+  pub link : (n a to : ℕ) → n < length t.states → a < t.letters → IsDone order place letter n a
+      → target t.children n a ≡ Some to
+      → IsLongest t.states (drop 1 (slice_index_or t.states to [])) (slice_index_or f.links to 0)
+
+-- each entry is right
+pub record IsFilled (rules : List (Word × Word)) (t : Tree) (f : Filling) : Type 0 where
+  pub tables : AreTables t f
+  pub reads : (n a : ℕ) → n < length t.states → a < t.letters
+      → Reads rules t.states (longer t.states n a) (state_at f.targets n a) (target f.ends n a)
+  pub full : IsComplete t.letters f.targets
 
 -- what is read behind the first letter of a state and a letter
-abbrev pub IsBehind : ℕ → ℕ → Graph → List ℕ → Graph → ℕ × Option ℕ → Type 0
-IsBehind node letter targets links ends r =
+abbrev pub IsBehind : ℕ → ℕ → Filling → ℕ × Option ℕ → Type 0
+IsBehind node letter f r =
     ((node ≡ 0) × (r ≡ (0, None)))
     ⊎ ((node ≢ 0)
     × (r ≡ (
-      state_at targets (slice_index_or links node 0) letter,
-      target ends (slice_index_or links node 0) letter,
+      state_at f.targets (slice_index_or f.links node 0) letter,
+      target f.ends (slice_index_or f.links node 0) letter,
     )))
 
 -- the links, with that of a child

@@ -1,17 +1,14 @@
 // Rules that change, and that are found by a table.
-ghost use Rattle.std.specs.Prelude.{◌≡◌, ℕ, ◌<◌, ◌≤◌, false, [], ◌∷◌, ◌++◌, length, map, not, slice_index_or, slice_set, IfOk};
-ghost use Rattle.std.specs.List.{filter, range_with_len};
+ghost use Rattle.std.specs.Prelude.{◌≡◌, ℕ, ◌<◌, ◌≤◌, false, [], ◌∷◌, ◌++◌, length, not, slice_index_or, slice_set, IfOk};
+ghost use Rattle.std.specs.List.{filter};
 ghost use Rattle.theory.specs.ShortLex.{◌≺◌};
 ghost use Rattle.theory.specs.Completion.{IsReduced, Listed, Reduces};
 ghost use Rattle.rewriting.specs.Rules.{AreFalling, stands_in};
-ghost use Rattle.rewriting.specs.Tries.{left_at};
+ghost use Rattle.rewriting.specs.Tries.{IsLeftLength, left_at};
 ghost use Rattle.rewriting.specs.Traces.{LeadBy};
 
-use crate::factors::{has_factor, word_of};
-use crate::index_automaton::IndexAutomaton;
+use crate::factors::word_of;
 use crate::lookups::Lookup;
-use crate::newer::Newer;
-use crate::parts::{part, places_after};
 use crate::reductions::{Reduction, begin, unread};
 use crate::rule_lists::Rules;
 use crate::traces::{Applied, note};
@@ -48,17 +45,6 @@ impl Model for KeptRules {
     ghost invariant = { λ k. IsLookup k.rules k.lookup };
 }
 
-// The first places, so many.
-fn all_places(alloc: Global, count: usize) -> Result<Vec<Option<usize>>, NoMemory>
-    ensures { IfOk result (λ places. places.items ≡ map Some (range_with_len 0 count)) }
-{
-    let mut places = Vec::new(alloc);
-    for place in 0..count {
-        places.push(Some(place))?;
-    }
-    Ok(places)
-}
-
 impl KeptRules {
     /// The list without rules. It takes no memory.
     pub fn new(alloc: Global) -> KeptRules
@@ -81,8 +67,9 @@ impl KeptRules {
 
     /// How many letters the longest left side has.
     pub fn longest_left(&self) -> usize
-        ensures { (place : ℕ) → place < length self.now
+        ensures most { (place : ℕ) → place < length self.now
             → length (left_at self.now place) ≤ result }
+        ensures reached { IsLeftLength self.now result }
     {
         self.rules.longest_left()
     }
@@ -119,72 +106,8 @@ impl KeptRules {
     pub fn rebuild(&mut self) -> Result<(), NoMemory>
         ensures { self.new ≡ self.old }
     {
-        let alloc = self.rules.alloc;
-        let count = self.rules.len();
-        let table = IndexAutomaton::of(alloc, self.rules.letters(), &self.rules)?;
-        self.lookup = Lookup {
-            table: Some(table),
-            places: all_places(alloc, count)?,
-            first: count,
-            newer: Newer::none(alloc),
-        };
+        self.lookup = Lookup::of(&self.rules)?;
         Ok(())
-    }
-
-    // Whether the word stands in a left side.
-    fn has_in_left(&self, word: &Word) -> bool
-        ensures { result ≡ false → (place : ℕ) → place < length self.now
-            → stands_in word.now (left_at self.now place) ≡ false }
-    {
-        for place in 0..self.rules.len() {
-            if has_factor(&self.rules.rule(place).0, word) {
-                return true;
-            }
-        }
-        false
-    }
-
-    // The rules with one more, whose left side stands in no other.
-    fn with(self, left: Word, right: Word) -> Result<KeptRules, NoMemory>
-        requires { right ≺ left }
-        ensures { IfOk result (λ r. r ≡ self ++ (left, right) ∷ []) }
-    {
-        let KeptRules { mut rules, lookup } = self;
-        let alloc = rules.alloc;
-        rules.push(left, right)?;
-        let newer = lookup.newer.with_last(alloc, &rules, lookup.first)?;
-        let lookup = Lookup {
-            table: lookup.table,
-            places: lookup.places,
-            first: lookup.first,
-            newer,
-        };
-        KeptRules { rules, lookup }.renewed()
-    }
-
-    // The rules in whose left sides that of a new rule does not stand, with the new rule behind
-    // them, and those that are taken out.
-    fn parted(self, left: Word, right: Word) -> Result<(KeptRules, Vec<(Word, Word)>), NoMemory>
-        requires { right ≺ left }
-        ensures kept { IfOk result (λ r.
-            r.0 ≡ filter (λ q. not (stands_in left q.0)) self ++ (left, right) ∷ []) }
-        ensures gone { IfOk result (λ r. r.1.items ≡ filter (λ q. stands_in left q.0) self) }
-    {
-        let KeptRules { rules, lookup } = self;
-        let alloc = rules.alloc;
-        let parts = part(alloc, rules.into_vec(), &left, lookup.first)?;
-        let places = places_after(alloc, lookup.places.as_slice(), parts.moved.as_slice())?;
-        let mut rules = Rules::from_vec(alloc, parts.kept);
-        rules.push(left, right)?;
-        let newer = Newer::of(alloc, &rules, parts.first)?;
-        let lookup = Lookup {
-            table: lookup.table,
-            places,
-            first: parts.first,
-            newer,
-        };
-        let kept = KeptRules { rules, lookup }.renewed()?;
-        Ok((kept, parts.gone))
     }
 
     /// Takes out the rules in whose left sides that of a new rule stands, and puts the new rule at
@@ -196,12 +119,11 @@ impl KeptRules {
             r.0 ≡ filter (λ q. not (stands_in left q.0)) self ++ (left, right) ∷ []) }
         ensures gone { IfOk result (λ r. r.1.items ≡ filter (λ q. stands_in left q.0) self) }
     {
-        if self.has_in_left(&left) {
-            return self.parted(left, right);
-        }
-        let alloc = self.rules.alloc;
-        let kept = self.with(left, right)?;
-        Ok((kept, Vec::new(alloc)))
+        let KeptRules { rules, mut lookup } = self;
+        let (rules, gone) = lookup.put(rules, left, right)?;
+        let mut kept = KeptRules { rules, lookup };
+        kept.renew()?;
+        Ok((kept, gone))
     }
 
     // How many rules may be newer before the table is made anew.
@@ -209,15 +131,14 @@ impl KeptRules {
         NEWER_AT_MOST + self.lookup.states() / STATES_FOR_ONE_MORE
     }
 
-    // The same rules, with a new table if many are newer.
-    fn renewed(self) -> Result<KeptRules, NoMemory>
-        ensures { IfOk result (λ r. r ≡ self) }
+    // Makes the table anew if many rules are newer.
+    fn renew(&mut self) -> Result<(), NoMemory>
+        ensures { self.new ≡ self.old }
     {
-        let mut kept = self;
-        if kept.newer_at_most() < kept.rules.len() - kept.lookup.first {
-            kept.rebuild()?;
+        if self.newer_at_most() < self.rules.len() - self.lookup.first {
+            self.rebuild()?;
         }
-        Ok(kept)
+        Ok(())
     }
 
     /// A word to which the rules lead from the word, and to which none applies. Refused only where

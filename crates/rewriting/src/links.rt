@@ -2,12 +2,10 @@
 // (Aho and Corasick 1975).
 ghost use Rattle.std.specs.Prelude.{◌≡◌, ℕ, ◌+◌, ◌<◌, ◌≤◌, length, replicate, Option, IfOk};
 ghost use Rattle.std.specs.Option.{ForSome};
-ghost use Rattle.rewriting.specs.Rules.{AreOver};
-ghost use Rattle.rewriting.specs.Tries.{IsBehind, IsOrder, IsTreeOf, linked, states_of};
-ghost use Rattle.rewriting.specs.Links.{AreLinkedTo, FitTree};
+ghost use Rattle.rewriting.specs.Tries.{IsBehind, linked};
+ghost use Rattle.rewriting.specs.Links.{AreFilled, AreLevels, AreLinkedTo, FitLevels, filling_of};
 
-use crate::rule_lists::Rules;
-use crate::tries::Trie;
+use crate::levels::Levels;
 use cells::{Cells, NUMBERS_AT_MOST};
 use ports::NoMemory;
 use std::alloc::Global;
@@ -29,22 +27,6 @@ fn noughts(alloc: Global, count: usize) -> Result<Vec<usize>, NoMemory>
     Ok(Vec::from_elem(alloc, 0, count)?)
 }
 
-// What is read behind the first letter of the state and the letter: where its link leads by the
-// letter.
-fn read_behind(tables: &Tables, node: usize, letter: Letter) -> (usize, Option<usize>)
-    requires { node < length tables.now.links.items }
-    ensures behind { IsBehind node letter
-        tables.now.targets tables.now.links.items tables.now.ends result }
-    ensures few { ForSome result.1 (λ n. n < NUMBERS_AT_MOST) }
-{
-    if node == 0 {
-        return (0, None);
-    }
-    let link = tables.links[node];
-    let target = tables.targets.get(link, letter).unwrap_or(0);
-    (target, tables.ends.get(link, letter))
-}
-
 // The child's link, if there is a child.
 fn set_link(links: &mut Vec<usize>, child: Option<usize>, to: usize)
     requires { (c : ℕ) → child ≡ Option.Some c → c < length links.old.items }
@@ -55,88 +37,78 @@ fn set_link(links: &mut Vec<usize>, child: Option<usize>, to: usize)
     }
 }
 
-// The entries of a state and letter, when those of shorter states are there.
-fn link_entry(
-    tables: &mut Tables,
-    trie: &Trie,
-    letters: usize,
-    rules: &Rules,
-    order: &[usize],
-    index: usize,
-    letter: Letter,
-)
-    requires over { AreOver letters rules.now }
-    requires grown { IsTreeOf letters rules.now trie.now }
-    requires order { IsOrder (states_of rules.now trie.now) order.now }
-    requires index { index < length order.now }
-    requires letter { letter < letters }
-    requires tables { FitTree letters rules.now trie.now tables.old }
-    requires linked { AreLinkedTo letters rules.now trie.now order.now index letter tables.old }
-    ensures tables { FitTree letters rules.now trie.now tables.new }
-    ensures linked { AreLinkedTo letters rules.now trie.now order.now index (letter + 1)
-        tables.new }
-{
-    let _items = &rules.items;
-    let node = order[index];
-    let behind = read_behind(tables, node, letter);
-    let child = trie.children.get(node, letter);
-    let end = trie.lefts.get(node, letter).or(behind.1);
-    tables
-        .targets
-        .put(node, letter, Some(child.unwrap_or(behind.0)));
-    tables.ends.put_number(node, letter, end);
-    set_link(&mut tables.links, child, behind.0);
-}
+impl Tables {
+    // What is read behind the first letter of the state and the letter: where its link leads by
+    // the letter.
+    fn read_behind(&self, node: usize, letter: Letter) -> (usize, Option<usize>)
+        requires { node < length self.now.links.items }
+        ensures behind { IsBehind node letter (filling_of self.now) result }
+        ensures few { ForSome result.1 (λ n. n < NUMBERS_AT_MOST) }
+    {
+        if node == 0 {
+            return (0, None);
+        }
+        let link = self.links[node];
+        let target = self.targets.get(link, letter).unwrap_or(0);
+        (target, self.ends.get(link, letter))
+    }
 
-// The entries of a state.
-fn link_row(
-    tables: &mut Tables,
-    trie: &Trie,
-    letters: usize,
-    rules: &Rules,
-    order: &[usize],
-    index: usize,
-)
-    requires few { letters ≤ 256 }
-    requires over { AreOver letters rules.now }
-    requires grown { IsTreeOf letters rules.now trie.now }
-    requires order { IsOrder (states_of rules.now trie.now) order.now }
-    requires index { index < length order.now }
-    requires tables { FitTree letters rules.now trie.now tables.old }
-    requires linked { AreLinkedTo letters rules.now trie.now order.now index 0 tables.old }
-    ensures tables { FitTree letters rules.now trie.now tables.new }
-    ensures linked { AreLinkedTo letters rules.now trie.now order.now (index + 1) 0 tables.new }
-{
-    for letter in 0..letters {
-        let letter = Letter::new(letter as u8);
-        link_entry(tables, trie, letters, rules, order, index, letter);
+    // The entries of a state and letter, when those of shorter states are there.
+    fn link_entry(&mut self, levels: &Levels, index: usize, letter: Letter)
+        requires levels { AreLevels levels.now }
+        requires index { index < length levels.now.order.now }
+        requires letter { letter < levels.now.trie.now.letters }
+        requires tables { FitLevels levels.now self.old }
+        requires linked { AreLinkedTo levels.now index letter self.old }
+        ensures tables { FitLevels levels.now self.new }
+        ensures linked { AreLinkedTo levels.now index (letter + 1) self.new }
+    {
+        let _count = levels.rules.len();
+        let trie = levels.trie;
+        let order = levels.order;
+        let node = order[index];
+        let behind = self.read_behind(node, letter);
+        let child = trie.children.get(node, letter);
+        let end = trie.lefts.get(node, letter).or(behind.1);
+        self.targets
+            .put(node, letter, Some(child.unwrap_or(behind.0)));
+        self.ends.put_number(node, letter, end);
+        set_link(&mut self.links, child, behind.0);
+    }
+
+    // The entries of a state.
+    fn link_row(&mut self, levels: &Levels, index: usize)
+        requires few { levels.now.trie.now.letters ≤ 256 }
+        requires levels { AreLevels levels.now }
+        requires index { index < length levels.now.order.now }
+        requires tables { FitLevels levels.now self.old }
+        requires linked { AreLinkedTo levels.now index 0 self.old }
+        ensures tables { FitLevels levels.now self.new }
+        ensures linked { AreLinkedTo levels.now (index + 1) 0 self.new }
+    {
+        let trie = levels.trie;
+        for letter in 0..trie.letters {
+            self.link_entry(levels, index, Letter::new(letter as u8));
+        }
     }
 }
 
 /// The tables of the tree, the shorter states first. Refused only where memory is wanting.
-pub fn tables_of(
-    alloc: Global,
-    trie: &Trie,
-    letters: usize,
-    rules: &Rules,
-    order: &[usize],
-) -> Result<Tables, NoMemory>
-    requires few { letters ≤ 256 }
-    requires over { AreOver letters rules.now }
-    requires grown { IsTreeOf letters rules.now trie.now }
-    requires order { IsOrder (states_of rules.now trie.now) order.now }
-    ensures tables { IfOk result (FitTree letters rules.now trie.now) }
-    ensures linked { IfOk result
-        (AreLinkedTo letters rules.now trie.now order.now (length order.now) 0) }
+pub fn tables_of(alloc: Global, levels: &Levels) -> Result<Tables, NoMemory>
+    requires few { levels.now.trie.now.letters ≤ 256 }
+    requires levels { AreLevels levels.now }
+    ensures { IfOk result (AreFilled levels.now.rules.now levels.now.trie.now) }
 {
+    let trie = levels.trie;
+    let order = levels.order;
     let states = trie.prefixes.len();
     let mut tables = Tables {
-        targets: Cells::of(alloc, states, letters)?,
-        ends: Cells::of(alloc, states, letters)?,
+        targets: Cells::of(alloc, states, trie.letters)?,
+        ends: Cells::of(alloc, states, trie.letters)?,
         links: noughts(alloc, states)?,
     };
     for index in 0..order.len() {
-        link_row(&mut tables, trie, letters, rules, order, index);
+        tables.link_row(levels, index);
     }
     Ok(tables)
 }

@@ -1,18 +1,22 @@
 // How rules are found at the end of a word: in a table of those that were there when it was made,
 // and by their last letters where they are newer.
-ghost use Rattle.std.specs.Prelude.{◌≡◌, ℕ, ◌+◌, ◌<◌, ◌≤◌, [], ◌∷◌, ◌++◌, List, length, IfOk, OnOk, IsTrue, ◌↔◌, MatchOption};
+ghost use Rattle.std.specs.Prelude.{◌≡◌, ℕ, ◌+◌, ◌<◌, ◌≤◌, [], ◌∷◌, ◌++◌, List, length, map, not, Some, IfOk, OnOk, IsTrue, ◌↔◌, MatchOption};
+ghost use Rattle.std.specs.List.{filter, range_with_len};
 ghost use Rattle.theory.specs.Word.{Word as Letters};
-ghost use Rattle.rewriting.specs.Rules.{AreFalling};
+ghost use Rattle.theory.specs.ShortLex.{◌≺◌};
+ghost use Rattle.rewriting.specs.Rules.{AreFalling, stands_in};
 ghost use Rattle.rewriting.specs.States.{EndsAt, IsStep};
 ghost use Rattle.rewriting.specs.Tables.{IsTableOf};
 ghost use Rattle.rewriting.specs.Tries.{longer, words_of, Reads};
 ghost use Rattle.rewriting.specs.Reductions.{weight_at, weight_of};
 ghost use Rattle.rewriting.specs.Traces.{LeadsOn};
 ghost use Rattle.rewriting.specs.Newer.{AreNewer};
+ghost use Rattle.rewriting.specs.Parts.{through};
 ghost use Rattle.rewriting.specs.Lookups.{IsAtLetter, IsLookup, IsRewriting, IsRewritingAt, StandsLast, moves_of, reads_to};
 
 use crate::index_automaton::IndexAutomaton;
 use crate::newer::{Newer, key_of, key_on};
+use crate::parts::{part, places_after};
 use crate::reductions::Reduction;
 use crate::rule_lists::Rules;
 use crate::traces::{Applied, follow};
@@ -40,6 +44,17 @@ fn stands_last(letters: &[Letter], letter: Letter, word: &[Letter]) -> bool
     word[last] == letter && letters.ends_with(&word[..last])
 }
 
+// The first places, so many.
+fn all_places(alloc: Global, count: usize) -> Result<Vec<Option<usize>>, NoMemory>
+    ensures { IfOk result (λ places. places.items ≡ map Some (range_with_len 0 count)) }
+{
+    let mut places = Vec::new(alloc);
+    for place in 0..count {
+        places.push(Some(place))?;
+    }
+    Ok(places)
+}
+
 impl Lookup {
     /// The lookup of no rule.
     pub fn new(alloc: Global) -> Lookup
@@ -53,6 +68,22 @@ impl Lookup {
         }
     }
 
+    /// The lookup of the rules by a table of them all. Refused only where memory is wanting.
+    pub fn of(rules: &Rules) -> Result<Lookup, NoMemory>
+        ensures { IfOk result (IsLookup rules.now) }
+    {
+        let alloc = rules.alloc;
+        let count = rules.len();
+        let places = all_places(alloc, count)?;
+        let table = IndexAutomaton::of(alloc, rules.letters(), rules)?;
+        Ok(Lookup {
+            table: Some(table),
+            places,
+            first: count,
+            newer: Newer::none(alloc),
+        })
+    }
+
     /// How many states the table has.
     pub fn states(&self) -> usize
         ensures { result ≡ length (moves_of self.now).prefixes }
@@ -61,6 +92,83 @@ impl Lookup {
             Some(table) => table.nodes(),
             None => 1,
         }
+    }
+
+    // The last rule of the list is a newer one, and the others are those that were found so far.
+    fn put_last(&mut self, rules: &Rules) -> Result<(), NoMemory>
+        requires { (others : List (Letters × Letters)) × (last : Letters × Letters)
+            × (rules.now ≡ others ++ last ∷ []) × IsLookup others self.old }
+        ensures { OnOk result (IsLookup rules.now self.new) }
+    {
+        self.newer.put_last(rules, self.first)
+    }
+
+    // The rules have gone to other places, and behind the first ones, so many, all are newer.
+    fn place_anew(
+        &mut self,
+        rules: &Rules,
+        moved: &[Option<usize>],
+        first: usize,
+    ) -> Result<(), NoMemory>
+        requires { first ≤ length rules.now }
+        ensures table { OnOk result (self.new.table ≡ self.old.table) }
+        ensures places { OnOk result
+            (self.new.places.items ≡ map (through moved.now) self.old.places.items) }
+        ensures first { OnOk result (self.new.first ≡ first) }
+        ensures newer { OnOk result (AreNewer rules.now first self.new.newer) }
+    {
+        let alloc = rules.alloc;
+        self.places = places_after(alloc, self.places.as_slice(), moved)?;
+        self.first = first;
+        self.newer = Newer::of(alloc, rules, first)?;
+        Ok(())
+    }
+
+    // The same, where some rule may be taken out.
+    fn take_out(
+        &mut self,
+        rules: Rules,
+        left: Word,
+        right: Word,
+    ) -> Result<(Rules, Vec<(Word, Word)>), NoMemory>
+        requires lookup { IsLookup rules self.old }
+        requires falls { right ≺ left }
+        ensures lookup { IfOk result (λ r. IsLookup r.0 self.new) }
+        ensures kept { IfOk result (λ r.
+            r.0 ≡ filter (λ q. not (stands_in left q.0)) rules ++ (left, right) ∷ []) }
+        ensures gone { IfOk result (λ r. r.1.items ≡ filter (λ q. stands_in left q.0) rules) }
+    {
+        let alloc = rules.alloc;
+        let parts = part(alloc, rules.into_vec(), &left, self.first)?;
+        let mut rules = Rules::from_vec(alloc, parts.kept);
+        rules.push(left, right)?;
+        self.place_anew(&rules, parts.moved.as_slice(), parts.first)?;
+        Ok((rules, parts.gone))
+    }
+
+    /// Takes out the rules in whose left sides that of a new rule stands, and puts the new rule at
+    /// the end. What was taken out is given back, in order. Refused only where memory is wanting.
+    pub fn put(
+        &mut self,
+        rules: Rules,
+        left: Word,
+        right: Word,
+    ) -> Result<(Rules, Vec<(Word, Word)>), NoMemory>
+        requires lookup { IsLookup rules self.old }
+        requires falls { right ≺ left }
+        ensures lookup { IfOk result (λ r. IsLookup r.0 self.new) }
+        ensures kept { IfOk result (λ r.
+            r.0 ≡ filter (λ q. not (stands_in left q.0)) rules ++ (left, right) ∷ []) }
+        ensures gone { IfOk result (λ r. r.1.items ≡ filter (λ q. stands_in left q.0) rules) }
+    {
+        if rules.has_in_left(&left) {
+            return self.take_out(rules, left, right);
+        }
+        let alloc = rules.alloc;
+        let mut rules = rules;
+        rules.push(left, right)?;
+        self.put_last(&rules)?;
+        Ok((rules, Vec::new(alloc)))
     }
 
     // Whether the left side of the newer rule of a number, from 0, stands at the end of the letters

@@ -114,20 +114,20 @@ impl Newer {
         self.latest.len() == KEYS && self.depth <= left.len()
     }
 
-    /// These rules with the last one of the list, where they are all others behind the first ones,
-    /// so many. Refused only where memory is wanting.
-    pub fn with_last(self, alloc: Global, rules: &Rules, first: usize) -> Result<Newer, NoMemory>
+    /// The last rule of the list is put behind these, which are all others behind the first ones, so
+    /// many. Refused only where memory is wanting.
+    pub fn put_last(&mut self, rules: &Rules, first: usize) -> Result<(), NoMemory>
         requires { (others : List (Letters × Letters)) × (last : Letters × Letters)
-            × (rules.now ≡ others ++ last ∷ []) × AreNewer others first self }
-        ensures { IfOk result (AreNewer rules.now first) }
+            × (rules.now ≡ others ++ last ∷ []) × AreNewer others first self.old }
+        ensures { OnOk result (AreNewer rules.now first self.new) }
     {
         let left = rules.rule(rules.len() - 1).0.letters();
         if !self.takes(left) {
-            return Newer::of(alloc, rules, first);
+            *self = Newer::of(rules.alloc, rules, first)?;
+            return Ok(());
         }
-        let mut newer = self;
-        newer.push(left)?;
-        Ok(newer)
+        self.push(left)?;
+        Ok(())
     }
 
     /// The last rule of a key, by its number behind the first ones.

@@ -1,10 +1,11 @@
 // Lists of rewriting rules.
-ghost use Rattle.std.specs.Prelude.{◌≡◌, ℕ, ◌<◌, ◌≤◌, [], ◌∷◌, ◌++◌, length, slice_index_or, slice_set, IfOk, OnOk, OnErr, IsTrue, ◌↔◌};
+ghost use Rattle.std.specs.Prelude.{◌≡◌, ℕ, ◌<◌, ◌≤◌, false, [], ◌∷◌, ◌++◌, length, slice_index_or, slice_set, IfOk, OnOk, OnErr, IsTrue, ◌↔◌};
 ghost use Rattle.theory.specs.Word.{IsOver};
 ghost use Rattle.theory.specs.ShortLex.{◌≺◌};
-ghost use Rattle.rewriting.specs.Rules.{AreFalling, AreOver};
-ghost use Rattle.rewriting.specs.Tries.{left_at};
+ghost use Rattle.rewriting.specs.Rules.{AreFalling, AreOver, stands_in};
+ghost use Rattle.rewriting.specs.Tries.{IsLeftLength, left_at};
 
+use crate::factors::has_factor;
 use ports::NoMemory;
 use std::alloc::Global;
 use std::marker::Model;
@@ -42,6 +43,15 @@ fn letters_in(word: &Word, most: usize) -> usize
         letters = letters.max(word.letter(place).number() + 1);
     }
     letters
+}
+
+// The sides of a rule in memory of their own.
+fn copy_of(alloc: Global, rule: &(Word, Word)) -> Result<(Word, Word), NoMemory>
+    ensures { IfOk result (λ r. r ≡ rule.now) }
+{
+    let left = rule.0.copy(alloc)?;
+    let right = rule.1.copy(alloc)?;
+    Ok((left, right))
 }
 
 impl Rules {
@@ -129,22 +139,35 @@ impl Rules {
     {
         let mut items = Vec::new(alloc);
         for rule in &self.items {
-            let left = rule.0.copy(alloc)?;
-            let right = rule.1.copy(alloc)?;
-            items.push((left, right))?;
+            let copied = copy_of(alloc, rule)?;
+            items.push(copied)?;
         }
         Ok(Rules { alloc, items })
     }
 
     // How many letters the longest left side has.
     pub(crate) fn longest_left(&self) -> usize
-        ensures { (place : ℕ) → length (left_at self.now place) ≤ result }
+        ensures most { (place : ℕ) → length (left_at self.now place) ≤ result }
+        ensures reached { IsLeftLength self.now result }
     {
         let mut longest = 0;
-        for place in 0..self.items.len() {
-            longest = longest.max(self.items[place].0.len());
+        for place in 0..self.len() {
+            longest = longest.max(self.rule(place).0.len());
         }
         longest
+    }
+
+    // Whether the word stands in a left side.
+    pub(crate) fn has_in_left(&self, word: &Word) -> bool
+        ensures { result ≡ false → (place : ℕ) → place < length self.now
+            → stands_in word.now (left_at self.now place) ≡ false }
+    {
+        for place in 0..self.len() {
+            if has_factor(&self.rule(place).0, word) {
+                return true;
+            }
+        }
+        false
     }
 
     // One more than the greatest letter of the rules.

@@ -39,9 +39,9 @@ pub fn follow(
     step: (usize, Option<usize>),
 ) -> Result<Option<Applied>, NoMemory>
     requires { (states : List Letters) × (word : Letters)
-        × IsAtStep rules.now states word reduction.old letter step.0 step.1 }
+        × IsAtStep rules.now states word reduction.old letter step }
     ensures reducing { OnOk result ((states : List Letters) (word : Letters)
-        → IsAtStep rules.now states word reduction.old letter step.0 step.1
+        → IsAtStep rules.now states word reduction.old letter step
         → IsReductionBy rules.now states word reduction.new
         × (weight_of rules.now word reduction.new
         < weight_at rules.now word letter reduction.old)) }

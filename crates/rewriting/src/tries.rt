@@ -18,10 +18,11 @@ pub struct Prefix {
     pub count: usize,
 }
 
-/// The states as prefixes of left sides; and for each state and letter the state that they make,
-/// and the rule whose left side they make.
+/// The states as prefixes of left sides over so many letters; and for each state and letter the
+/// state that they make, and the rule whose left side they make.
 #[derive(Drop)]
 pub struct Trie {
+    pub letters: usize,
     pub prefixes: Vec<Prefix>,
     pub children: Cells,
     pub lefts: Cells,
@@ -29,6 +30,7 @@ pub struct Trie {
 
 // The empty word alone.
 fn root_alone(alloc: Global, letters: usize) -> Result<Trie, NoMemory>
+    ensures letters { IfOk result (λ t. t.letters ≡ letters) }
     ensures prefixes { IfOk result (λ t. t.prefixes.items ≡ record { rule = 0; count = 0 } ∷ []) }
     ensures children { IfOk result (λ t. t.children ≡ replicate letters None ∷ []) }
     ensures lefts { IfOk result (λ t. t.lefts ≡ replicate letters None ∷ []) }
@@ -38,71 +40,70 @@ fn root_alone(alloc: Global, letters: usize) -> Result<Trie, NoMemory>
     let children = Cells::new(alloc, letters)?;
     let lefts = Cells::new(alloc, letters)?;
     Ok(Trie {
+        letters,
         prefixes,
         children,
         lefts,
     })
 }
 
-// The child of the state by the letter, which is made if it is not there.
-fn descend(
-    trie: &mut Trie,
-    letters: usize,
-    node: usize,
-    letter: Letter,
-    prefix: Prefix,
-) -> Result<usize, NoMemory>
-    requires node { node < length trie.old.prefixes.items }
-    requires letter { letter < letters }
-    requires children { AreRows (length trie.old.prefixes.items) letters trie.old.children }
-    requires lefts { AreRows (length trie.old.prefixes.items) letters trie.old.lefts }
-    ensures { IfOk result (FindsChild letters node letter prefix trie.old trie.new) }
-{
-    if let Some(child) = trie.children.get(node, letter) {
-        return Ok(child);
+impl Trie {
+    // The child of the state by the letter, which is made if it is not there.
+    fn descend(&mut self, node: usize, letter: Letter, prefix: Prefix) -> Result<usize, NoMemory>
+        requires node { node < length self.old.prefixes.items }
+        requires letter { letter < self.old.letters }
+        requires children { AreRows (length self.old.prefixes.items) self.old.letters self.old.children }
+        requires lefts { AreRows (length self.old.prefixes.items) self.old.letters self.old.lefts }
+        ensures { IfOk result (FindsChild node letter prefix self.old self.new) }
+    {
+        if let Some(child) = self.children.get(node, letter) {
+            return Ok(child);
+        }
+        let child = self.children.nodes();
+        self.prefixes.push(prefix)?;
+        self.children.add_row()?;
+        self.children.put(node, letter, Some(child));
+        self.lefts.add_row()?;
+        Ok(child)
     }
-    let child = trie.children.nodes();
-    trie.prefixes.push(prefix)?;
-    trie.children.add_row()?;
-    trie.children.put(node, letter, Some(child));
-    trie.lefts.add_row()?;
-    Ok(child)
-}
 
-// The proper prefixes of the left side of a rule become states, and its last letter is marked.
-fn insert(trie: &mut Trie, letters: usize, rules: &Rules, rule: usize) -> Result<(), NoMemory>
-    requires few { rule < NUMBERS_AT_MOST }
-    requires over { AreOver letters rules.now }
-    requires rule { rule < length rules.now }
-    requires grown { IsTreeTo letters rules.now rule trie.old }
-    ensures { OnOk result (IsTreeTo letters rules.now (rule + 1) trie.new) }
-{
-    let left = rules.items[rule].0.letters();
-    let last = left.len() - 1;
-    let mut node = 0;
-    for count in 0..last {
-        let prefix = Prefix {
-            rule,
-            count: count + 1,
-        };
-        node = descend(trie, letters, node, left[count], prefix)?;
+    // The proper prefixes of the left side of a rule become states, and its last letter is marked.
+    fn insert(&mut self, rules: &Rules, rule: usize) -> Result<(), NoMemory>
+        requires few { rule < NUMBERS_AT_MOST }
+        requires over { AreOver self.old.letters rules.now }
+        requires rule { rule < length rules.now }
+        requires grown { IsTreeTo rules.now rule self.old }
+        ensures letters { OnOk result (self.new.letters ≡ self.old.letters) }
+        ensures grown { OnOk result (IsTreeTo rules.now (rule + 1) self.new) }
+    {
+        let left = rules.rule(rule).0.letters();
+        let last = left.len() - 1;
+        let mut node = 0;
+        for count in 0..last {
+            let prefix = Prefix {
+                rule,
+                count: count + 1,
+            };
+            node = self.descend(node, left[count], prefix)?;
+        }
+        self.lefts.put_number(node, left[last], Some(rule));
+        Ok(())
     }
-    trie.lefts.put_number(node, left[last], Some(rule));
-    Ok(())
 }
 
 /// The tree of the empty word and the proper prefixes of the left sides. Refused only where memory
 /// is wanting: more rules or states than entries of four bytes can tell apart do not fit.
 pub fn trie_of(alloc: Global, letters: usize, rules: &Rules) -> Result<Trie, NoMemory>
     requires { AreOver letters rules.now }
-    ensures { IfOk result (IsTreeOf letters rules.now) }
+    ensures letters { IfOk result (λ t. t.letters ≡ letters) }
+    ensures grown { IfOk result (IsTreeOf rules.now) }
 {
     if NUMBERS_AT_MOST < rules.items.len() {
         return Err(NoMemory);
     }
     let mut trie = root_alone(alloc, letters)?;
     for rule in 0..rules.items.len() {
-        insert(&mut trie, letters, rules, rule)?;
+        trie.insert(rules, rule)?;
     }
     Ok(trie)
 }

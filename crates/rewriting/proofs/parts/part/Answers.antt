@@ -1,6 +1,9 @@
-use Rattle.std.proofs.Common.{◌∙◌}
-use Rattle.rewriting.proofs.PartLaws.{parts_step}
+use Rattle.std.proofs.Common.{refl, ◌∙◌}
+use Rattle.rewriting.proofs.PartLaws.{parts_start, parts_step}
 use Rattle.rewriting.proofs.parts.part.Goals as goal
+
+pub loop-rule-init : goal.loop-rule-init
+loop-rule-init c = parts_start c.args.left.now c.args.first _ c.new.ensures.items c.new-2.ensures.items c.new-3.ensures.items refl
 
 pub loop-rule-preserved : goal.loop-rule-preserved
 loop-rule-preserved c =

@@ -1,5 +1,6 @@
-use Rattle.rewriting.specs.Tries.{IsGrown, words_of}
+use Rattle.std.proofs.Common.{◌≡◌}
+use Rattle.rewriting.specs.Tries.{IsTreeTo}
 use Rattle.rewriting.proofs.tries.trie_of.Given as goal
 
 abbrev pub invariant-loop-rule : goal.invariant-loop-rule
-invariant-loop-rule l = IsGrown l.letters l.rules l.rule (words_of l.rules l.trie.prefixes.items) l.trie.children l.trie.lefts
+invariant-loop-rule l = record { letters : l.trie.letters ≡ l.fn.letters; grown : IsTreeTo l.rules l.rule l.trie }

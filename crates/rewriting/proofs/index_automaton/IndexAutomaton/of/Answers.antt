@@ -1,26 +1,44 @@
-use Rattle.std.proofs.Common.{ℕ, List, length, refl, subst, arith}
-use Rattle.rewriting.specs.Tries.{IsLinkedTo, words_of}
+use Rattle.std.proofs.Common.{sym, subst, arith}
+use Rattle.cells.specs.Rows.{AreRows}
+use Rattle.rewriting.specs.Rules.{AreOver}
 use Rattle.rewriting.proofs.TrieLaws.{words_count}
-use Rattle.rewriting.proofs.LinkLaws.{all_read, all_there}
 use Rattle.rewriting.proofs.index_automaton.IndexAutomaton.of.Goals as goal
 
 pub returns : goal.returns
 returns c =
     let size = words_count c.args.rules.now c.in_ok-trie.trie.prefixes.items in
-    let linked = subst (λ (order : List ℕ). IsLinkedTo c.args.letters c.args.rules.now (words_of c.args.rules.now c.in_ok-trie.trie.prefixes.items) c.in_ok-trie.trie.children order (length order) 0
-    c.in_ok-tables.tables.targets c.in_ok-tables.tables.links.items c.in_ok-tables.tables.ends) c.as_slice.ensures.value c.in_ok-tables.ensures.linked in
     record {
-      letters = refl;
+      letters = c.in_ok-trie.ensures.letters;
       over = c.requires.over;
       states = record {
-        are = c.in_ok-trie.ensures.are;
-        distinct = c.in_ok-trie.ensures.trie.distinct;
-        only = c.in_ok-trie.ensures.trie.only;
+        are = c.in_ok-trie.ensures.grown.are;
+        distinct = c.in_ok-trie.ensures.grown.trie.distinct;
+        only = c.in_ok-trie.ensures.grown.trie.only;
       };
-      reads = λ n a hn ha.
-          all_read c.args.letters c.args.rules.now (words_of c.args.rules.now c.in_ok-trie.trie.prefixes.items) c.in_ok-trie.trie.children c.in_ok-order.order.items
-          c.in_ok-tables.tables.targets c.in_ok-tables.tables.links.items c.in_ok-tables.tables.ends c.in_ok-order.ensures linked n a (omega (arith, hn, size)) ha;
-      full = λ n a hn ha.
-          all_there c.args.letters c.args.rules.now (words_of c.args.rules.now c.in_ok-trie.trie.prefixes.items) c.in_ok-trie.trie.children c.in_ok-order.order.items
-          c.in_ok-tables.tables.targets c.in_ok-tables.tables.links.items c.in_ok-tables.tables.ends c.in_ok-order.ensures linked n a (omega (arith, hn, c.in_ok-tables.ensures.tables.target_rows.count)) ha;
+      reads = λ n a hn ha. c.in_ok-tables.ensures.reads n a (omega (arith, hn, size)) (omega (arith, ha, c.in_ok-trie.ensures.letters));
+      full = λ n a hn ha. c.in_ok-tables.ensures.full n a hn (omega (arith, ha, c.in_ok-trie.ensures.letters));
+    }
+
+pub trie_of-requires : goal.trie_of-requires
+trie_of-requires c = c.requires.over
+
+pub linked-requires-clause-few : goal.linked-requires-clause-few
+linked-requires-clause-few c = omega (arith, c.requires.few, c.in_ok-trie.ensures.letters)
+
+pub linked-requires-clause-over : goal.linked-requires-clause-over
+linked-requires-clause-over c = subst (λ k. AreOver k c.args.rules.now) (sym c.in_ok-trie.ensures.letters) c.requires.over
+
+pub linked-requires-clause-grown : goal.linked-requires-clause-grown
+linked-requires-clause-grown c = c.in_ok-trie.ensures.grown
+
+pub invariant_of-result : goal.invariant_of-result
+invariant_of-result c =
+    let size = words_count c.args.rules.now c.in_ok-trie.trie.prefixes.items in
+    let tables = c.in_ok-tables.ensures.tables in
+    record {
+      some = omega (arith, tables.some, size);
+      few = omega (arith, c.requires.few, c.in_ok-trie.ensures.letters);
+      target_rows = subst (λ n. AreRows n c.in_ok-trie.trie.letters c.in_ok-tables.tables.targets) size tables.target_rows;
+      end_rows = subst (λ n. AreRows n c.in_ok-trie.trie.letters c.in_ok-tables.tables.ends) size tables.end_rows;
+      within = λ n a. omega (arith, tables.targets_within n a, size);
     }

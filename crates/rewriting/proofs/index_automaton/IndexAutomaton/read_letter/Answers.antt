@@ -15,7 +15,7 @@ follow-requires c = (
   words_of c.args.rules.now c.args.self.now.prefixes,
   c.args.word.now,
   read_steps c.args.rules.now c.len-count.ensures.falling (words_of c.args.rules.now c.args.self.now.prefixes) c.requires.table.states.are c.args.word.now c.args.reduction.now c.args.letter
-      c.len.result c.index-state.result.now c.read-step.result.0 c.read-step.result.1 c.requires.reducing (omega (arith, c.len.ensures)) c.index-state.ensures
+      c.len.result c.index-state.result.now c.read-step.result c.requires.reducing (omega (arith, c.len.ensures)) c.index-state.ensures
       (c.read-step.ensures c.args.self.now.letters c.args.rules.now c.len-count.ensures.falling c.requires.table),
 )
 
@@ -23,7 +23,7 @@ pub returns : goal.returns
 returns c =
     let at =
     read_steps c.args.rules.now c.len-count.ensures.falling (words_of c.args.rules.now c.args.self.now.prefixes) c.requires.table.states.are c.args.word.now c.args.reduction.now c.args.letter
-    c.len.result c.index-state.result.now c.read-step.result.0 c.read-step.result.1 c.requires.reducing (omega (arith, c.len.ensures)) c.index-state.ensures
+    c.len.result c.index-state.result.now c.read-step.result c.requires.reducing (omega (arith, c.len.ensures)) c.index-state.ensures
     (c.read-step.ensures c.args.self.now.letters c.args.rules.now c.len-count.ensures.falling c.requires.table) in
     let follows = c.in_ok-_applied.ensures.reducing (words_of c.args.rules.now c.args.self.now.prefixes) c.args.word.now at in
     record { reducing = follows.0; less = follows.1 }

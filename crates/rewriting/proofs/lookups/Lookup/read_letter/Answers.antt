@@ -17,15 +17,15 @@ follow-requires c = (
   c.args.word.now,
   letter_steps c.args.rules.now c.args.self.now c.args.word.now c.args.reduction.now c.args.letter c.requires
       c.as_slice.result.now c.len.result c.index-state.result.now c.as_slice.ensures.value (omega (arith, c.len.ensures)) c.index-state.ensures
-      c.step-step.result.0 c.step-step.result.1 c.step-step.ensures,
+      c.step-step.result c.step-step.ensures,
 )
 
 -- what the step does
-steps : (c : After-follow) → IsAtStep c.args.rules.now (states_by c.requires.is) c.args.word.now c.args.reduction.now c.args.letter c.step-step.result.0 c.step-step.result.1
+steps : (c : After-follow) → IsAtStep c.args.rules.now (states_by c.requires.is) c.args.word.now c.args.reduction.now c.args.letter c.step-step.result
 steps c =
     letter_steps c.args.rules.now c.args.self.now c.args.word.now c.args.reduction.now c.args.letter c.requires
     c.as_slice.result.now c.len.result c.index-state.result.now c.as_slice.ensures.value (omega (arith, c.len.ensures)) c.index-state.ensures
-    c.step-step.result.0 c.step-step.result.1 c.step-step.ensures
+    c.step-step.result c.step-step.ensures
 
 pub returns-clause-rewriting : goal.returns-clause-rewriting
 returns-clause-rewriting c =

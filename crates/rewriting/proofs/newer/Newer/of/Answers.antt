@@ -1,4 +1,4 @@
-use Rattle.std.proofs.Common.{◌≡◌, ◌+◌, ◌-◌, ◌<◌, length, drop, lit<, ap, refl, sym, subst, ◌∙◌, arith}
+use Rattle.std.proofs.Common.{◌≡◌, ◌+◌, ◌-◌, ◌<◌, ◌≤◌, length, drop, lit<, ap, refl, sym, subst, ◌∙◌, arith}
 use Rattle.std.proofs.lemmas.List.{length-set}
 use Rattle.theory.specs.Word.{Word}
 use Rattle.rewriting.specs.Newer.{AreNewerTo, end_key}
@@ -24,4 +24,17 @@ loop-place-preserved c =
       to = subst (λ n. AreNewerTo rules c.args.first n c.push.new.self) more to;
       keys = ap length c.in_ok-push.ensures.latest ∙ length-set _ _ _ ∙ c.loop-place.invariant.keys;
       depth = c.in_ok-push.ensures.depth ∙ c.loop-place.invariant.depth;
+    }
+
+pub returns : goal.returns
+returns c =
+    let rules = c.args.rules.now in
+    let newer = c.loop-place.newer in
+    let is = c.loop-place.invariant in
+    let within = c.loop-place.auto.place-end (omega (arith, c.requires, c.len-place-end.ensures.len)) in
+    record {
+      count = omega (arith, is.to.all, within, c.loop-place-test.false, c.len-place-end.ensures.len, c.requires);
+      some = subst (λ d. 0 < d) (sym is.depth) c.depth_of.ensures.some;
+      long = λ place from inside. subst (λ d. d ≤ length (left_at rules place)) (sym is.depth) (c.depth_of.ensures.long place from inside);
+      to = subst (λ n. AreNewerTo rules c.args.first n newer) (sym is.to.all) is.to;
     }

@@ -1,8 +1,0 @@
-use Rattle.std.proofs.Common.{Some, sym, ◌∙◌, ap, [], ◌∷◌, ◌++◌, arith}
-use Rattle.std.proofs.lemmas.List.FromFn.{map-range_with_len_more}
-use Rattle.rewriting.proofs.kept_rules.all_places.Goals as goal
-
-pub loop-place-preserved : goal.loop-place-preserved
-loop-place-preserved c =
-    c.in_ok-push.ensures.items ∙ ap (λ ps. ps ++ Some c.loop-place.place ∷ []) c.loop-place.invariant
-    ∙ sym (map-range_with_len_more Some 0 c.loop-place.place c.loop-place.place (omega arith))

@@ -1,0 +1,27 @@
+use Rattle.std.proofs.Common.{◌+◌, ◌++◌, ℕ, List, length, sym, ◌∙◌, ap, subst, arith}
+use Rattle.rewriting.specs.Tries.{IsOrderTo, AreChildren, states_of, tree_of}
+use Rattle.rewriting.proofs.TrieLaws.{words_count}
+use Rattle.rewriting.proofs.LevelLaws.{order_start, order_step, order_end, state_over, state_short}
+use Rattle.rewriting.proofs.tries.Trie.order.Goals as goal
+
+pub loop-init : goal.loop-init
+loop-init c = rw (c.in_ok-push.ensures.items, c.in_ok-push-2.ensures.items, c.new-order.ensures.items, c.new-level.ensures.items)
+    (order_start c.args.rules.now (tree_of c.args.rules.now c.args.self.now) c.requires.grown.trie)
+
+pub loop-preserved : goal.loop-preserved
+loop-preserved c =
+    let made : AreChildren c.args.self.now.letters c.args.self.now.children c.loop.level.items (length c.loop.level.items) c.in_ok-level.level.items =
+    subst (λ (xs : List ℕ). AreChildren c.args.self.now.letters c.args.self.now.children xs (length xs) c.in_ok-level.level.items) c.as_slice.ensures.value c.in_ok-level.ensures in
+    subst (λ (xs : List ℕ). IsOrderTo (states_of c.args.rules.now c.args.self.now) (c.loop.counter + 1) xs c.in_ok-level.level.items)
+    (sym (c.in_ok-extend_from_slice.ensures.items ∙ ap (λ (xs : List ℕ). c.loop.order.items ++ xs) c.as_slice-in-loop.ensures.value))
+    (order_step c.args.rules.now (tree_of c.args.rules.now c.args.self.now) c.requires.grown.trie
+    (state_over c.args.self.now.letters c.args.rules.now c.args.self.now.prefixes.items c.requires.over) c.loop.counter c.loop.order.items c.loop.level.items c.in_ok-level.level.items
+    c.loop.invariant made)
+
+pub returns : goal.returns
+returns c =
+    order_end (states_of c.args.rules.now c.args.self.now) c.loop.counter c.loop.order.items c.loop.level.items
+    (λ n h.
+    state_short c.args.rules.now c.args.self.now.prefixes.items c.loop.counter (λ i. let few = c.longest_left-end.ensures.most i in let past = c.loop-test.false in omega (arith, few, past)) n
+    (omega (arith, h, words_count c.args.rules.now c.args.self.now.prefixes.items)))
+    c.loop.invariant
