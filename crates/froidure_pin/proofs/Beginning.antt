@@ -6,8 +6,6 @@ use Rattle.froidure_pin.specs.Found.{FoundLists, Generated, IsNumbered, entry, f
 use Rattle.froidure_pin.specs.Growing.{AreCounted, AreLeftNumbers, IsGrown, IsLevel}
 use Rattle.froidure_pin.specs.Kept.{HasTakenIn, lists_of}
 use Rattle.froidure_pin.specs.declared.growth.Growth.{Growth}
-use Rattle.froidure_pin.specs.declared.parts.Factor.{Factor}
-use Rattle.froidure_pin.specs.declared.parts.Tail.{Tail}
 use Rattle.froidure_pin.proofs.OneShape.{get_any}
 use Rattle.froidure_pin.proofs.Order.{equal_or_below}
 use Rattle.froidure_pin.proofs.Places.{at_last, row_within}
@@ -35,8 +33,8 @@ single_level words n e single = record {
 }
 
 -- a copy of what is read is what is read
-pub copy_read : {V : Type 0} {xs ys : List V} (a : ℕ) {x p : V} → xs ≡ ys → x ≡ get_or xs a x → p ≡ x → get_or ys a p ≡ p
-copy_read a same read copied = cc
+pub copy_read : {V : Type 0} (xs : List V) (a : ℕ) {x p : V} → x ≡ get_or xs a x → p ≡ x → get_or xs a p ≡ p
+copy_read xs a read copied = cc
 
 module _ {V : Type 0} {shape : V → ℕ × ℕ} {s : Generated V} (setting : IsSetting shape s) where
   pub grown_none : IsGrown s nothing 0 0
@@ -73,7 +71,6 @@ module _ {V : Type 0} {shape : V → ℕ × ℕ} {s : Generated V} (setting : Is
         (λ none. (grown_new setting g (omega arith) letter p value a 0 (omega arith) refl none, subst (λ ws. AreSingle ws) (sym (words_push [] lists.factors 0 a)) (single_push (words_in lists) a single)))
 
   -- a copy of the next generator is taken in
-  pub begun_in : {old new : Growth V} {a : ℕ} {p : V} {factor : Factor} {tail : Tail} → IsGrown s (lists_of old) 0 a → a < letters_of s → AreSingle (words_in (lists_of old)) → get_or s.generators a p ≡ p
-      → HasTakenIn s.equal old new p factor tail → factor ≡ factor_of 0 a → tail ≡ tail_of a 0 → IsGrown s (lists_of new) 0 (a + 1) × AreSingle (words_in (lists_of new))
-  begun_in {old} {new} {a} {p} g letter single is now factor_is tail_is =
-      subst (λ lists. IsGrown s lists 0 (a + 1) × AreSingle (words_in lists)) (sym (taken_lists now ∙ (λ i. taken s.equal (lists_of old) p (factor_is i) (tail_is i)))) (begun g letter single p is)
+  pub begun_in : {old new : Growth V} {a : ℕ} {p : V} → IsGrown s (lists_of old) 0 a → a < letters_of s → AreSingle (words_in (lists_of old)) → get_or s.generators a p ≡ p
+      → HasTakenIn s.equal old new p (factor_of 0 a) (tail_of a 0) → IsGrown s (lists_of new) 0 (a + 1) × AreSingle (words_in (lists_of new))
+  begun_in {old} {new} {a} {p} g letter single is now = subst (λ lists. IsGrown s lists 0 (a + 1) × AreSingle (words_in lists)) (sym (taken_lists now)) (begun g letter single p is)

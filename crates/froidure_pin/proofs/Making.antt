@@ -26,6 +26,13 @@ step_none at = record { at = at; level = λ first last low high h. h; left = ref
 pub step_on : {V : Type 0} {s : Generated V} {one two three : FoundLists V} {number a b : ℕ} → IsStep s one two number a → IsStep s two three number b → IsStep s one three number b
 step_on p q = record { at = q.at; level = λ first last low high h. q.level first last low high (p.level first last low high h); left = q.left ∙ p.left }
 
+-- steps of an element more, and of a level more, are as many as their letters at most
+pub most_to : (k first number last start steps more : ℕ) → number < last → steps + first * k ≤ start + number * k → more ≤ steps + k → more + first * k ≤ start + last * k
+most_to k first number last start steps more high before now = let row : (number + 1) * k ≤ last * k = mul-le-mul_right k (omega arith) in omega arith
+
+pub most_level : (k bound first last start steps more : ℕ) → last ≤ bound → steps ≤ start + first * k → more + first * k ≤ steps + last * k → more ≤ start + bound * k
+most_level k bound first last start steps more few before now = let rows : last * k ≤ bound * k = mul-le-mul_right k few in omega arith
+
 module _ {V : Type 0} {shape : V → ℕ × ℕ} {s : Generated V} (setting : IsSetting shape s) where
   number_more : (words : List Word) (c : Word) (n : ℕ) (u : Word) → IsNumbered s words n u → IsNumbered s (words ++ c ∷ []) n u
   number_more words c n u h = (omega (arith, h.0, length-append words (c ∷ [])), subst (λ w. IsSame s u w) (sym (get_front words (c ∷ []) n [] h.0)) h.1)

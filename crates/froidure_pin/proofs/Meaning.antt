@@ -5,15 +5,12 @@ use Rattle.theory.specs.Class.{IsLeast}
 use Rattle.froidure_pin.specs.Found.{AreFactors, AreFound, FoundLists, Generated, IsNumbered, IsSame, entry, letters_of, parent, words_in}
 use Rattle.froidure_pin.specs.Growing.{AreLeftNumbers}
 use Rattle.froidure_pin.specs.Numbering.{TableOf, IsNumbering, AreParts, AreRows, right_number, left_number, letter_number, number_of}
+use Rattle.froidure_pin.specs.Kept.{table_of}
 use Rattle.froidure_pin.proofs.Order.{below_or_not, equal_or_below}
 use Rattle.froidure_pin.proofs.Places.{row_below}
 use Rattle.froidure_pin.proofs.Factors.{words_length}
 use Rattle.froidure_pin.proofs.Starts.{start_ascending, ascending_between}
 use Rattle.froidure_pin.proofs.Search.{IsSetting, found_count, found_least, r_sym, r_trans, r_right}
-
--- the table of what is found
-abbrev pub table_of : {V : Type 0} → FoundLists V → ℕ → TableOf V
-table_of lists letters = record { elements = lists.elements; words = words_in lists; letters = letters; right = lists.right; left = lists.left }
 
 module _ {V : Type 0} {shape : V → ℕ × ℕ} {s : Generated V} (setting : IsSetting shape s) {lists : FoundLists V} {i : ℕ} (f : AreFound s lists i 0) (end : length lists.elements < i) (reached : i ≤ length lists.elements + 1) where
   abbrev k : ℕ

@@ -1,9 +1,12 @@
 -- Rows that are cut from a list.
-use Rattle.std.proofs.Common.{◌≡◌, ℕ, zero, suc, ◌+◌, ◌*◌, ◌<◌, ◌≤◌, List, [], length, drop, get_or, slice_index, refl, sym, ap, subst, ◌∙◌, arith, mul-le-mul_right, mul_comm}
+use Rattle.std.proofs.Common.{◌≡◌, ℕ, zero, suc, ◌+◌, ◌*◌, ◌<◌, ◌≤◌, List, [], ◌∷◌, ◌++◌, length, length-append, drop, get_or, slice_index, refl, sym, ap, subst, ◌∙◌, arith, mul-le-mul_right, mul_comm, inl, inr}
 use Rattle.std.proofs.lemmas.List.{get_or-take, get_or-drop, length-take-le, length-drop}
 use Rattle.froidure_pin.specs.Found.{entry}
 use Rattle.froidure_pin.specs.Numbering.{AreRows, AreRowsBy, IsRowBy, rows_in}
-use Rattle.froidure_pin.proofs.Places.{row_below}
+use Rattle.froidure_pin.proofs.OneShape.{get_any}
+use Rattle.froidure_pin.proofs.Order.{equal_or_below}
+use Rattle.froidure_pin.proofs.Places.{at_last, row_below}
+use Rattle.froidure_pin.proofs.Starts.{get_front}
 
 pub rows_count : (k n : ℕ) (xs : List ℕ) → length (rows_in k n xs) ≡ n
 rows_count k zero xs = refl
@@ -39,6 +42,27 @@ first_row k numbers row is = record {
   count = is.count;
   at = λ a l. let place : 0 * k + a ≡ a = omega arith in is.at a l ∙ ap (slice_index numbers) place;
 }
+
+-- a letter has a place in the first row
+pub in_first_row : (k n : ℕ) (numbers : List ℕ) (a : ℕ) → AreRows k n numbers → a < k → a < length numbers
+in_first_row k n numbers a rows h = omega (arith, rows.count, row_below k 0 (n + 1) a (omega arith) h)
+
+-- what is read there
+pub first_row_read : (k n : ℕ) (numbers : List ℕ) (a r : ℕ) → AreRows k n numbers → a < k → r ≡ get_or numbers a r → (r < n) × (r ≡ slice_index numbers a)
+first_row_read k n numbers a r rows h is =
+    let inside = in_first_row k n numbers a rows h in
+    let read : r ≡ slice_index numbers a = is ∙ get_any numbers a r 0 inside in
+    (omega (arith, read, rows.within a inside), read)
+
+-- one number more
+pub row_more : (number : ℕ → ℕ) (row more : List ℕ) (a : ℕ) → more ≡ row ++ number a ∷ [] → IsRowBy a number row → IsRowBy (a + 1) number more
+row_more number row more a is known = subst (λ xs. IsRowBy (a + 1) number xs) (sym is) (record { count = omega (arith, known.count, length-append row (number a ∷ [])); at = at })
+  where
+    at : (b : ℕ) → b < a + 1 → slice_index (row ++ number a ∷ []) b ≡ number b
+    at b h = elim (equal_or_below b a (omega arith)) [
+      | inl e ↦ ap (slice_index (row ++ number a ∷ [])) (e ∙ sym known.count) ∙ at_last row (number a) 0 ∙ ap number (sym e)
+      | inr less ↦ get_front row (number a ∷ []) b 0 (omega (arith, known.count)) ∙ known.at b less
+    ]
 
 -- the rows as they are seen
 module _ (k n : ℕ) (numbers : List ℕ) (rows : AreRows k n numbers) (seen : List (List ℕ)) (is : rows_in k n (drop k numbers) ≡ seen) where

@@ -1,5 +1,5 @@
 -- Finding rules, step by step.
-use Rattle.std.proofs.Common.{◌≡◌, ℕ, zero, suc, ◌+◌, ◌*◌, ◌<◌, ◌≤◌, ◌/◌, ◌%◌, Bool, true, false, not, ◌&&◌, ◌||◌, ◌==◌, List, [], ◌∷◌, ◌++◌, length, get_or, refl, sym, ap, subst, ◌∙◌, arith, inl, inr, length-append, div-add-mod', mod-lt, if◌then◌else◌, ne_eqb}
+use Rattle.std.proofs.Common.{◌≡◌, ℕ, zero, suc, ◌+◌, ◌*◌, ◌<◌, ◌≤◌, ◌/◌, ◌%◌, Bool, true, false, not, ◌&&◌, ◌||◌, ◌==◌, List, [], ◌∷◌, ◌++◌, length, get_or, refl, sym, ap, subst, ◌∙◌, arith, inl, inr, length-append, div-add-mod', mod-lt, mul-le-mul_left, if◌then◌else◌, ne_eqb}
 use Rattle.froidure_pin.specs.Found.{AreFactors, entry, factor_at}
 use Rattle.froidure_pin.specs.Numbering.{AreRows}
 use Rattle.froidure_pin.specs.Rules.{AreSuffixes, rules_at, rules_to}
@@ -21,6 +21,23 @@ row_of_place k n p some h =
 module _ (k : ℕ) (factors : List Factor) (right : List ℕ) (rows : AreRows k (length factors) right) where
   pub entry_within : (suffixes : List ℕ) (i j a : ℕ) → AreSuffixes k factors right suffixes i → j < length suffixes → a < k → get_or suffixes j 0 * k + a < length right
   entry_within suffixes i j a known h l = let row = row_below k (get_or suffixes j 0) (length factors + 1) a (omega (arith, known.within j h)) l in omega (arith, rows.count, row)
+
+  -- what the suffix of the next word is read from
+  pub suffix_reads : (suffixes : List ℕ) (i : ℕ) (f : Factor) → 0 < k → AreFactors k factors → AreSuffixes k factors right suffixes i → i < length factors → factor_at factors i ≡ f
+      → (f.last < k) × (f.prefix < length suffixes) × (get_or suffixes f.prefix 0 * k + f.last < length right) × (entry k right (get_or suffixes f.prefix 0) f.last < length right)
+  suffix_reads suffixes i f some earlier known h at =
+      let last = subst (λ (g : Factor). g.last < k) at (earlier.letter i h) in
+      let early : f.prefix < length suffixes = omega (arith, subst (λ (g : Factor). g.prefix ≤ i) at (earlier.earlier i h), known.count) in
+      let product = entry_within suffixes i f.prefix f.last known early last in
+      let least : (length factors + 1) * 1 ≤ (length factors + 1) * k = mul-le-mul_left (length factors + 1) some in
+      (last, early, product, omega (arith, rows.within (get_or suffixes f.prefix 0 * k + f.last) product, rows.count, least))
+
+  pub suffixes_none : AreSuffixes k factors right (0 ∷ []) 0
+  suffixes_none = record { count = refl; within = first; next = λ j h. absurd (omega arith) }
+    where
+      first : (j : ℕ) → j < 1 → get_or (0 ∷ []) j 0 ≤ length factors
+      first zero h = omega arith
+      first (suc j) h = absurd (omega arith)
 
   pub suffixes_more : (suffixes : List ℕ) (i s : ℕ) (f : Factor) → AreFactors k factors → AreSuffixes k factors right suffixes i → i < length factors → factor_at factors i ≡ f
       → s ≡ (if f.prefix == 0 then 0 else entry k right (get_or suffixes f.prefix 0) f.last + 1) → AreSuffixes k factors right (suffixes ++ s ∷ []) (i + 1)

@@ -1,5 +1,5 @@
 -- What is kept while elements are found, one length of words after another (Froidure and Pin 1997).
-use Rattle.std.specs.Prelude.{◌≡◌, ℕ, ◌+◌, ◌*◌, ◌<◌, ◌≤◌, Bool, List, [], ◌∷◌, ◌++◌, length, slice_index_or}
+use Rattle.std.specs.Prelude.{◌≡◌, ℕ, ◌+◌, ◌*◌, ◌<◌, ◌≤◌, Bool, true, false, List, [], ◌∷◌, ◌++◌, length, slice_index_or}
 use Rattle.theory.specs.Word.{Word}
 use Rattle.theory.specs.Class.{IsReducedRule}
 use Rattle.theory.specs.Value.{HasMoreValues}
@@ -107,3 +107,47 @@ KeepsCount s old new before after = (start : ℕ)
 -- there are more elements than the bound
 abbrev pub IsOver : {V : Type 0} → Generated V → ℕ → Type 0
 IsOver s bound = HasMoreValues (letters_of s) s.equal (value_in s) bound
+
+-- lists of what is found, and how many products were multiplied out
+pub record Counted (V : Type 0) : Type 0 where
+  pub lists : FoundLists V
+  pub steps : ℕ
+
+abbrev pub with_steps : {V : Type 0} → FoundLists V → ℕ → Counted V
+with_steps lists steps = record { lists = lists; steps = steps }
+
+-- either there are more elements than the bound, which is told, or this holds
+pub record UnlessOver {V : Type 0} (s : Generated V) (bound : ℕ) (over : Bool)
+    (Holds : Type 0) : Type 0 where
+  pub more : over ≡ true → IsOver s bound
+  pub holds : over ≡ false → Holds
+
+-- the generators were taken in, and there are no more elements than the bound
+pub record HasGenerators {V : Type 0} (s : Generated V) (bound : ℕ)
+    (lists : FoundLists V) : Type 0 where
+  pub few : length lists.elements ≤ bound
+  pub within : IsWithin s lists 0 (length lists.elements) 0
+
+-- the element of a number was multiplied by the letters before one, and there are no more elements
+-- than the bound
+pub record IsMultiplied {V : Type 0} (s : Generated V) (bound : ℕ) (old new : Counted V)
+    (number letter : ℕ) : Type 0 where
+  pub few : length new.lists.elements ≤ bound
+  pub step : IsStep s old.lists new.lists number letter
+  pub count : KeepsCount s old.lists new.lists old.steps new.steps
+
+-- the elements before the last were multiplied, and there are no more elements than the bound
+pub record AreMultiplied {V : Type 0} (s : Generated V) (bound : ℕ) (old new : Counted V)
+    (last : ℕ) : Type 0 where
+  pub few : length new.lists.elements ≤ bound
+  pub reached : last ≤ length new.lists.elements
+  pub within : IsWithin s new.lists last (length new.lists.elements) last
+  pub count : KeepsCount s old.lists new.lists old.steps new.steps
+
+-- the elements before one were multiplied, in as many steps from a start as are counted, and there
+-- are no more elements than the bound
+pub record AreFoundFrom {V : Type 0} (s : Generated V) (bound : ℕ) (found : Counted V)
+    (start first : ℕ) : Type 0 where
+  pub few : length found.lists.elements ≤ bound
+  pub within : IsWithin s found.lists first (length found.lists.elements) first
+  pub count : AreCounted s (words_in found.lists) (length found.lists.right) start found.steps

@@ -1,11 +1,12 @@
 -- What a growth is as a whole, before and after its methods (Froidure and Pin 1997).
-use Rattle.std.specs.Prelude.{◌≡◌, Bool, [], ◌∷◌, ◌++◌}
+use Rattle.std.specs.Prelude.{◌≡◌, ℕ, Bool, [], ◌∷◌, ◌++◌}
 use Rattle.std.specs.List.{position_or_len}
 use Rattle.indexmap.specs.IndexSet.{insert_key}
 use Rattle.froidure_pin.specs.declared.growth.Growth.{Growth}
 use Rattle.froidure_pin.specs.declared.parts.Factor.{Factor}
 use Rattle.froidure_pin.specs.declared.parts.Tail.{Tail}
-use Rattle.froidure_pin.specs.Found.{FoundLists, insert_beside}
+use Rattle.froidure_pin.specs.Found.{FoundLists, insert_beside, words_in}
+use Rattle.froidure_pin.specs.Numbering.{TableOf}
 
 -- the lists of a growth
 abbrev pub lists_of : {V : Type 0} → Growth V → FoundLists V
@@ -15,6 +16,16 @@ lists_of growth = record {
   tails = growth.tails.items;
   right = growth.right.items;
   left = growth.left.items;
+}
+
+-- the table of what is found
+abbrev pub table_of : {V : Type 0} → FoundLists V → ℕ → TableOf V
+table_of lists letters = record {
+  elements = lists.elements;
+  words = words_in lists;
+  letters = letters;
+  right = lists.right;
+  left = lists.left;
 }
 
 -- nothing is found yet

@@ -1,10 +1,14 @@
 // The elements that were found so far.
-ghost use Rattle.std.specs.Prelude.{◌≡◌, ◌+◌, ◌*◌, ◌<◌, ◌↔◌, length, IfOk, OnOk, IsTrue};
+ghost use Rattle.std.specs.Prelude.{◌≡◌, ◌+◌, ◌*◌, ◌<◌, ◌↔◌, [], ◌∷◌, ◌++◌, length, not, IfOk, OnOk, IsTrue};
+ghost use Rattle.std.specs.List.{list_any, position_or_len};
+ghost use Rattle.indexmap.specs.IndexSet.{insert_key};
 ghost use Rattle.froidure_pin.specs.Found.{entry, tail_at, tail_of};
-ghost use Rattle.froidure_pin.specs.Kept.{HasTakenIn, IsNew};
+ghost use Rattle.froidure_pin.specs.Kept.{HasTakenIn, IsNew, lists_of, table_of};
+ghost use Rattle.froidure_pin.specs.Numbering.{AreParts};
 
 use super::parts::{Factor, Tail, in_four_bytes};
 use super::rows::entry;
+use super::table::Table;
 use elements::Element;
 use indexmap::IndexSet;
 use ports::NoMemory;
@@ -30,6 +34,23 @@ pub(crate) struct Growth<E: Element> {
     pub(crate) left: Vec<u32>,
 }
 
+// Takes in an element, and says its number and whether it is new.
+fn insert<E: Element>(elements: &mut IndexSet<E>, made: E) -> Result<(usize, bool), NoMemory>
+    ensures keys { OnOk result (elements.new.keys ≡ insert_key E.eq elements.old.keys made) }
+    ensures number { IfOk result (λ it. it.0 ≡ position_or_len (E.eq made) elements.old.keys) }
+    ensures is_new { IfOk result (λ it. it.1 ≡ not (list_any (E.eq made) elements.old.keys)) }
+{
+    Ok(elements.insert_full(made)?)
+}
+
+// Puts a number behind the others, in four bytes.
+fn push_number(numbers: &mut Vec<u32>, number: usize) -> Result<(), NoMemory>
+    ensures { OnOk result (numbers.new.items ≡ numbers.old.items ++ number ∷ []) }
+{
+    numbers.push(in_four_bytes(number)?)?;
+    Ok(())
+}
+
 impl<E: Element> Growth<E> {
     // Nothing is found yet.
     pub(crate) fn new(alloc: Global) -> Growth<E>
@@ -48,12 +69,13 @@ impl<E: Element> Growth<E> {
     fn take_in(&mut self, made: E, factor: Factor, tail: Tail) -> Result<(), NoMemory>
         ensures { OnOk result (HasTakenIn E.eq self.old self.new made factor tail) }
     {
-        let (number, is_new) = self.elements.insert_full(made)?;
-        self.right.push(in_four_bytes(number)?)?;
-        if is_new {
-            self.factors.push(factor)?;
-            self.tails.push(tail)?;
+        let (number, is_new) = insert(&mut self.elements, made)?;
+        push_number(&mut self.right, number)?;
+        if !is_new {
+            return Ok(());
         }
+        self.factors.push(factor)?;
+        self.tails.push(tail)?;
         Ok(())
     }
 
@@ -92,5 +114,20 @@ impl<E: Element> Growth<E> {
         let tail = self.tails[number];
         let suffix = entry(&self.right, letters, tail.suffix as usize, letter);
         Tail::new(tail.first as usize, suffix + 1)
+    }
+
+    // The table of what is found.
+    pub(crate) fn into_table(self, letters: usize) -> Table<E>
+        requires { AreParts letters (length self.elements.keys) self.factors.items
+            self.right.items self.left.items }
+        ensures { result ≡ table_of (lists_of self) letters }
+    {
+        Table {
+            elements: self.elements,
+            factors: self.factors,
+            letters,
+            right: self.right,
+            left: self.left,
+        }
     }
 }

@@ -1,9 +1,9 @@
 // The products of the elements by each letter on the right.
-ghost use Rattle.std.specs.Prelude.{◌∷◌, [], ◌++◌, ◌≡◌, ◌+◌, ◌*◌, ◌<◌, ◌≤◌, length, IfOk, IfSome, OnOk, OnErr, Ok, None, true, false};
+ghost use Rattle.std.specs.Prelude.{◌∷◌, [], ◌++◌, ◌≡◌, ◌+◌, ◌*◌, ◌<◌, ◌≤◌, ◌↔◌, length, slice_index_or, IfOk, IfSome, IsTrue, OnOk, OnErr, Ok, None, true, false};
 ghost use Rattle.elements.specs.Generators.{HaveOneShape};
-ghost use Rattle.froidure_pin.specs.Found.{IsNumbered, generated, parent, words_of};
-ghost use Rattle.froidure_pin.specs.Growing.{IsAt, IsGrown, IsLevel, IsOver, IsStep, IsWithin, KeepsCount, is_rest_word};
-ghost use Rattle.froidure_pin.specs.Kept.{IsNew, lists_of};
+ghost use Rattle.froidure_pin.specs.Found.{IsNumbered, factor_of, generated, parent, tail_of, words_of};
+ghost use Rattle.froidure_pin.specs.Growing.{AreMultiplied, HasGenerators, IsAt, IsMultiplied, IsWithin, UnlessOver, is_rest_word, with_steps};
+ghost use Rattle.froidure_pin.specs.Kept.{HasTakenIn, IsNew, lists_of};
 
 use super::growth::Growth;
 use super::parts::{Factor, Tail};
@@ -41,30 +41,38 @@ pub(crate) struct Enumerator<'a, E: Element> {
 
 // A call that may find more elements than the bound says so, and the growth is of no use then.
 impl<'a, E: Element> Enumerator<'a, E> {
-    // Takes in the generators.
+    // Takes in the generator of a letter.
+    fn take_generator(&self, growth: &mut Growth<E>, letter: usize) -> Result<bool, NoMemory>
+        requires { letter < length self.now.generators.now.items }
+        ensures taken { OnOk result ((made : E)
+            × (slice_index_or self.now.generators.now.items letter made ≡ made)
+            × HasTakenIn E.eq growth.old growth.new made (factor_of 0 letter)
+            (tail_of letter 0)) }
+        ensures over { IfOk result (λ over. IsTrue over
+            ↔ (self.now.bound < length growth.new.elements.keys)) }
+    {
+        let factor = Factor::new(0, letter)?;
+        let tail = Tail::new(letter, 0)?;
+        let copy = self.generators[letter].copy(*growth.right.allocator())?;
+        growth.goes_over(copy, factor, tail, self.bound)
+    }
+
+    // Takes in the generators, and the row of the empty word on the left.
     pub(crate) fn take_generators(&self, growth: &mut Growth<E>) -> Result<bool, NoMemory>
         requires some { 0 < length self.now.generators.now.items }
         requires shape { HaveOneShape E.shape self.now.generators.now.items }
         requires none { IsNew growth.old }
-        ensures whole { result ≡ Ok false → length growth.new.elements.keys ≤ self.now.bound }
-        ensures grown { result ≡ Ok false → (unused : E)
-            → IsGrown (generated E.product E.eq self.now.generators.now.items unused)
-            (lists_of growth.new) 1 0 }
-        ensures level { result ≡ Ok false
-            → IsLevel (words_of growth.new.factors.items) 0 (length growth.new.elements.keys) }
-        ensures over { result ≡ Ok true → (unused : E)
-            → IsOver (generated E.product E.eq self.now.generators.now.items unused)
-            self.now.bound }
+        ensures { IfOk result (λ over. (unused : E)
+            → let s = generated E.product E.eq self.now.generators.now.items unused in
+            UnlessOver s self.now.bound over
+            (HasGenerators s self.now.bound (lists_of growth.new))) }
     {
-        let alloc = *growth.right.allocator();
-        for (letter, generator) in self.generators.iter().enumerate() {
-            let copy = generator.copy(alloc)?;
-            let factor = Factor::new(0, letter)?;
-            let tail = Tail::new(letter, 0)?;
-            if growth.goes_over(copy, factor, tail, self.bound)? {
+        for letter in 0..self.generators.len() {
+            if self.take_generator(growth, letter)? {
                 return Ok(true);
             }
         }
+        growth.begin_left(self.generators)?;
         Ok(false)
     }
 
@@ -100,43 +108,8 @@ impl<'a, E: Element> Enumerator<'a, E> {
         Some(number_at(&growth.right, letters, product + 1, factor.last as usize))
     }
 
-    // Takes in the product of an element by a letter, which is multiplied out.
-    fn make_product<L: Ledger>(
-        &self,
-        growth: &mut Growth<E>,
-        number: usize,
-        letter: usize,
-        steps: &mut Steps<L>,
-    ) -> Result<bool, NoMemory>
-        requires shape { HaveOneShape E.shape self.now.generators.now.items }
-        requires letter { letter < length self.now.generators.now.items }
-        requires at { (unused : E)
-            → IsAt (generated E.product E.eq self.now.generators.now.items unused)
-            (lists_of growth.old) number letter }
-        requires least { is_rest_word (length self.now.generators.now.items)
-            (lists_of growth.old) number letter ≡ true }
-        ensures whole { result ≡ Ok false → length growth.new.elements.keys ≤ self.now.bound }
-        ensures step { result ≡ Ok false → (unused : E)
-            → IsStep (generated E.product E.eq self.now.generators.now.items unused)
-            (lists_of growth.old) (lists_of growth.new) number (letter + 1) }
-        ensures count { result ≡ Ok false → (unused : E)
-            → KeepsCount (generated E.product E.eq self.now.generators.now.items unused)
-            (lists_of growth.old) (lists_of growth.new) steps.old steps.new }
-        ensures over { result ≡ Ok true → (unused : E)
-            → IsOver (generated E.product E.eq self.now.generators.now.items unused)
-            self.now.bound }
-        ensures counted { steps.old ≤ steps.new }
-        ensures most { steps.new ≤ steps.old + 1 }
-    {
-        let alloc = *growth.right.allocator();
-        let element = &growth.elements[number];
-        let made = multiply(alloc, element, &self.generators[letter], steps)?;
-        let tail = growth.tail_of_product(self.generators.len(), number, letter)?;
-        let factor = Factor::new(number + 1, letter)?;
-        growth.goes_over(made, factor, tail, self.bound)
-    }
-
-    // The same, where the product is multiplied out only if the graphs do not tell it.
+    // Takes in the product of an element by a letter. It is multiplied out only where the graphs do
+    // not tell it.
     fn take_product<L: Ledger>(
         &self,
         growth: &mut Growth<E>,
@@ -150,16 +123,11 @@ impl<'a, E: Element> Enumerator<'a, E> {
         requires at { (unused : E)
             → IsAt (generated E.product E.eq self.now.generators.now.items unused)
             (lists_of growth.old) number letter }
-        ensures whole { result ≡ Ok false → length growth.new.elements.keys ≤ self.now.bound }
-        ensures step { result ≡ Ok false → (unused : E)
-            → IsStep (generated E.product E.eq self.now.generators.now.items unused)
-            (lists_of growth.old) (lists_of growth.new) number (letter + 1) }
-        ensures count { result ≡ Ok false → (unused : E)
-            → KeepsCount (generated E.product E.eq self.now.generators.now.items unused)
-            (lists_of growth.old) (lists_of growth.new) steps.old steps.new }
-        ensures over { result ≡ Ok true → (unused : E)
-            → IsOver (generated E.product E.eq self.now.generators.now.items unused)
-            self.now.bound }
+        ensures taken { IfOk result (λ over. (unused : E)
+            → let s = generated E.product E.eq self.now.generators.now.items unused in
+            UnlessOver s self.now.bound over
+            (IsMultiplied s self.now.bound (with_steps (lists_of growth.old) steps.old)
+            (with_steps (lists_of growth.new) steps.new) number (letter + 1))) }
         ensures counted { steps.old ≤ steps.new }
         ensures most { steps.new ≤ steps.old + 1 }
     {
@@ -167,7 +135,12 @@ impl<'a, E: Element> Enumerator<'a, E> {
             growth.right.push(product)?;
             return Ok(false);
         }
-        self.make_product(growth, number, letter, steps)
+        let tail = growth.tail_of_product(self.generators.len(), number, letter)?;
+        let factor = Factor::new(number + 1, letter)?;
+        let alloc = *growth.right.allocator();
+        let element = &growth.elements[number];
+        let made = multiply(alloc, element, &self.generators[letter], steps)?;
+        growth.goes_over(made, factor, tail, self.bound)
     }
 
     // Takes in the products of an element by each letter.
@@ -182,17 +155,11 @@ impl<'a, E: Element> Enumerator<'a, E> {
         requires at { (unused : E)
             → IsAt (generated E.product E.eq self.now.generators.now.items unused)
             (lists_of growth.old) number 0 }
-        ensures whole { result ≡ Ok false → length growth.new.elements.keys ≤ self.now.bound }
-        ensures step { result ≡ Ok false → (unused : E)
-            → IsStep (generated E.product E.eq self.now.generators.now.items unused)
-            (lists_of growth.old) (lists_of growth.new) number
-            (length self.now.generators.now.items) }
-        ensures count { result ≡ Ok false → (unused : E)
-            → KeepsCount (generated E.product E.eq self.now.generators.now.items unused)
-            (lists_of growth.old) (lists_of growth.new) steps.old steps.new }
-        ensures over { result ≡ Ok true → (unused : E)
-            → IsOver (generated E.product E.eq self.now.generators.now.items unused)
-            self.now.bound }
+        ensures taken { IfOk result (λ over. (unused : E)
+            → let s = generated E.product E.eq self.now.generators.now.items unused in
+            UnlessOver s self.now.bound over
+            (IsMultiplied s self.now.bound (with_steps (lists_of growth.old) steps.old)
+            (with_steps (lists_of growth.new) steps.new) number (length s.generators))) }
         ensures counted { steps.old ≤ steps.new }
         ensures most { steps.new ≤ steps.old + length self.now.generators.now.items }
     {
@@ -204,8 +171,8 @@ impl<'a, E: Element> Enumerator<'a, E> {
         Ok(false)
     }
 
-    // Takes in the products of the elements whose words are of one length by each letter: those
-    // from the first number to before the last.
+    // Takes in the products of the elements whose words are of one length by each letter, and then
+    // their rows on the left: those from the first number to before the last.
     pub(crate) fn take_level<L: Ledger>(
         &self,
         growth: &mut Growth<E>,
@@ -213,22 +180,18 @@ impl<'a, E: Element> Enumerator<'a, E> {
         last: usize,
         steps: &mut Steps<L>,
     ) -> Result<bool, NoMemory>
+        requires some { 0 < length self.now.generators.now.items }
         requires shape { HaveOneShape E.shape self.now.generators.now.items }
-        requires order { first ≤ last }
+        requires order { first < last }
         requires few { length growth.old.elements.keys ≤ self.now.bound }
         requires within { (unused : E)
             → IsWithin (generated E.product E.eq self.now.generators.now.items unused)
             (lists_of growth.old) first last first }
-        ensures whole { result ≡ Ok false → length growth.new.elements.keys ≤ self.now.bound }
-        ensures within { result ≡ Ok false → (unused : E)
-            → IsWithin (generated E.product E.eq self.now.generators.now.items unused)
-            (lists_of growth.new) first last last }
-        ensures count { result ≡ Ok false → (unused : E)
-            → KeepsCount (generated E.product E.eq self.now.generators.now.items unused)
-            (lists_of growth.old) (lists_of growth.new) steps.old steps.new }
-        ensures over { result ≡ Ok true → (unused : E)
-            → IsOver (generated E.product E.eq self.now.generators.now.items unused)
-            self.now.bound }
+        ensures taken { IfOk result (λ over. (unused : E)
+            → let s = generated E.product E.eq self.now.generators.now.items unused in
+            UnlessOver s self.now.bound over
+            (AreMultiplied s self.now.bound (with_steps (lists_of growth.old) steps.old)
+            (with_steps (lists_of growth.new) steps.new) last)) }
         ensures counted { steps.old ≤ steps.new }
         ensures most { steps.new + first * length self.now.generators.now.items
             ≤ steps.old + last * length self.now.generators.now.items }
@@ -238,6 +201,7 @@ impl<'a, E: Element> Enumerator<'a, E> {
                 return Ok(true);
             }
         }
+        growth.add_left_rows(self.generators, first, last)?;
         Ok(false)
     }
 }

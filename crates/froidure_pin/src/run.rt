@@ -4,8 +4,8 @@ ghost use Rattle.theory.specs.Class.{IsRuleList};
 ghost use Rattle.theory.specs.Value.{HasAtMostValues, HasMoreValues, SameValue};
 ghost use Rattle.theory.specs.Word.{Word};
 ghost use Rattle.elements.specs.Generators.{HaveOneShape, value_by};
-ghost use Rattle.froidure_pin.specs.Found.{IsTableOf, generated, words_of};
-ghost use Rattle.froidure_pin.specs.Growing.{AreCounted, IsOver, IsWithin};
+ghost use Rattle.froidure_pin.specs.Found.{IsTableOf, generated};
+ghost use Rattle.froidure_pin.specs.Growing.{AreFoundFrom, UnlessOver, with_steps};
 ghost use Rattle.froidure_pin.specs.Kept.{IsNew, lists_of};
 ghost use Rattle.froidure_pin.specs.Numbering.{IsNumbering};
 
@@ -70,14 +70,7 @@ impl FroidurePin {
         if enumerator.take_all(&mut growth, steps)? {
             return Ok(Run::Over);
         }
-        let letters = generators.len();
-        Ok(Run::Whole(Table {
-            elements: growth.elements,
-            factors: growth.factors,
-            letters,
-            right: growth.right,
-            left: growth.left,
-        }))
+        Ok(Run::Whole(growth.into_table(generators.len())))
     }
 }
 
@@ -92,18 +85,11 @@ impl<'a, E: Element> Enumerator<'a, E> {
         requires some { 0 < length self.now.generators.now.items }
         requires shape { HaveOneShape E.shape self.now.generators.now.items }
         requires none { IsNew growth.old }
-        ensures whole { result ≡ Ok false → length growth.new.elements.keys ≤ self.now.bound }
-        ensures within { let end = length growth.new.elements.keys in
-            result ≡ Ok false → (unused : E)
-            → IsWithin (generated E.product E.eq self.now.generators.now.items unused)
-            (lists_of growth.new) end end end }
-        ensures count { result ≡ Ok false → (unused : E)
-            → AreCounted (generated E.product E.eq self.now.generators.now.items unused)
-            (words_of growth.new.factors.items) (length growth.new.right.items)
-            steps.old steps.new }
-        ensures over { result ≡ Ok true → (unused : E)
-            → IsOver (generated E.product E.eq self.now.generators.now.items unused)
-            self.now.bound }
+        ensures found { IfOk result (λ over. (unused : E)
+            → let s = generated E.product E.eq self.now.generators.now.items unused in
+            UnlessOver s self.now.bound over
+            (AreFoundFrom s self.now.bound (with_steps (lists_of growth.new) steps.new) steps.old
+            (length growth.new.elements.keys))) }
         ensures counted { steps.old ≤ steps.new }
         ensures most { steps.new
             ≤ steps.old + self.now.bound * length self.now.generators.now.items }
@@ -111,14 +97,12 @@ impl<'a, E: Element> Enumerator<'a, E> {
         if self.take_generators(growth)? {
             return Ok(true);
         }
-        growth.begin_left(self.generators)?;
         let mut first = 0;
         while first < growth.elements.len() {
             let last = growth.elements.len();
             if self.take_level(growth, first, last, steps)? {
                 return Ok(true);
             }
-            growth.add_left_rows(self.generators, first, last)?;
             first = last;
         }
         Ok(false)

@@ -1,18 +1,13 @@
-use Rattle.std.proofs.Common.{◌≡◌, ◌+◌, ◌*◌, List, length, refl, sym, ap, subst, ◌∙◌, arith}
-use Rattle.elements.specs.Generators.{HaveOneShape}
+use Rattle.std.proofs.Common.{◌≡◌, ◌+◌, ◌*◌, length, refl, sym, ap, subst, ◌∙◌, arith}
 use Rattle.froidure_pin.specs.declared.growth.Growth.{Growth}
 use Rattle.froidure_pin.specs.Found.{generated, words_of}
 use Rattle.froidure_pin.specs.Growing.{IsGrown, IsLevel, ReachesAsLong}
 use Rattle.froidure_pin.specs.Kept.{lists_of}
 use Rattle.froidure_pin.proofs.OneShape.{some_value}
-use Rattle.froidure_pin.proofs.Search.{IsSetting, found_count}
+use Rattle.froidure_pin.proofs.Search.{found_count, setting_of}
 use Rattle.froidure_pin.proofs.OneMore.{grown_left}
 use Rattle.froidure_pin.proofs.Levels.{level_as_long, level_next}
-use Rattle.froidure_pin.proofs.growth.Growth.add_left_rows.Given.{Over}
 use Rattle.froidure_pin.proofs.growth.Growth.add_left_rows.Goals as goal
-
-setting_of : (g : Over) {generators : List g.row.E.Denot} → HaveOneShape g.E.Values.shape generators → (unused : g.row.E.Denot) → IsSetting g.E.Values.shape (generated g.E.Values.product g.E.PartialEq.eq generators unused)
-setting_of g shape unused = record { products = g.met.E.Values.products; alike = g.met.E.Element.one_shape; shaped = shape }
 
 pub loop-number-init : goal.loop-number-init
 loop-number-init g c =
@@ -29,7 +24,7 @@ loop-number-init g c =
 pub add_left_row-requires-clause-within : goal.add_left_row-requires-clause-within
 add_left_row-requires-clause-within g c =
     let unused = some_value c.args.generators.now.items c.requires.some in
-    omega (arith, c.loop-number.invariant.level.within, c.loop-number-test.true, found_count (setting_of g c.requires.shape unused) (c.loop-number.invariant.grown unused).found)
+    omega (arith, c.loop-number.invariant.level.within, c.loop-number-test.true, found_count (setting_of g.met.E.Values.products g.met.E.Element.one_shape c.requires.shape unused) (c.loop-number.invariant.grown unused).found)
 
 pub add_left_row-requires-clause-grown : goal.add_left_row-requires-clause-grown
 add_left_row-requires-clause-grown g c = (c.args.last + 1, c.loop-number.invariant.grown)
@@ -63,5 +58,5 @@ returns-clause-within g c = λ unused.
       grown = grown;
       lefts = c.loop-number.invariant.lefts unused;
       rows = c.loop-number.invariant.rows ∙ ap (λ n. (n + 1) * length c.args.generators.now.items) full;
-      level = subst (λ n. IsLevel words c.args.last n) (found_count (setting_of g c.requires.shape unused) grown.found) (level_next words c.args.first c.args.last c.requires.order c.loop-number.invariant.level);
+      level = subst (λ n. IsLevel words c.args.last n) (found_count (setting_of g.met.E.Values.products g.met.E.Element.one_shape c.requires.shape unused) grown.found) (level_next words c.args.first c.args.last c.requires.order c.loop-number.invariant.level);
     }

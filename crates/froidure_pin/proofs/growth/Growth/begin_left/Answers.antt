@@ -3,7 +3,7 @@ use Rattle.std.proofs.lemmas.List.{length-take-le}
 use Rattle.froidure_pin.specs.Found.{generated, words_of}
 use Rattle.froidure_pin.specs.Growing.{AreLeftNumbers}
 use Rattle.froidure_pin.proofs.OneShape.{some_value}
-use Rattle.froidure_pin.proofs.Search.{IsSetting}
+use Rattle.froidure_pin.proofs.Search.{setting_of}
 use Rattle.froidure_pin.proofs.Beginning.{left_first}
 use Rattle.froidure_pin.proofs.growth.Growth.begin_left.Given.{Over}
 use Rattle.froidure_pin.proofs.growth.Growth.begin_left.Goals as goal
@@ -27,5 +27,5 @@ returns-clause-rows g c =
 pub returns-clause-left : goal.returns-clause-left
 returns-clause-left g c = λ unused.
     let s = generated g.E.Values.product g.E.PartialEq.eq c.args.generators.now.items unused in
-    let setting : IsSetting g.E.Values.shape s = record { products = g.met.E.Values.products; alike = g.met.E.Element.one_shape; shaped = c.requires.shape } in
+    let setting = setting_of g.met.E.Values.products g.met.E.Element.one_shape c.requires.shape unused in
     subst (λ left. AreLeftNumbers s (words_of c.args.self.now.factors.items) left) (sym (copied g c)) (left_first setting (c.requires.grown unused))

@@ -1,70 +1,58 @@
-use Rattle.std.proofs.Common.{◌≡◌, ◌≤◌, List, length, sym, ap, subst, arith, Ok}
-use Rattle.elements.specs.Generators.{HaveOneShape}
-use Rattle.froidure_pin.specs.Found.{generated, words_of}
-use Rattle.froidure_pin.specs.Growing.{AreCounted, IsGrown, IsLevel, IsWithin}
+use Rattle.std.proofs.Common.{◌≡◌, length, subst, arith}
+use Rattle.froidure_pin.specs.Found.{generated}
+use Rattle.froidure_pin.specs.Growing.{AreFoundFrom, IsWithin, with_steps}
 use Rattle.froidure_pin.specs.Kept.{lists_of}
-use Rattle.froidure_pin.specs.declared.growth.Growth.{Growth}
 use Rattle.froidure_pin.proofs.OneShape.{some_value}
-use Rattle.froidure_pin.proofs.Search.{IsSetting, found_count}
-use Rattle.froidure_pin.proofs.OneMore.{grown_left}
+use Rattle.froidure_pin.proofs.Search.{setting_of}
+use Rattle.froidure_pin.proofs.Making.{most_level}
 use Rattle.froidure_pin.proofs.Beginning.{counted_none}
-use Rattle.froidure_pin.proofs.products.Enumerator.take_all.Given.{Over}
+use Rattle.froidure_pin.proofs.Results.{not_more, over_told}
 use Rattle.froidure_pin.proofs.products.Enumerator.take_all.Goals as goal
 
-setting_of : (g : Over) {generators : List g.row.E.Denot} → HaveOneShape g.E.Values.shape generators → (unused : g.row.E.Denot) → IsSetting g.E.Values.shape (generated g.E.Values.product g.E.PartialEq.eq generators unused)
-setting_of g shape unused = record { products = g.met.E.Values.products; alike = g.met.E.Element.one_shape; shaped = shape }
-
-pub returns-then-branch-clause-over : goal.returns-then-branch-clause-over
-returns-then-branch-clause-over g c = λ _. c.in_ok-take_generators.ensures.over (ap Ok c.if-branch.true)
-
-pub returns-then-branch-2-clause-over : goal.returns-then-branch-2-clause-over
-returns-then-branch-2-clause-over g c = λ _. c.in_ok-take_level.ensures.over (ap Ok c.if-branch-2.true)
-
-pub begin_left-requires-clause-grown : goal.begin_left-requires-clause-grown
-begin_left-requires-clause-grown g c = c.in_ok-take_generators.ensures.grown (ap Ok c.if-branch.false)
+pub returns-then-branch-clause-found : goal.returns-then-branch-clause-found
+returns-then-branch-clause-found g c = λ unused. over_told ((c.in_ok-take_generators.ensures unused).more c.if-branch.true)
 
 pub loop-first-init : goal.loop-first-init
 loop-first-init g c =
-    let ok = ap Ok c.if-branch.false in
-    let kept = c.in_ok-begin_left.ensures.kept in
+    let begun = λ (unused : g.row.E.Denot). (c.in_ok-take_generators.ensures unused).holds c.if-branch.false in
     record {
-      few = subst (λ (growth : Growth g.row.E.Denot). length growth.elements.keys ≤ c.args.self.now.bound) (sym kept) (c.in_ok-take_generators.ensures.whole ok);
+      few = (begun (some_value c.args.self.now.generators.now.items c.requires.some)).few;
       reached = omega arith;
       counted = omega arith;
       most = omega arith;
-      within = λ unused. record {
-        grown = subst (λ (growth : Growth g.row.E.Denot). IsGrown (generated g.E.Values.product g.E.PartialEq.eq c.args.self.now.generators.now.items unused) (lists_of growth) 1 0) (sym kept) (grown_left c.begin_left.new.self.left.items (c.in_ok-take_generators.ensures.grown ok unused));
-        lefts = c.in_ok-begin_left.ensures.left unused;
-        rows = omega (arith, c.in_ok-begin_left.ensures.rows);
-        level = subst (λ (growth : Growth g.row.E.Denot). IsLevel (words_of growth.factors.items) 0 (length growth.elements.keys)) (sym kept) (c.in_ok-take_generators.ensures.level ok);
-      };
-      count = λ unused. counted_none (setting_of g c.requires.shape unused);
+      found = λ unused. record { few = (begun unused).few; within = (begun unused).within; count = counted_none (setting_of g.met.E.Values.products g.met.E.Element.one_shape c.requires.shape unused) };
     }
 
 pub take_level-requires-clause-within : goal.take_level-requires-clause-within
 take_level-requires-clause-within g c = λ unused.
     let last : length c.loop-first.growth.elements.keys ≡ c.len-last.result = omega (arith, c.len-last.ensures.len) in
-    subst (λ n. IsWithin (generated g.E.Values.product g.E.PartialEq.eq c.args.self.now.generators.now.items unused) (lists_of c.loop-first.growth) c.loop-first.first n c.loop-first.first) last (c.loop-first.invariant.within unused)
+    subst (λ n. IsWithin (generated g.E.Values.product g.E.PartialEq.eq c.args.self.now.generators.now.items unused) (lists_of c.loop-first.growth) c.loop-first.first n c.loop-first.first) last (c.loop-first.invariant.found unused).within
 
-pub add_left_rows-requires-clause-within : goal.add_left_rows-requires-clause-within
-add_left_rows-requires-clause-within g c = c.in_ok-take_level.ensures.within (ap Ok c.if-branch-2.false)
+pub returns-in_err-take_level-clause-most : goal.returns-in_err-take_level-clause-most
+returns-in_err-take_level-clause-most g c = most_level (length c.args.self.now.generators.now.items) c.args.self.now.bound c.loop-first.first c.len-last.result c.args.steps.now c.loop-first.steps c.take_level.new.steps (omega (arith, c.len-last.ensures.len, c.loop-first.invariant.few)) c.loop-first.invariant.most c.take_level.ensures.most
+
+pub returns-then-branch-2-clause-most : goal.returns-then-branch-2-clause-most
+returns-then-branch-2-clause-most g c = most_level (length c.args.self.now.generators.now.items) c.args.self.now.bound c.loop-first.first c.len-last.result c.args.steps.now c.loop-first.steps c.take_level.new.steps (omega (arith, c.len-last.ensures.len, c.loop-first.invariant.few)) c.loop-first.invariant.most c.take_level.ensures.most
+
+pub returns-then-branch-2-clause-found : goal.returns-then-branch-2-clause-found
+returns-then-branch-2-clause-found g c = λ unused. over_told ((c.in_ok-take_level.ensures.taken unused).more c.if-branch-2.true)
 
 pub loop-first-preserved : goal.loop-first-preserved
 loop-first-preserved g c =
-    let ok = ap Ok c.if-branch-2.false in
-    let unused = some_value c.args.self.now.generators.now.items c.requires.some in
-    let within = c.in_ok-take_level.ensures.within ok unused in
-    let kept = c.in_ok-add_left_rows.ensures.kept in
+    let done = λ (unused : g.row.E.Denot). (c.in_ok-take_level.ensures.taken unused).holds c.if-branch-2.false in
+    let some = done (some_value c.args.self.now.generators.now.items c.requires.some) in
     record {
-      few = subst (λ (growth : Growth g.row.E.Denot). length growth.elements.keys ≤ c.args.self.now.bound) (sym kept) (c.in_ok-take_level.ensures.whole ok);
-      reached = subst (λ (growth : Growth g.row.E.Denot). c.len-last.result ≤ length growth.elements.keys) (sym kept) (omega (arith, within.level.within, found_count (setting_of g c.requires.shape unused) within.grown.found));
+      few = some.few;
+      reached = some.reached;
       counted = omega (arith, c.in_ok-take_level.ensures.counted, c.loop-first.invariant.counted);
       most = omega (arith, c.in_ok-take_level.ensures.most, c.loop-first.invariant.most);
-      within = c.in_ok-add_left_rows.ensures.within;
-      count = λ unused. subst (λ (growth : Growth g.row.E.Denot). AreCounted (generated g.E.Values.product g.E.PartialEq.eq c.args.self.now.generators.now.items unused) (words_of growth.factors.items) (length growth.right.items) c.args.steps.now c.take_level.new.steps) (sym kept) (c.in_ok-take_level.ensures.count ok unused c.args.steps.now (c.loop-first.invariant.count unused));
+      found = λ unused. record { few = (done unused).few; within = (done unused).within; count = (done unused).count c.args.steps.now (c.loop-first.invariant.found unused).count };
     }
 
-pub returns-clause-within : goal.returns-clause-within
-returns-clause-within g c = λ _ unused.
+pub returns-clause-most : goal.returns-clause-most
+returns-clause-most g c = most_level (length c.args.self.now.generators.now.items) c.args.self.now.bound c.loop-first.first c.loop-first.first c.args.steps.now c.loop-first.steps c.loop-first.steps (omega (arith, c.loop-first.invariant.reached, c.loop-first.invariant.few)) c.loop-first.invariant.most (omega arith)
+
+pub returns-clause-found : goal.returns-clause-found
+returns-clause-found g c = λ unused.
     let last : c.loop-first.first ≡ length c.loop-first.growth.elements.keys = omega (arith, c.len.ensures.len, c.loop-first-test.false, c.loop-first.invariant.reached) in
-    subst (λ n. IsWithin (generated g.E.Values.product g.E.PartialEq.eq c.args.self.now.generators.now.items unused) (lists_of c.loop-first.growth) n (length c.loop-first.growth.elements.keys) n) last (c.loop-first.invariant.within unused)
+    not_more (subst (λ n. AreFoundFrom (generated g.E.Values.product g.E.PartialEq.eq c.args.self.now.generators.now.items unused) c.args.self.now.bound (with_steps (lists_of c.loop-first.growth) c.loop-first.steps) c.args.steps.now n) last (c.loop-first.invariant.found unused))

@@ -1,6 +1,6 @@
 use Rattle.std.proofs.Common.{◌+◌, ◌*◌, ◌-◌, ◌≤◌, length}
-use Rattle.froidure_pin.specs.Found.{generated, words_of}
-use Rattle.froidure_pin.specs.Growing.{AreCounted, IsWithin}
+use Rattle.froidure_pin.specs.Found.{generated}
+use Rattle.froidure_pin.specs.Growing.{AreFoundFrom, with_steps}
 use Rattle.froidure_pin.specs.Kept.{lists_of}
 use Rattle.froidure_pin.proofs.products.Enumerator.take_all.Given as goal
 
@@ -10,8 +10,7 @@ invariant-loop-first g l = record {
   reached : l.first ≤ length l.growth.elements.keys;
   counted : l.fn.steps ≤ l.steps;
   most : l.steps ≤ l.fn.steps + l.first * length l.self.generators.now.items;
-  within : (unused : g.row.E.Denot) → IsWithin (generated g.E.Values.product g.E.PartialEq.eq l.self.generators.now.items unused) (lists_of l.growth) l.first (length l.growth.elements.keys) l.first;
-  count : (unused : g.row.E.Denot) → AreCounted (generated g.E.Values.product g.E.PartialEq.eq l.self.generators.now.items unused) (words_of l.growth.factors.items) (length l.growth.right.items) l.fn.steps l.steps;
+  found : (unused : g.row.E.Denot) → AreFoundFrom (generated g.E.Values.product g.E.PartialEq.eq l.self.generators.now.items unused) l.self.bound (with_steps (lists_of l.growth) l.steps) l.fn.steps l.first;
 }
 
 abbrev pub decreases-loop-first : goal.decreases-loop-first

@@ -1,8 +1,10 @@
-use Rattle.std.proofs.Common.{◌≡◌, length, ap, subst, arith, Ok}
+use Rattle.std.proofs.Common.{◌≡◌, length, subst, arith}
 use Rattle.froidure_pin.specs.Found.{generated}
-use Rattle.froidure_pin.specs.Growing.{IsStep}
+use Rattle.froidure_pin.specs.Growing.{IsMultiplied, with_steps}
 use Rattle.froidure_pin.specs.Kept.{lists_of}
+use Rattle.froidure_pin.proofs.OneShape.{some_value}
 use Rattle.froidure_pin.proofs.Making.{step_none, step_on}
+use Rattle.froidure_pin.proofs.Results.{not_more, over_told}
 use Rattle.froidure_pin.proofs.products.Enumerator.take_products.Goals as goal
 
 pub loop-letter-init : goal.loop-letter-init
@@ -10,26 +12,30 @@ loop-letter-init g c = record {
   few = c.requires.few;
   counted = omega arith;
   most = omega arith;
-  step = λ unused. step_none (c.requires.at unused);
-  count = λ unused start h. h;
+  taken = λ unused. record { few = c.requires.few; step = step_none (c.requires.at unused); count = λ start h. h };
 }
 
 pub take_product-requires-clause-at : goal.take_product-requires-clause-at
-take_product-requires-clause-at g c = λ unused. (c.loop-letter.invariant.step unused).at
+take_product-requires-clause-at g c = λ unused. (c.loop-letter.invariant.taken unused).step.at
 
-pub returns-then-branch-clause-over : goal.returns-then-branch-clause-over
-returns-then-branch-clause-over g c = λ _. c.in_ok-take_product.ensures.over (ap Ok c.if-branch.true)
+pub returns-then-branch-clause-taken : goal.returns-then-branch-clause-taken
+returns-then-branch-clause-taken g c = λ unused. over_told ((c.in_ok-take_product.ensures.taken unused).more c.if-branch.true)
 
 pub loop-letter-preserved : goal.loop-letter-preserved
-loop-letter-preserved g c = record {
-  few = c.in_ok-take_product.ensures.whole (ap Ok c.if-branch.false);
-  counted = omega (arith, c.in_ok-take_product.ensures.counted, c.loop-letter.invariant.counted);
-  most = omega (arith, c.in_ok-take_product.ensures.most, c.loop-letter.invariant.most);
-  step = λ unused. step_on (c.loop-letter.invariant.step unused) (c.in_ok-take_product.ensures.step (ap Ok c.if-branch.false) unused);
-  count = λ unused start h. c.in_ok-take_product.ensures.count (ap Ok c.if-branch.false) unused start (c.loop-letter.invariant.count unused start h);
-}
+loop-letter-preserved g c =
+    let done = λ (unused : g.row.E.Denot). (c.in_ok-take_product.ensures.taken unused).holds c.if-branch.false in
+    record {
+      few = (done (some_value c.args.self.now.generators.now.items (omega arith))).few;
+      counted = omega (arith, c.in_ok-take_product.ensures.counted, c.loop-letter.invariant.counted);
+      most = omega (arith, c.in_ok-take_product.ensures.most, c.loop-letter.invariant.most);
+      taken = λ unused. record {
+        few = (done unused).few;
+        step = step_on (c.loop-letter.invariant.taken unused).step (done unused).step;
+        count = λ start h. (done unused).count start ((c.loop-letter.invariant.taken unused).count start h);
+      };
+    }
 
-pub returns-clause-step : goal.returns-clause-step
-returns-clause-step g c = λ _ unused.
+pub returns-clause-taken : goal.returns-clause-taken
+returns-clause-taken g c = λ unused.
     let full : c.loop-letter.letter ≡ length c.args.self.now.generators.now.items = omega (arith, c.loop-letter-test.false, c.loop-letter.auto.letter-end) in
-    subst (λ n. IsStep (generated g.E.Values.product g.E.PartialEq.eq c.args.self.now.generators.now.items unused) (lists_of c.args.growth.now) (lists_of c.loop-letter.growth) c.args.number n) full (c.loop-letter.invariant.step unused)
+    not_more (subst (λ n. IsMultiplied (generated g.E.Values.product g.E.PartialEq.eq c.args.self.now.generators.now.items unused) c.args.self.now.bound (with_steps (lists_of c.args.growth.now) c.args.steps.now) (with_steps (lists_of c.loop-letter.growth) c.loop-letter.steps) c.args.number n) full (c.loop-letter.invariant.taken unused))

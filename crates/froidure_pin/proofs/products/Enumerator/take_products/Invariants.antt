@@ -1,6 +1,6 @@
 use Rattle.std.proofs.Common.{◌+◌, ◌≤◌, length}
 use Rattle.froidure_pin.specs.Found.{generated}
-use Rattle.froidure_pin.specs.Growing.{IsStep, KeepsCount}
+use Rattle.froidure_pin.specs.Growing.{IsMultiplied, with_steps}
 use Rattle.froidure_pin.specs.Kept.{lists_of}
 use Rattle.froidure_pin.proofs.products.Enumerator.take_products.Given as goal
 
@@ -9,6 +9,5 @@ invariant-loop-letter g l = record {
   few : length l.growth.elements.keys ≤ l.self.bound;
   counted : l.fn.steps ≤ l.steps;
   most : l.steps ≤ l.fn.steps + l.letter;
-  step : (unused : g.row.E.Denot) → IsStep (generated g.E.Values.product g.E.PartialEq.eq l.self.generators.now.items unused) (lists_of l.fn.growth) (lists_of l.growth) l.number l.letter;
-  count : (unused : g.row.E.Denot) → KeepsCount (generated g.E.Values.product g.E.PartialEq.eq l.self.generators.now.items unused) (lists_of l.fn.growth) (lists_of l.growth) l.fn.steps l.steps;
+  taken : (unused : g.row.E.Denot) → IsMultiplied (generated g.E.Values.product g.E.PartialEq.eq l.self.generators.now.items unused) l.self.bound (with_steps (lists_of l.fn.growth) l.fn.steps) (with_steps (lists_of l.growth) l.steps) l.number l.letter;
 }
