@@ -45,6 +45,11 @@ fused f g h (Err c) e = refl
 come : (p : Partial) (v : Version) (s : ℕ × ℕ) (problem : Problem) → v ≡ p.head.version → s ≡ p.head.sizes → p ≡ begin_with p.head.version p.head.sizes problem → p ≡ begin_with v s problem
 come p v s problem e k h = h ∙ ap₂ (λ v s. begin_with v s problem) (sym e) (sym k)
 
+-- relations that are added leave the pairs as they are
+pub still_unpaired : (o new : Posed) (r : Result (List (Word × Word)) Cause) → o.congruence.pairs ≡ [] → related o r ≡ Ok new → new.congruence.pairs ≡ []
+still_unpaired o new (Ok relations) none h = let same : add_relations o relations ≡ new = cc in ap (λ (p : Posed). p.congruence.pairs) (sym same) ∙ none
+still_unpaired o new (Err c) none h = absurd (cc)
+
 pub relation_is : (p : Partial) (o : Posed) (tokens : List Token) (v : Version) → v ≡ p.head.version → p ≡ begin_with p.head.version (0, 0) (Presented o)
     → added_to p Relation tokens ≡ and_then (λ n. Ok (begin_with v (0, 0) (Presented n))) (related o (added_of v (Presented o) Relation tokens))
 relation_is p o tokens v e h =

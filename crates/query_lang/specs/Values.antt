@@ -14,6 +14,7 @@ use Rattle.line_parts.specs.Token.{Token, is_word, number_within, relation_of}
 use Rattle.query_lang.specs.declared.form.Form.{Form}
 use Rattle.query_lang.specs.declared.form.Form.TheVariants.{Relation, OfRole, Pair, Asks}
 use Rattle.query_lang.specs.declared.form.QueryForm.{QueryForm}
+use Rattle.query_lang.specs.declared.query_line.Scope.{Scope as ScopeOf}
 use Rattle.query_lang.specs.declared.role.Role.{Role}
 use Rattle.query_lang.specs.declared.role.Role.TheVariants as role
 use Rattle.query_lang.specs.Forms.{Place, AWord, ALetter, ANumber, After, ALowTable, ACongruenceTable, ARelation, ALetters, Given, AllGiven, Way, Gives, Pairs, AnyPairs, TwoSidedPairs, NoPairs, row_of, ways_of}
@@ -36,6 +37,10 @@ scope version letters allow_empty relations = record {
   allow_empty = allow_empty;
   relations = relations;
 }
+
+-- what a query is read over
+abbrev pub seen : ScopeOf → Scope
+seen s = scope s.version s.alphabet.now s.allow_empty s.relations.now
 
 abbrev pub scope_of : Version → Problem → Scope
 scope_of version p = scope version (letters_of p) (has_empty_word p) (relations_of p)

@@ -8,9 +8,9 @@ ghost use Rattle.line_parts.specs.Faults.{IsLineFault};
 ghost use Rattle.line_parts.specs.Texts.{texts};
 ghost use Rattle.line_parts.specs.Token.{number_within};
 ghost use Rattle.query_lang.specs.declared.form.QueryForm.TheVariants as asks;
-ghost use Rattle.query_lang.specs.Forms.{row_of};
+ghost use Rattle.query_lang.specs.Forms.{OfGenerators, OfRelations, row_of};
 ghost use Rattle.query_lang.specs.Query.{AreLimits, IsQueryOver};
-ghost use Rattle.query_lang.specs.Values.{bars_query, limits_of, made_in, scope, takes};
+ghost use Rattle.query_lang.specs.Values.{bars_query, limits_of, made_in, scope, seen, takes};
 
 use crate::form::QueryForm;
 use crate::script::Query;
@@ -207,61 +207,157 @@ fn search_of(
     }
 }
 
-/// The query of this form, by the tokens behind its name, which are as many as it takes; the
-/// relations hold at the tables of a meet or a join. Refused for the cause of the first token that
-/// has one, or for want of memory.
-pub fn query_of(
-    alloc: Global,
-    version: Version,
-    alphabet: &Alphabet,
-    allow_empty: bool,
-    relations: &[(Word, Word)],
-    form: QueryForm,
-    tokens: &[&[u8]],
-) -> Result<Query, LineFault>
-    requires { takes form (texts tokens.now) ≡ true }
-    ensures ok { IfOk result (λ query.
-        made_in (scope version alphabet.now allow_empty relations.now) (row_of form).ways
-        (texts tokens.now) ≡ Ok query) }
-    ensures over { IfOk result (IsQueryOver allow_empty (length alphabet.now) relations.now) }
-    ensures err { IfErr result (IsLineFault
-        (made_in (scope version alphabet.now allow_empty relations.now) (row_of form).ways
-        (texts tokens.now))) }
-{
-    let letters = alphabet.len();
-    match form {
-        QueryForm::Index => Ok(Query::Index),
-        QueryForm::Equal => {
-            let (left, right) = two_words(alloc, version, alphabet, allow_empty, tokens)?;
-            Ok(Query::Equal(left, right))
+/// What the words and tables of queries are read over: the version of the script, its letters,
+/// whether a word may be empty, and the relations, which hold at the tables of a meet or a join.
+#[derive(Drop)]
+pub struct Scope<'a> {
+    pub version: Version,
+    pub alphabet: &'a Alphabet,
+    pub allow_empty: bool,
+    pub relations: &'a [(Word, Word)],
+}
+
+impl<'a> Scope<'a> {
+    // The query of this form, which presentations alone have.
+    fn of_relations(
+        &self,
+        alloc: Global,
+        form: QueryForm,
+        tokens: &[&[u8]],
+    ) -> Result<Query, LineFault>
+        requires { (row_of form).scripts ≡ OfRelations }
+        ensures ok { IfOk result (λ query.
+            made_in (seen self.now) (row_of form).ways (texts tokens.now) ≡ Ok query) }
+        ensures over { IfOk result (IsQueryOver self.now.allow_empty
+            (length self.now.alphabet.now) self.now.relations.now) }
+        ensures err { IfErr result (IsLineFault
+            (made_in (seen self.now) (row_of form).ways (texts tokens.now))) }
+    {
+        let letters = self.alphabet.len();
+        match form {
+            QueryForm::LowIndex { two_sided } => {
+                search_of(alloc, two_sided, self.alphabet, self.allow_empty, tokens)
+            }
+            QueryForm::Meet => {
+                let (one, other) = two_tables(
+                    alloc,
+                    self.allow_empty,
+                    letters,
+                    self.relations,
+                    tokens,
+                )?;
+                Ok(Query::Meet(one, other))
+            }
+            QueryForm::Join => {
+                let (first, second) = two_tables(
+                    alloc,
+                    self.allow_empty,
+                    letters,
+                    self.relations,
+                    tokens,
+                )?;
+                Ok(Query::Join(first, second))
+            }
+            QueryForm::Chain => {
+                let (from, to) = two_words(
+                    alloc,
+                    self.version,
+                    self.alphabet,
+                    self.allow_empty,
+                    tokens,
+                )?;
+                Ok(Query::Chain(from, to))
+            }
+            QueryForm::Index
+            | QueryForm::Equal
+            | QueryForm::Normal
+            | QueryForm::Classes
+            | QueryForm::Rules
+            | QueryForm::Element
+            | QueryForm::Cayley
+            | QueryForm::Green
+            | QueryForm::Idempotents => unreachable!(),
         }
-        QueryForm::Normal => {
-            let word = one_word(alloc, version, alphabet, allow_empty, tokens)?;
-            Ok(Query::Normal(word))
+    }
+
+    // The query of this form, which generators alone have.
+    fn of_generators(
+        &self,
+        alloc: Global,
+        form: QueryForm,
+        tokens: &[&[u8]],
+    ) -> Result<Query, LineFault>
+        requires kind { (row_of form).scripts ≡ OfGenerators }
+        requires taken { takes form (texts tokens.now) ≡ true }
+        ensures ok { IfOk result (λ query.
+            made_in (seen self.now) (row_of form).ways (texts tokens.now) ≡ Ok query) }
+        ensures over { IfOk result (IsQueryOver self.now.allow_empty
+            (length self.now.alphabet.now) self.now.relations.now) }
+        ensures err { IfErr result (IsLineFault
+            (made_in (seen self.now) (row_of form).ways (texts tokens.now))) }
+    {
+        match form {
+            QueryForm::Element => {
+                let value = one_word(alloc, self.version, self.alphabet, self.allow_empty, tokens)?;
+                Ok(Query::ElementOf(value))
+            }
+            QueryForm::Cayley => Ok(Query::Cayley),
+            QueryForm::Green => Ok(Query::Green(one_relation(tokens)?)),
+            QueryForm::Idempotents => Ok(Query::Idempotents),
+            QueryForm::Index
+            | QueryForm::Equal
+            | QueryForm::Normal
+            | QueryForm::Classes
+            | QueryForm::Rules
+            | QueryForm::LowIndex { .. }
+            | QueryForm::Meet
+            | QueryForm::Join
+            | QueryForm::Chain => unreachable!(),
         }
-        QueryForm::Classes => page_of(alloc, version, alphabet, allow_empty, tokens),
-        QueryForm::Rules => Ok(Query::RuleList),
-        QueryForm::Element => {
-            let value = one_word(alloc, version, alphabet, allow_empty, tokens)?;
-            Ok(Query::ElementOf(value))
+    }
+
+    /// The query of this form, by the tokens behind its name, which are as many as it takes; the
+    /// relations hold at the tables of a meet or a join. Refused for the cause of the first token
+    /// that has one, or for want of memory.
+    pub fn query(
+        &self,
+        alloc: Global,
+        form: QueryForm,
+        tokens: &[&[u8]],
+    ) -> Result<Query, LineFault>
+        requires { takes form (texts tokens.now) ≡ true }
+        ensures ok { IfOk result (λ query.
+            made_in (seen self.now) (row_of form).ways (texts tokens.now) ≡ Ok query) }
+        ensures over { IfOk result (IsQueryOver self.now.allow_empty
+            (length self.now.alphabet.now) self.now.relations.now) }
+        ensures err { IfErr result (IsLineFault
+            (made_in (seen self.now) (row_of form).ways (texts tokens.now))) }
+    {
+        match form {
+            QueryForm::Index => Ok(Query::Index),
+            QueryForm::Equal => {
+                let (left, right) = two_words(
+                    alloc,
+                    self.version,
+                    self.alphabet,
+                    self.allow_empty,
+                    tokens,
+                )?;
+                Ok(Query::Equal(left, right))
+            }
+            QueryForm::Normal => {
+                let word = one_word(alloc, self.version, self.alphabet, self.allow_empty, tokens)?;
+                Ok(Query::Normal(word))
+            }
+            QueryForm::Classes => {
+                page_of(alloc, self.version, self.alphabet, self.allow_empty, tokens)
+            }
+            QueryForm::Rules => Ok(Query::RuleList),
+            QueryForm::LowIndex { .. } | QueryForm::Meet | QueryForm::Join | QueryForm::Chain => {
+                self.of_relations(alloc, form, tokens)
+            }
+            QueryForm::Element | QueryForm::Cayley | QueryForm::Green | QueryForm::Idempotents =>
+                self.of_generators(alloc, form, tokens),
         }
-        QueryForm::Cayley => Ok(Query::Cayley),
-        QueryForm::LowIndex { two_sided } => {
-            search_of(alloc, two_sided, alphabet, allow_empty, tokens)
-        }
-        QueryForm::Meet => {
-            let (one, other) = two_tables(alloc, allow_empty, letters, relations, tokens)?;
-            Ok(Query::Meet(one, other))
-        }
-        QueryForm::Join => {
-            let (first, second) = two_tables(alloc, allow_empty, letters, relations, tokens)?;
-            Ok(Query::Join(first, second))
-        }
-        QueryForm::Chain => {
-            let (from, to) = two_words(alloc, version, alphabet, allow_empty, tokens)?;
-            Ok(Query::Chain(from, to))
-        }
-        QueryForm::Green => Ok(Query::Green(one_relation(tokens)?)),
-        QueryForm::Idempotents => Ok(Query::Idempotents),
     }
 }

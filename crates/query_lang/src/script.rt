@@ -14,7 +14,7 @@ ghost use Rattle.query_lang.specs.Values.{added_of};
 
 use crate::fault::ScriptFault;
 use crate::form::{Form, QueryForm};
-use crate::query_line::query_of;
+use crate::query_line::Scope;
 use crate::reader::Progress;
 use line_parts::{Cause, LineFault, Version};
 use problem::Problem;
@@ -141,15 +141,13 @@ impl Script {
         let allow_empty = self.problem.has_empty_word();
         let relations = relations_of(&self.problem);
         let alphabet = self.problem.alphabet();
-        query_of(
-            alloc,
+        let scope = Scope {
             version,
             alphabet,
             allow_empty,
             relations,
-            form,
-            tokens,
-        )
+        };
+        scope.query(alloc, form, tokens)
     }
 
     // Puts the query of this form and these tokens behind the others. Scripts of this kind have it.
