@@ -1,7 +1,8 @@
 -- The rows of the Cayley graphs.
-use Rattle.std.proofs.Common.{◌≡◌, ℕ, ◌+◌, ◌<◌, List, [], length, get_or, take, Ok, Err, sym, ap, subst₂, ◌∙◌, arith}
+use Rattle.std.proofs.Common.{◌≡◌, ℕ, ◌+◌, ◌++◌, ◌<◌, List, [], length, get_or, take, Ok, Err, sym, ap, subst₂, ◌∙◌, arith}
 use Rattle.std.specs.List.{flat_map, range_with_len}
 use Rattle.std.proofs.lemmas.List.FromFn.{length-range_with_len, get_or-range_with_len}
+use Rattle.std.proofs.lemmas.List.{append_assoc}
 use Rattle.ports.specs.declared.sink.Sink.{Ghosts}
 use Rattle.ports.specs.declared.fault.WriteFault.{WriteFault}
 use Rattle.ports.specs.Writes.{WritesBytes}
@@ -19,6 +20,11 @@ use Rattle.report_lines.proofs.ListingLemmas.{more_lines, line_begun}
 -- the row of an element
 abbrev pub row_line : Problem → CayleyTables → ℕ → List ℕ
 row_line p t i = cayley_line (letters_of p) (count_of p) i (get_or t.words i []) (edge t.right i) (edge t.left i)
+
+-- the texts of a row, as they are put into a line
+pub row_texts : (a b c d e f g h l1 l2 l3 l4 : List ℕ) → l1 ≡ [] → l2 ≡ l1 ++ (a ++ (b ++ c)) → l3 ≡ l2 ++ (d ++ e) → l4 ≡ l3 ++ (f ++ g)
+    → l4 ++ h ≡ a ++ (b ++ (c ++ (d ++ (e ++ (f ++ (g ++ h))))))
+row_texts a b c d e f g h l1 l2 l3 l4 p1 p2 p3 p4 = rw (p4, p3, p2, p1) (simp append_assoc)
 
 module _ (p : Problem) (t : CayleyTables) (tables : AreTablesFor p t) (i : ℕ) (within : i < length t.words) where
   -- the word of an element is over the letters

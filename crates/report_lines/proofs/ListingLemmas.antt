@@ -1,5 +1,5 @@
 -- Lists that are written line by line.
-use Rattle.std.proofs.Common.{◌≡◌, ℕ, zero, suc, ◌+◌, ◌<◌, ◌≤◌, List, [], ◌∷◌, ◌++◌, length, get_or, take, drop, Result, Ok, Err, sym, ap, ◌∙◌, arith, append-nil, codes, decimal, map}
+use Rattle.std.proofs.Common.{◌≡◌, ℕ, zero, suc, ◌+◌, ◌<◌, ◌≤◌, List, [], ◌∷◌, ◌++◌, length, get_or, take, drop, Result, Ok, Err, OnOk, sym, ap, ap₂, ◌∙◌, arith, append-nil, codes, decimal, map}
 use Rattle.std.specs.List.{flat_map, range_with_len}
 use Rattle.std.proofs.Math.Seq.{drop-cons}
 use Rattle.std.proofs.lemmas.List.{take_more, take_all, take-append-drop, append_assoc}
@@ -66,17 +66,18 @@ numbers_more number k before with_space after n same e h start so_far =
     ∙ append_assoc start text (g k)
     ∙ ap (λ t. start ++ t) (sym next)
 
--- texts that are put one behind another
-pub eight_texts : (a b c d e f g h l1 l2 l3 l4 l5 l6 l7 l8 : List ℕ) → l1 ≡ [] → l2 ≡ l1 ++ a → l3 ≡ l2 ++ b → l4 ≡ l3 ++ c → l5 ≡ l4 ++ d → l6 ≡ l5 ++ e → l7 ≡ l6 ++ f → l8 ≡ l7 ++ g
-    → l8 ++ h ≡ a ++ (b ++ (c ++ (d ++ (e ++ (f ++ (g ++ h))))))
-eight_texts a b c d e f g h l1 l2 l3 l4 l5 l6 l7 l8 p1 p2 p3 p4 p5 p6 p7 p8 =
-    ap (λ l. l ++ h) p8 ∙ append_assoc l7 g h
-    ∙ ap (λ l. l ++ (g ++ h)) p7 ∙ append_assoc l6 f (g ++ h)
-    ∙ ap (λ l. l ++ (f ++ (g ++ h))) p6 ∙ append_assoc l5 e (f ++ (g ++ h))
-    ∙ ap (λ l. l ++ (e ++ (f ++ (g ++ h)))) p5 ∙ append_assoc l4 d (e ++ (f ++ (g ++ h)))
-    ∙ ap (λ l. l ++ (d ++ (e ++ (f ++ (g ++ h))))) p4 ∙ append_assoc l3 c (d ++ (e ++ (f ++ (g ++ h))))
-    ∙ ap (λ l. l ++ (c ++ (d ++ (e ++ (f ++ (g ++ h)))))) p3 ∙ append_assoc l2 b (c ++ (d ++ (e ++ (f ++ (g ++ h)))))
-    ∙ ap (λ l. l ++ (b ++ (c ++ (d ++ (e ++ (f ++ (g ++ h))))))) (p2 ∙ ap (λ l. l ++ a) p1)
+-- two texts that are put at the end of a line, one behind another
+pub put_behind : {T E : Type 0} (r : Result T E) (line a mid b new : List ℕ) → mid ≡ line ++ a → OnOk r (new ≡ mid ++ b) → OnOk r (new ≡ line ++ (a ++ b))
+put_behind (Ok x) line a mid b new e h = h ∙ ap (λ l. l ++ b) e ∙ append_assoc line a b
+put_behind (Err fault) line a mid b new e h = tt
+
+-- a line of a name and a text
+pub line_put : (name text begun whole given : List ℕ) → begun ≡ name → whole ≡ begun ++ given → given ≡ text → whole ++ codes "\n" ≡ name ++ (text ++ codes "\n")
+line_put name text begun whole given b w g = ap (λ line. line ++ codes "\n") (w ∙ ap₂ ◌++◌ b g) ∙ append_assoc name text (codes "\n")
+
+-- a line of two texts and what stands between them
+pub both_put : (a b c begun mid whole : List ℕ) → begun ≡ a → mid ≡ begun ++ b → whole ≡ mid ++ c → whole ++ codes "\n" ≡ a ++ (b ++ (c ++ codes "\n"))
+both_put a b c begun mid whole p q r = rw (r, q, p) (simp append_assoc)
 
 -- the bytes of lines and one more
 pub bytes_of_map : {A : Type 0} (f : A → List ℕ) (xs : List A) (last : List ℕ) → bytes_of (map f xs ++ last ∷ []) ≡ flat_map f xs ++ last

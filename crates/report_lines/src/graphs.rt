@@ -1,6 +1,7 @@
 // The Cayley graphs, as lines.
-ghost use Rattle.std.specs.Prelude.{◌≡◌, ◌<◌, ◌++◌, ◌∷◌, [], length, slice_index_or, OnOk, IfOk, codes, false};
+ghost use Rattle.std.specs.Prelude.{◌≡◌, ◌<◌, ◌++◌, ◌∷◌, [], length, slice_index_or, OnOk, IfOk, codes, decimal, false};
 ghost use Rattle.ports.specs.Writes.{WritesBytes};
+ghost use Rattle.words.specs.WordText.{text_of};
 ghost use Rattle.cayley.specs.Tables.{edge};
 ghost use Rattle.element_tables.specs.CayleyGraphs.{AreTablesFor};
 ghost use Rattle.problem.specs.Problem.{count_of, letters_of};
@@ -27,6 +28,34 @@ fn put_row(rows: &Rows, row: usize, line: &mut Line) -> Result<(), NoMemory>
     Ok(())
 }
 
+// Puts a name at the end of a line, and the numbers of a row, each after a space.
+fn put_edges(name: &[u8], rows: &Rows, row: usize, line: &mut Line) -> Result<(), NoMemory>
+    requires { row < length rows.now }
+    ensures { OnOk result (line.new ≡ line.old ++ (name.now
+        ++ numbers_text (length (slice_index_or rows.now row [])) (edge rows.now row))) }
+{
+    line.text(name)?;
+    put_row(rows, row, line)
+}
+
+// Puts the number of an element and its least word at the end of a line.
+fn put_element(
+    alloc: Global,
+    problem: &Problem,
+    tables: &CayleyTables,
+    number: usize,
+    line: &mut Line,
+) -> Result<(), NoMemory>
+    requires tables { AreTablesFor problem.now tables.now }
+    requires number { number < length tables.now.words }
+    ensures { OnOk result (line.new ≡ line.old ++ (decimal number ++ (codes " "
+        ++ text_of (letters_of problem.now) (slice_index_or tables.now.words number [])))) }
+{
+    line.number(number)?;
+    line.text(b" ")?;
+    line.word(alloc, problem.alphabet(), &tables.words.word(number)?)
+}
+
 // The line of an element, without its end.
 fn row_of(
     alloc: Global,
@@ -42,13 +71,9 @@ fn row_of(
         (edge tables.now.right number) (edge tables.now.left number)) }
 {
     let mut line = Line::starting(alloc, b"")?;
-    line.number(number)?;
-    line.text(b" ")?;
-    line.word(alloc, problem.alphabet(), &tables.words.word(number)?)?;
-    line.text(b" right")?;
-    put_row(&tables.right, number, &mut line)?;
-    line.text(b" left")?;
-    put_row(&tables.left, number, &mut line)?;
+    put_element(alloc, problem, tables, number, &mut line)?;
+    put_edges(b" right", &tables.right, number, &mut line)?;
+    put_edges(b" left", &tables.left, number, &mut line)?;
     Ok(line)
 }
 
