@@ -19,16 +19,6 @@ pub chain_same : (next next' : ℕ → Option ℕ) (start : Option ℕ) (list : 
 chain_same next next' start [] same c = c
 chain_same next next' start (n ∷ ns) same c = (c.0, chain_same next next' (next' n) ns (λ m h. same m (inr h)) (subst (λ z. IsChain next z ns) (sym (same n (inl refl))) c.1))
 
--- a start has one list
-pub chain_one : (next : ℕ → Option ℕ) (start : Option ℕ) (list list' : List ℕ) → IsChain next start list → IsChain next start list' → list ≡ list'
-chain_one next start [] [] c d = refl
-chain_one next start [] (n ∷ ns) c d = let e : None ≡ Some n = sym c ∙ d.0 in cc
-chain_one next start (n ∷ ns) [] c d = let e : None ≡ Some n = sym d ∙ c.0 in cc
-chain_one next start (n ∷ ns) (m ∷ ms) c d =
-    let same : n ≡ m = some_same n m (sym c.0 ∙ d.0) in
-    let rest : ns ≡ ms = chain_one next (next n) ns ms c.1 (subst (λ z. IsChain next (next z) ms) (sym same) d.1) in
-    rw (same, rest) refl
-
 -- the length of a list, counted
 pub chain_counted : (most : ℕ) (next : ℕ → Option ℕ) (start : Option ℕ) (list : List ℕ) → IsChain next start list → length list ≤ most → chain_count most next start ≡ length list
 chain_counted zero next start [] c h = refl

@@ -1,7 +1,7 @@
 -- Marks that are carried on, and the least word whose node has none.
-use Rattle.std.proofs.Common.{◌≡◌, ◌≢◌, ℕ, ◌+◌, ◌<◌, ◌≤◌, ◌⊎◌, inl, inr, Bool, true, false, zero, suc, List, [], ◌∷◌, ◌++◌, length, get_or, set, slice_index, refl, sym, ap, ◌∙◌, subst, arith, Option, Some, None, length-set, Ordering, is_lt}
-use Rattle.std.proofs.lemmas.Bool.{cases_eq, cases_lt}
-use Rattle.std.proofs.lemmas.List.{get_or-set_same, get_or-set_other, get_or_past, get_or_default, get_or_append_left, get_or_push, length_push}
+use Rattle.std.proofs.Common.{◌≡◌, ℕ, ◌+◌, ◌<◌, ◌≤◌, ◌⊎◌, inl, inr, Bool, true, false, zero, suc, List, [], ◌∷◌, ◌++◌, length, get_or, slice_index, refl, sym, ap, ◌∙◌, subst, arith, Option, Some, None, Ordering, is_lt}
+use Rattle.std.proofs.lemmas.Bool.{cases_lt}
+use Rattle.std.proofs.lemmas.List.{get_or_past, get_or_default, get_or_append_left, get_or_push, length_push}
 use Rattle.theory.specs.Word.{Word}
 use Rattle.theory.specs.ShortLex.{◌≺◌, shortlex}
 use Rattle.theory.specs.Graph.{Graph, path}
@@ -17,87 +17,6 @@ on_within xs n on = elim (cases_lt n (length xs)) [
   | inl h ↦ h
   | inr past ↦ absurd (let off : get_or xs n false ≡ false = get_or_past xs n false past in let no : false ≡ true = sym off ∙ on in let none : ⊥ = cc in none)
 ]
-
--- the marks of the nodes before i have been carried on
-pub record IsCarriedTo (class : List ℕ) (was now : List Bool) (i : ℕ) : Type 0 where
-  pub shape : length now ≡ length was
-  pub kept : (n : ℕ) → n < i → IsOn was n → IsOn now (slice_index class n)
-  pub later : (n : ℕ) → i ≤ n → IsOn was n → IsOn now n
-  pub from : (m : ℕ) → IsOn now m → ((n : ℕ) × (n < i) × IsOn was n × (slice_index class n ≡ m)) ⊎ ((i ≤ m) × IsOn was m)
-
-pub carried_start : (class : List ℕ) (was : List Bool) → IsCarriedTo class was was 0
-carried_start class was = record {
-  shape = refl;
-  kept = λ n h. absurd (omega arith);
-  later = λ n h on. on;
-  from = λ m on. inr (omega arith, on);
-}
-
-module _ (class : List ℕ) (was now : List Bool) (i : ℕ) (below : (n : ℕ) → slice_index class n ≤ n) (so_far : IsCarriedTo class was now i) where
-  pub carried_skip : (IsOn now i → ⊥) → IsCarriedTo class was now (i + 1)
-  carried_skip off = record {
-    shape = so_far.shape;
-    kept = λ n h on. elim (cases_lt n i) [
-      | inl less ↦ so_far.kept n less on
-      | inr more ↦ let same : n ≡ i = omega (arith, h, more) in absurd (off (so_far.later i (omega arith) (subst (IsOn was) same on)))
-    ];
-    later = λ n h on. so_far.later n (omega (arith, h)) on;
-    from = λ m on. elim (so_far.from m on) [
-      | inl p ↦ inl (p.0, omega (arith, p.1), p.2, p.3)
-      | inr q ↦ elim (cases_eq m i) [ inl e ↦ absurd (off (subst (IsOn now) e on)) | inr d ↦ inr (omega (arith, q.0, d), q.1) ]
-    ];
-  }
-
-  pub carried_step : i < length was → IsOn now i → IsCarriedTo class was (set (set now i false) (slice_index class i) true) (i + 1)
-  carried_step within here = record {
-    shape = length-set cleared (slice_index class i) true ∙ length-set now i false ∙ so_far.shape;
-    kept = λ n h on. elim (cases_lt n i) [
-      | inl less ↦ stays (slice_index class n) (let at = below n in omega arith) (so_far.kept n less on)
-      | inr more ↦ let same : i ≡ n = omega (arith, h, more) in subst (λ k. IsOn (set cleared (slice_index class i) true) (slice_index class k)) same there
-    ];
-    later = λ n h on. stays n (omega (arith, h)) (so_far.later n (omega (arith, h)) on);
-    from = λ m on. elim (cases_eq m (slice_index class i)) [
-      | inl e ↦ inl (i, omega arith, was_here, sym e)
-      | inr d ↦ elim (cases_eq m i) [
-        | inl e ↦ absurd (off m e d on)
-        | inr other ↦ elim (so_far.from m (sym (get_or-set_other now i m false false other) ∙ sym (get_or-set_other cleared (slice_index class i) m true false d) ∙ on)) [
-          | inl p ↦ inl (p.0, omega (arith, p.1), p.2, p.3)
-          | inr q ↦ inr (omega (arith, q.0, other), q.1)
-        ]
-      ]
-    ];
-  }
-    where
-      cleared : List Bool
-      cleared = set now i false
-
-      room : slice_index class i < length cleared
-      room = omega (arith, below i, within, so_far.shape, length-set now i false)
-
-      there : IsOn (set cleared (slice_index class i) true) (slice_index class i)
-      there = get_or-set_same cleared (slice_index class i) true false room
-
-      stays : (n : ℕ) → n ≢ i → IsOn now n → IsOn (set cleared (slice_index class i) true) n
-      stays n other on = elim (cases_eq n (slice_index class i)) [
-        | inl e ↦ subst (IsOn (set cleared (slice_index class i) true)) (sym e) there
-        | inr d ↦ get_or-set_other cleared (slice_index class i) n true false d ∙ get_or-set_other now i n false false other ∙ on
-      ]
-
-      was_here : IsOn was i
-      was_here = elim (so_far.from i here) [ inl p ↦ absurd (let at = below p.0 in omega (arith, at, p.1, p.3)) | inr q ↦ q.1 ]
-
-      off : (m : ℕ) → m ≡ i → m ≢ slice_index class i → IsOn (set cleared (slice_index class i) true) m → ⊥
-      off m e d on =
-          let gone : get_or cleared m false ≡ false = ap (λ k. get_or cleared k false) e ∙ get_or-set_same now i false false (omega (arith, within, so_far.shape)) in
-          let no : false ≡ true = sym gone ∙ sym (get_or-set_other cleared (slice_index class i) m true false d) ∙ on in
-          let none : ⊥ = cc in none
-
-pub carried_end : (class : List ℕ) (was now : List Bool) (i : ℕ) → length was ≤ i → IsCarriedTo class was now i → AreCarried class was now
-carried_end class was now i all so_far = record {
-  shape = so_far.shape;
-  kept = λ n on. so_far.kept n (let within = on_within was n on in omega arith) on;
-  from = λ m on. elim (so_far.from m on) [ inl p ↦ (p.0, p.2, p.3) | inr q ↦ absurd (let within = on_within was m q.1 in omega (arith, q.0)) ];
-}
 
 -- marks that go with their nodes go with their words
 pub marks_kept : (old new : Graph) (was is : List Bool) (class : List ℕ) → ((n : ℕ) → IsOn was n → (w : Word) × (path old 0 w ≡ Some n)) → IsCarried old new class → AreCarried class was is → KeepsMarks old was new is
