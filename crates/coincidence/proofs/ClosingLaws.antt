@@ -79,8 +79,7 @@ module _ (c : Congruence) (first now : Cosets) (from at : Option ℕ) (w : IsWho
   pub drawing_gathered : IsGathered first now
   drawing_gathered = record {
     marks = marks_kept first.edges.graph now.edges.graph first.marked.items now.marked.items d.class (λ n on. w.lives.reached n (w.marks n on)) d.carried d.marks;
-    numbers = numbers_kept first.edges.graph now.edges.graph now.live.items d.class d.carried d.whole.lives d.own;
-    nodes = d.nodes;
+    numbers = numbers_kept first.edges.graph now.edges.graph now.live.items d.class d.nodes d.carried d.whole.lives d.own;
   }
 
   -- relations that held at marked nodes do so

@@ -123,8 +123,9 @@ joined_renewed old new x y at to o = record {
 }
 
 -- live nodes have kept their numbers
-pub numbers_kept : (old new : Graph) (live : List Bool) (class : List ℕ) → IsCarried old new class → IsLiveGraph new live → ((n : ℕ) → IsOn live n → IsReached old n × (slice_index class n ≡ n)) → KeepsNumbers old new
-numbers_kept old new live class gone lives own = record {
+pub numbers_kept : (old new : Graph) (live : List Bool) (class : List ℕ) → length new ≡ length old → IsCarried old new class → IsLiveGraph new live → ((n : ℕ) → IsOn live n → IsReached old n × (slice_index class n ≡ n)) → KeepsNumbers old new
+numbers_kept old new live class same gone lives own = record {
+  nodes = same;
   least = λ w n m e f.
       let same : n ≡ slice_index class m = some_same n (slice_index class m) (sym e ∙ gone.follows w m f) in
       omega (arith, same, gone.below m);
@@ -151,7 +152,7 @@ joined_left old new x y at to lives hx hy shape on o =
     record {
       ok = id;
       marks = marks_kept old.edges.graph new.edges.graph old.marked.items new.marked.items o.class (λ n h. lives.reached n (on n h)) gone o.carried;
-      numbers = numbers_kept old.edges.graph new.edges.graph new.live.items o.class gone id.live (λ n h. let s = joined_split old new x y at to o n h in (lives.reached n s.0, s.1));
+      numbers = numbers_kept old.edges.graph new.edges.graph new.live.items o.class id.nodes gone id.live (λ n h. let s = joined_split old new x y at to o n h in (lives.reached n s.0, s.1));
       graph = o.merging.graph;
       shape = o.carried.shape ∙ shape ∙ sym id.nodes;
       marked_on = live_marks old.edges.graph new.edges.graph old.live.items new.live.items old.marked.items new.marked.items o.class lives id.live on gone o.carried;

@@ -123,7 +123,7 @@ module _ (c : Congruence) (old new : Cosets) (x y : ℕ) (at to : Option ℕ) (w
   joined_identified = left.ok
 
   pub joined_gathered : IsGathered old new
-  joined_gathered = record { marks = left.marks; numbers = left.numbers; nodes = left.ok.nodes }
+  joined_gathered = record { marks = left.marks; numbers = left.numbers }
 
   persist : (u v : Word) → SameEnd old.edges.graph u v → SameEnd new.edges.graph u v
   persist u v h = (left.ok.relates u v).1 (given (inl h))

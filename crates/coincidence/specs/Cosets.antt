@@ -25,4 +25,3 @@ pub record IsWhole (c : Congruence) (t : Cosets) : Type 0 where
 pub record IsGathered (old new : Cosets) : Type 0 where
   pub marks : KeepsMarks old.edges.graph old.marked.items new.edges.graph new.marked.items
   pub numbers : KeepsNumbers old.edges.graph new.edges.graph
-  pub nodes : length new.edges.graph ≡ length old.edges.graph

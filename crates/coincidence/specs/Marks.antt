@@ -13,8 +13,10 @@ pub record IsCarried (old new : Graph) (class : List ℕ) : Type 0 where
   pub follows : (w : Word) (n : ℕ) → path old 0 w ≡ Some n
       → path new 0 w ≡ Some (slice_index class n)
 
--- each node of new has the least of the numbers that the words which lead there had in old
+-- each node of new has the least of the numbers that the words which lead there had in old, of as
+-- many numbers
 pub record KeepsNumbers (old new : Graph) : Type 0 where
+  pub nodes : length new ≡ length old
   pub least : (w : Word) (n m : ℕ) → path new 0 w ≡ Some n → path old 0 w ≡ Some m → n ≤ m
   pub from : (w : Word) (n : ℕ) → path new 0 w ≡ Some n
       → (v : Word) × (path old 0 v ≡ Some n) × (path new 0 v ≡ Some n)

@@ -190,7 +190,6 @@ impl Table {
         ensures marks { OnOk result (KeepsMarks self.old.graph self.old.marked self.new.graph
             self.new.marked) }
         ensures numbers { OnOk result (KeepsNumbers self.old.graph self.new.graph) }
-        ensures nodes { OnOk result (length self.new.graph ≡ length self.old.graph) }
         ensures ok { OnOk result (self.new.failed ≡ false) }
         ensures err { OnErr result (self.new.failed ≡ true) }
         ensures failed { self.old.failed ≡ true → IsErr result }
@@ -253,7 +252,6 @@ impl Table {
         ensures marks { OnOk result (KeepsMarks self.old.graph self.old.marked self.new.graph
             self.new.marked) }
         ensures numbers { OnOk result (KeepsNumbers self.old.graph self.new.graph) }
-        ensures nodes { OnOk result (length self.new.graph ≡ length self.old.graph) }
         ensures ok { OnOk result (self.new.failed ≡ false) }
         ensures err { OnErr result (self.new.failed ≡ true) }
         ensures failed { self.old.failed ≡ true → IsErr result }

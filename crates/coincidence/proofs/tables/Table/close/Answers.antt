@@ -1,4 +1,4 @@
-use Rattle.std.proofs.Common.{sym, subst}
+use Rattle.std.proofs.Common.{◌≡◌, length, sym, subst}
 use Rattle.theory.specs.Graph.{PathsRelate}
 use Rattle.coincidence.specs.Holding.{IsReach}
 use Rattle.coincidence.specs.Closing.{ClosedThere}
@@ -26,3 +26,8 @@ pub returns-in-Ok-clause-relates : goal.returns-in-Ok-clause-relates
 returns-in-Ok-clause-relates c =
     between (λ (old new : CosetTable). PathsRelate new.graph (ClosedThere old.congruence old.graph c.args.reach.at))
     c.self.inside.congruence.congruence c.self.inside.failed c.self.inside.cosets c.close.new.self c.args.self.now c.if-self.false c.self.view_is c.in-Ok.ensures.relates
+
+pub returns-in-Ok-clause-nodes : goal.returns-in-Ok-clause-nodes
+returns-in-Ok-clause-nodes c =
+    between (λ (old new : CosetTable). length new.graph ≡ length old.graph)
+    c.self.inside.congruence.congruence c.self.inside.failed c.self.inside.cosets c.close.new.self c.args.self.now c.if-self.false c.self.view_is c.in-Ok.ensures.gathered.numbers.nodes
