@@ -3,7 +3,7 @@ use Rattle.std.specs.Prelude.{◌≡◌, ℕ, Bool, true, false, List, [], ◌�
 use Rattle.theory.specs.Congruence.{Congruence, IsWellFormed}
 use Rattle.theory.specs.Graph.{Graph, IsGraph}
 use Rattle.word_graph.specs.Edges.{with_edge, with_node}
-use Rattle.coincidence.specs.Holding.{HoldAt}
+use Rattle.coincidence.specs.Holding.{HoldWhere}
 use Rattle.coincidence.specs.Links.{Links, IsSources}
 use Rattle.coincidence.specs.Live.{IsOn, IsLiveGraph}
 use Rattle.coincidence.specs.Cosets.{IsWhole}
@@ -59,12 +59,9 @@ pub record IsHeld (c : Congruence) (failed : Bool) (t : Cosets) : Type 0 where
 abbrev pub IsLive : CosetTable → ℕ → Type 0
 IsLive t n = IsOn t.live n
 
-abbrev pub IsMarked : CosetTable → ℕ → Type 0
-IsMarked t n = IsOn t.marked n
-
 -- the relations hold at each marked node
 abbrev pub HoldWhereMarked : CosetTable → Type 0
-HoldWhereMarked t = (n : ℕ) → IsMarked t n → HoldAt t.congruence.presentation.relations t.graph n
+HoldWhereMarked t = HoldWhere t.congruence.presentation.relations t.graph t.marked
 
 -- new is old with an edge of the letter from the node to a new node, and nothing else
 pub record IsDefined (old new : CosetTable) (node letter made : ℕ) : Type 0 where
