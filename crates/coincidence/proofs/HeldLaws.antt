@@ -19,7 +19,7 @@ use Rattle.coincidence.specs.Absorbing.{Extends}
 use Rattle.coincidence.specs.Closing.{IsEdged}
 use Rattle.coincidence.specs.Cosets.{IsWhole, IsGathered}
 use Rattle.coincidence.specs.Joining.{IsJoined}
-use Rattle.coincidence.specs.Kept.{IsKept, IsPlaced, step_at}
+use Rattle.coincidence.specs.Kept.{IsKept, IsPlaced, listing_of, step_at}
 use Rattle.coincidence.specs.Marks.{KeepsNumbers}
 use Rattle.coincidence.specs.Merging.{IsReached}
 use Rattle.coincidence.specs.Seen.{HoldWhereSeen, IsSeen}
@@ -136,7 +136,7 @@ module _ (c : Congruence) (old new : Cosets) (x y : ℕ) (at to : Option ℕ) (w
     shape = left.shape;
     marks = left.marked_on;
     closed = left.closed c.presentation.relations w.closed;
-    order = kept_lives c.presentation.letters old.edges.graph old.marked.items new.order.steps.items new.order.places.items new.order.row new.order.letter new.order.done (o.order.kept c.presentation.letters old.edges.graph old.marked.items w.order)
+    order = kept_lives c.presentation.letters old.edges.graph old.marked.items (listing_of new.order) (o.order.kept c.presentation.letters old.edges.graph old.marked.items w.order)
         new.edges.graph new.live.items new.marked.items left.ok.nodes
         (λ n b t e. (target_in c.presentation.letters new.edges.graph (left.graph c.presentation.letters w.graph) n b t e).1)
         (λ n j e. o.order.lives (kept_live c.presentation.letters old.edges.graph old.live.items old.marked.items old.order w.lives w.order) n (j, e))
@@ -153,7 +153,7 @@ pub kept_added : (k : ℕ) (g : Graph) (marked marked' : List Bool) (o o' : Orde
     → IsKept k g marked o → IsKept k (with_edge (with_node k g) node letter (length g)) marked' o'
 kept_added k g marked marked' o o' live node letter graph lives on less none places steps row at done marks is =
     rw (places, steps, row, at, done, marks)
-    (kept_more k g (with_edge (with_node k g) node letter (length g)) marked o.steps.items o.places.items o.row o.letter o.done longer letters stays is)
+    (kept_more k g (with_edge (with_node k g) node letter (length g)) marked (listing_of o) longer letters stays is)
   where
     inside : node < length g
     inside = on_inside g live node lives on
@@ -215,20 +215,7 @@ marked_whole c t new node is marked on w = subst (IsWhole c) (sym is) (record {
   seen = w.seen;
 })
 
--- other entries, but for which all is closed too
-pub pending_whole : (c : Congruence) (t new : Cosets) → new ≡ record t { pending = new.pending } → IsClosedBut c.presentation.relations t.edges.graph t.live.items new.pending → IsWhole c t → IsWhole c new
-pending_whole c t new is closed w = subst (IsWhole c) (sym is) (record {
-  congruence = w.congruence;
-  graph = w.graph;
-  lives = w.lives;
-  shape = w.shape;
-  marks = w.marks;
-  closed = closed;
-  order = w.order;
-  seen = w.seen;
-})
-
--- and more that was seen to hold
+-- other entries, but for which all is closed too, and more that was seen to hold
 pub read_whole : (c : Congruence) (t new : Cosets) → new ≡ record t { pending = new.pending; seen = new.seen } → IsClosedBut c.presentation.relations t.edges.graph t.live.items new.pending
     → HoldWhereSeen c.presentation.relations t.edges.graph new.seen → IsWhole c t → IsWhole c new
 read_whole c t new is closed seen w = subst (IsWhole c) (sym is) (record {
@@ -241,6 +228,9 @@ read_whole c t new is closed seen w = subst (IsWhole c) (sym is) (record {
   order = w.order;
   seen = seen;
 })
+
+pub pending_whole : (c : Congruence) (t new : Cosets) → new ≡ record t { pending = new.pending } → IsClosedBut c.presentation.relations t.edges.graph t.live.items new.pending → IsWhole c t → IsWhole c new
+pending_whole c t new is closed w = subst (IsWhole c) (sym is) (read_whole c t (record t { pending = new.pending }) refl closed w.seen w)
 
 -- an edge more, which is pending
 module _ (c : Congruence) (t new : Cosets) (node letter to : ℕ) (w : IsWhole c t) (hn : IsOn t.live.items node) (ht : IsOn t.live.items to) (less : letter < c.presentation.letters) (none : target t.edges.graph node letter ≡ None)
@@ -279,7 +269,7 @@ module _ (c : Congruence) (t new : Cosets) (node letter to : ℕ) (w : IsWhole c
     closed = rw graph_is
         (closed_more c.presentation.relations drawn t.live.items later new.pending more (closed_renewed c.presentation.relations t.edges.graph drawn t.live.items t.live.items t.pending later lives (renewed_edged t.edges.graph drawn t.live.items t.pending node letter to drawn_edge) w.closed));
     order = subst (λ (g : Graph). IsKept c.presentation.letters g t.marked.items t.order) (sym graph_is)
-        (kept_lives c.presentation.letters t.edges.graph t.marked.items t.order.steps.items t.order.places.items t.order.row t.order.letter t.order.done w.order drawn t.live.items t.marked.items same
+        (kept_lives c.presentation.letters t.edges.graph t.marked.items (listing_of t.order) w.order drawn t.live.items t.marked.items same
         (λ n b m e. (target_in c.presentation.letters drawn graph n b m e).1)
         (λ n j e. kept_live c.presentation.letters t.edges.graph t.live.items t.marked.items t.order w.lives w.order n (j, e))
         (λ n b m _ _ e. drawn_edge.kept n b m e)

@@ -1,5 +1,5 @@
 -- Nodes that become one.
-use Rattle.std.specs.Prelude.{◌≡◌, ◌≢◌, ℕ, ◌&&◌, nat_eq, Bool, false, List, length, slice_index, slice_index_or, option_map, Option, Some, ◌⊎◌}
+use Rattle.std.specs.Prelude.{◌≡◌, ◌≢◌, ℕ, ◌≤◌, ◌&&◌, nat_eq, Bool, false, List, length, slice_index, slice_index_or, slice_set, option_map, Option, Some, ◌⊎◌}
 use Rattle.theory.specs.Graph.{target}
 use Rattle.coincidence.specs.Live.{IsOn}
 use Rattle.coincidence.specs.Replaced.{AreReplaced}
@@ -7,7 +7,8 @@ use Rattle.coincidence.specs.Marks.{AreCarried}
 use Rattle.coincidence.specs.Folding.{IsMerging}
 use Rattle.coincidence.specs.Pending.{IsAmong}
 use Rattle.coincidence.specs.Absorbing.{Extends}
-use Rattle.coincidence.specs.Kept.{IsMended}
+use Rattle.coincidence.specs.Kept.{IsMended, IsOfGraph}
+use Rattle.coincidence.specs.declared.absorb.Merge.{Merge}
 use Rattle.coincidence.specs.declared.cosets.Cosets.{Cosets}
 use Rattle.coincidence.specs.declared.pending.Pending.TheVariants.{NewEdge}
 
@@ -19,39 +20,73 @@ AreOn was queue = (p q : ℕ) → IsAmong (p, q) queue → IsOn was p × IsOn wa
 abbrev pub AreOne : List ℕ → List (ℕ × ℕ) → Type 0
 AreOne class queue = (p q : ℕ) → IsAmong (p, q) queue → slice_index class p ≡ slice_index class q
 
--- of the queue a pair of the classes s and t was taken, and pairs of one class dropped
-pub record IsTaken (was is : List Bool) (class replaced_by : List ℕ) (queue rest : List (ℕ × ℕ))
-    (s t : ℕ) : Type 0 where
-  pub replaced : AreReplaced was is class replaced_by
-  pub there : (p q : ℕ) × IsAmong (p, q) queue × (s ≡ slice_index class p)
-      × (t ≡ slice_index class q)
-  pub left : Extends rest queue
-  pub other : (p q : ℕ) → IsAmong (p, q) queue
-      → IsAmong (p, q) rest ⊎ ((slice_index class p ≡ slice_index class q)
-      ⊎ ((slice_index class p ≡ s) × (slice_index class q ≡ t)))
+-- of s and t the one is lost, and the other kept
+abbrev pub Joins : Merge → ℕ → ℕ → Type 0
+Joins merge s t = ((s ≡ merge.lost) × (t ≡ merge.kept)) ⊎ ((s ≡ merge.kept) × (t ≡ merge.lost))
+
+-- pairs were taken from the queue, of such classes
+pub record IsTaking (was : List Bool) (class : List ℕ) (old new : Cosets)
+    (Such : ℕ → ℕ → Type 0) : Type 0 where
+  pub replaced : AreReplaced was new.live.items class new.replaced_by.items
+  pub left : Extends new.queue.items old.queue.items
+  pub other : (p q : ℕ) → IsAmong (p, q) old.queue.items
+      → IsAmong (p, q) new.queue.items ⊎ Such (slice_index class p) (slice_index class q)
+
+-- a pair that the merge joins, and pairs of one class
+pub record IsTaken (was : List Bool) (class : List ℕ) (old new : Cosets)
+    (merge : Merge) : Type 0 where
+  pub taking : IsTaking was class old new (λ s t. (s ≡ t) ⊎ Joins merge s t)
+  pub there : (p q : ℕ) × IsAmong (p, q) old.queue.items
+      × Joins merge (slice_index class p) (slice_index class q)
 
 -- lost nodes were replaced within some classes, and pairs are of nodes that were live
-abbrev pub HaveClasses : List Bool → List ℕ → List (ℕ × ℕ) → Type 0
-HaveClasses is replaced_by queue = (was : List Bool) × (class : List ℕ)
-    × AreReplaced was is class replaced_by × AreOn was queue
+abbrev pub HaveClasses : Cosets → Type 0
+HaveClasses t = (was : List Bool) × (class : List ℕ)
+    × AreReplaced was t.live.items class t.replaced_by.items × AreOn was t.queue.items
 
 -- and whatever the classes are, all pairs are of one class
-abbrev pub AreAllOne : List Bool → List ℕ → List (ℕ × ℕ) → Type 0
-AreAllOne is replaced_by queue = (was : List Bool) (class : List ℕ)
-    → AreReplaced was is class replaced_by → AreOn was queue → AreOne class queue
+abbrev pub AreAllOne : Cosets → Type 0
+AreAllOne t = (was : List Bool) (class : List ℕ)
+    → AreReplaced was t.live.items class t.replaced_by.items → AreOn was t.queue.items
+    → AreOne class t.queue.items
 
 -- and whatever the classes are, the pair is taken
-abbrev pub AreTaken : List Bool → List ℕ → List ℕ → List (ℕ × ℕ) → List (ℕ × ℕ)
-    → ℕ → ℕ → Type 0
-AreTaken is old new queue rest s t = (was : List Bool) (class : List ℕ)
-    → AreReplaced was is class old → AreOn was queue → IsTaken was is class new queue rest s t
+abbrev pub AreTaken : Cosets → Cosets → Merge → Type 0
+AreTaken old new merge = (was : List Bool) (class : List ℕ)
+    → AreReplaced was old.live.items class old.replaced_by.items → AreOn was old.queue.items
+    → IsTaken was class old new merge
+
+-- only the queue, and what lost nodes were replaced by, have changed
+abbrev pub KeepsNodes : Cosets → Cosets → Type 0
+KeepsNodes old new = new ≡ record old { queue = new.queue; replaced_by = new.replaced_by }
 
 -- the mark of lost is at kept
-pub record IsMarkMoved (was is : List Bool) (lost kept : ℕ) : Type 0 where
+pub record IsMarkMoved (was is : List Bool) (merge : Merge) : Type 0 where
   pub shape : length is ≡ length was
-  pub stays : (n : ℕ) → IsOn was n → n ≢ lost → IsOn is n
-  pub moved : IsOn was lost → IsOn is kept
-  pub from : (n : ℕ) → IsOn is n → (n ≢ lost) × (IsOn was n ⊎ ((n ≡ kept) × IsOn was lost))
+  pub stays : (n : ℕ) → IsOn was n → n ≢ merge.lost → IsOn is n
+  pub moved : IsOn was merge.lost → IsOn is merge.kept
+  pub from : (n : ℕ) → IsOn is n
+      → (n ≢ merge.lost) × (IsOn was n ⊎ ((n ≡ merge.kept) × IsOn was merge.lost))
+
+-- what is kept beside the nodes has an entry for each, and the order is that of some graph
+pub record HaveEntries (t : Cosets) : Type 0 where
+  pub live : length t.live.items ≡ length t.edges.graph
+  pub marked : length t.marked.items ≡ length t.edges.graph
+  pub room : length t.edges.graph ≤ length t.replaced_by.items
+  pub order : IsOfGraph t.order
+
+-- a node is lost: its mark goes to the one that is kept in its place, and the order is cut
+pub record IsLost (old new : Cosets) (merge : Merge) : Type 0 where
+  pub live : new.live.items ≡ slice_set old.live.items merge.lost false
+  pub replaced : new.replaced_by.items ≡ slice_set old.replaced_by.items merge.lost merge.kept
+  pub marks : IsMarkMoved old.marked.items new.marked.items merge
+  pub order : IsMended old new
+  pub rest : new ≡ record old {
+    live = new.live;
+    marked = new.marked;
+    order = new.order;
+    replaced_by = new.replaced_by;
+  }
 
 -- x and y are one, with all that follows; marks and the node at go with the classes, what is new
 -- is pending, and the order is cut
@@ -66,5 +101,5 @@ pub record IsJoined (old new : Cosets) (x y : ℕ) (at to : Option ℕ) : Type 0
   pub fresh : (n a t : ℕ) → target new.edges.graph n a ≡ Some t
       → IsAmong (NewEdge n a) new.pending ⊎ (target old.edges.graph n a ≡ Some t)
   pub pending : Extends old.pending new.pending
-  pub order : IsMended old.order new.order old.live.items new.live.items
+  pub order : IsMended old new
   pub seen : new.seen ≡ old.seen

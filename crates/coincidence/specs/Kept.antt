@@ -6,6 +6,7 @@ use Rattle.word_graph.specs.Gaps.{count_none}
 use Rattle.word_graph.specs.Walk.{Walked, IsFirstMissing}
 use Rattle.coincidence.specs.Live.{IsOn}
 use Rattle.coincidence.specs.Ordering.{IsOrderTo}
+use Rattle.coincidence.specs.declared.cosets.Cosets.{Cosets}
 use Rattle.coincidence.specs.declared.order.Step.{Step}
 use Rattle.coincidence.specs.declared.order.Order.{Order}
 use Rattle.coincidence.specs.declared.order.Ahead.{Ahead}
@@ -15,31 +16,48 @@ use Rattle.coincidence.specs.declared.order.Ahead.TheVariants.{More, Missing, Wh
 abbrev pub step_at : List Step → ℕ → Step
 step_at steps j = slice_index_or steps j (record { node = 0; parent = 0; letter = 0 })
 
+-- the nodes found so far, the place of each, and how far the walk over their edges and the count of
+-- marked ones have come
+pub record Listing : Type 0 where
+  pub steps : List Step
+  pub places : List (Option ℕ)
+  pub row : ℕ
+  pub letter : ℕ
+  pub done : ℕ
+
+abbrev pub listing_of : Order → Listing
+listing_of o = record {
+  steps = o.steps.items;
+  places = o.places.items;
+  row = o.row;
+  letter = o.letter;
+  done = o.done;
+}
+
 -- what the steps and places found
-abbrev pub walked : List Step → List (Option ℕ) → (ℕ → Word) → Walked
-walked steps places word = record {
-  count = length steps;
-  node = λ j. (step_at steps j).node;
-  parent = λ j. (step_at steps j).parent;
-  letter = λ j. (step_at steps j).letter;
+abbrev pub walked : Listing → (ℕ → Word) → Walked
+walked l word = record {
+  count = length l.steps;
+  node = λ j. (step_at l.steps j).node;
+  parent = λ j. (step_at l.steps j).parent;
+  letter = λ j. (step_at l.steps j).letter;
   word = word;
-  place = λ m. slice_index_or places m None;
+  place = λ m. slice_index_or l.places m None;
 }
 
 -- the steps are the order of the nodes as far as the walk has come, and the nodes before done are
 -- marked
-pub record IsKeptAs (k : ℕ) (g : Graph) (marked : List Bool) (steps : List Step)
-    (places : List (Option ℕ)) (row letter done : ℕ) : Type 0 where
+pub record IsKeptAs (k : ℕ) (g : Graph) (marked : List Bool) (l : Listing) : Type 0 where
   pub word : ℕ → Word
-  pub order : IsOrderTo k g (walked steps places word) row letter
-  pub shape : length places ≡ length g
-  pub gaps : count_none places + length steps ≡ length g
-  pub within : letter ≤ k
-  pub front : done ≤ length steps
-  pub met : (j : ℕ) → j < done → IsOn marked (step_at steps j).node
+  pub order : IsOrderTo k g (walked l word) l.row l.letter
+  pub shape : length l.places ≡ length g
+  pub gaps : count_none l.places + length l.steps ≡ length g
+  pub within : l.letter ≤ k
+  pub front : l.done ≤ length l.steps
+  pub met : (j : ℕ) → j < l.done → IsOn marked (step_at l.steps j).node
 
 abbrev pub IsKept : ℕ → Graph → List Bool → Order → Type 0
-IsKept k g marked o = IsKeptAs k g marked o.steps.items o.places.items o.row o.letter o.done
+IsKept k g marked o = IsKeptAs k g marked (listing_of o)
 
 -- the node has a place
 abbrev pub IsPlaced : Order → ℕ → Type 0
@@ -60,10 +78,11 @@ IsAhead k g old new (Missing n a) = IsFirstMissing k g n a
 IsAhead k g old new Whole = length new.steps.items ≤ new.row
 
 -- the order was cut where nodes were lost, and nothing else
-pub record IsMended (old new : Order) (was is : List Bool) : Type 0 where
-  pub kept : (k : ℕ) (g : Graph) (marked : List Bool) → IsKept k g marked old
-      → IsKept k g marked new
-  pub lives : ((n : ℕ) → IsPlaced old n → IsOn was n) → (n : ℕ) → IsPlaced new n → IsOn is n
+pub record IsMended (old new : Cosets) : Type 0 where
+  pub kept : (k : ℕ) (g : Graph) (marked : List Bool) → IsKept k g marked old.order
+      → IsKept k g marked new.order
+  pub lives : ((n : ℕ) → IsPlaced old.order n → IsOn old.live.items n)
+      → (n : ℕ) → IsPlaced new.order n → IsOn new.live.items n
 
 -- it is the order of some graph with some marks
 abbrev pub IsOfGraph : Order → Type 0

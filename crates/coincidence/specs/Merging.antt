@@ -1,5 +1,5 @@
 -- Classes of nodes, and the graph of the classes.
-use Rattle.std.specs.Prelude.{◌≡◌, ◌≢◌, ℕ, ◌≤◌, List, length, slice_index, Some, cond, nat_eq, map, min, max}
+use Rattle.std.specs.Prelude.{◌≡◌, ℕ, ◌≤◌, List, length, slice_index, Some, cond, nat_eq}
 use Rattle.theory.specs.Word.{Word}
 use Rattle.theory.specs.Graph.{Graph, target, path, IsGraph}
 use Rattle.word_graph.specs.Walk.{IsBefore}
@@ -25,7 +25,6 @@ pub record IsClash (old : Graph) (class : List ℕ) (s t : ℕ) : Type 0 where
   pub second : target old n' a ≡ Some m'
   pub s_is : s ≡ slice_index class m
   pub t_is : t ≡ slice_index class m'
-  pub apart : s ≢ t
 
 -- some word leads to the node
 abbrev pub IsReached : Graph → ℕ → Type 0
@@ -52,10 +51,6 @@ pub record IsClassing (g : Graph) (x y : ℕ) (class : List ℕ) : Type 0 where
 -- from becomes to
 abbrev pub relabel : ℕ → ℕ → ℕ → ℕ
 relabel from to n = cond (nat_eq n from) to n
-
--- the classes s and t become one
-abbrev pub joined : ℕ → ℕ → List ℕ → List ℕ
-joined s t = map (relabel (max s t) (min s t))
 
 -- new is the graph of the classes for the edges before the row n and letter a
 pub record IsFoldedUpTo (k : ℕ) (old : Graph) (class : List ℕ) (new : Graph)

@@ -1,90 +1,75 @@
 // One node becomes another, edge by edge.
-ghost use Rattle.std.specs.Prelude.{◌≡◌, ◌≢◌, ℕ, ◌<◌, ◌≤◌, List, [], ◌∷◌, length, Option, None, Some, IfOk, OnOk, OnErr};
-ghost use Rattle.theory.specs.Graph.{target as target_of, IsGraph};
-ghost use Rattle.coincidence.specs.Links.{IsLinked};
-ghost use Rattle.coincidence.specs.Absorbing.{IsRedirected, IsMoved, IsAbsorbedAt, IsAbsorbed, Extends};
+ghost use Rattle.std.specs.Prelude.{◌≡◌, ℕ, ◌<◌, length, OnOk};
+ghost use Rattle.coincidence.specs.Absorbing.{IsMerge, IsRedirected, IsMoved, IsAbsorbed, KeepsRest, absorbing_of};
 
-use crate::edges::Edges;
-use crate::pending::Worklist;
+use crate::cosets::Cosets;
 use ports::NoMemory;
 use words::Letter;
 
-// The edges of the letter into the one node lead to the other. Refused only where memory is
-// wanting.
-fn redirect(
-    edges: &mut Edges,
-    pending: &mut Worklist,
-    lost: usize,
-    kept: usize,
-    letter: Letter,
-) -> Result<(), NoMemory>
-    requires lost { lost < length edges.old.graph }
-    requires kept { kept < length edges.old.graph }
-    requires apart { lost ≢ kept }
-    ensures ok { OnOk result (IsRedirected edges.old.graph edges.new.graph lost kept letter
-        pending.old pending.new) }
-{
-    while let Some(source) = edges.first_source(lost, letter) {
-        let _letters = edges.letters();
-        pending.push_edge(source, letter)?;
-        edges.remove_edge(source, letter);
-        edges.set_edge(source, letter, kept);
-    }
-    let _letters = edges.letters();
-    Ok(())
+// Two nodes that become one: the one that is lost, and the one that is kept in its place.
+#[derive(Clone, Copy)]
+pub struct Merge {
+    pub lost: usize,
+    pub kept: usize,
 }
 
-// The edge of the letter from the one node starts at the other, or where that has one itself, their
-// ends are to be one. Refused only where memory is wanting.
-fn move_edge(
-    edges: &mut Edges,
-    pending: &mut Worklist,
-    queue: &mut Vec<(usize, usize)>,
-    lost: usize,
-    kept: usize,
-    letter: Letter,
-) -> Result<(), NoMemory>
-    requires lost { lost < length edges.old.graph }
-    requires kept { kept < length edges.old.graph }
-    requires apart { lost ≢ kept }
-    ensures ok { OnOk result (IsMoved edges.old.graph edges.new.graph lost kept letter
-        queue.old.items queue.new.items pending.old pending.new) }
-{
-    let _letters = edges.letters();
-    let Some(to) = edges.target(lost, letter) else {
-        return Ok(());
-    };
-    edges.remove_edge(lost, letter);
-    match edges.target(kept, letter) {
-        None => {
-            pending.push_edge(kept, letter)?;
-            edges.set_edge(kept, letter, to);
+impl Cosets {
+    // The edges of the letter into the lost node lead to the one that is kept. Refused only where
+    // memory is wanting.
+    fn redirect(&mut self, merge: Merge, letter: Letter) -> Result<(), NoMemory>
+        requires { IsMerge self.old.edges.graph merge }
+        ensures ok { OnOk result
+            (IsRedirected (absorbing_of self.old) (absorbing_of self.new) merge letter) }
+        ensures rest { OnOk result (KeepsRest self.old self.new) }
+    {
+        while let Some(source) = self.edges.first_source(merge.lost, letter) {
+            let _letters = self.edges.letters();
+            self.pending.push_edge(source, letter)?;
+            self.edges.remove_edge(source, letter);
+            self.edges.set_edge(source, letter, merge.kept);
         }
-        Some(other) => queue.push((to, other))?,
+        let _letters = self.edges.letters();
+        Ok(())
     }
-    Ok(())
-}
 
-/// All edges into the one node lead to the other, and all edges from it start there. Where both
-/// have an edge of one letter, the ends are to be one. Refused only where memory is wanting.
-pub fn absorb(
-    edges: &mut Edges,
-    pending: &mut Worklist,
-    queue: &mut Vec<(usize, usize)>,
-    lost: usize,
-    kept: usize,
-) -> Result<(), NoMemory>
-    requires lost { lost < length edges.old.graph }
-    requires kept { kept < length edges.old.graph }
-    requires apart { lost ≢ kept }
-    ensures ok { OnOk result (IsAbsorbed edges.old.graph edges.new.graph lost kept queue.old.items
-        queue.new.items pending.old pending.new) }
-{
-    let letters = edges.letters();
-    for number in 0..letters {
-        let letter = Letter::new(number as u8);
-        redirect(edges, pending, lost, kept, letter)?;
-        move_edge(edges, pending, queue, lost, kept, letter)?;
+    // The edge of the letter from the lost node starts at the one that is kept, or where that has
+    // one itself, their ends are to be one. Refused only where memory is wanting.
+    fn move_edge(&mut self, merge: Merge, letter: Letter) -> Result<(), NoMemory>
+        requires { IsMerge self.old.edges.graph merge }
+        ensures ok { OnOk result
+            (IsMoved (absorbing_of self.old) (absorbing_of self.new) merge letter) }
+        ensures rest { OnOk result (KeepsRest self.old self.new) }
+    {
+        let _letters = self.edges.letters();
+        let Some(to) = self.edges.target(merge.lost, letter) else {
+            return Ok(());
+        };
+        self.edges.remove_edge(merge.lost, letter);
+        match self.edges.target(merge.kept, letter) {
+            None => {
+                self.pending.push_edge(merge.kept, letter)?;
+                self.edges.set_edge(merge.kept, letter, to);
+            }
+            Some(other) => self.queue.push((to, other))?,
+        }
+        Ok(())
     }
-    Ok(())
+
+    /// All edges into the lost node lead to the one that is kept, and all edges from it start
+    /// there. Where both have an edge of one letter, the ends are to be one. Refused only where
+    /// memory is wanting.
+    pub fn absorb(&mut self, merge: Merge) -> Result<(), NoMemory>
+        requires { IsMerge self.old.edges.graph merge }
+        ensures ok { OnOk result
+            (IsAbsorbed (absorbing_of self.old) (absorbing_of self.new) merge) }
+        ensures rest { OnOk result (KeepsRest self.old self.new) }
+    {
+        let letters = self.edges.letters();
+        for number in 0..letters {
+            let letter = Letter::new(number as u8);
+            self.redirect(merge, letter)?;
+            self.move_edge(merge, letter)?;
+        }
+        Ok(())
+    }
 }

@@ -20,7 +20,6 @@ use crate::pending::{Pending, Worklist};
 use crate::reads::{due_at, due_at_start, due_from, due_or_held, due_through};
 use crate::seen::Seen;
 use ports::NoMemory;
-use std::alloc::Global;
 
 // What the relations ask for at a node, or across an edge, that is pending.
 fn due_of(
@@ -245,12 +244,7 @@ impl Cosets {
     /// Draws what the relations ask for everywhere, or at one node and where it goes, and the pairs
     /// at the root, until nothing is left. Marks go with their nodes. Refused only where memory is
     /// wanting.
-    pub fn close(
-        &mut self,
-        alloc: Global,
-        congruence: &Indexed,
-        reach: Reach,
-    ) -> Result<(), NoMemory>
+    pub fn close(&mut self, congruence: &Indexed, reach: Reach) -> Result<(), NoMemory>
         requires whole { IsWhole congruence.now.congruence self.old }
         requires reach { IsReach congruence.now.congruence.presentation.relations
             self.old.edges.graph self.old.live.items self.old.marked.items reach }
@@ -268,7 +262,7 @@ impl Cosets {
                     self.pending.push_edge(node, letter)?;
                     self.edges.set_edge(node, letter, to);
                 }
-                Due::Join(_, _, x, y) => place = self.merge(alloc, x, y, place)?,
+                Due::Join(_, _, x, y) => place = self.merge(x, y, place)?,
             }
         }
     }

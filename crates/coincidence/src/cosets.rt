@@ -15,8 +15,8 @@ use std::alloc::Global;
 use words::Letter;
 
 /// The nodes of a coset table: their edges, which of them are live and which marked, their order as
-/// far as it is known, what is new and not read yet, by which nodes lost ones were replaced, and
-/// which relations were seen to hold where.
+/// far as it is known, what is new and not read yet, by which nodes lost ones were replaced, the
+/// pairs that are still to become one, and which relations were seen to hold where.
 #[derive(Drop)]
 pub struct Cosets {
     pub edges: Edges,
@@ -25,6 +25,7 @@ pub struct Cosets {
     pub order: Order,
     pub pending: Worklist,
     pub replaced_by: Vec<usize>,
+    pub queue: Vec<(usize, usize)>,
     pub seen: Seen,
 }
 
@@ -58,6 +59,7 @@ impl Cosets {
             order,
             pending,
             replaced_by: Vec::new(alloc),
+            queue: Vec::new(alloc),
             seen: Seen::new(alloc),
         })
     }

@@ -199,7 +199,7 @@ impl Table {
         if self.failed {
             return Err(NoMemory);
         }
-        match self.cosets.identify(self.alloc, x, y) {
+        match self.cosets.identify(x, y) {
             Ok(()) => {
                 let _letters = self.cosets.edges.letters();
                 Ok(())
@@ -228,7 +228,7 @@ impl Table {
         if self.failed {
             return Err(NoMemory);
         }
-        match self.cosets.close(self.alloc, &self.congruence, reach) {
+        match self.cosets.close(&self.congruence, reach) {
             Ok(()) => {
                 let _letters = self.cosets.edges.letters();
                 Ok(())

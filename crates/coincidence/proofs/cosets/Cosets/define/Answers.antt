@@ -58,6 +58,7 @@ returns-clause-whole c = λ k w.
       order = c.add_node.new.self;
       pending = c.push_node.new.self;
       replaced_by = c.args.self.now.replaced_by;
+      queue = c.args.self.now.queue;
       seen = c.cut.new.self;
     } in
     let same : c.requires.whole.0.presentation.letters ≡ k.presentation.letters = width_is c.requires.whole.0.presentation.letters k.presentation.letters g c.requires.whole.1.graph w.graph in

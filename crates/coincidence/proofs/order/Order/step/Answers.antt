@@ -2,7 +2,7 @@ use Rattle.std.proofs.Common.{◌≡◌, ◌<◌, ◌≤◌, ℕ, List, Bool, No
 use Rattle.std.proofs.lemmas.List.{get_or_read}
 use Rattle.theory.specs.Graph.{Graph, target}
 use Rattle.word_graph.specs.Walk.{IsFirstMissing}
-use Rattle.coincidence.specs.Kept.{IsKept, LeadsToPlaced, step_at}
+use Rattle.coincidence.specs.Kept.{IsKept, LeadsToPlaced, listing_of, step_at}
 use Rattle.coincidence.specs.declared.order.Step.{Step}
 use Rattle.coincidence.specs.declared.order.Order.{Order}
 use Rattle.coincidence.proofs.KeptLaws.{kept_missing, kept_on, kept_row, kept_step}
@@ -40,7 +40,7 @@ returns-then-letters-self-clause-kept c = λ marked is.
     let less : now.row < length now.steps.items = omega arith in
     let at : c.index.result.now ≡ step_at now.steps.items now.row = get_or_read _ _ _ less c.index.ensures (record { node = 0; parent = 0; letter = 0 }) in
     let on = passed c.args.letters c.args.edges.now.graph marked now c.index.result.now c.next_unplaced-self.result at less c.next_unplaced-self.ensures.from c.next_unplaced-self.ensures.within c.next_unplaced-self.ensures.placed is in
-    kept_row c.args.letters c.args.edges.now.graph marked now.steps.items now.places.items now.row c.next_unplaced-self.result now.done on (omega arith) c.requires.graph
+    kept_row c.args.letters c.args.edges.now.graph marked (listing_of (record now { letter = c.next_unplaced-self.result })) on (omega arith) c.requires.graph
 
 pub returns-clause-kept : goal.returns-clause-kept
 returns-clause-kept c = λ marked is.
@@ -52,5 +52,5 @@ returns-clause-kept c = λ marked is.
     let here : target c.args.edges.now.graph (step_at now.steps.items now.row).node c.next_unplaced-self.result ≡ Some c.in-Some.next =
     ap (λ (s : Step). target c.args.edges.now.graph s.node c.next_unplaced-self.result) (sym at) ∙ ap (target c.args.edges.now.graph c.index.result.now.node) (sym letter) ∙ sym c.in-Some.ensures in
     let on = passed c.args.letters c.args.edges.now.graph marked now c.index.result.now c.next_unplaced-self.result at less c.next_unplaced-self.ensures.from c.next_unplaced-self.ensures.within c.next_unplaced-self.ensures.placed is in
-    kept_step c.args.letters c.args.edges.now.graph marked o c.found.new.self.steps.items c.found.new.self.places.items c.found.new.self.row c.found.new.self.letter c.found.new.self.done c.in-Some.next
+    kept_step c.args.letters c.args.edges.now.graph marked o c.found.new.self c.in-Some.next
     c.requires.graph less (omega arith) here c.in_ok-found.ensures.known c.in_ok-found.ensures.new c.in_ok-found.ensures.row c.in_ok-found.ensures.letter c.in_ok-found.ensures.done on

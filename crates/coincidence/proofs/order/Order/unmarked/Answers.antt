@@ -1,6 +1,6 @@
 use Rattle.std.proofs.Common.{◌≡◌, ◌<◌, false, length, arith, sym, ap, ◌∙◌, subst, get_or}
 use Rattle.std.proofs.lemmas.List.{get_or_read}
-use Rattle.coincidence.specs.Kept.{step_at}
+use Rattle.coincidence.specs.Kept.{listing_of, step_at}
 use Rattle.coincidence.specs.Live.{IsOn}
 use Rattle.coincidence.specs.declared.order.Step.{Step}
 use Rattle.coincidence.proofs.KeptLaws.{kept_inside, kept_met}
@@ -25,8 +25,8 @@ loop-self-preserved c =
     let on : IsOn c.args.marked.now.items (step_at c.loop-self.self.steps.items c.loop-self.self.done).node =
     subst (λ (x : Step). IsOn c.args.marked.now.items x.node) at (sym read ∙ c.if-index.true) in
     record {
-      some = (s.0, s.1, kept_met s.0 s.1 c.args.marked.now.items c.loop-self.self.steps.items c.loop-self.self.places.items c.loop-self.self.row c.loop-self.self.letter c.loop-self.self.done s.2 less on);
-      kept = λ k g h. kept_met k g c.args.marked.now.items c.loop-self.self.steps.items c.loop-self.self.places.items c.loop-self.self.row c.loop-self.self.letter c.loop-self.self.done (c.loop-self.invariant.kept k g h) less on;
+      some = (s.0, s.1, kept_met s.0 s.1 c.args.marked.now.items (listing_of c.loop-self.self) s.2 less on);
+      kept = λ k g h. kept_met k g c.args.marked.now.items (listing_of c.loop-self.self) (c.loop-self.invariant.kept k g h) less on;
       steps = c.loop-self.invariant.steps;
       places = c.loop-self.invariant.places;
       row = c.loop-self.invariant.row;
