@@ -1,6 +1,6 @@
 // The lanes of a race for a problem.
-ghost use Rattle.std.specs.Prelude.{◌≡◌, ◌<◌, ◌≤◌, [], ◌∷◌, ◌++◌, None, length, IfOk, OnOk};
-ghost use Rattle.theory.specs.Congruence.{as_right, IsRightSided, IsWellFormed};
+ghost use Rattle.std.specs.Prelude.{◌≡◌, ◌<◌, ◌≤◌, List, [], ◌∷◌, ◌++◌, None, length, IfOk, OnOk};
+ghost use Rattle.theory.specs.Congruence.{as_right, IsRightSided, IsWellFormed, read_backwards};
 ghost use Rattle.theory.specs.Marked.{completed};
 ghost use Rattle.problem.specs.Problem.{IsPosable, IsSolvable};
 ghost use Rattle.race.specs.Lanes.{fresh};
@@ -13,12 +13,34 @@ use cayley::PairsRacer;
 use elements::Element;
 use knuth_bendix::Completion;
 use ports::NoMemory;
-use presentation::{Congruence, Kind, Pairs};
+use presentation::{Congruence, Kind, Pairs, Presentation};
 use problem::{Budgets, Posed, Problem};
 use race::{Lane, Progress};
 use std::alloc::Global;
 use tc_felsch::Felsch;
 use tc_hlt::Hlt;
+
+// The right congruence that the relations alone generate.
+fn without_pairs(alloc: Global, relations: Presentation) -> Congruence
+    ensures { result.congruence ≡ record {
+      presentation = relations.presentation;
+      kind = Kind.Right;
+      pairs = [];
+    } }
+{
+    Congruence::new(relations, Kind::Right, Pairs::new(alloc))
+}
+
+// The congruence read backwards.
+fn backwards(alloc: Global, congruence: &Congruence) -> Result<Congruence, NoMemory>
+    ensures { IfOk result (λ c. c.congruence ≡ read_backwards congruence.now.congruence) }
+{
+    let presentation = congruence.presentation();
+    let pairs = congruence.pairs();
+    let turned = pairs.reversed(alloc)?;
+    let relations = presentation.reversed(alloc)?;
+    Ok(Congruence::new(relations, Kind::Right, turned))
+}
 
 // The right congruence that stands for the congruence: two-sided pairs become relations, and with
 // left pairs all is read backwards.
@@ -30,23 +52,31 @@ fn as_right(alloc: Global, congruence: &Congruence) -> Result<Congruence, NoMemo
     let presentation = congruence.presentation();
     let pairs = congruence.pairs();
     match congruence.kind() {
-        Kind::TwoSided => {
-            let relations = presentation.with_pairs(alloc, pairs)?;
-            Ok(Congruence::new(relations, Kind::Right, Pairs::new(alloc)))
-        }
+        Kind::TwoSided => Ok(without_pairs(alloc, presentation.with_pairs(alloc, pairs)?)),
         Kind::Right => congruence.copy(alloc),
         Kind::Left => {
             if pairs.is_empty() {
-                let relations = presentation.copy(alloc)?;
-                return Ok(Congruence::new(relations, Kind::Right, Pairs::new(alloc)));
+                return Ok(without_pairs(alloc, presentation.copy(alloc)?));
             }
-            let relations = presentation.reversed(alloc)?;
-            Ok(Congruence::new(relations, Kind::Right, pairs.reversed(alloc)?))
+            backwards(alloc, congruence)
         }
     }
 }
 
-// The completion of the presentation with the pairs as relations; one-sided pairs have the marker.
+// The presentation that is completed for the congruence: the pairs are relations, and one-sided ones
+// have the marker.
+fn completed(alloc: Global, congruence: &Congruence) -> Result<Presentation, NoMemory>
+    requires { IsSolvable congruence.now }
+    ensures { IfOk result (λ p. p.presentation ≡ completed congruence.now.congruence) }
+{
+    let presentation = congruence.presentation();
+    if congruence.is_two_sided() {
+        return presentation.with_pairs(alloc, congruence.pairs());
+    }
+    congruence.marked(alloc)
+}
+
+// The completion for the congruence, within so many letters.
 fn completion_of(
     alloc: Global,
     congruence: &Congruence,
@@ -55,12 +85,8 @@ fn completion_of(
     requires { IsSolvable congruence.now }
     ensures { IfOk result (IsCompletionFor congruence.now.congruence length) }
 {
-    let presentation = congruence.presentation();
-    if congruence.is_two_sided() {
-        let relations = presentation.with_pairs(alloc, congruence.pairs())?;
-        return Completion::new(alloc, &relations, length);
-    }
-    Completion::new(alloc, &congruence.marked(alloc)?, length)
+    let presentation = completed(alloc, congruence)?;
+    Completion::new(alloc, &presentation, length)
 }
 
 // Puts a lane of the engine behind the others.
@@ -121,6 +147,27 @@ fn add_completion(
     add_lane(lanes, Engine::Completion(completion))
 }
 
+// Puts the lanes of both strategies for a congruence on a presentation behind the others.
+fn add_enumerations(
+    alloc: Global,
+    congruence: &Congruence,
+    budgets: &Budgets,
+    lanes: &mut Vec<Lane<Engine>>,
+) -> Result<(), NoMemory>
+    requires congruence { IsSolvable congruence.now }
+    requires few { length lanes.old.items < 63 }
+    ensures { let task = as_right congruence.now.congruence in
+        OnOk result ((middle : List (Lane Engine))
+        × IsAdded lanes.old.items middle
+        (Definitions (record { congruence = task; budget = budgets.now.defs }))
+        × IsAdded middle lanes.new.items
+        (Rows (record { congruence = task; budget = budgets.now.rows }))) }
+{
+    let task = as_right(alloc, congruence)?;
+    add_felsch(alloc, &task, budgets.defs, lanes)?;
+    add_hlt(alloc, &task, budgets.rows, lanes)
+}
+
 // The lanes for a congruence on a presentation: Felsch's strategy, the strategy of rows, and
 // completion.
 fn congruence_lanes(
@@ -134,10 +181,8 @@ fn congruence_lanes(
     ensures tasks { IfOk result (λ lanes. tasks as_racer lanes.items
         ≡ congruence_tasks congruence.now.congruence budgets.now) }
 {
-    let task = as_right(alloc, congruence)?;
     let mut lanes = Vec::new(alloc);
-    add_felsch(alloc, &task, budgets.defs, &mut lanes)?;
-    add_hlt(alloc, &task, budgets.rows, &mut lanes)?;
+    add_enumerations(alloc, congruence, budgets, &mut lanes)?;
     add_completion(alloc, congruence, budgets.length, &mut lanes)?;
     Ok(lanes)
 }
