@@ -5,6 +5,7 @@ pub mod BoundedConfluence
 pub mod Endings
 pub mod RemainingLaws
 pub mod ClearLists
+pub mod MarkLaws
 pub mod OverlapSteps
 pub mod JoinedOverlaps
 pub mod AddedRules

@@ -34,19 +34,6 @@ overlap_begins zero (a ∷ f) (b ∷ g) (suc shared) x y some e at_first at_seco
 overlap_begins (suc place) [] g shared x y some e at_first at_second = let bad : ⊥ = cc in absurd bad
 overlap_begins (suc place) (a ∷ f) g shared x y some e at_first at_second = overlap_begins place f g shared x y some e at_first at_second
 
--- nor does an overlap begin where the second word is empty
-take_none : (n : ℕ) → ◌≡◌ {A = Word} (take n []) []
-take_none zero = refl
-take_none (suc n) = refl
-
-drop_some : (place : ℕ) (f : Word) → place < length f → drop place f ≡ [] → ⊥
-drop_some place [] h e = omega (arith, h)
-drop_some zero (a ∷ f) h e = let bad : ⊥ = cc in bad
-drop_some (suc place) (a ∷ f) h e = drop_some place f (omega (arith, h)) e
-
-pub overlap_some : (f g : Word) (shared : ℕ) → 0 < shared → shared < length f → g ≡ [] → overlaps_by f g shared → ⊥
-overlap_some f g shared some less empty o = drop_some (length f - shared) f (omega (arith, some, less)) (o ∙ ap (take shared) empty ∙ take_none shared)
-
 -- the old equations alone
 pub gains_none : (lengths : Lengths) (rules equations : List (Word × Word)) (most : ℕ) → Gains lengths rules equations equations most
 gains_none lengths rules equations most = record { older = λ u v m. m; newer = λ u v m. inl m; few = omega arith }

@@ -2,6 +2,7 @@ pub mod Links
 pub mod Remaining
 pub mod Held
 pub mod Overlaps
+pub mod Marks
 pub mod Changes
 pub mod Runs
 pub mod Waiting

@@ -13,6 +13,7 @@ ghost use Rattle.knuth_bendix.specs.Runs.{AreShortRelations, CompletionRun, IsTu
 
 use crate::confluence::are_joined;
 use crate::equations::Equations;
+use crate::indexed_rules::IndexedRules;
 use crate::lengths::Lengths;
 use crate::logs::Log;
 use crate::overlaps::Pending;
@@ -21,7 +22,7 @@ use chains::ChainStep;
 use ports::NoMemory;
 use presentation::{Pairs, Presentation};
 use race::{Progress, Racer};
-use rewriting::{KeptRules, Rules};
+use rewriting::Rules;
 use std::alloc::Global;
 use std::marker::Model;
 use std::mem;
@@ -35,7 +36,7 @@ pub struct Completion {
     alloc: Global,
     presentation: Presentation,
     length: usize,
-    rules: KeptRules,
+    rules: IndexedRules,
     pending: Pending,
     said: Progress,
 }
@@ -100,7 +101,7 @@ fn ends(
     alloc: Global,
     presentation: &Presentation,
     length: usize,
-    rules: &KeptRules,
+    rules: &IndexedRules,
 ) -> Result<bool, NoMemory>
     requires { IsSound presentation.now.presentation length
         (record { rules = rules.now; equations = [] }) }
@@ -130,9 +131,9 @@ fn last_answer(ends: bool) -> Progress
 fn go_on(
     presentation: &Presentation,
     length: usize,
-    rules: KeptRules,
+    rules: IndexedRules,
     pending: &mut Pending,
-) -> Result<(KeptRules, Progress), NoMemory>
+) -> Result<(IndexedRules, Progress), NoMemory>
     requires sound { IsSound presentation.now.presentation length
         (held_of rules pending.old.equations) }
     requires held { LogsHeld pending.old.log rules pending.old.equations }
@@ -156,13 +157,16 @@ fn go_on(
 }
 
 // What a turn leaves: after want of memory no rules are held.
-fn left_by(alloc: Global, turn: Result<(KeptRules, Progress), NoMemory>) -> (KeptRules, Progress)
+fn left_by(
+    alloc: Global,
+    turn: Result<(IndexedRules, Progress), NoMemory>,
+) -> (IndexedRules, Progress)
     ensures { MatchResult turn (λ t. result ≡ t)
         (λ _. (result.0 ≡ []) × (result.1 ≡ Progress.NoMemory)) }
 {
     match turn {
         Ok(turn) => turn,
-        Err(NoMemory) => (KeptRules::new(alloc), Progress::NoMemory),
+        Err(NoMemory) => (IndexedRules::new(alloc), Progress::NoMemory),
     }
 }
 
@@ -219,7 +223,7 @@ impl Racer for Completion {
         let Progress::More = self.said else {
             return self.said;
         };
-        let rules = mem::replace(&mut self.rules, KeptRules::new(self.alloc));
+        let rules = mem::replace(&mut self.rules, IndexedRules::new(self.alloc));
         let turn = go_on(&self.presentation, self.length, rules, &mut self.pending);
         let (rules, said) = left_by(self.alloc, turn);
         settle(&mut self.pending.log, said);
@@ -249,7 +253,7 @@ impl Completion {
             alloc,
             presentation: presentation.copy(alloc)?,
             length,
-            rules: KeptRules::new(alloc),
+            rules: IndexedRules::new(alloc),
             pending: Pending::new(alloc, equations, log),
             said: Progress::More,
         })

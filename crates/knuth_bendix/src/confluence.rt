@@ -1,32 +1,40 @@
 // The last test: whether overlaps lead to one word.
 ghost use Rattle.std.specs.Prelude.{◌≡◌, ℕ, ◌+◌, ◌-◌, ◌<◌, ◌≤◌, false, [], length, IfOk, MatchBool};
 ghost use Rattle.theory.specs.Word.{Word as Letters};
+ghost use Rattle.knuth_bendix.specs.Marks.{AreSharesOf};
 ghost use Rattle.knuth_bendix.specs.Overlaps.{AreJoined, HasLength, IsSplit, rule_at};
 
 use crate::equations::Equations;
+use crate::indexed_rules::IndexedRules;
 use crate::lengths::Lengths;
 use crate::logs::Log;
 use crate::overlaps::Pending;
+use crate::shares::Shares;
 use ports::NoMemory;
-use rewriting::KeptRules;
 use std::alloc::Global;
 
-// Whether each overlap of two rules in a word of such a length leads to one word.
+// Whether each overlap of two rules leads to one word. What the left side of the first may share is
+// given.
 fn pair_is_joined(
     alloc: Global,
-    rules: &KeptRules,
+    rules: &IndexedRules,
+    ahead: &Shares,
     first: usize,
     second: usize,
-    lengths: Lengths,
 ) -> Result<bool, NoMemory>
     requires first { first < length rules.now }
     requires second { second < length rules.now }
+    requires ahead { AreSharesOf (rule_at rules.now first).0 ahead.now }
     ensures { IfOk result (λ joined. MatchBool joined
-        (AreJoined lengths rules.now [] (rule_at rules.now first) (rule_at rules.now second))
-        ((u : Letters) × (v : Letters) × IsSplit lengths rules.now u v)) }
+        (AreJoined ahead.now.lengths rules.now [] (rule_at rules.now first) (rule_at rules.now second))
+        ((u : Letters) × (v : Letters) × IsSplit ahead.now.lengths rules.now u v)) }
 {
+    let marks = rules.marks(second);
+    if !ahead.may_share(marks.first, marks.letters) {
+        return Ok(true);
+    }
     let mut pending = Pending::new(alloc, Equations::new(alloc), Log::none());
-    pending.join_overlaps(rules, first, second, lengths)?;
+    pending.join_shared(rules, first, second, ahead.lengths)?;
     Ok(pending.equations.is_empty())
 }
 
@@ -42,11 +50,34 @@ fn may_stand_in(lengths: Lengths, first: usize, longest: usize) -> bool
     }
 }
 
+// Whether each overlap of a rule with any leads to one word. What its left side may share is given.
+fn all_are_joined(
+    alloc: Global,
+    rules: &IndexedRules,
+    ahead: &Shares,
+    first: usize,
+) -> Result<bool, NoMemory>
+    requires first { first < length rules.now }
+    requires ahead { AreSharesOf (rule_at rules.now first).0 ahead.now }
+    ensures { IfOk result (λ joined. MatchBool joined
+        ((second : ℕ) → second < length rules.now
+        → AreJoined ahead.now.lengths rules.now [] (rule_at rules.now first)
+        (rule_at rules.now second))
+        ((u : Letters) × (v : Letters) × IsSplit ahead.now.lengths rules.now u v)) }
+{
+    for second in 0..rules.len() {
+        if !pair_is_joined(alloc, rules, ahead, first, second)? {
+            return Ok(false);
+        }
+    }
+    Ok(true)
+}
+
 // Whether each overlap of a rule with any, in a word of such a length, leads to one word. No left
 // side has more letters than the longest.
 fn row_is_joined(
     alloc: Global,
-    rules: &KeptRules,
+    rules: &IndexedRules,
     first: usize,
     longest: usize,
     lengths: Lengths,
@@ -62,17 +93,13 @@ fn row_is_joined(
     if !may_stand_in(lengths, rules.rule(first).0.len(), longest) {
         return Ok(true);
     }
-    for second in 0..rules.len() {
-        if !pair_is_joined(alloc, rules, first, second, lengths)? {
-            return Ok(false);
-        }
-    }
-    Ok(true)
+    let ahead = rules.shares_ahead(first, lengths);
+    all_are_joined(alloc, rules, &ahead, first)
 }
 
 /// Whether each overlap of the rules in a word of such a length leads to one word (Sims 1994, 2.3).
 /// Refused only where memory is wanting.
-pub fn are_joined(alloc: Global, rules: &KeptRules, lengths: Lengths) -> Result<bool, NoMemory>
+pub fn are_joined(alloc: Global, rules: &IndexedRules, lengths: Lengths) -> Result<bool, NoMemory>
     ensures { IfOk result (λ joined. MatchBool joined
         ((first second : ℕ) → first < length rules.now → second < length rules.now
         → AreJoined lengths rules.now [] (rule_at rules.now first) (rule_at rules.now second))

@@ -10,9 +10,12 @@ mod completions;
 mod confluence;
 mod equations;
 pub mod facts;
+mod indexed_rules;
 mod lengths;
 mod logs;
+mod marks;
 mod overlaps;
 mod rule_changes;
+mod shares;
 
 pub use completions::Completion;

@@ -9,10 +9,11 @@ ghost use Rattle.chains.specs.Derivations.{Derived, all_of};
 ghost use Rattle.knuth_bendix.specs.Logs.{AreLogged, Grows, IsFor, IsLogged, Shows};
 ghost use Rattle.knuth_bendix.specs.Overlaps.{critical_pair, overlaps_by};
 
+use crate::indexed_rules::IndexedRules;
 use chains::{ChainStep, Derivations, Fact, around, turn_back};
 use ports::NoMemory;
 use presentation::Presentation;
-use rewriting::{Applied, KeptRules, Reduction};
+use rewriting::{Applied, Reduction};
 use std::alloc::Global;
 use std::collections::HashMap;
 use std::marker::Model;
@@ -55,7 +56,7 @@ impl Facts {
     }
 
     // The step of a rule that is applied.
-    fn step_of(&self, rules: &KeptRules, at: Applied) -> ChainStep
+    fn step_of(&self, rules: &IndexedRules, at: Applied) -> ChainStep
         requires within { at.rule < length rules.now }
         requires logged { AreLogged (Some self.now.derivations) rules.now }
         ensures { IsFor rules.now (all_of self.now.derivations).relations at result }
@@ -71,7 +72,7 @@ impl Facts {
     fn steps_of(
         &self,
         alloc: Global,
-        rules: &KeptRules,
+        rules: &IndexedRules,
         trace: &[Applied],
     ) -> Result<Vec<ChainStep>, NoMemory>
         requires lead { (u : Letters) × (v : Letters) × LeadBy rules.now u trace.now v }
@@ -174,7 +175,7 @@ impl Log {
     pub fn reduce(
         &self,
         alloc: Global,
-        rules: &KeptRules,
+        rules: &IndexedRules,
         word: &Word,
     ) -> Result<(Word, Vec<ChainStep>), NoMemory>
         requires { AreLogged self.now rules.now }
@@ -191,7 +192,7 @@ impl Log {
     pub fn reduce_in(
         &self,
         alloc: Global,
-        rules: &KeptRules,
+        rules: &IndexedRules,
         room: &mut Reduction,
         word: &Word,
     ) -> Result<(Word, Vec<ChainStep>), NoMemory>

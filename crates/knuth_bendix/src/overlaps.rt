@@ -1,16 +1,19 @@
 // Overlaps of left sides, and the pairs of words to which they lead.
-ghost use Rattle.std.specs.Prelude.{◌≡◌, ℕ, ◌+◌, ◌-◌, ◌*◌, ◌<◌, ◌≤◌, false, [], ◌∷◌, ◌++◌, length, IfOk, OnOk, IsTrue, ◌↔◌};
+ghost use Rattle.std.specs.Prelude.{◌≡◌, ℕ, ◌+◌, ◌-◌, ◌*◌, ◌<◌, ◌≤◌, false, [], ◌∷◌, ◌++◌, length, IfOk, OnOk, IsTrue, ◌↔◌, reverse};
 ghost use Rattle.std.specs.List.Sorted.{IsPermutation};
 ghost use Rattle.knuth_bendix.specs.Overlaps.{AreJoined, AreShort, Gains, HasLength, IsJoinedBy, IsOverlap, ReducesTo, critical_pair, overlaps_by, rule_at};
 ghost use Rattle.knuth_bendix.specs.Logs.{AreLogged, Grows, KeepsLog, LogsHeld, Shows};
+ghost use Rattle.knuth_bendix.specs.Marks.{AreSharesOf};
 ghost use Rattle.knuth_bendix.specs.Joining.{JoinsRules};
 
 use crate::equations::Equations;
+use crate::indexed_rules::IndexedRules;
 use crate::lengths::Lengths;
 use crate::logs::Log;
+use crate::shares::Shares;
 use chains::ChainStep;
 use ports::NoMemory;
-use rewriting::{KeptRules, Reduction};
+use rewriting::Reduction;
 use std::alloc::Global;
 use words::{Letter, Word};
 
@@ -24,24 +27,6 @@ fn overlap(first: &Word, second: &Word, shared: usize) -> bool
     let start = first.len() - shared;
     first.letter(start) == second.letter(0)
         && first.letters()[start..] == second.letters()[..shared]
-}
-
-// Whether the words can share letters, as an overlap does: the first letter of the second stands in
-// the first, behind its first letter.
-fn may_overlap(first: &Word, second: &Word) -> bool
-    ensures { result ≡ false → (shared : ℕ) → 0 < shared → shared < length first.now
-        → overlaps_by first.now second.now shared → ⊥ }
-{
-    if second.is_empty() {
-        return false;
-    }
-    let begin = second.letter(0);
-    for place in 1..first.len() {
-        if first.letter(place) == begin {
-            return true;
-        }
-    }
-    false
 }
 
 // How many letters left sides of these lengths may share, some and not all, in words of such
@@ -146,7 +131,7 @@ fn put_critical_pair(
 // The reduced words to which an overlap of two rules leads, and steps from the first to the second.
 fn reduced_pair(
     alloc: Global,
-    rules: &KeptRules,
+    rules: &IndexedRules,
     overlap: Sharing,
     room: &mut Room,
     log: &Log,
@@ -218,7 +203,7 @@ impl Pending {
 
     // Joins the words to which an overlap of two rules leads: where the rules lead them to
     // different words, these become an equation.
-    fn join_overlap(&mut self, rules: &KeptRules, overlap: Sharing) -> Result<(), NoMemory>
+    fn join_overlap(&mut self, rules: &IndexedRules, overlap: Sharing) -> Result<(), NoMemory>
         requires first { overlap.first < length rules.now }
         requires second { overlap.second < length rules.now }
         requires shared_first { overlap.shared ≤ length (rule_at rules.now overlap.first).0 }
@@ -249,12 +234,14 @@ impl Pending {
         Ok(())
     }
 
-    // Joins the overlaps of two rules, one number of shared letters after another. Kept out of
-    // line, since few pairs of rules come here.
+    /// Joins the overlaps of two rules, by their places, in words of such lengths, one number of
+    /// shared letters after another: where the two ways to rewrite a word lead to different ones,
+    /// these become an equation. Refused only where memory is wanting.
+    // Kept out of line, since few pairs of rules come here.
     #[inline(never)]
-    fn join_shared(
+    pub fn join_shared(
         &mut self,
-        rules: &KeptRules,
+        rules: &IndexedRules,
         first: usize,
         second: usize,
         lengths: Lengths,
@@ -283,27 +270,51 @@ impl Pending {
         Ok(())
     }
 
-    /// Joins the overlaps of two rules, by their places, in words of such lengths: where the two
-    /// ways to rewrite one lead to different words, these become an equation. Refused only where
-    /// memory is wanting.
+    // Joins the overlaps of two rules, by their places, in whose words the second begins behind the
+    // first. What the left side of the first may share is given.
     #[inline(always)]
-    pub fn join_overlaps(
+    fn join_ahead(
         &mut self,
-        rules: &KeptRules,
+        rules: &IndexedRules,
+        ahead: &Shares,
         first: usize,
         second: usize,
-        lengths: Lengths,
     ) -> Result<(), NoMemory>
         requires first { first < length rules.now }
         requires second { second < length rules.now }
+        requires ahead { AreSharesOf (rule_at rules.now first).0 ahead.now }
         requires held { LogsHeld self.old.log rules.now self.old.equations }
-        ensures { OnOk result (JoinsRules lengths rules.now (rule_at rules.now first)
+        ensures { OnOk result (JoinsRules ahead.now.lengths rules.now (rule_at rules.now first)
             (rule_at rules.now second) self.old self.new) }
     {
-        if !may_overlap(&rules.rule(first).0, &rules.rule(second).0) {
+        let marks = rules.marks(second);
+        if !ahead.may_share(marks.first, marks.letters) {
             return Ok(());
         }
-        self.join_shared(rules, first, second, lengths)
+        self.join_shared(rules, first, second, ahead.lengths)
+    }
+
+    // The same, where it is given what the left side of the second may share, read from its end.
+    #[inline(always)]
+    fn join_behind(
+        &mut self,
+        rules: &IndexedRules,
+        behind: &Shares,
+        first: usize,
+        second: usize,
+    ) -> Result<(), NoMemory>
+        requires first { first < length rules.now }
+        requires second { second < length rules.now }
+        requires behind { AreSharesOf (reverse (rule_at rules.now second).0) behind.now }
+        requires held { LogsHeld self.old.log rules.now self.old.equations }
+        ensures { OnOk result (JoinsRules behind.now.lengths rules.now (rule_at rules.now first)
+            (rule_at rules.now second) self.old self.new) }
+    {
+        let marks = rules.marks(first);
+        if !behind.may_share(marks.last, marks.letters) {
+            return Ok(());
+        }
+        self.join_shared(rules, first, second, behind.lengths)
     }
 
     /// Joins the overlaps of a rule, by its place, with each rule, itself among them, on both
@@ -311,7 +322,7 @@ impl Pending {
     #[inline(never)]
     pub fn join_all(
         &mut self,
-        rules: &KeptRules,
+        rules: &IndexedRules,
         newest: usize,
         lengths: Lengths,
     ) -> Result<(), NoMemory>
@@ -328,9 +339,11 @@ impl Pending {
         ensures logged { OnOk result
             (KeepsLog self.old.log self.new.log rules.now self.new.equations) }
     {
+        let ahead = rules.shares_ahead(newest, lengths);
+        let behind = rules.shares_behind(newest, lengths)?;
         for other in 0..rules.len() {
-            self.join_overlaps(rules, newest, other, lengths)?;
-            self.join_overlaps(rules, other, newest, lengths)?;
+            self.join_ahead(rules, &ahead, newest, other)?;
+            self.join_behind(rules, &behind, other, newest)?;
         }
         Ok(())
     }

@@ -1,19 +1,20 @@
 // Adding a rule, and what it changes in the rules that are there.
-ghost use Rattle.std.specs.Prelude.{◌≡◌, ℕ, ◌<◌, length, IfOk, OnOk};
+ghost use Rattle.std.specs.Prelude.{◌≡◌, ℕ, ◌<◌, length, IfOk, IsTrue, OnOk, ◌↔◌};
 ghost use Rattle.theory.specs.ShortLex.{◌≺◌};
-ghost use Rattle.theory.specs.Word.{Word as Letters};
+ghost use Rattle.theory.specs.Word.{IsFactor, Word as Letters};
 ghost use Rattle.knuth_bendix.specs.Changes.{AddsRule, IsDone, Joins, Rewrites};
 ghost use Rattle.knuth_bendix.specs.Held.{held_of};
 ghost use Rattle.knuth_bendix.specs.Overlaps.{rule_at};
 ghost use Rattle.knuth_bendix.specs.Logs.{AreLogged, Grows, IsLogged, KeepsLog, LogsHeld, LogsRule, Shows};
 ghost use Rattle.theory.specs.Completion.{IsReduced, Listed, Reduces};
 
+use crate::indexed_rules::IndexedRules;
 use crate::lengths::Lengths;
 use crate::logs::Log;
 use crate::overlaps::Pending;
 use chains::ChainStep;
 use ports::NoMemory;
-use rewriting::{KeptRules, has_factor};
+use rewriting::has_factor;
 use std::alloc::Global;
 use std::cmp::Ordering;
 use words::{Word, shortlex};
@@ -21,7 +22,7 @@ use words::{Word, shortlex};
 // The reduced right side of a rule. The rule that has it is logged.
 fn reduce_right(
     alloc: Global,
-    rules: &KeptRules,
+    rules: &IndexedRules,
     rule: &(Word, Word),
     log: &mut Log,
 ) -> Result<Word, NoMemory>
@@ -42,7 +43,7 @@ fn reduce_right(
 #[inline(never)]
 fn reduce_right_at(
     alloc: Global,
-    rules: &mut KeptRules,
+    rules: &mut IndexedRules,
     place: usize,
     log: &mut Log,
 ) -> Result<(), NoMemory>
@@ -60,11 +61,24 @@ fn reduce_right_at(
     Ok(())
 }
 
+// Whether the left side of a rule stands in the right side of a rule, by their places.
+#[inline(always)]
+fn has_in_right(rules: &IndexedRules, left: usize, right: usize) -> bool
+    requires left { left < length rules.now }
+    requires right { right < length rules.now }
+    ensures { IsTrue result ↔ IsFactor (rule_at rules.now left).0 (rule_at rules.now right).1 }
+{
+    if !rules.may_stand_in_right(left, right) {
+        return false;
+    }
+    has_factor(&rules.rule(right).1, &rules.rule(left).0)
+}
+
 // Rewrites the right side of the rule at a place, if the left side of the newest rule stands in it.
 #[inline(always)]
 fn rewrite_right(
     alloc: Global,
-    rules: &mut KeptRules,
+    rules: &mut IndexedRules,
     place: usize,
     newest: usize,
     log: &mut Log,
@@ -79,7 +93,8 @@ fn rewrite_right(
     ensures grows { OnOk result (Grows log.old log.new) }
     ensures logged { OnOk result (AreLogged log.new rules.new) }
 {
-    if has_factor(&rules.rule(place).1, &rules.rule(newest).0) {
+    let _count = rules.len();
+    if has_in_right(rules, newest, place) {
         reduce_right_at(alloc, rules, place, log)?;
     }
     Ok(())
@@ -89,7 +104,7 @@ fn rewrite_right(
 #[inline(never)]
 fn rewrite_rights(
     alloc: Global,
-    rules: &mut KeptRules,
+    rules: &mut IndexedRules,
     newest: usize,
     log: &mut Log,
 ) -> Result<(), NoMemory>
@@ -111,12 +126,12 @@ fn rewrite_rights(
 // stands become equations, and so do the words to which its overlaps within the length lead where
 // no rules join them.
 fn add_rule(
-    rules: KeptRules,
+    rules: IndexedRules,
     left: Word,
     right: Word,
     length: usize,
     pending: &mut Pending,
-) -> Result<KeptRules, NoMemory>
+) -> Result<IndexedRules, NoMemory>
     requires falls { right ≺ left }
     requires rule { IsLogged pending.old.log (left, right) }
     requires held { LogsHeld pending.old.log rules pending.old.equations }
@@ -164,7 +179,7 @@ fn log_rule(
 // The words to which the rules lead the two of a pair. The rule that they make is logged.
 fn reduce_both(
     alloc: Global,
-    rules: &KeptRules,
+    rules: &IndexedRules,
     pair: &(Word, Word),
     log: &mut Log,
 ) -> Result<(Word, Word), NoMemory>
@@ -187,11 +202,11 @@ fn reduce_both(
 /// overlaps whose words have at most `length` letters are joined too, or become equations. Refused
 /// only where memory is wanting.
 pub fn join(
-    rules: KeptRules,
+    rules: IndexedRules,
     pair: &(Word, Word),
     length: usize,
     pending: &mut Pending,
-) -> Result<KeptRules, NoMemory>
+) -> Result<IndexedRules, NoMemory>
     requires pair { IsLogged pending.old.log pair.now }
     requires held { LogsHeld pending.old.log rules pending.old.equations }
     ensures joins { IfOk result (λ new. Joins length pair.now.0 pair.now.1

@@ -4,6 +4,6 @@ use Rattle.knuth_bendix.proofs.overlaps.Pending.join_all.Given as goal
 
 abbrev pub invariant-loop-other : goal.invariant-loop-other
 invariant-loop-other l = record {
-  joined : IsJoinedWith l.lengths l.rules l.fn.self.equations l.self.equations l.newest l.other;
+  joined : IsJoinedWith l.fn.lengths l.rules l.fn.self.equations l.self.equations l.newest l.other;
   logged : KeepsLog l.fn.self.log l.self.log l.rules l.self.equations;
 }
