@@ -11,10 +11,10 @@ use Rattle.query_lang.specs.declared.script.Query.{Query}
 use Rattle.report_lines.specs.LineBytes.{AreBytesOf}
 use Rattle.report.specs.declared.answers.Answered.{Answered}
 use Rattle.report.specs.declared.answers.Answered.TheVariants.{Defined}
-use Rattle.report.specs.declared.awaited.Awaited.{Awaited}
-use Rattle.report.specs.Answer.{AreLines, ComesAbout, FailsToCome, IsAnswer, awaited_by, line_without}
+use Rattle.query_answers.specs.declared.awaited.Awaited.{Awaited}
+use Rattle.query_answers.specs.Answer.{AreLines, ComesAbout, FailsToCome, IsAnswer, awaited_by, line_without}
 use Rattle.report.specs.Gains.{AreAnswerBytes, is_undecided}
-use Rattle.report.proofs.AnswerLemmas.{one_line}
+use Rattle.query_answers.proofs.AnswerLemmas.{one_line}
 
 -- what a query waits for comes about, by its name
 pub comes_about : (p : Problem) (b : Budgets) (q : Query) (a : Awaited) → awaited_by q ≡ a → ComesAbout p b a → ComesAbout p b (awaited_by q)

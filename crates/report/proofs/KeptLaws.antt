@@ -14,7 +14,7 @@ use Rattle.report_lines.specs.declared.known.KnownElements.{KnownElements}
 use Rattle.report.specs.declared.answers.Answered.{Answered}
 use Rattle.report.specs.declared.answers.Answered.TheVariants.{Defined, Undecided}
 use Rattle.report.specs.declared.state.State.{State}
-use Rattle.report.specs.Chains.{IsLogOf}
+use Rattle.query_answers.specs.Chains.{IsLogOf}
 use Rattle.report.specs.Kept.{HasElements, KeepsFound, KeepsOf}
 
 -- a value that is there stays

@@ -4,10 +4,10 @@ use Rattle.std.proofs.Common.{sym}
 use Rattle.query_lang.specs.declared.script.Query.{Query}
 use Rattle.query_lang.specs.declared.script.Query.TheVariants.{Index, Equal, Normal, Classes, RuleList, ElementOf, Cayley, LowIndex, Meet, Join, Chain, Green, Idempotents}
 use Rattle.report_lines.specs.declared.known.KnownElements.{KnownElements}
-use Rattle.report.specs.Answer.{awaited_by}
+use Rattle.query_answers.specs.Answer.{awaited_by}
 use Rattle.report.specs.Kept.{HasElements}
-use Rattle.report.specs.declared.awaited.Awaited.{Awaited}
-use Rattle.report.specs.declared.awaited.Awaited.TheVariants.{Decision}
+use Rattle.query_answers.specs.declared.awaited.Awaited.{Awaited}
+use Rattle.query_answers.specs.declared.awaited.Awaited.TheVariants.{Decision}
 
 -- a query that waits for no decision needs nothing of them
 pub needs_none : (query : Query) (awaited : Awaited) → awaited_by query ≡ awaited → awaited ≢ Decision → (known : KnownElements) → HasElements query known

@@ -26,7 +26,7 @@ use Rattle.element_tables.proofs.Elements.{class_over, rules_over, one_shape}
 use Rattle.report_lines.specs.Lines.{cayley_lines, count_line, over_line, infinite_line, equal_line, normal_line, page_lines, rule_line, word_line, end_line}
 use Rattle.report_lines.specs.LineBytes.{AreBytesOf}
 use Rattle.report_lines.specs.Pages.{ArePageLines}
-use Rattle.report.specs.Answer.{AreLines}
+use Rattle.query_answers.specs.Answer.{AreLines}
 
 -- s is what was solved, and p the problem that is asked about
 module _ (p s : Problem) (solved : s ≡ p) where

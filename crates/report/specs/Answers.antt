@@ -9,7 +9,7 @@ use Rattle.query_lang.specs.declared.script.Query.{Query}
 use Rattle.report_lines.specs.LineBytes.{bytes_of}
 use Rattle.report.specs.declared.bounds.Bounds.{Bounds}
 use Rattle.report.specs.declared.state.State.{State}
-use Rattle.report.specs.Answer.{IsAnswer}
+use Rattle.query_answers.specs.Answer.{IsAnswer}
 
 -- an answer: its lines, and whether the query is left undecided
 pub record Answer : Type 0 where

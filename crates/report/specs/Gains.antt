@@ -6,7 +6,7 @@ use Rattle.query_lang.specs.declared.script.Query.{Query}
 use Rattle.report_lines.specs.LineBytes.{AreBytesOf}
 use Rattle.report.specs.declared.answers.Answered.{Answered}
 use Rattle.report.specs.declared.answers.Answered.TheVariants.{Defined, Undecided}
-use Rattle.report.specs.Answer.{IsAnswer}
+use Rattle.query_answers.specs.Answer.{IsAnswer}
 
 abbrev pub is_undecided : Answered → Bool
 is_undecided Defined = false

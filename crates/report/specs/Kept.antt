@@ -8,9 +8,9 @@ use Rattle.green.specs.Known.{HasNames}
 use Rattle.congruence.specs.Verdicts.{IsVerdictOf}
 use Rattle.report_lines.specs.declared.known.KnownElements.{KnownElements}
 use Rattle.report_lines.specs.Known.{AreKnownOf, HasGreen, KeepsKnown}
-use Rattle.report.specs.Chains.{IsLogOf}
-use Rattle.report.specs.declared.awaited.Awaited.{Awaited}
-use Rattle.report.specs.declared.awaited.Awaited.TheVariants.{Nothing, Decision, Log}
+use Rattle.query_answers.specs.Chains.{IsLogOf}
+use Rattle.query_answers.specs.declared.awaited.Awaited.{Awaited}
+use Rattle.query_answers.specs.declared.awaited.Awaited.TheVariants.{Nothing, Decision, Log}
 use Rattle.report.specs.declared.state.State.{State}
 
 -- the verdict is of the problem, and so are the completion, which logs and is at its end, and what

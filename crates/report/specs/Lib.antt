@@ -1,5 +1,3 @@
-pub mod Chains
-pub mod Answer
 pub mod Gains
 pub mod Kept
 pub mod Answers

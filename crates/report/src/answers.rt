@@ -3,24 +3,22 @@ ghost use Rattle.std.specs.Prelude.{◌≡◌, ◌<◌, IfOk, IsSome, OnOk};
 ghost use Rattle.ports.specs.Writes.{Writes};
 ghost use Rattle.problem.specs.Problem.{IsPosable};
 ghost use Rattle.query_lang.specs.Query.{IsQueryOf};
-ghost use Rattle.report.specs.Answer.{awaited_by};
+ghost use Rattle.query_answers.specs.Answer.{awaited_by};
 ghost use Rattle.report.specs.Gains.{AreAnswerBytes};
 ghost use Rattle.report.specs.Kept.{HasElements, HasFound, KeepsFound, KeepsOf, KeepsSettings};
 
-use crate::awaited::{Awaited, awaited_by};
-use crate::logged::write_logged;
 use crate::solved::write_solved;
 use crate::state::State;
-use crate::told::write_told;
 use congruence::Verdict;
 use ports::{Gate, Sink, WriteFault, write_all};
 use problem::Problem;
+use query_answers::{Awaited, awaited_by, write_logged, write_told};
 use query_lang::{Query, Script};
 use std::alloc::Global;
 use std::thread::Threads;
 
 /// Whether a query was answered.
-#[derive(Clone, Copy, Debug, PartialEq, Eq)]
+#[derive(Clone, Copy)]
 pub enum Answered {
     /// Its answer was written.
     Defined,

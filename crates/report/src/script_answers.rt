@@ -17,7 +17,7 @@ use std::thread::Threads;
 fn left_undecided(answered: Answered) -> bool
     ensures { result ≡ is_undecided answered }
 {
-    answered == Answered::Undecided
+    matches!(answered, Answered::Undecided)
 }
 
 // Writes the answer of one query, and tells whether it is undecided.

@@ -10,20 +10,21 @@ ghost use Rattle.report_lines.specs.LineBytes.{AreBytesOf};
 ghost use Rattle.report_lines.specs.Known.{AreKnownOf, KeepsKnown};
 ghost use Rattle.report_lines.specs.Lines.{word_line};
 ghost use Rattle.report_lines.specs.Pages.{ArePageLines};
-ghost use Rattle.report.specs.Answer.{AreLines, awaited_by};
+ghost use Rattle.query_answers.specs.Answer.{AreLines, awaited_by};
 ghost use Rattle.report.specs.Kept.{HasElements};
 
-use crate::awaited::Awaited;
 use congruence::Solved;
 use congruence_classes::Index;
 use ports::{NoMemory, Sink, WriteFault};
 use problem::Problem;
+use query_answers::Awaited;
 use query_lang::Query;
 use report_lines::{
     KnownElements, write_cayley, write_count, write_end, write_equal, write_green,
     write_idempotents, write_infinite, write_normal_form, write_over, write_rules, write_word,
 };
 use std::alloc::Global;
+use std::mem::replace;
 use words::{Alphabet, Word};
 
 // The cursor in memory of its own.
@@ -37,7 +38,36 @@ fn copied(alloc: Global, cursor: Option<&Word>) -> Result<Option<Word>, NoMemory
 }
 
 // Writes a page: at most so many least words after a cursor, each as it is found, and whether there
-// are more.
+// are more. The cursor follows.
+fn write_page<O: Sink>(
+    alloc: Global,
+    alphabet: &Alphabet,
+    solved: &mut Solved,
+    count: usize,
+    cursor: &mut Option<Word>,
+    sink: &mut O,
+) -> Result<(), WriteFault>
+    requires letters { letters_of solved.old.problem ≡ alphabet.now }
+    requires one_each { count_of solved.old.problem ≡ length alphabet.now }
+    ensures kept { solved.new ≡ solved.old }
+    ensures written { Writes O.Sink (λ _. AreBytesOf (ArePageLines
+        (IsLeast (SameClassOf solved.old.problem)) ◌≺◌ (word_line alphabet.now)
+        cursor.old count)) sink.old sink.new result }
+{
+    for _ in 0..count {
+        match solved.next_after(cursor.as_ref())? {
+            Some(word) => {
+                write_word(alloc, alphabet, &word, sink)?;
+                drop(replace(cursor, Some(word)));
+            }
+            None => return write_end(false, sink),
+        }
+    }
+    let next = solved.next_after(cursor.as_ref())?;
+    write_end(next.is_some(), sink)
+}
+
+// Writes a page of classes after a cursor.
 fn write_classes<O: Sink>(
     alloc: Global,
     alphabet: &Alphabet,
@@ -54,17 +84,9 @@ fn write_classes<O: Sink>(
         (option_copied after.entry) count)) sink.old sink.new result }
 {
     let mut cursor = copied(alloc, after)?;
-    for _ in 0..count {
-        match solved.next_after(cursor.as_ref())? {
-            Some(word) => {
-                write_word(alloc, alphabet, &word, sink)?;
-                cursor = Some(word);
-            }
-            None => return write_end(false, sink),
-        }
-    }
-    let next = solved.next_after(cursor.as_ref())?;
-    write_end(next.is_some(), sink)
+    let written = write_page(alloc, alphabet, solved, count, &mut cursor, sink);
+    drop(cursor);
+    written
 }
 
 // Writes the number of classes, that it is above the bound, or that there are infinitely many.

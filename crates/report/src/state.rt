@@ -6,11 +6,11 @@ ghost use Rattle.report.specs.Answers.{state_bounds};
 ghost use Rattle.report.specs.Kept.{KeepsFound, KeepsOf, KeepsSettings};
 
 use crate::bounds::Bounds;
-use crate::completing::logged_completion;
 use congruence::{Verdict, solve};
 use knuth_bendix::Completion;
 use ports::{Gate, NoMemory};
 use problem::{Budgets, Problem};
+use query_answers::logged_completion;
 use report_lines::KnownElements;
 use std::alloc::Global;
 use std::mem::replace;

@@ -7,14 +7,16 @@ use Rattle.query_lang.specs.Asked.{ScriptOf}
 use Rattle.settings.specs.Settings.{AreAccepted, AreRefused, Reads, or_name}
 use Rattle.settings.specs.declared.Settings.{Settings}
 use Rattle.semi.specs.Ends.{HasFailed, HasNoSettings, HasReported}
-use Rattle.semi.specs.Limits.{most_bytes}
-use Rattle.semi.specs.Made.{OnInput, input_of}
-use Rattle.semi.specs.Report.{GainsBeginning, IsRefusal, IsRefused, IsScript}
+use Rattle.run_parts.specs.Limits.{most_bytes}
+use Rattle.run_parts.specs.Made.{input_of}
+use Rattle.semi.specs.Settings.{OnInput}
+use Rattle.run_parts.specs.Input.{IsRefusal, IsRefused, IsScript}
+use Rattle.semi.specs.Report.{GainsBeginning}
 use Rattle.semi.specs.Settings.{AskToMake, Under, UnlessMade}
-use Rattle.semi.specs.Status.{status_of}
-use Rattle.semi.specs.Taken.{IsTakenAt, IsTakenWhole}
-use Rattle.semi.specs.declared.fault.Fault.{Fault}
-use Rattle.semi.specs.declared.fault.Fault.TheVariants.{TooLong, Script, Arguments, Read, Write, NoMemory}
+use Rattle.run_parts.specs.Status.{status_of}
+use Rattle.run_parts.specs.Taken.{IsTakenAt, IsTakenWhole}
+use Rattle.run_parts.specs.declared.fault.Fault.{Fault}
+use Rattle.run_parts.specs.declared.fault.Fault.TheVariants.{TooLong, Script, Arguments, Read, Write, NoMemory}
 use Rattle.semi.proofs.UniqueReport.{any_refused, begun_not_refused, refused_no_script, why_refused}
 
 -- the faults of the statuses

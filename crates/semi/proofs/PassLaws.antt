@@ -2,7 +2,8 @@
 use Rattle.std.proofs.Common.{◌≡◌, ◌≢◌, ◌≤◌, ◌⊎◌, ◌∙◌, ℕ, List, Option, None, Some, IfSome, inl, inr, sym, arith}
 use Rattle.ports.specs.Bytes.{Rose}
 use Rattle.settings.specs.declared.Settings.{Settings}
-use Rattle.semi.specs.Made.{OnInput, input_of}
+use Rattle.run_parts.specs.Made.{input_of}
+use Rattle.semi.specs.Settings.{OnInput}
 
 if_some : {A : Type 0} (o : Option A) (P Q : A → Type 0) → ((a : A) → P a → Q a) → IfSome o P → IfSome o Q
 if_some None P Q f h = tt

@@ -5,7 +5,8 @@ use Rattle.ports.specs.declared.fault.WriteFault.{WriteFault}
 use Rattle.query_lang.specs.Asked.{ScriptOf}
 use Rattle.report.specs.Answers.{WritesLines}
 use Rattle.settings.specs.declared.Settings.{Settings}
-use Rattle.semi.specs.Report.{GainsBeginning, GainsReport, IsScript, bounds_of}
+use Rattle.run_parts.specs.Input.{IsScript}
+use Rattle.semi.specs.Report.{GainsBeginning, GainsReport, bounds_of}
 
 -- what the sink gained with the lines of a script, where the source tells its bytes
 module _ {K : Type 0} (sink : Ghosts K) (settings : Settings) (script : ScriptOf) (old new : K) where

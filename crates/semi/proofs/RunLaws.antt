@@ -10,12 +10,13 @@ use Rattle.settings.specs.declared.Settings.{Settings}
 use Rattle.settings.specs.declared.SettingsFault.{SettingsFault}
 use Rattle.settings.specs.declared.SettingsFault.TheVariants as settings
 use Rattle.semi.specs.Ends.{EndsBy, EndsUnder, HasFailed, HasNoSettings}
-use Rattle.semi.specs.Made.{input_of}
+use Rattle.run_parts.specs.Made.{input_of}
 use Rattle.report.specs.Answers.{WritesLines}
-use Rattle.semi.specs.Report.{IsScript, bounds_of}
-use Rattle.semi.specs.Status.{of_settings, of_write}
-use Rattle.semi.specs.Taken.{IsTakenWhole}
-use Rattle.semi.specs.declared.fault.Fault.{Fault}
+use Rattle.run_parts.specs.Input.{IsScript}
+use Rattle.semi.specs.Report.{bounds_of}
+use Rattle.run_parts.specs.Status.{of_settings, of_write}
+use Rattle.run_parts.specs.Taken.{IsTakenWhole}
+use Rattle.run_parts.specs.declared.fault.Fault.{Fault}
 use Rattle.semi.proofs.ReportLemmas.{beginning_gained}
 
 -- what holds with a fault holds of a result that passes it on

@@ -5,13 +5,14 @@ use Rattle.std.specs.Prelude.{◌≡◌, ℕ, ◌≤◌, ◌⊎◌, Bool, List, 
 use Rattle.ports.specs.Bytes.{Rose}
 use Rattle.settings.specs.Settings.{AreRefused}
 use Rattle.settings.specs.declared.Settings.{Settings}
-use Rattle.semi.specs.Made.{input_of}
-use Rattle.semi.specs.Report.{GainsBeginning, GainsReport, IsRefusal}
+use Rattle.run_parts.specs.Made.{input_of}
+use Rattle.run_parts.specs.Input.{IsRefusal}
+use Rattle.semi.specs.Report.{GainsBeginning, GainsReport}
 use Rattle.semi.specs.Settings.{Under}
-use Rattle.semi.specs.Status.{status_of}
-use Rattle.semi.specs.Taken.{IsTakenAt, IsTakenWhole}
-use Rattle.semi.specs.declared.fault.Fault.{Fault}
-use Rattle.semi.specs.declared.fault.Fault.TheVariants.{Arguments, Read, Write, NoMemory}
+use Rattle.run_parts.specs.Status.{status_of}
+use Rattle.run_parts.specs.Taken.{IsTakenAt, IsTakenWhole}
+use Rattle.run_parts.specs.declared.fault.Fault.{Fault}
+use Rattle.run_parts.specs.declared.fault.Fault.TheVariants.{Arguments, Read, Write, NoMemory}
 
 module _ {A B : Type 0} (source : sources.Ghosts A) (sink : sinks.Ghosts B)
     (old new : A) (before after : B) where

@@ -9,25 +9,25 @@ ghost use Rattle.std.specs.Io.Buffered.{writer_buffer};
 ghost use Rattle.ports.specs.Bytes.{Rose};
 ghost use Rattle.query_lang.specs.Asked.{ScriptOf};
 ghost use Rattle.settings.specs.Settings.{AreAccepted, AreRefused};
-ghost use Rattle.semi.specs.Made.{OnInput};
-ghost use Rattle.semi.specs.Report.{GainsLineOf, HasReport, IsRefused, IsScript};
-ghost use Rattle.semi.specs.Status.{status_of};
+ghost use Rattle.semi.specs.Settings.{OnInput};
+ghost use Rattle.run_parts.specs.Input.{IsRefused, IsScript};
+ghost use Rattle.run_parts.specs.Status.{GainsLineOf};
+ghost use Rattle.semi.specs.Report.{HasReport};
+ghost use Rattle.run_parts.specs.Status.{status_of};
 
 mod adapters;
 #[cfg(test)]
 mod failing_tests;
-mod fault;
 #[cfg(test)]
 mod gate_tests;
-mod made;
 #[cfg(test)]
 mod tests;
 mod top;
 mod whole;
 
 use adapters::{InputSource, OutputSink};
-use fault::Fault;
 use ports::{Open, Sink, Source};
+use run_parts::Fault;
 use std::alloc::Global;
 use std::env;
 use std::io::{BufWriter, ErrorKind, Write};

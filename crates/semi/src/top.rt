@@ -2,19 +2,20 @@
 ghost use Rattle.std.specs.Prelude.{◌≡◌, ◌≤◌, ◌⊎◌, false, true, IfSome, map, string_bytes};
 ghost use Rattle.ports.specs.Bytes.{Rose};
 ghost use Rattle.semi.specs.Ends.{EndsBy, EndsUnder};
-ghost use Rattle.semi.specs.Report.{GainsBeginning, GainsLineOf, GainsReport, IsRefusal, IsRefused, IsScript};
+ghost use Rattle.run_parts.specs.Input.{IsRefusal, IsRefused, IsScript};
+ghost use Rattle.run_parts.specs.Status.{GainsLineOf};
+ghost use Rattle.semi.specs.Report.{GainsBeginning, GainsReport};
 ghost use Rattle.query_lang.specs.Asked.{ScriptOf};
-ghost use Rattle.semi.specs.Made.{OnInput};
+ghost use Rattle.semi.specs.Settings.{OnInput};
 ghost use Rattle.semi.specs.Settings.{AskToMake, UnlessMade};
-ghost use Rattle.semi.specs.Taken.{IsTakenAt, IsTakenWhole};
+ghost use Rattle.run_parts.specs.Taken.{IsTakenAt, IsTakenWhole};
 ghost use Rattle.settings.specs.Settings.{AreAccepted, AreRefused};
-ghost use Rattle.semi.specs.Status.{status_of};
-ghost use Rattle.semi.specs.declared.fault.Fault.{Fault};
+ghost use Rattle.run_parts.specs.Status.{status_of};
+ghost use Rattle.run_parts.specs.declared.fault.Fault.{Fault};
 
-use crate::fault::Fault;
-use crate::made::choose_script;
 use crate::whole::write_report;
 use ports::{Gate, Sink, Source};
+use run_parts::{Fault, choose_script};
 use settings::{Settings, settings_of};
 use std::alloc::Global;
 use std::thread::Threads;

@@ -1,46 +1,17 @@
 // The report of a script.
-ghost use Rattle.std.specs.Prelude.{◌≡◌, ℕ, ◌≤◌, Bool, List, Option, IfErr, IfOk, IfSome, IsErrOf, MatchResult, OnOk};
-ghost use Rattle.ports.specs.Bytes.{Rose, TakesPrefix};
+ghost use Rattle.std.specs.Prelude.{◌≡◌, ℕ, ◌≤◌, Bool, List, Option};
+ghost use Rattle.ports.specs.Bytes.{TakesPrefix};
 ghost use Rattle.report.specs.Answers.{WritesLines};
 ghost use Rattle.settings.specs.declared.Settings.{Settings};
-ghost use Rattle.semi.specs.Report.{AsksNoChain, GainsBeginning, IsRefusal, IsReport, IsScript, bounds_of, budgets_of};
-ghost use Rattle.semi.specs.Taken.{IsTakenAt, IsTakenWhole};
-ghost use Rattle.semi.specs.Status.{status_of};
-ghost use Rattle.semi.specs.declared.fault.Fault.{Fault};
+ghost use Rattle.semi.specs.Report.{AsksNoChain, GainsBeginning, IsReport, bounds_of, budgets_of};
 
-use crate::fault::Fault;
-use ports::{Gate, Sink, Source, WriteFault, read_all};
+use ports::{Gate, Sink, WriteFault};
 use problem::Budgets;
-use query_lang::{Script, read_script};
+use query_lang::Script;
 use report::{Bounds, write_answers};
 use settings::Settings;
 use std::alloc::Global;
 use std::thread::Threads;
-
-/// The greatest length of a script, in bytes.
-const MOST_BYTES: usize = 1_048_576;
-
-/// Reads the whole source as a script. Refused with `Read` where the source failed, with `TooLong`
-/// where more bytes came than a script may have, and with `Script` at the first faulty line.
-pub fn take_script<S: Source>(alloc: Global, source: &mut S) -> Result<Script, Fault>
-    ensures script { IfOk result (λ script. IfSome (S.left source.old)
-        (λ input. IsScript input script)) }
-    ensures refused { IfErr result (λ fault. status_of fault ≡ 2
-        → IfSome (S.left source.old) (λ input. IsRefusal input fault)) }
-    ensures taken { MatchResult result
-        (λ script. IsTakenWhole (S.left source.old) (S.left source.new))
-        (λ fault. IsTakenAt fault (S.left source.old) (S.left source.new)) }
-    ensures read { IsErrOf result Fault.Read → Rose (S.faults source.old) (S.faults source.new) }
-    ensures only { (IsErrOf result Fault.Arguments → ⊥) × (IsErrOf result Fault.Write → ⊥) }
-    ensures kept { S.faults source.old ≤ S.faults source.new }
-    ensures quiet { OnOk result (S.faults source.new ≡ S.faults source.old) }
-    ensures quiet_refused { IfErr result
-        (λ fault. status_of fault ≡ 2 → S.faults source.new ≡ S.faults source.old) }
-{
-    let bytes = read_all(alloc, source, MOST_BYTES)?;
-    let script = read_script(alloc, bytes.as_slice())?;
-    Ok(script)
-}
 
 // What the answers may use under the settings.
 fn bounds_of(settings: Settings) -> Bounds
@@ -100,11 +71,4 @@ pub fn beginning_is_prefix()
         → IsReport settings input report undecided
         → GainsBeginning settings input old new
         → TakesPrefix old new report }
-{}
-
-/// An input is refused for one fault: it is too long, or else it has one first faulty line, with
-/// one cause.
-pub fn refusal_is_one()
-    ensures { (input : List ℕ) (one other : Fault)
-        → IsRefusal input one → IsRefusal input other → one ≡ other }
 {}

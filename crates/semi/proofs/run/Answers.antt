@@ -1,6 +1,6 @@
 use Rattle.std.proofs.Common.{◌≤◌, ◌∙◌, ℕ, List, map, string_bytes, inl, inr, sym, subst, arith}
-use Rattle.semi.specs.Report.{GainsLineOf}
-use Rattle.semi.specs.declared.fault.Fault.TheVariants.{Write}
+use Rattle.run_parts.specs.Status.{GainsLineOf}
+use Rattle.run_parts.specs.declared.fault.Fault.TheVariants.{Write}
 use Rattle.ports.specs.Bytes.{Rose}
 use Rattle.semi.proofs.PassLaws.{on_input, rose_on, stays_above, stays_at}
 use Rattle.semi.proofs.run.Goals as goal

@@ -6,9 +6,9 @@ use Rattle.report_lines.specs.LineBytes.{AreBytesOf}
 use Rattle.report_lines.proofs.ResultLaws.{of_each}
 use Rattle.report.specs.declared.answers.Answered.{Answered}
 use Rattle.report.specs.declared.answers.Answered.TheVariants.{Defined}
-use Rattle.report.specs.declared.awaited.Awaited.{Awaited}
-use Rattle.report.specs.declared.awaited.Awaited.TheVariants.{Nothing, Log}
-use Rattle.report.specs.Answer.{AreLines, awaited_by}
+use Rattle.query_answers.specs.declared.awaited.Awaited.{Awaited}
+use Rattle.query_answers.specs.declared.awaited.Awaited.TheVariants.{Nothing, Log}
+use Rattle.query_answers.specs.Answer.{AreLines, awaited_by}
 use Rattle.report.specs.Gains.{AreAnswerBytes}
 use Rattle.report.specs.Kept.{HasElements, HasFound, KeepsOf}
 use Rattle.report.proofs.AnswersLaws.{settings_same, settings_stay}

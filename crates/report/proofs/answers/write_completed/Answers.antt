@@ -3,10 +3,10 @@ use Rattle.problem.specs.declared.budgets.Budgets.{Budgets}
 use Rattle.problem.specs.declared.kinds.Problem.{Problem}
 use Rattle.report_lines.specs.Lines.{unlogged_line}
 use Rattle.report.specs.declared.answers.Answered.TheVariants as answered
-use Rattle.report.specs.declared.awaited.Awaited.TheVariants.{Log}
-use Rattle.report.specs.Chains.{IsLogOf}
+use Rattle.query_answers.specs.declared.awaited.Awaited.TheVariants.{Log}
+use Rattle.query_answers.specs.Chains.{IsLogOf}
 use Rattle.report.proofs.AnswerBytes.{comes_about, defined_told, left_undecided, line_told}
-use Rattle.report.proofs.ChainAnswers.{logged_comes, logged_fails}
+use Rattle.query_answers.proofs.ChainAnswers.{logged_comes, logged_fails}
 use Rattle.report.proofs.answers.write_completed.Goals as goal
 
 pub returns-then-is_decided : goal.returns-then-is_decided

@@ -5,7 +5,7 @@ use Rattle.congruence.specs.Verdicts.{IsVerdictOf}
 use Rattle.report_lines.specs.Lines.{undecided_line}
 use Rattle.report_lines.proofs.ResultLaws.{of_each}
 use Rattle.report.specs.declared.answers.Answered.TheVariants as answered
-use Rattle.report.specs.declared.awaited.Awaited.TheVariants.{Decision}
+use Rattle.query_answers.specs.declared.awaited.Awaited.TheVariants.{Decision}
 use Rattle.report.proofs.AnswerBytes.{comes_about, defined_told, left_undecided, line_told}
 use Rattle.report.proofs.KeptLaws.{known_stays, none_told, same_found, same_kept, same_known, told_with}
 use Rattle.report.proofs.answers.write_decided.Goals as goal

@@ -3,7 +3,7 @@ use Rattle.ports.proofs.WriteLemmas.{handed_on, refused}
 use Rattle.problem.specs.declared.kinds.Problem.{Problem}
 use Rattle.query_lang.specs.declared.script.Query.TheVariants as query
 use Rattle.report_lines.specs.Lines.{count_line, over_line, infinite_line}
-use Rattle.report.proofs.AnswerLemmas.{writes_lines, one_line}
+use Rattle.query_answers.proofs.AnswerLemmas.{writes_lines, one_line}
 use Rattle.report.proofs.SolvedLemmas.{solved_count, solved_infinite, solved_over}
 use Rattle.report.proofs.solved.write_index.Goals as goal
 

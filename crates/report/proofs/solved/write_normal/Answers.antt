@@ -5,7 +5,7 @@ use Rattle.problem.specs.declared.kinds.Problem.{Problem}
 use Rattle.problem.specs.Problem.{letters_of}
 use Rattle.query_lang.specs.declared.script.Query.TheVariants as query
 use Rattle.report_lines.specs.Lines.{normal_line}
-use Rattle.report.proofs.AnswerLemmas.{writes_lines, one_line}
+use Rattle.query_answers.proofs.AnswerLemmas.{writes_lines, one_line}
 use Rattle.report.proofs.SolvedLemmas.{element_counted, normal_over, solved_normal}
 use Rattle.report.proofs.solved.write_normal.Goals as goal
 

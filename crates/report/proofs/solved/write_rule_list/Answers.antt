@@ -7,7 +7,7 @@ use Rattle.problem.specs.Problem.{SameClassOf, letters_of}
 use Rattle.query_lang.specs.declared.script.Query.TheVariants as query
 use Rattle.report_lines.specs.LineBytes.{bytes_of}
 use Rattle.report_lines.specs.Lines.{rule_line, end_line}
-use Rattle.report.proofs.AnswerLemmas.{writes_lines}
+use Rattle.query_answers.proofs.AnswerLemmas.{writes_lines}
 use Rattle.report.proofs.SolvedLemmas.{solved_rules, solved_rules_over}
 use Rattle.report.proofs.solved.write_rule_list.Goals as goal
 

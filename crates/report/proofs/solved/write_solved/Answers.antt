@@ -10,10 +10,10 @@ use Rattle.query_lang.specs.declared.script.Query.TheVariants as query
 use Rattle.query_lang.specs.Query.{IsQueryOf}
 use Rattle.report_lines.specs.Lines.{cayley_lines, end_line}
 use Rattle.report.specs.Kept.{HasElements}
-use Rattle.report.proofs.AnswerLemmas.{writes_lines}
+use Rattle.query_answers.proofs.AnswerLemmas.{writes_lines}
 use Rattle.report.proofs.KeptLaws.{known_stays, none_needed}
 use Rattle.report.proofs.SolvedLemmas.{counted, solved_cayley, solved_page, solved_shape, solved_told, solved_unpaired}
-use Rattle.report.proofs.TableAnswers.{lines_told}
+use Rattle.query_answers.proofs.TableAnswers.{lines_told}
 use Rattle.report.proofs.solved.write_solved.Goals as goal
 
 -- the query that was matched is one of the problem that was solved

@@ -1,6 +1,6 @@
 use Rattle.std.proofs.Common.{ap, inr, map, refl, string_bytes, Bool, Err, Result}
 use Rattle.semi.specs.Ends.{EndsBy}
-use Rattle.semi.specs.declared.fault.Fault.{Fault}
+use Rattle.run_parts.specs.declared.fault.Fault.{Fault}
 use Rattle.semi.proofs.RunLaws.{none_set, passed_on, set_by}
 use Rattle.semi.proofs.top.run.Goals as goal
 

@@ -1,8 +1,8 @@
 use Rattle.std.proofs.Common.{◌≤◌, ap, arith, inl, refl, subst, sym, Bool, Err, Result}
 use Rattle.semi.specs.Ends.{EndsUnder}
-use Rattle.semi.specs.Made.{input_of}
-use Rattle.semi.specs.Status.{status_of}
-use Rattle.semi.specs.declared.fault.Fault.{Fault}
+use Rattle.run_parts.specs.Made.{input_of}
+use Rattle.run_parts.specs.Status.{status_of}
+use Rattle.run_parts.specs.declared.fault.Fault.{Fault}
 use Rattle.semi.proofs.ReportLemmas.{report_gained}
 use Rattle.semi.proofs.RunLaws.{broken_off, passed_on}
 use Rattle.semi.proofs.top.run_under.Goals as goal

@@ -1,6 +1,6 @@
 use Rattle.std.proofs.Common.{◌≡◌, ◌≤◌, ◌∙◌, ℕ, Bool, true, false, IfSome, map, string_bytes, List, refl, sym, arith, subst, inl, inr}
 use Rattle.std.specs.Int.{from_bool}
-use Rattle.semi.specs.Made.{input_of}
+use Rattle.run_parts.specs.Made.{input_of}
 use Rattle.semi.specs.Report.{GainsReport}
 use Rattle.semi.proofs.EndLaws as ends
 use Rattle.semi.proofs.UniqueReport.{any_script, reported_not_refused}

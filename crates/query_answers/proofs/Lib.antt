@@ -1,0 +1,4 @@
+pub mod AnswerLemmas
+pub mod ChainAnswers
+pub mod UniqueAnswer
+pub mod TableAnswers

@@ -1,5 +1,0 @@
-use Rattle.report.proofs.UniqueAnswer.{one_answer, one_status}
-use Rattle.report.proofs.facts.answer_is_one.Goals as goal
-
-pub returns : goal.returns
-returns c = record { undecided = one_status; lines = one_answer }

@@ -1,5 +1,0 @@
-use Rattle.report.proofs.UniqueAnswer.{one_kind}
-use Rattle.report.proofs.facts.chain_kind_is_one.Goals as goal
-
-pub returns : goal.returns
-returns c = one_kind

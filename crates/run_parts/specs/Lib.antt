@@ -1,0 +1,5 @@
+pub mod Limits
+pub mod Status
+pub mod Input
+pub mod Taken
+pub mod Made
