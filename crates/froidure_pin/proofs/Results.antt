@@ -4,10 +4,6 @@ use Rattle.std.specs.Prelude.{Result}
 use Rattle.froidure_pin.specs.Found.{Generated}
 use Rattle.froidure_pin.specs.Growing.{IsOver, UnlessOver}
 
-pub on_map : {A F P Q : Type 0} (r : Result A F) → (P → Q) → OnOk r P → OnOk r Q
-on_map (Ok x) f h = f h
-on_map (Err e) f h = tt
-
 -- whether there are more elements than the bound, once a product is taken in
 pub if_taken : {F P T : Type 0} {Q : Bool → Type 0} (r : Result Bool F) → ((over : Bool) → T → (IsTrue over ↔ P) → Q over) → OnOk r T → IfOk r (λ over. IsTrue over ↔ P) → IfOk r Q
 if_taken (Ok over) f taken is = f over taken is

@@ -76,6 +76,15 @@ rule_test true y z r a b c = cc
 rule_test false true z r a b c = cc
 rule_test false false z r a b c = c
 
+pub no_rule : (x y : Bool) → x ≡ true → false ≡ (not x && y)
+no_rule true y e = refl
+no_rule false y e = cc
+
+pub letter_rule : (x y z : Bool) → x ≡ false → y ≡ true → true ≡ (not x && (y || z))
+letter_rule true y z a b = cc
+letter_rule false true z a b = refl
+letter_rule false false z a b = cc
+
 pub rules_more : (k : ℕ) (factors : List Factor) (right suffixes : List ℕ) (p : ℕ) (rules later : List (Word × Word)) → later ≡ rules ++ rules_at k factors right suffixes p → rules ≡ rules_to k factors right suffixes p
     → later ≡ rules_to k factors right suffixes (p + 1)
 rules_more k factors right suffixes p rules later e h =
