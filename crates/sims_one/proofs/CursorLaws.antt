@@ -4,9 +4,9 @@ use Rattle.std.proofs.Math.Seq.{get_or-append_seam}
 use Rattle.std.proofs.lemmas.Bool.{cases_lt}
 use Rattle.std.proofs.lemmas.List.{take_at, take-append-le, take-append-drop}
 use Rattle.theory.specs.Congruence.{Presentation}
-use Rattle.sims_one.specs.Targets.{seen, IsFront, AreAllowed, IsTable, IsWithin, IsBeyond}
+use Rattle.sims_one.specs.Targets.{seen, least_target, most_nodes, IsFront, AreAllowed, IsTable, IsWithin, IsBeyond}
 use Rattle.sims_one.specs.Search.{Before, IsLeastWithin, NoneWithin, IsLeastBeyond, NoneBeyond, IsLeastAfter, NoneAfter, NoneFrom}
-use Rattle.sims_one.proofs.FrontLaws.{allowed_front, full_ends, before_itself, before_both, before_heads, common_front, Compared, compared}
+use Rattle.sims_one.proofs.FrontLaws.{allowed_front, allowed_next, full_ends, before_itself, before_both, before_heads, common_front, Compared, compared}
 use Rattle.sims_one.proofs.FrontLaws.Compared.{begins, below, above}
 
 -- what goes on behind t and one more target goes on behind t
@@ -17,6 +17,12 @@ pub beyond_within : (t : List ℕ) (first : ℕ) (u : List ℕ) → IsBeyond t f
 beyond_within t first u b = record { rest = b.target ∷ b.rest; is = b.is }
 
 module _ (p : Presentation) (n : ℕ) where
+  -- no table has a target that is not allowed
+  pub none_barred : (t : List ℕ) (m : ℕ) → ((least_target p.is_monoid ≤ m) × (m < most_nodes p.is_monoid n) → ⊥) → NoneWithin p n (t ++ m ∷ [])
+  none_barred t m barred u table w =
+      let is : u ≡ t ++ m ∷ w.rest = w.is ∙ append_assoc t (m ∷ []) w.rest in
+      barred (allowed_next p n t m w.rest (subst (λ (xs : List ℕ). AreAllowed p n xs) is table.allowed))
+
   -- a table has a target
   some_target : 0 < p.letters → (u : List ℕ) → IsTable p n u → (m : ℕ) × (rest : List ℕ) × (u ≡ m ∷ rest)
   some_target some [] table = absurd (omega (arith, table.full))

@@ -1,11 +1,11 @@
-use Rattle.std.proofs.Common.{◌≡◌, ◌+◌, ◌*◌, ◌<◌, ◌≤◌, ℕ, suc, List, [], ◌∷◌, ◌++◌, length, get_or, refl, subst, sym, ap, ◌∙◌, arith}
+use Rattle.std.proofs.Common.{true, false, ◌≡◌, ◌+◌, ◌*◌, ◌<◌, ◌≤◌, ℕ, suc, List, [], ◌∷◌, ◌++◌, length, get_or, refl, subst, sym, ap, ◌∙◌, arith}
 use Rattle.std.proofs.lemmas.List.{length_push}
 use Rattle.sims_one.specs.Targets.{seen, IsFront, IsWithin}
 use Rattle.sims_one.specs.Search.{IsLeastBeyond, NoneBeyond, NoneFrom}
 use Rattle.sims_one.proofs.EdgeLaws.{on_ok}
 use Rattle.sims_one.proofs.FrontLaws.{front_front, front_next, front_wants, allowed_push, few_seen}
 use Rattle.sims_one.proofs.BranchLaws.{popped}
-use Rattle.sims_one.proofs.CursorLaws.{from_start, from_more, from_found, next_within, whole_within, within_long, within_less, beyond_within, along}
+use Rattle.sims_one.proofs.CursorLaws.{from_start, from_more, from_found, next_within, none_barred, whole_within, within_long, within_less, beyond_within, along}
 use Rattle.sims_one.proofs.search.+search_after.Goals as goal
 
 pub search_after-returns-then-cursor-place-clause-none : goal.search_after-returns-then-cursor-place-clause-none
@@ -64,6 +64,19 @@ search_after-returns-clause-within t c =
     let same : c.search_along.new.branch.targets.items ≡ c.args.branch.now.targets.items = c.in_ok-search_along.ensures.same c.if-branch.false in
     on_ok c.search_from.result _ _ c.search_from.ensures.found
     (λ b h yes. subst (λ (xs : List ℕ). IsWithin xs found) same (beyond_within c.search_along.new.branch.targets.items (get_or c.args.cursor.now c.len-place.result 0 + 1) found (h yes).beyond))
+
+pub search_after-returns-then-branch-clause-found : goal.search_after-returns-then-branch-clause-found
+search_after-returns-then-branch-clause-found t c = λ _. c.in_ok-search_along.ensures.found c.if-branch.true
+
+pub search_after-returns-then-branch-clause-branch : goal.search_after-returns-then-branch-clause-branch
+search_after-returns-then-branch-clause-branch t c = c.in_ok-search_along.ensures.branch
+
+pub search_after-returns-clause-branch : goal.search_after-returns-clause-branch
+search_after-returns-clause-branch t c = c.search_from.ensures.branch
+
+pub search_after-returns-clause-same : goal.search_after-returns-clause-same
+search_after-returns-clause-same t c =
+    on_ok c.search_from.result _ _ c.search_from.ensures.same (λ b h no. h no ∙ c.in_ok-search_along.ensures.same c.if-branch.false)
 
 pub search_after-returns-clause-found : goal.search_after-returns-clause-found
 search_after-returns-clause-found t c =
@@ -140,3 +153,23 @@ search_along-returns-clause-same t c = λ _.
     let same = c.in_ok-search_after.ensures.same c.if-branch.false ∙ c.in_ok-enter.ensures.entered c.if-not-branch.false in
     (popped p c.args.classes c.search_after.new.branch.targets.items c.pop.new.self.targets.items c.args.branch.now.targets.items c.pop.new.self.levels c.args.target c.pop.result
     c.pop.ensures.targets same (c.pop.ensures.branch p c.args.classes c.in_ok-search_after.ensures.branch)).0
+
+pub search_along-returns-then-not-is_allowed-clause-none : goal.search_along-returns-then-not-is_allowed-clause-none
+search_along-returns-then-not-is_allowed-clause-none t c = λ _.
+    let p = c.args.presentation.now.presentation in
+    let none = none_barred p c.args.classes c.args.branch.now.targets.items c.args.target
+    (λ may. let bad : false ≡ true = sym c.if-not-is_allowed.true ∙ c.is_allowed.ensures.1 may in cc) in
+    λ u table w after. none u table w
+
+pub search_along-returns-then-not-branch-clause-branch : goal.search_along-returns-then-not-branch-clause-branch
+search_along-returns-then-not-branch-clause-branch t c = c.in_ok-enter.ensures.branch
+
+pub search_along-returns-then-branch-clause-found : goal.search_along-returns-then-branch-clause-found
+search_along-returns-then-branch-clause-found t c = λ _. c.in_ok-search_after.ensures.found c.if-branch.true
+
+pub search_along-returns-then-branch-clause-within : goal.search_along-returns-then-branch-clause-within
+search_along-returns-then-branch-clause-within t c = λ _.
+    subst (λ (xs : List ℕ). IsWithin xs c.search_after.new.branch.targets.items) (c.in_ok-enter.ensures.entered c.if-not-branch.false) (c.in_ok-search_after.ensures.within c.if-branch.true)
+
+pub search_along-returns-then-branch-clause-branch : goal.search_along-returns-then-branch-clause-branch
+search_along-returns-then-branch-clause-branch t c = c.in_ok-search_after.ensures.branch
