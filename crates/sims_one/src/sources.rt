@@ -67,7 +67,7 @@ impl Sources {
 
     // The place of the set of the letter at the node.
     fn place(&self, node: usize, letter: usize) -> usize {
-        node.saturating_mul(self.letters).saturating_add(letter)
+        node.wrapping_mul(self.letters).wrapping_add(letter)
     }
 
     /// From where an edge of the letter leads to the node, where one alone does.
