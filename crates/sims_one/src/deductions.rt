@@ -79,7 +79,6 @@ fn read_back(
     ensures keeps { IfOk result (λ holds.
         Keeps presentation.now.presentation known.old known.new holds) }
 {
-    let _letters = presentation.letters();
     let back = known.go_back(side.word, count, node);
     if known.nodes <= back.node {
         return Ok(true);
@@ -87,8 +86,7 @@ fn read_back(
     if back.length == 0 {
         return read(presentation, known, side.relation, back.node);
     }
-    let letter = side.word.letter(back.length - 1).number();
-    let mut starts = known.sources(back.node, letter);
+    let mut starts = back.starts;
     while let Some(start) = starts.pop() {
         if !read_back(presentation, known, side, back.length - 1, start)? {
             return Ok(false);

@@ -108,6 +108,17 @@ pub struct End {
     pub node: usize,
 }
 
+/// How far back a way goes.
+#[derive(Clone, Copy)]
+pub struct Back {
+    /// How many letters are left.
+    pub length: usize,
+    /// The node at which it ends.
+    pub node: usize,
+    /// The nodes from which the next edges lead there: none or several.
+    pub starts: NodeSet,
+}
+
 impl Known {
     /// The root alone, and no edge, in tables of so many letters. Refused only where memory is
     /// wanting.
@@ -131,12 +142,6 @@ impl Known {
         ensures small { IfSome result (λ m. m < MOST_NODES) }
     {
         self.targets.get(place)
-    }
-
-    /// The nodes from which known edges of the letter lead to the node. They are told for speed
-    /// alone: no contract says which they are.
-    pub fn sources(&self, node: usize, letter: usize) -> NodeSet {
-        self.sources.of(node, letter)
     }
 
     /// How much is known.
@@ -265,20 +270,29 @@ impl Known {
     }
 
     /// How far back so many first letters of the word lead to the node, as long as one known edge
-    /// alone leads on. The node is told for speed alone.
-    pub fn go_back(&self, word: &Word, count: usize, node: usize) -> End
+    /// alone leads on. The node and the nodes before it are told for speed alone.
+    pub fn go_back(&self, word: &Word, count: usize, node: usize) -> Back
         requires { count ≤ length word.now }
         ensures { result.length ≤ count }
     {
         let mut at = node;
         let mut length = count;
         while 0 < length {
-            let Some(start) = self.sources.only(at, word.letter(length - 1).number()) else {
-                return End { length, node: at };
+            let starts = self.sources.of(at, word.letter(length - 1).number());
+            let Some(start) = starts.only() else {
+                return Back {
+                    length,
+                    node: at,
+                    starts,
+                };
             };
             at = start;
             length -= 1;
         }
-        End { length, node: at }
+        Back {
+            length,
+            node: at,
+            starts: NodeSet::empty(),
+        }
     }
 }

@@ -19,15 +19,16 @@ pub struct Place {
     pub before: usize,
     /// How many letters stand behind.
     pub behind: usize,
-    /// So many letters behind are those behind the last place before it in its list behind which
-    /// there are others.
+    /// So many letters behind are those behind the last place before it in its list that is not
+    /// covered.
     pub shared: usize,
 }
 
 impl Place {
-    /// Whether the letters behind are the first ones behind an earlier place in the list.
+    /// Whether it is known without reading that all letters behind but for the last lead on, or the
+    /// letters behind are the first ones behind an earlier place in the list.
     pub fn is_covered(&self) -> bool {
-        self.shared == self.behind
+        self.behind <= 1 || self.shared == self.behind
     }
 }
 

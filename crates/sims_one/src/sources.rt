@@ -28,8 +28,13 @@ impl NodeSet {
         self.bits &= !(1 << node);
     }
 
-    // The node that it has, where it has one alone.
-    fn only(&self) -> Option<usize> {
+    /// No node.
+    pub fn empty() -> NodeSet {
+        NodeSet { bits: 0 }
+    }
+
+    /// The node that it has, where it has one alone.
+    pub fn only(&self) -> Option<usize> {
         if self.bits == 0 || self.bits & (self.bits - 1) != 0 {
             return None;
         }
@@ -61,7 +66,7 @@ impl Sources {
     /// No edge is known, in tables of so many letters. Refused only where memory is wanting.
     pub fn new(alloc: Global, letters: usize) -> Result<Sources, NoMemory> {
         let count = MOST_NODES.saturating_mul(letters);
-        let sets = vec![in alloc; NodeSet { bits: 0 }; count]?;
+        let sets = vec![in alloc; NodeSet::empty(); count]?;
         Ok(Sources { letters, sets })
     }
 
@@ -70,18 +75,13 @@ impl Sources {
         node.wrapping_mul(self.letters).wrapping_add(letter)
     }
 
-    /// From where an edge of the letter leads to the node, where one alone does.
-    pub fn only(&self, node: usize, letter: usize) -> Option<usize> {
-        self.of(node, letter).only()
-    }
-
     /// From where edges of the letter lead to the node.
     pub fn of(&self, node: usize, letter: usize) -> NodeSet {
         let place = self.place(node, letter);
         if place < self.sets.len() {
             self.sets[place]
         } else {
-            NodeSet { bits: 0 }
+            NodeSet::empty()
         }
     }
 
