@@ -1,20 +1,23 @@
 -- Reading at a node by the letters that lead on.
-use Rattle.std.proofs.Common.{◌≡◌, ℕ, ◌+◌, ◌-◌, ◌<◌, ◌≤◌, List, [], ◌∷◌, refl, sym, ◌∙◌, ap, subst, arith, ◌⊎◌, inl, inr, Option, Some, None, option_and_then, length, get_or, take}
+use Rattle.std.proofs.Common.{◌≡◌, ℕ, zero, suc, ◌+◌, ◌-◌, ◌<◌, ◌≤◌, List, [], ◌∷◌, ◌++◌, refl, sym, ◌∙◌, ap, subst, arith, ◌⊎◌, inl, inr, Option, Some, None, option_and_then, length, get_or, take}
 use Rattle.std.proofs.lemmas.Bool.{cases_eq, cases_lt}
-use Rattle.std.proofs.lemmas.List.{get_or_read}
+use Rattle.std.proofs.lemmas.List.{get_or_default, get_or_push, get_or_read}
+use Rattle.std.specs.Prelude.{IfSome}
 use Rattle.theory.specs.Word.{Word}
 use Rattle.theory.specs.Graph.{Graph, target, path, IsGraph, IsClosedAt}
 use Rattle.word_graph.proofs.EdgeLaws.{target_in}
 use Rattle.coincidence.specs.DueSpec.{IsDueAt}
 use Rattle.coincidence.specs.Pending.{IsAmong}
 use Rattle.coincidence.specs.Reading.{IsQuietBoth, IsDueBoth}
-use Rattle.coincidence.specs.Starts.{AreStarts, IsDueByLetter, IsDueInList, list_for, start_in, start_of}
+use Rattle.coincidence.specs.Merging.{IsReached}
+use Rattle.coincidence.specs.Seen.{HasBit, HoldWhereSeen, IsMaskOf, IsSeen}
+use Rattle.coincidence.specs.Starts.{AreMasks, AreStarts, IsDueByLetter, IsDueInList, IsDueInMask, list_for, start_in, start_of}
 use Rattle.coincidence.specs.Uses.{IsNoted, Places, list_at}
 use Rattle.coincidence.specs.declared.due.Due.{Due}
 use Rattle.coincidence.specs.declared.due.Due.TheVariants.{Nothing, Edge, Join}
 use Rattle.coincidence.proofs.DueLaws.{pair_contained, quiet_closed}
 use Rattle.coincidence.proofs.PlaceLaws.{place_of}
-use Rattle.coincidence.proofs.ReadLaws.{at_found, stopped_quiet}
+use Rattle.coincidence.proofs.ReadLaws.{at_found, met_quiet, stopped_quiet}
 
 -- the first pairs stand in their lists
 pub record AreStartsTo (pairs : List (Word × Word)) (lists : List Places) (count : ℕ) : Type 0 where
@@ -58,6 +61,63 @@ pub list_end : (g : Graph) (pairs : List (Word × Word)) (node : ℕ) (list : Pl
 list_end g pairs node list k end quiet i p d h =
     let r = place_of (i, p) (0, 0) list h in
     subst (λ (z : ℕ × ℕ). IsQuietBoth g node (get_or pairs z.0 d).0 (get_or pairs z.0 d).1) r.2 (quiet r.0 d (omega (arith, r.1, end)))
+
+-- pairs that hold ask for nothing, nor do those of the mask
+pub mask_list : (g : Graph) (pairs : List (Word × Word)) (node mask : ℕ) (list : Places) (seen : List ℕ) (due : Due) → IsReached g node → HoldWhereSeen pairs g seen
+    → ((i p : ℕ) → IsAmong (i, p) list → i < length pairs) → ((i p : ℕ) → IsAmong (i, p) list → HasBit mask i ⊎ IsSeen seen node i) → IsDueInMask g pairs node mask due → IsDueInList g pairs node list due
+mask_list g pairs node mask list seen Nothing reached hold within all quiet = λ i p d h. elim (all i p h) [
+  | inl bit ↦ quiet i d bit (within i p h)
+  | inr was ↦ (let met = hold node i d was reached in met_quiet g node met.0 (get_or pairs i d).0 (get_or pairs i d).1 met.1 met.2)
+]
+mask_list g pairs node mask list seen (Edge j a m) reached hold within all asks = asks
+mask_list g pairs node mask list seen (Join j a t m) reached hold within all asks = asks
+
+-- of the pairs of a mask those that are not left ask for nothing
+abbrev pub AreQuietBut : Graph → List (Word × Word) → ℕ → ℕ → ℕ → Type 0
+AreQuietBut g pairs node mask left = (i : ℕ) (d : Word × Word) → HasBit mask i → i < length pairs
+    → HasBit left i ⊎ IsQuietBoth g node (get_or pairs i d).0 (get_or pairs i d).1
+
+pub mask_more : (g : Graph) (pairs : List (Word × Word)) (node mask left next first : ℕ) → ((i : ℕ) → HasBit left i → (i ≡ first) ⊎ HasBit next i)
+    → (first < length pairs → (d : Word × Word) → IsQuietBoth g node (get_or pairs first d).0 (get_or pairs first d).1) → AreQuietBut g pairs node mask left → AreQuietBut g pairs node mask next
+mask_more g pairs node mask left next first others quiet before i d h less = elim (before i d h less) [
+  | inr done ↦ inr done
+  | inl still ↦ elim (others i still) [
+    | inr later ↦ inl later
+    | inl same ↦ inr (subst (λ z. IsQuietBoth g node (get_or pairs z d).0 (get_or pairs z d).1) (sym same) (quiet (subst (λ z. z < length pairs) same less) d))
+  ]
+]
+
+pub mask_end : (g : Graph) (pairs : List (Word × Word)) (node mask left : ℕ) → ((i : ℕ) → HasBit left i → ⊥) → AreQuietBut g pairs node mask left → IsDueInMask g pairs node mask Nothing
+mask_end g pairs node mask left none quiet i d h less = elim (quiet i d h less) [ inl still ↦ absurd (none i still) | inr done ↦ done ]
+
+pub mask_found : (g : Graph) (pairs : List (Word × Word)) (node mask i : ℕ) (due : Due) → (due ≡ Nothing → ⊥) → i < length pairs
+    → (i < length pairs → (d : Word × Word) → IsDueBoth g node (get_or pairs i d).0 (get_or pairs i d).1 due) → IsDueInMask g pairs node mask due
+mask_found g pairs node mask i due not less h =
+    let pair = get_or pairs i ([], []) in
+    go due not (at_found g node pairs pair due not (pair_contained pairs i pair less (get_or_default pairs i ([], []) pair less)) (h less ([], [])))
+  where
+    go : (due : Due) → (due ≡ Nothing → ⊥) → IsDueAt g node pairs due → IsDueInMask g pairs node mask due
+    go Nothing not h = absurd (not refl)
+    go (Edge j a m) not h = h
+    go (Join j a t m) not h = h
+
+-- behind the end nothing else is new
+push_other : {X : Type 0} (xs : List X) (y d : X) (i : ℕ) → (i ≡ length xs → ⊥) → get_or (xs ++ y ∷ []) i d ≡ get_or xs i d
+push_other [] y d zero off = absurd (off refl)
+push_other [] y d (suc i) off = refl
+push_other (x ∷ xs) y d zero off = refl
+push_other (x ∷ xs) y d (suc i) off = push_other xs y d i (λ e. off (ap (λ z. suc z) e))
+
+-- a mask more
+pub masks_more : (lists : List Places) (masks new : List (Option ℕ)) (list : Places) (number : ℕ) (mask : Option ℕ) → length masks ≡ number → list ≡ list_at lists number
+    → IfSome mask (λ m. IsMaskOf m list) → new ≡ masks ++ mask ∷ [] → AreMasks lists masks → AreMasks lists new
+masks_more lists masks new list number mask count at is more all a m read = go (cases_eq a number) (ap (λ (z : List (Option ℕ)). get_or z a None) (sym more) ∙ read)
+  where
+    go : (a ≡ number) ⊎ (a ≡ number → ⊥) → get_or (masks ++ mask ∷ []) a None ≡ Some m → IsMaskOf m (list_at lists a)
+    go (inl same) e =
+        let here : mask ≡ Some m = sym (get_or_push masks mask None a (count ∙ sym same)) ∙ e in
+        subst (λ z. IsMaskOf m (list_at lists z)) (sym same) (subst (IsMaskOf m) at (subst (λ (z : Option ℕ). IfSome z (λ n. IsMaskOf n list)) here is))
+    go (inr off) e = all a m (sym (push_other masks mask None a (λ z. off (z ∙ count))) ∙ e)
 
 pub list_found : (g : Graph) (pairs : List (Word × Word)) (node i : ℕ) (list : Places) (pair : Word × Word) (due : Due) → (due ≡ Nothing → ⊥) → i < length pairs → pair ≡ get_or pairs i pair
     → IsDueBoth g node pair.0 pair.1 due → IsDueInList g pairs node list due

@@ -5,10 +5,20 @@ use Rattle.theory.specs.Word.{Word}
 use Rattle.theory.specs.Graph.{Graph}
 use Rattle.coincidence.specs.Holding.{MeetAt}
 use Rattle.coincidence.specs.Merging.{IsReached}
+use Rattle.coincidence.specs.Pending.{IsAmong}
+use Rattle.coincidence.specs.Uses.{Places}
+
+-- the relation is one of the first, and its bit is set
+abbrev pub HasBit : ℕ → ℕ → Type 0
+HasBit mask i = (i < 64) × (bit_at mask i ≡ 1)
+
+-- so for each relation of the list
+abbrev pub IsMaskOf : ℕ → Places → Type 0
+IsMaskOf mask list = (i p : ℕ) → IsAmong (i, p) list → HasBit mask i
 
 -- of the first relations, each was seen to hold at the node whose bit of the node's number is set
 abbrev pub IsSeen : List ℕ → ℕ → ℕ → Type 0
-IsSeen seen node i = (i < 64) × (bit_at (slice_index_or seen node 0) i ≡ 1)
+IsSeen seen node i = HasBit (slice_index_or seen node 0) i
 
 -- at nodes that are reached the pairs hold where they were seen to
 abbrev pub HoldWhereSeen : List (Word × Word) → Graph → List ℕ → Type 0

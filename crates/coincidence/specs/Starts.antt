@@ -5,6 +5,7 @@ use Rattle.theory.specs.Graph.{Graph, target}
 use Rattle.coincidence.specs.DueSpec.{IsDueAt}
 use Rattle.coincidence.specs.Pending.{IsAmong}
 use Rattle.coincidence.specs.Reading.{IsQuietBoth}
+use Rattle.coincidence.specs.Seen.{HasBit, IsMaskOf}
 use Rattle.coincidence.specs.Uses.{Places, list_at}
 use Rattle.coincidence.specs.declared.due.Due.{Due}
 use Rattle.coincidence.specs.declared.due.Due.TheVariants.{Nothing, Edge, Join}
@@ -31,12 +32,25 @@ pub record AreStarts (pairs : List (Word × Word)) (lists : List Places) : Type 
   pub all : (i : ℕ) (d : Word × Word) → i < length pairs
       → IsAmong (i, 0) (list_at lists (start_of (slice_index_or pairs i d)))
 
+-- beside each list stand the bits of its pairs, if each has one
+abbrev pub AreMasks : List Places → List (Option ℕ) → Type 0
+AreMasks lists masks = (a mask : ℕ) → slice_index_or masks a None ≡ Some mask
+    → IsMaskOf mask (list_at lists a)
+
 -- what the pairs of a list ask for at the node
 abbrev pub IsDueInList : Graph → List (Word × Word) → ℕ → Places → Due → Type 0
 IsDueInList g pairs node list Nothing = (i p : ℕ) (d : Word × Word) → IsAmong (i, p) list
     → IsQuietBoth g node (slice_index_or pairs i d).0 (slice_index_or pairs i d).1
 IsDueInList g pairs node list (Edge j a m) = IsDueAt g node pairs (Edge j a m)
 IsDueInList g pairs node list (Join j a t m) = IsDueAt g node pairs (Join j a t m)
+
+-- what the pairs of a mask ask for there
+abbrev pub IsDueInMask : Graph → List (Word × Word) → ℕ → ℕ → Due → Type 0
+IsDueInMask g pairs node mask Nothing = (i : ℕ) (d : Word × Word) → HasBit mask i
+    → i < length pairs
+    → IsQuietBoth g node (slice_index_or pairs i d).0 (slice_index_or pairs i d).1
+IsDueInMask g pairs node mask (Edge j a m) = IsDueAt g node pairs (Edge j a m)
+IsDueInMask g pairs node mask (Join j a t m) = IsDueAt g node pairs (Join j a t m)
 
 -- so for the list of a letter, by which an edge leads from the node or none does
 abbrev pub IsDueByLetter : Graph → List (Word × Word) → ℕ → List Places → ℕ → Due → Type 0

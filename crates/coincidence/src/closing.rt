@@ -13,11 +13,12 @@ ghost use Rattle.coincidence.specs.Seen.{HoldWhereSeen};
 ghost use Rattle.coincidence.specs.declared.due.Due.TheVariants.{Nothing};
 
 use crate::cosets::Cosets;
+use crate::crossings::due_through;
 use crate::due::Due;
 use crate::edges::Edges;
 use crate::indexed::Indexed;
 use crate::pending::{Pending, Worklist};
-use crate::reads::{due_at, due_at_start, due_from, due_or_held, due_through};
+use crate::reads::{due_at, due_at_start, due_from, due_or_held};
 use crate::seen::Seen;
 use ports::NoMemory;
 

@@ -10,6 +10,7 @@ mod absorb;
 mod closing;
 mod copies;
 mod cosets;
+mod crossings;
 mod due;
 mod edges;
 mod indexed;

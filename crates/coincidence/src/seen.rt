@@ -1,6 +1,6 @@
 // Which relations were seen to hold at which nodes.
-ghost use Rattle.std.specs.Prelude.{◌≡◌, ◌<◌, ◌⊎◌, ℕ, [], true, length, slice_index_or, OnOk};
-ghost use Rattle.coincidence.specs.Seen.{IsSeen};
+ghost use Rattle.std.specs.Prelude.{◌≡◌, ◌<◌, ◌⊎◌, ℕ, [], true, length, slice_index_or, OnOk, IfNone, IfSome};
+ghost use Rattle.coincidence.specs.Seen.{HasBit, IsMaskOf, IsSeen};
 
 use ports::NoMemory;
 use std::alloc::Global;
@@ -22,6 +22,36 @@ impl Model for Seen {
     ghost Value = { List ℕ };
 
     ghost view = { λ s. s.relations.items };
+}
+
+/// The bits of the relations of a list, if each of them is one of which it is kept.
+pub fn mask_of(list: &[(usize, usize)]) -> Option<u64>
+    ensures { IfSome result (λ mask. IsMaskOf mask list.now) }
+{
+    let mut mask = 0;
+    for k in 0..list.len() {
+        if RELATIONS_KEPT <= list[k].0 {
+            return None;
+        }
+        mask |= 1 << list[k].0;
+    }
+    Some(mask)
+}
+
+/// Takes the first relation out of a mask.
+pub fn take_first(mask: &mut u64) -> Option<usize>
+    ensures none { IfNone result ((i : ℕ) → HasBit mask.old i → ⊥) }
+    ensures others { IfSome result (λ first. (i : ℕ) → HasBit mask.old i
+        → (i ≡ first) ⊎ HasBit mask.new i) }
+    ensures less { IfSome result (λ _. mask.new < mask.old) }
+{
+    let bits = *mask;
+    if bits == 0 {
+        return None;
+    }
+    let first = bits.trailing_zeros();
+    *mask = bits & !(1 << first);
+    Some(first as usize)
 }
 
 // There is a number for the node. Only want of memory refuses it.
@@ -57,6 +87,16 @@ impl Seen {
             return false;
         }
         (self.relations[node] >> relation) & 1 == 1
+    }
+
+    /// The relations of the mask that were not seen to hold at the node.
+    pub fn unseen(&self, node: usize, mask: u64) -> u64
+        ensures { (i : ℕ) → HasBit mask i → HasBit result i ⊎ IsSeen self.now node i }
+    {
+        if self.relations.len() <= node {
+            return mask;
+        }
+        mask & !self.relations[node]
     }
 
     /// The relation was seen to hold at the node. It is not kept where memory is wanting, nor of
