@@ -1,19 +1,24 @@
 -- Reading at places of sides.
-use Rattle.std.proofs.Common.{◌≡◌, ℕ, zero, suc, ◌+◌, ◌<◌, ◌≤◌, List, [], ◌∷◌, refl, sym, ◌∙◌, ap, subst, arith, ◌⊎◌, inl, inr, Option, Some, None, Bool, true, false, length, get_or, slice_get, take, nat_lt, cond, option_and_then}
-use Rattle.std.proofs.lemmas.Bool.{cases_eq, cases_lt}
+use Rattle.std.proofs.Common.{◌≡◌, ℕ, zero, suc, ◌+◌, ◌-◌, ◌<◌, List, [], ◌∷◌, refl, sym, ◌∙◌, ap, subst, arith, ◌⊎◌, inl, inr, Option, Some, None, Bool, true, false, length, get_or, slice_get, take, nat_eq, nat_lt, cond, option_and_then}
+use Rattle.std.proofs.lemmas.Bool.{cases_eq}
 use Rattle.std.proofs.lemmas.List.{get_or_read}
 use Rattle.std.proofs.lemmas.Option.{slice_get_within, get_or_from_slice_get, slice_get-get_or}
 use Rattle.std.proofs.Math.Seq.{take-append_seam}
+use Rattle.std.specs.Option.{is_some}
 use Rattle.theory.specs.Word.{Word}
-use Rattle.theory.specs.Graph.{Graph, target, path, IsGraph}
-use Rattle.word_graph.proofs.EdgeLaws.{target_in}
+use Rattle.theory.specs.Graph.{Graph, target, path}
 use Rattle.coincidence.specs.Pending.{IsAmong}
 use Rattle.coincidence.specs.Reading.{IsQuietBoth, IsDueAlong, IsDueBehind, IsDueThrough}
-use Rattle.coincidence.specs.Uses.{side_of, other_of, Places, list_at, list_of, of_ends, of_powers, before, told, ArePlaces, AreUses, IsDueAtPlace, IsDueAtPlaces, IsDueInPowers, IsDueBefore, IsDueBeforeAny, IsDueInSides}
+use Rattle.coincidence.specs.Uses.{side_of, other_of, Places, kind_of, kind_of_end, told, groups_at, StandsIn, Stands, ArePlaces, AreUses, IsDueAtPlace, IsDueAtPlaces, IsDueInPowers, IsDueOfKind, IsShut, IsDueInGroup, IsDueInSides}
+use Rattle.coincidence.specs.Links.{Links, IsLinked}
+use Rattle.coincidence.specs.declared.groups.Group.{Group}
+use Rattle.coincidence.specs.declared.groups.Kind.{Kind}
+use Rattle.coincidence.specs.declared.groups.Kind.TheVariants.{Power, Front, Before, Behind}
+use Rattle.theory.proofs.GraphLaws.{path_front, path_letter}
 use Rattle.coincidence.specs.declared.due.Due.{Due}
 use Rattle.coincidence.specs.declared.due.Due.TheVariants.{Nothing, Edge, Join}
 use Rattle.coincidence.proofs.DueLaws.{pair_contained}
-use Rattle.coincidence.proofs.ReadLaws.{along_found, cut_quiet, get_at, through_end, through_found}
+use Rattle.coincidence.proofs.ReadLaws.{IsListing, along_found, cut_quiet, front_last, get_at, listing_end, listing_start, through_end, through_found}
 
 -- where one of a list stands
 pub place_of : {X : Type 0} (x d : X) (xs : List X) → IsAmong x xs → (k : ℕ) × (k < length xs) × (get_or xs k d ≡ x)
@@ -116,102 +121,153 @@ stuck_first g node a b e = ap (λ z. option_and_then (λ next. path g next (b �
 pub stuck_second : (g : Graph) (node next a b : ℕ) → target g node a ≡ Some next → target g next b ≡ None → path g node (a ∷ b ∷ []) ≡ None
 stuck_second g node next a b e none = ap (λ z. option_and_then (λ next. path g next (b ∷ [])) z) e ∙ ap (λ z. option_and_then (λ next. path g next []) z) none
 
-pub before_of : (second : Bool) (g : Graph) (pairs : List (Word × Word)) (node letter : ℕ) (lists : List Places) (b : ℕ) (due : Due) → IsDueAtPlaces second g pairs node letter (list_at lists (before letter b)) due → IsDueBefore second g pairs node letter lists b due
-before_of second g pairs node letter lists b Nothing h = inr h
-before_of second g pairs node letter lists b (Edge j a m) h = h
-before_of second g pairs node letter lists b (Join j a t m) h = h
+less_of : (a b : ℕ) → nat_lt a b ≡ true → a < b
+less_of a b e = grind (arith, e)
 
--- nothing is asked for before the first letters
-abbrev pub AreQuietBefore : Bool → Graph → List (Word × Word) → ℕ → ℕ → List Places → ℕ → Type 0
-AreQuietBefore second g pairs node letter lists count = (b : ℕ) → b < count → IsDueBefore second g pairs node letter lists b Nothing
+pub none_of : (o : Option ℕ) → is_some o ≡ false → o ≡ None
+none_of None e = refl
+none_of (Some x) e = cc
 
-pub quiet_before_more : (second : Bool) (g : Graph) (pairs : List (Word × Word)) (node letter : ℕ) (lists : List Places) (count b : ℕ) → b ≡ count → IsDueBefore second g pairs node letter lists b Nothing
-    → AreQuietBefore second g pairs node letter lists count → AreQuietBefore second g pairs node letter lists (count + 1)
-quiet_before_more second g pairs node letter lists count b is one quiet = λ y less. elim (cases_eq y count) [
-  | inr off ↦ quiet y (omega (arith, less, off))
-  | inl same ↦ subst (λ z. IsDueBefore second g pairs node letter lists z Nothing) (is ∙ sym same) one
-]
+-- none leads to the node, where the list of its sources is empty
+pub no_source : (k : ℕ) (t : Links) (node letter : ℕ) → IsLinked k t → target t.firsts node letter ≡ None → (n : ℕ) → target t.graph n letter ≡ Some node → ⊥
+no_source k t node letter is none n e = listing_end t node letter (λ _. ⊥) (subst (IsListing t node letter (λ _. ⊥)) none (listing_start k t node letter (λ _. ⊥) is)) n e
 
--- nor before others, which have no edges
-pub quiet_before_end : (second : Bool) (g : Graph) (pairs : List (Word × Word)) (node letter : ℕ) (lists : List Places) (k count : ℕ) → IsGraph k g → count ≡ k
-    → AreQuietBefore second g pairs node letter lists count → IsDueBeforeAny second g pairs node letter lists Nothing
-quiet_before_end second g pairs node letter lists k count is end quiet b = go (cases_lt b count)
-  where
-    none : count ≤ b → (x : ℕ) → target g x b ≡ None
-    none more x = at (target g x b) refl
-      where
-        at : (o : Option ℕ) → target g x b ≡ o → target g x b ≡ None
-        at None e = e
-        at (Some m) e = absurd (let in_k = (target_in k g is x b m e).1 in omega (arith, in_k, more, end))
+-- one of the groups of a letter
+pub group_places : (second : Bool) (pairs : List (Word × Word)) (groups : List Group) (k : ℕ) (d : Group) → k < length groups
+    → ((i p : ℕ) (kind : Kind) (d : Word × Word) → StandsIn groups kind (i, p) → (i < length pairs) × (p < length (side_of second (get_or pairs i d)))) → ArePlaces second pairs (get_or groups k d).places.items
+group_places second pairs [] k d less all = absurd (omega (arith, less))
+group_places second pairs (g ∷ groups) zero d less all = λ i p e h. all i p g.kind e (inl (refl, h))
+group_places second pairs (g ∷ groups) (suc k) d less all = group_places second pairs groups k d (omega (arith, less)) (λ i p kind e h. all i p kind e (inr h))
 
-    stuck : count ≤ b → (o : Option ℕ) → target g node letter ≡ o → path g node (letter ∷ b ∷ []) ≡ None
-    stuck more None e = stuck_first g node letter b e
-    stuck more (Some next) e = stuck_second g node next letter b e (none more next)
+module _ (second : Bool) (g : Graph) (pairs : List (Word × Word)) (node letter : ℕ) where
+  -- what is asked for in a group
+  pub group_due : (group : Group) (due : Due) → IsDueOfKind second g pairs node letter group.kind group.places.items due → IsDueInGroup second g pairs node letter group due
+  group_due group Nothing h = inr h
+  group_due group (Edge j a m) h = asks group.kind h
+    where
+      asks : (kind : Kind) → IsDueOfKind second g pairs node letter kind group.places.items (Edge j a m) → IsDueThrough g pairs node letter (Edge j a m)
+      asks Power h = h
+      asks Front h = h
+      asks (Before b) h = h
+      asks (Behind b) h = h
+  group_due group (Join j a t m) h = asks group.kind h
+    where
+      asks : (kind : Kind) → IsDueOfKind second g pairs node letter kind group.places.items (Join j a t m) → IsDueThrough g pairs node letter (Join j a t m)
+      asks Power h = h
+      asks Front h = h
+      asks (Before b) h = h
+      asks (Behind b) h = h
 
-    go : (b < count) ⊎ (count ≤ b) → IsDueBefore second g pairs node letter lists b Nothing
-    go (inl less) = quiet b less
-    go (inr more) = inl (stuck more (target g node letter) refl)
+  pub group_found : (group : Group) (due : Due) → (due ≡ Nothing → ⊥) → IsDueInGroup second g pairs node letter group due → IsDueInSides second g pairs node letter due
+  group_found group Nothing not h = absurd (not refl)
+  group_found group (Edge j a m) not h = h
+  group_found group (Join j a t m) not h = h
 
--- nothing is asked for in sides, where it is at none of the places in the lists
-pub sides_quiet : (second : Bool) (g : Graph) (pairs : List (Word × Word)) (node letter : ℕ) (lists : List Places) → AreUses second pairs lists
-    → IsDueAtPlaces second g pairs node letter (list_at lists (of_ends letter)) Nothing → IsDueInPowers second g pairs node letter (list_at lists (of_powers letter)) Nothing
-    → IsDueBeforeAny second g pairs node letter lists Nothing → IsDueInSides second g pairs node letter Nothing
-sides_quiet second g pairs node letter lists uses ends powers befores i d less n crosses = listed (uses.all i d less).power (uses.all i d less).all
-  where
-    side : Word
-    side = side_of second (get_or pairs i d)
+  -- nothing is asked for at a place of the kind
+  abbrev IsQuietOfKind : Kind → ℕ → ℕ → Type 0
+  IsQuietOfKind Power i p = (d : Word × Word) → IsDueAlong g node letter (side_of second (get_or pairs i d)) (side_of second (get_or pairs i d)) (other_of second (get_or pairs i d)) Nothing
+  IsQuietOfKind Front i p = (d : Word × Word) → IsDueAtPlace second g node (get_or pairs i d) p Nothing
+  IsQuietOfKind (Before b) i p = (d : Word × Word) → IsDueAtPlace second g node (get_or pairs i d) p Nothing
+  IsQuietOfKind (Behind b) i p = (d : Word × Word) → IsDueAtPlace second g node (get_or pairs i d) p Nothing
 
-    other : Word
-    other = other_of second (get_or pairs i d)
+  kind_quiet : (kind : Kind) (places : Places) (i p : ℕ) → IsDueOfKind second g pairs node letter kind places Nothing → IsAmong (i, p) places → IsQuietOfKind kind i p
+  kind_quiet Power places i p quiet h = λ d. quiet i p d h
+  kind_quiet Front places i p quiet h = λ d. quiet i p d h
+  kind_quiet (Before b) places i p quiet h = λ d. quiet i p d h
+  kind_quiet (Behind b) places i p quiet h = λ d. quiet i p d h
 
-    p : ℕ
-    p = length crosses.front
+  -- nothing is asked for in the first groups
+  abbrev pub AreQuietGroups : List Group → ℕ → Type 0
+  AreQuietGroups groups count = (k : ℕ) (d : Group) → k < count → IsDueInGroup second g pairs node letter (get_or groups k d) Nothing
 
-    at : slice_get side p ≡ Some letter
-    at = ap (λ z. slice_get z p) crosses.word ∙ get_at crosses.front letter crosses.back
+  pub groups_more : (groups : List Group) (k : ℕ) (group : Group) → k < length groups → group ≡ get_or groups k group → IsDueInGroup second g pairs node letter group Nothing → AreQuietGroups groups k → AreQuietGroups groups (k + 1)
+  groups_more groups k group less at one quiet i d l = elim (cases_eq i k) [
+    | inr off ↦ quiet i d (omega (arith, l, off))
+    | inl same ↦ subst (λ z. IsDueInGroup second g pairs node letter (get_or groups z d) Nothing) (sym same)
+        (subst (λ (z : Group). IsDueInGroup second g pairs node letter z Nothing) (get_or_read groups k group less at d) one)
+  ]
 
-    within : p < length side
-    within = slice_get_within side p letter at
+  stands_quiet : (groups : List Group) (kind : Kind) (i p : ℕ) → ((k : ℕ) (d : Group) → k < length groups → IsDueInGroup second g pairs node letter (get_or groups k d) Nothing) → StandsIn groups kind (i, p)
+      → IsShut g node letter kind ⊎ IsQuietOfKind kind i p
+  stands_quiet [] kind i p all h = absurd h
+  stands_quiet (group ∷ groups) kind i p all (inl h) = elim (all 0 group (omega arith)) [
+    | inl shut ↦ inl (subst (IsShut g node letter) h.0 shut)
+    | inr quiet ↦ inr (subst (λ z. IsQuietOfKind z i p) h.0 (kind_quiet group.kind group.places.items i p quiet h.1))
+  ]
+  stands_quiet (group ∷ groups) kind i p all (inr h) = stands_quiet groups kind i p (λ k d less. all (suc k) d (omega (arith, less))) h
 
-    is : get_or side p 0 ≡ letter
-    is = get_or_from_slice_get side p letter 0 at
+  -- nothing is asked for in sides, where it is in no group
+  pub sides_quiet : (letters : List (List Group)) (k : ℕ) → AreUses second pairs letters → k ≡ length (groups_at letters letter) → AreQuietGroups (groups_at letters letter) k → IsDueInSides second g pairs node letter Nothing
+  sides_quiet letters k uses end groups i d less n crosses = listed (uses.all i d less).power (uses.all i d less).all
+    where
+      side : Word
+      side = side_of second (get_or pairs i d)
 
-    leads : path g n (take p side) ≡ Some node
-    leads = ap (path g n) (ap (take p) crosses.word ∙ take-append_seam crosses.front (letter ∷ crosses.back)) ∙ crosses.leads
+      other : Word
+      other = other_of second (get_or pairs i d)
 
-    Quiet : Type 0
-    Quiet = IsQuietBoth g n side other
+      p : ℕ
+      p = length crosses.front
 
-    short : IsAmong (i, p) (list_at lists (of_ends (get_or side p 0))) → Quiet
-    short m = ends i p d (subst (λ z. IsAmong (i, p) (list_at lists (of_ends z))) is m) n leads
+      at : slice_get side p ≡ Some letter
+      at = ap (λ z. slice_get z p) crosses.word ∙ get_at crosses.front letter crosses.back
 
-    long : p + 2 < length side → IsAmong (i, p) (list_at lists (before (get_or side p 0) (get_or side (p + 1) 0))) → Quiet
-    long more m = elim (befores (get_or side (p + 1) 0)) [
-      | inl stops ↦ cut_quiet g node n side other p (record {
-        letter = letter;
-        next = get_or side (p + 1) 0;
-        here = at;
-        behind = slice_get-get_or side (p + 1) 0 (omega (arith, more));
-        more = more;
-        stops = stops;
-      }) leads
-      | inr quiet ↦ quiet i p d (subst (λ z. IsAmong (i, p) (list_at lists (before z (get_or side (p + 1) 0)))) is m) n leads
-    ]
+      within : p < length side
+      within = slice_get_within side p letter at
 
-    by_length : (b : Bool) → nat_lt (p + 2) (length side) ≡ b → IsAmong (i, p) (list_at lists (cond b (before (get_or side p 0) (get_or side (p + 1) 0)) (of_ends (get_or side p 0)))) → Quiet
-    by_length true e m = long (let more : p + 2 < length side = grind (arith, e) in more) m
-    by_length false e m = short m
+      is : get_or side p 0 ≡ letter
+      is = get_or_from_slice_get side p letter 0 at
 
-    listed : (power : Bool) → ((q : ℕ) → q < length side → IsAmong (i, told power q) (list_at lists (list_of power side q))) → Quiet
-    listed true all = powers i 0 d (subst (λ z. IsAmong (i, 0) (list_at lists (of_powers z))) is (all p within)) n crosses
-    listed false all = by_length (nat_lt (p + 2) (length side)) refl (all p within)
+      leads : path g n (take p side) ≡ Some node
+      leads = ap (path g n) (ap (take p) crosses.word ∙ take-append_seam crosses.front (letter ∷ crosses.back)) ∙ crosses.leads
 
-pub sides_due : (second : Bool) (g : Graph) (pairs : List (Word × Word)) (node letter : ℕ) (lists : List Places) (due : Due) → AreUses second pairs lists
-    → IsDueAtPlaces second g pairs node letter (list_at lists (of_ends letter)) Nothing → IsDueInPowers second g pairs node letter (list_at lists (of_powers letter)) Nothing
-    → IsDueBeforeAny second g pairs node letter lists due → IsDueInSides second g pairs node letter due
-sides_due second g pairs node letter lists Nothing uses ends powers h = sides_quiet second g pairs node letter lists uses ends powers h
-sides_due second g pairs node letter lists (Edge j a m) uses ends powers h = h
-sides_due second g pairs node letter lists (Join j a t m) uses ends powers h = h
+      Quiet : Type 0
+      Quiet = IsQuietBoth g n side other
+
+      here : (kind : Kind) (q : ℕ) → Stands letters (get_or side p 0) kind (i, q) → IsShut g node letter kind ⊎ IsQuietOfKind kind i q
+      here kind q h = stands_quiet (groups_at letters letter) kind i q (λ m e l. groups m e (omega (arith, l, end))) (subst (λ z. Stands letters z kind (i, q)) is h)
+
+      first : Stands letters (get_or side p 0) Front (i, p) → Quiet
+      first h = elim (here Front p h) [ inl shut ↦ absurd shut | inr quiet ↦ quiet d n leads ]
+
+      -- the letter before leads to the node
+      led : (p ≡ 0 → ⊥) → ((m : ℕ) → target g m (get_or side (p - 1) 0) ≡ Some node → ⊥) → Quiet
+      led some none =
+          let less : p - 1 < length side = omega (arith, within) in
+          let last = front_last side p (get_or side (p - 1) 0) some (omega (arith, within)) (slice_get-get_or side (p - 1) 0 less) in
+          let parts = path_front g n node (take (p - 1) side) (get_or side (p - 1) 0 ∷ []) (ap (path g n) (sym last) ∙ leads) in
+          absurd (none parts.0 (sym (path_letter g parts.0 (get_or side (p - 1) 0)) ∙ parts.2))
+
+      later : (p ≡ 0 → ⊥) → Stands letters (get_or side p 0) (Behind (get_or side (p - 1) 0)) (i, p) → Quiet
+      later some h = elim (here (Behind (get_or side (p - 1) 0)) p h) [ inl shut ↦ led some shut | inr quiet ↦ quiet d n leads ]
+
+      by_place : (b : Bool) → nat_eq p 0 ≡ b → Stands letters (get_or side p 0) (cond b Front (Behind (get_or side (p - 1) 0))) (i, p) → Quiet
+      by_place true e h = first h
+      by_place false e h = later (λ z. let no : true ≡ false = ap (λ k. nat_eq k 0) (sym z) ∙ e in cc) h
+
+      long : p + 2 < length side → Stands letters (get_or side p 0) (Before (get_or side (p + 1) 0)) (i, p) → Quiet
+      long more h = elim (here (Before (get_or side (p + 1) 0)) p h) [
+        | inl stops ↦ cut_quiet g node n side other p (record {
+          letter = letter;
+          next = get_or side (p + 1) 0;
+          here = at;
+          behind = slice_get-get_or side (p + 1) 0 (omega (arith, more));
+          more = more;
+          stops = stops;
+        }) leads
+        | inr quiet ↦ quiet d n leads
+      ]
+
+      by_length : (b : Bool) → nat_lt (p + 2) (length side) ≡ b → Stands letters (get_or side p 0) (cond b (Before (get_or side (p + 1) 0)) (kind_of_end side p)) (i, p) → Quiet
+      by_length true e h = long (less_of (p + 2) (length side) e) h
+      by_length false e h = by_place (nat_eq p 0) refl h
+
+      power : Stands letters (get_or side p 0) Power (i, 0) → Quiet
+      power h = elim (here Power 0 h) [ inl shut ↦ absurd shut | inr quiet ↦ quiet d n crosses ]
+
+      listed : (power : Bool) → ((q : ℕ) → q < length side → Stands letters (get_or side q 0) (kind_of power side q) (i, told power q)) → Quiet
+      listed true all = power (all p within)
+      listed false all = by_length (nat_lt (p + 2) (length side)) refl (all p within)
 
 -- nothing is asked for in first sides, and what is asked for in second ones
 pub both_sides : (g : Graph) (pairs : List (Word × Word)) (node letter : ℕ) (due : Due) → IsDueInSides false g pairs node letter Nothing → IsDueInSides true g pairs node letter due → IsDueThrough g pairs node letter due

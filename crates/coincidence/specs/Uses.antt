@@ -1,12 +1,15 @@
--- The places of sides at which a letter stands, in lists by what follows.
-use Rattle.std.specs.Prelude.{◌≡◌, ℕ, ◌+◌, ◌*◌, ◌%◌, ◌<◌, ◌⊎◌, nat_lt, cond, List, [], ◌∷◌, Bool, true, false, length, slice_index_or, take, None}
+-- The places of sides at which a letter stands, in groups by what stands beside.
+use Rattle.std.specs.Prelude.{◌≡◌, ℕ, ◌+◌, ◌-◌, ◌<◌, ◌⊎◌, nat_eq, nat_lt, cond, List, [], ◌∷◌, Bool, true, false, length, slice_index_or, take, Some, None}
 use Rattle.theory.specs.Word.{Word}
-use Rattle.theory.specs.Graph.{Graph, path}
+use Rattle.theory.specs.Graph.{Graph, path, target}
 use Rattle.coincidence.specs.Pending.{IsAmong}
 use Rattle.coincidence.specs.Reading.{IsDueAlong, IsDueBehind, IsDueThrough}
 use Rattle.coincidence.specs.Rings.{IsPeriod}
 use Rattle.coincidence.specs.declared.due.Due.{Due}
 use Rattle.coincidence.specs.declared.due.Due.TheVariants.{Nothing, Edge, Join}
+use Rattle.coincidence.specs.declared.groups.Group.{Group}
+use Rattle.coincidence.specs.declared.groups.Kind.{Kind}
+use Rattle.coincidence.specs.declared.groups.Kind.TheVariants.{Power, Front, Before, Behind}
 
 -- the first side of a pair, or the second
 abbrev pub side_of : Bool → Word × Word → Word
@@ -18,26 +21,15 @@ abbrev pub other_of : Bool → Word × Word → Word
 other_of false pair = pair.1
 other_of true pair = pair.0
 
--- the number of the first list of a letter; letters are bytes
-abbrev pub first_list : ℕ → ℕ
-first_list x = x % 256 * 258
+-- the kind of a place with at most one letter behind
+abbrev pub kind_of_end : Word → ℕ → Kind
+kind_of_end u p = cond (nat_eq p 0) Front (Behind (slice_index_or u (p - 1) 0))
 
--- a letter has a list of the powers in which it stands, one of its places with at most one letter
--- behind, and one of its places before each letter
-abbrev pub of_powers : ℕ → ℕ
-of_powers x = first_list x
-
-abbrev pub of_ends : ℕ → ℕ
-of_ends x = first_list x + 1
-
-abbrev pub before : ℕ → ℕ → ℕ
-before x y = first_list x + 2 + y % 256
-
--- the list for a place of a power, or of another side
-abbrev pub list_of : Bool → Word → ℕ → ℕ
-list_of true u p = of_powers (slice_index_or u p 0)
-list_of false u p = cond (nat_lt (p + 2) (length u))
-    (before (slice_index_or u p 0) (slice_index_or u (p + 1) 0)) (of_ends (slice_index_or u p 0))
+-- the kind of a place of a power, or of another side
+abbrev pub kind_of : Bool → Word → ℕ → Kind
+kind_of true u p = Power
+kind_of false u p = cond (nat_lt (p + 2) (length u)) (Before (slice_index_or u (p + 1) 0))
+    (kind_of_end u p)
 
 -- the place that the list tells: none of a power
 abbrev pub told : Bool → ℕ → ℕ
@@ -51,23 +43,38 @@ Places = List (ℕ × ℕ)
 abbrev pub list_at : List Places → ℕ → Places
 list_at lists a = slice_index_or lists a []
 
--- each place of the side of the pair i stands in its list
-pub record IsListed (lists : List Places) (u : Word) (i : ℕ) : Type 0 where
+-- the entry stands among those of the kind
+abbrev pub StandsIn : List Group → Kind → ℕ × ℕ → Type 0
+StandsIn [] kind entry = ⊥
+StandsIn (g ∷ groups) kind entry = ((g.kind ≡ kind) × IsAmong entry g.places.items)
+    ⊎ StandsIn groups kind entry
+
+-- the groups of a letter
+abbrev pub groups_at : List (List Group) → ℕ → List Group
+groups_at letters x = slice_index_or letters x []
+
+-- there it stands among those of the kind
+abbrev pub Stands : List (List Group) → ℕ → Kind → ℕ × ℕ → Type 0
+Stands letters x kind entry = StandsIn (groups_at letters x) kind entry
+
+-- each place of the side of the pair i stands at its letter
+pub record IsListed (letters : List (List Group)) (u : Word) (i : ℕ) : Type 0 where
   pub power : Bool
   pub all : (p : ℕ) → p < length u
-      → IsAmong (i, told power p) (list_at lists (list_of power u p))
+      → Stands letters (slice_index_or u p 0) (kind_of power u p) (i, told power p)
 
 -- these are places of first sides of the pairs, or of second sides
 abbrev pub ArePlaces : Bool → List (Word × Word) → Places → Type 0
 ArePlaces second pairs places = (i p : ℕ) (d : Word × Word) → IsAmong (i, p) places
     → (i < length pairs) × (p < length (side_of second (slice_index_or pairs i d)))
 
--- the lists have the places of all first sides of the pairs, or of all second sides
+-- the groups have the places of all first sides of the pairs, or of all second sides
 pub record AreUses (second : Bool) (pairs : List (Word × Word))
-    (lists : List Places) : Type 0 where
-  pub within : (a : ℕ) → ArePlaces second pairs (list_at lists a)
+    (letters : List (List Group)) : Type 0 where
+  pub within : (x i p : ℕ) (kind : Kind) (d : Word × Word) → Stands letters x kind (i, p)
+      → (i < length pairs) × (p < length (side_of second (slice_index_or pairs i d)))
   pub all : (i : ℕ) (d : Word × Word) → i < length pairs
-      → IsListed lists (side_of second (slice_index_or pairs i d)) i
+      → IsListed letters (side_of second (slice_index_or pairs i d)) i
 
 -- these are periods of the first sides of the pairs, or of the second sides
 pub record ArePeriods (second : Bool) (pairs : List (Word × Word))
@@ -83,16 +90,36 @@ pub record IsNoted (old new : List Places) (a : ℕ) (entry : ℕ × ℕ) : Type
   pub from : (b : ℕ) (e : ℕ × ℕ) → IsAmong e (list_at new b)
       → IsAmong e (list_at old b) ⊎ (e ≡ entry)
 
+-- the list has the entry, and nothing else is new
+abbrev pub IsWith : Places → Places → ℕ × ℕ → Type 0
+IsWith old new entry = IsAmong entry new × ((e : ℕ × ℕ) → IsAmong e old → IsAmong e new)
+    × ((e : ℕ × ℕ) → IsAmong e new → IsAmong e old ⊎ (e ≡ entry))
+
+-- among groups the entry stands with those of the kind, and nothing else is new
+pub record IsPut (old new : List Group) (kind : Kind) (entry : ℕ × ℕ) : Type 0 where
+  pub here : StandsIn new kind entry
+  pub still : (k : Kind) (e : ℕ × ℕ) → StandsIn old k e → StandsIn new k e
+  pub from : (k : Kind) (e : ℕ × ℕ) → StandsIn new k e → StandsIn old k e ⊎ (e ≡ entry)
+
+-- so at the letter
+pub record IsPutAt (old new : List (List Group)) (x : ℕ) (kind : Kind) (entry : ℕ × ℕ)
+    : Type 0 where
+  pub here : Stands new x kind entry
+  pub still : (y : ℕ) (k : Kind) (e : ℕ × ℕ) → Stands old y k e → Stands new y k e
+  pub from : (y : ℕ) (k : Kind) (e : ℕ × ℕ) → Stands new y k e
+      → Stands old y k e ⊎ (e ≡ entry)
+
 -- so for each place of the side u of the pair i
-pub record AreNoted (power : Bool) (old new : List Places) (u : Word) (i : ℕ) : Type 0 where
+pub record AreNoted (power : Bool) (old new : List (List Group)) (u : Word) (i : ℕ)
+    : Type 0 where
   pub all : (p : ℕ) → p < length u
-      → IsAmong (i, told power p) (list_at new (list_of power u p))
-  pub still : (b : ℕ) (e : ℕ × ℕ) → IsAmong e (list_at old b) → IsAmong e (list_at new b)
-  pub from : (b : ℕ) (e : ℕ × ℕ) → IsAmong e (list_at new b)
-      → IsAmong e (list_at old b) ⊎ ((e.0 ≡ i) × (e.1 < length u))
+      → Stands new (slice_index_or u p 0) (kind_of power u p) (i, told power p)
+  pub still : (y : ℕ) (k : Kind) (e : ℕ × ℕ) → Stands old y k e → Stands new y k e
+  pub from : (y : ℕ) (k : Kind) (e : ℕ × ℕ) → Stands new y k e
+      → Stands old y k e ⊎ ((e.0 ≡ i) × (e.1 < length u))
 
 -- as a power, or as another side
-abbrev pub IsSideNoted : List Places → List Places → Word → ℕ → Type 0
+abbrev pub IsSideNoted : List (List Group) → List (List Group) → Word → ℕ → Type 0
 IsSideNoted old new u i = (power : Bool) × AreNoted power old new u i
 
 -- what is asked for where a side is read from the node on, at one of its places
@@ -119,22 +146,32 @@ IsDueInPowers second g pairs node letter places (Edge j a m) =
 IsDueInPowers second g pairs node letter places (Join j a t m) =
     IsDueThrough g pairs node letter (Join j a t m)
 
--- what is asked for at places of the letter before another one, which leads on or not
-abbrev pub IsDueBefore : Bool → Graph → List (Word × Word) → ℕ → ℕ → List Places → ℕ → Due → Type 0
-IsDueBefore second g pairs node letter lists b Nothing = (path g node (letter ∷ b ∷ []) ≡ None)
-    ⊎ IsDueAtPlaces second g pairs node letter (list_at lists (before letter b)) Nothing
-IsDueBefore second g pairs node letter lists b (Edge j a m) =
-    IsDueThrough g pairs node letter (Edge j a m)
-IsDueBefore second g pairs node letter lists b (Join j a t m) =
-    IsDueThrough g pairs node letter (Join j a t m)
+-- what is asked for at places of the kind
+abbrev pub IsDueOfKind : Bool → Graph → List (Word × Word) → ℕ → ℕ → Kind → Places → Due → Type 0
+IsDueOfKind second g pairs node letter Power places due =
+    IsDueInPowers second g pairs node letter places due
+IsDueOfKind second g pairs node letter Front places due =
+    IsDueAtPlaces second g pairs node letter places due
+IsDueOfKind second g pairs node letter (Before b) places due =
+    IsDueAtPlaces second g pairs node letter places due
+IsDueOfKind second g pairs node letter (Behind b) places due =
+    IsDueAtPlaces second g pairs node letter places due
 
--- and before any other one
-abbrev pub IsDueBeforeAny : Bool → Graph → List (Word × Word) → ℕ → ℕ → List Places → Due → Type 0
-IsDueBeforeAny second g pairs node letter lists Nothing = (b : ℕ)
-    → IsDueBefore second g pairs node letter lists b Nothing
-IsDueBeforeAny second g pairs node letter lists (Edge j a m) =
+-- no place of the kind is crossed: the letter behind it does not lead on, or that before it does
+-- not lead to the node
+abbrev pub IsShut : Graph → ℕ → ℕ → Kind → Type 0
+IsShut g node letter Power = ⊥
+IsShut g node letter Front = ⊥
+IsShut g node letter (Before b) = path g node (letter ∷ b ∷ []) ≡ None
+IsShut g node letter (Behind b) = (n : ℕ) → target g n b ≡ Some node → ⊥
+
+-- what a group asks for
+abbrev pub IsDueInGroup : Bool → Graph → List (Word × Word) → ℕ → ℕ → Group → Due → Type 0
+IsDueInGroup second g pairs node letter group Nothing = IsShut g node letter group.kind
+    ⊎ IsDueOfKind second g pairs node letter group.kind group.places.items Nothing
+IsDueInGroup second g pairs node letter group (Edge j a m) =
     IsDueThrough g pairs node letter (Edge j a m)
-IsDueBeforeAny second g pairs node letter lists (Join j a t m) =
+IsDueInGroup second g pairs node letter group (Join j a t m) =
     IsDueThrough g pairs node letter (Join j a t m)
 
 -- what the first sides of the pairs ask for, or the second, where they cross the edge

@@ -1,16 +1,17 @@
 // What relations ask for across an edge, read along edges and back along lists of sources.
-ghost use Rattle.std.specs.Prelude.{◌≡◌, ℕ, ◌-◌, ◌<◌, ◌≤◌, false, true, Some, length, slice_get, take};
+ghost use Rattle.std.specs.Prelude.{◌≡◌, ℕ, ◌-◌, ◌<◌, ◌≤◌, [], ◌∷◌, false, true, None, Some, length, slice_get, take};
 ghost use Rattle.theory.specs.Word.{Word as Letters};
-ghost use Rattle.theory.specs.Graph.{path as path_of};
+ghost use Rattle.theory.specs.Graph.{path as path_of, target as target_of};
 ghost use Rattle.coincidence.specs.Merging.{EdgesReached, IsReached};
 ghost use Rattle.coincidence.specs.Reading.{IsCut, IsDueBoth, IsDueBehind, IsDueAlong, IsDueThrough};
 ghost use Rattle.coincidence.specs.Rings.{IsPeriod};
 ghost use Rattle.coincidence.specs.Seen.{AreSidesOf, HoldWhereSeen};
 ghost use Rattle.coincidence.specs.declared.due.Due.TheVariants.{Nothing};
-ghost use Rattle.coincidence.specs.Uses.{ArePeriods, AreUses, ArePlaces, IsDueAtPlaces, IsDueInPowers, IsDueBefore, IsDueBeforeAny, IsDueInSides};
+ghost use Rattle.coincidence.specs.Uses.{ArePeriods, AreUses, ArePlaces, IsDueAtPlaces, IsDueInPowers, IsDueInGroup, IsDueInSides, IsDueOfKind, IsShut};
 
 use crate::due::Due;
 use crate::edges::{Edge, Edges};
+use crate::groups::{Group, Kind};
 use crate::indexed::Indexed;
 use crate::periods::Periods;
 use crate::reads::{OneSide, asked_beside};
@@ -282,51 +283,76 @@ fn due_in_powers(
     Due::Nothing
 }
 
-// What pairs ask for at places of the letter before another one, if both lead on.
-fn due_before(node: usize, letter: Letter, sides: &Sides, behind: Letter, seen: &mut Seen) -> Due
-    requires uses { AreUses sides.now.second sides.now.pairs.now sides.now.uses.now }
-    requires reached { EdgesReached sides.now.edges.now.graph }
-    requires node { IsReached sides.now.edges.now.graph node }
-    requires seen { HoldWhereSeen sides.now.pairs.now sides.now.edges.now.graph seen.old }
-    ensures due { IsDueBefore sides.now.second sides.now.edges.now.graph sides.now.pairs.now node
-        letter sides.now.uses.now behind result }
-    ensures seen { HoldWhereSeen sides.now.pairs.now sides.now.edges.now.graph seen.new }
+// Whether two letters lead on from the node.
+fn leads_on(edges: &Edges, node: usize, letter: Letter, next: Letter) -> bool
+    ensures { result ≡ false → path_of edges.now.graph node (letter ∷ next ∷ []) ≡ None }
 {
-    let places = sides.uses.ahead_of(letter, behind);
-    if places.is_empty() {
-        return Due::Nothing;
-    }
-    let Some(next) = sides.edges.target(node, letter) else {
-        return Due::Nothing;
-    };
-    match sides.edges.target(next, behind) {
-        None => Due::Nothing,
-        Some(_) => due_at_places(node, letter, sides, places, seen),
+    match edges.target(node, letter) {
+        None => false,
+        Some(at) => edges.target(at, next).is_some(),
     }
 }
 
-// What pairs ask for at places of the letter before any other one.
-fn due_before_any(node: usize, letter: Letter, sides: &Sides, seen: &mut Seen) -> Due
-    requires uses { AreUses sides.now.second sides.now.pairs.now sides.now.uses.now }
+// Whether an edge of the letter leads to the node.
+fn has_source(edges: &Edges, node: usize, letter: Letter) -> bool
+    ensures { result ≡ false → (n : ℕ) → target_of edges.now.graph n letter ≡ Some node → ⊥ }
+{
+    let _letters = edges.letters();
+    edges.first_source(node, letter).is_some()
+}
+
+// Whether a place of the kind may be crossed by the edge of the letter from the node: the letter
+// behind leads on, or the letter before leads to the node.
+fn is_open(edges: &Edges, node: usize, letter: Letter, kind: Kind) -> bool
+    ensures { result ≡ false → IsShut edges.now.graph node letter kind }
+{
+    match kind {
+        Kind::Power => true,
+        Kind::Front => true,
+        Kind::Before(next) => leads_on(edges, node, letter, next),
+        Kind::Behind(last) => has_source(edges, node, last),
+    }
+}
+
+// What pairs ask for at places of one kind.
+fn due_of_kind(node: usize, letter: Letter, sides: &Sides, group: &Group, seen: &mut Seen) -> Due
+    requires periods { ArePeriods sides.now.second sides.now.pairs.now sides.now.periods.now }
+    requires places { ArePlaces sides.now.second sides.now.pairs.now group.now.places.items }
     requires reached { EdgesReached sides.now.edges.now.graph }
     requires node { IsReached sides.now.edges.now.graph node }
     requires seen { HoldWhereSeen sides.now.pairs.now sides.now.edges.now.graph seen.old }
-    ensures due { IsDueBeforeAny sides.now.second sides.now.edges.now.graph sides.now.pairs.now
-        node letter sides.now.uses.now result }
+    ensures due { IsDueOfKind sides.now.second sides.now.edges.now.graph sides.now.pairs.now node
+        letter group.now.kind group.now.places.items result }
     ensures seen { HoldWhereSeen sides.now.pairs.now sides.now.edges.now.graph seen.new }
 {
-    for number in 0..sides.edges.letters() {
-        let behind = Letter::new(number as u8);
-        match due_before(node, letter, sides, behind, seen) {
-            Due::Nothing => {}
-            due => return due,
-        }
+    let places = group.places.as_slice();
+    match group.kind {
+        Kind::Power => due_in_powers(node, letter, sides, places, seen),
+        Kind::Front => due_at_places(node, letter, sides, places, seen),
+        Kind::Before(_) => due_at_places(node, letter, sides, places, seen),
+        Kind::Behind(_) => due_at_places(node, letter, sides, places, seen),
+    }
+}
+
+// What pairs ask for at the places of a group, if they may be crossed.
+fn due_in_group(node: usize, letter: Letter, sides: &Sides, group: &Group, seen: &mut Seen) -> Due
+    requires periods { ArePeriods sides.now.second sides.now.pairs.now sides.now.periods.now }
+    requires places { ArePlaces sides.now.second sides.now.pairs.now group.now.places.items }
+    requires reached { EdgesReached sides.now.edges.now.graph }
+    requires node { IsReached sides.now.edges.now.graph node }
+    requires seen { HoldWhereSeen sides.now.pairs.now sides.now.edges.now.graph seen.old }
+    ensures due { IsDueInGroup sides.now.second sides.now.edges.now.graph sides.now.pairs.now node
+        letter group.now result }
+    ensures seen { HoldWhereSeen sides.now.pairs.now sides.now.edges.now.graph seen.new }
+{
+    if is_open(sides.edges, node, letter, group.kind) {
+        return due_of_kind(node, letter, sides, group, seen);
     }
     Due::Nothing
 }
 
 // What the first sides of pairs ask for, or the second, where they are read across the edge of the
-// letter from the node. Only places are looked at behind which the next letter leads on.
+// letter from the node.
 fn due_in_sides(node: usize, letter: Letter, sides: &Sides, seen: &mut Seen) -> Due
     requires uses { AreUses sides.now.second sides.now.pairs.now sides.now.uses.now }
     requires periods { ArePeriods sides.now.second sides.now.pairs.now sides.now.periods.now }
@@ -337,15 +363,14 @@ fn due_in_sides(node: usize, letter: Letter, sides: &Sides, seen: &mut Seen) -> 
         letter result }
     ensures seen { HoldWhereSeen sides.now.pairs.now sides.now.edges.now.graph seen.new }
 {
-    match due_at_places(node, letter, sides, sides.uses.ends(letter), seen) {
-        Due::Nothing => {}
-        due => return due,
+    let groups = sides.uses.of(letter);
+    for k in 0..groups.len() {
+        match due_in_group(node, letter, sides, &groups[k], seen) {
+            Due::Nothing => {}
+            due => return due,
+        }
     }
-    match due_in_powers(node, letter, sides, sides.uses.powers(letter), seen) {
-        Due::Nothing => {}
-        due => return due,
-    }
-    due_before_any(node, letter, sides, seen)
+    Due::Nothing
 }
 
 // What the first sides of the relations ask for, or the second, across the edge.

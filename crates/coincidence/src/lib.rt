@@ -13,6 +13,7 @@ mod cosets;
 mod crossings;
 mod due;
 mod edges;
+mod groups;
 mod indexed;
 mod joins;
 mod marks;

@@ -1,8 +1,9 @@
-// The places of sides at which a letter stands, in lists by what follows.
+// The places of sides at which a letter stands, in groups by what stands beside.
 ghost use Rattle.std.specs.Prelude.{◌≡◌, ℕ, ◌<◌, List, [], Bool, true, false, length, map, slice_index, IfOk, OnOk};
 ghost use Rattle.coincidence.specs.Pending.{IsAmong};
-ghost use Rattle.coincidence.specs.Uses.{side_of, other_of, of_powers, of_ends, before, list_of, told, list_at, AreUses, IsNoted, AreNoted, IsSideNoted};
+ghost use Rattle.coincidence.specs.Uses.{side_of, other_of, told, list_at, groups_at, kind_of, kind_of_end, AreUses, IsNoted, IsPutAt, AreNoted, IsSideNoted};
 
+use crate::groups::{Group, Kind, put_in};
 use crate::periods::period;
 use ports::NoMemory;
 use presentation::Pairs;
@@ -10,31 +11,24 @@ use std::alloc::Global;
 use std::marker::Model;
 use words::{Letter, Word};
 
-// How many letters there are at most.
-const LETTERS: usize = 256;
-
-// How many lists there are for each letter.
-const LISTS: usize = 258;
-
-// Lists of places of the sides of pairs, the first or the second ones: the number of the pair, and
-// the place in its side. A power of which the other side is empty stands once in the list of each
-// of its letters.
+// Places of the sides of pairs, the first or the second ones: for each letter the groups of the
+// places at which it stands.
 #[derive(Drop)]
 pub struct Uses {
-    lists: Vec<Vec<(usize, usize)>>,
+    letters: Vec<Vec<Group>>,
 }
 
 impl Model for Uses {
     ghost use Rattle.std.specs.Prelude.{List, map};
-    ghost use Rattle.coincidence.specs.Uses.{Places};
+    ghost use Rattle.coincidence.specs.declared.groups.Group.{Group};
 
-    ghost Value = { List Places };
+    ghost Value = { List (List Group) };
 
-    ghost view = { λ u. map (λ v. v.items) u.lists.items };
+    ghost view = { λ u. map (λ v. v.items) u.letters.items };
 }
 
-// Whether the list ends with the entry.
-fn ends_with(list: &Vec<(usize, usize)>, entry: (usize, usize)) -> bool
+/// Whether the list ends with the entry.
+pub fn ends_with(list: &Vec<(usize, usize)>, entry: (usize, usize)) -> bool
     ensures { result ≡ true → IsAmong entry list.now.items }
 {
     let count = list.len();
@@ -92,40 +86,74 @@ pub fn note(
     Ok(())
 }
 
-// The number of the list of powers in which the letter stands.
-fn powers_list(letter: Letter) -> usize
-    ensures { result ≡ of_powers letter }
+// There are groups of this letter. Refused only where memory is wanting.
+fn letter_room(alloc: Global, letters: &mut Vec<Vec<Group>>, number: usize) -> Result<(), NoMemory>
+    ensures room { OnOk result (number < length letters.new.items) }
+    ensures same { OnOk result ((a : ℕ) → groups_at (map (λ v. v.items) letters.new.items) a
+        ≡ groups_at (map (λ v. v.items) letters.old.items) a) }
 {
-    letter.number() % LETTERS * LISTS
+    while letters.len() <= number {
+        letters.push(Vec::new(alloc))?;
+    }
+    Ok(())
 }
 
-// The number of the list of places of the letter with at most one letter behind.
-fn ends_list(letter: Letter) -> usize
-    ensures { result ≡ of_ends letter }
+// The place is in the group of its kind of a letter. Refused only where memory is wanting.
+fn put_within(
+    alloc: Global,
+    letters: &mut Vec<Vec<Group>>,
+    number: usize,
+    kind: Kind,
+    place: (usize, usize),
+) -> Result<(), NoMemory>
+    requires { number < length letters.old.items }
+    ensures { OnOk result (IsPutAt (map (λ v. v.items) letters.old.items)
+        (map (λ v. v.items) letters.new.items) number kind place) }
 {
-    letter.number() % LETTERS * LISTS + 1
+    put_in(alloc, &mut letters[number], kind, place)?;
+    Ok(())
 }
 
-// The number of the list of places of the letter before another.
-fn list_before(letter: Letter, next: Letter) -> usize
-    ensures { result ≡ before letter next }
+// So at any letter.
+fn put_at(
+    alloc: Global,
+    letters: &mut Vec<Vec<Group>>,
+    letter: Letter,
+    kind: Kind,
+    place: (usize, usize),
+) -> Result<(), NoMemory>
+    ensures { OnOk result (IsPutAt (map (λ v. v.items) letters.old.items)
+        (map (λ v. v.items) letters.new.items) letter kind place) }
 {
-    letter.number() % LETTERS * LISTS + 2 + next.number() % LETTERS
+    let number = letter.number();
+    letter_room(alloc, letters, number)?;
+    put_within(alloc, letters, number, kind, place)?;
+    Ok(())
 }
 
-// The number of the list of a place of a power, or of another side.
-fn list_number(side: &Word, place: usize, power: bool) -> usize
+// The kind of a place with at most one letter behind.
+fn end_kind(side: &Word, place: usize) -> Kind
     requires { place < length side.now }
-    ensures { result ≡ list_of power side.now place }
+    ensures { result ≡ kind_of_end side.now place }
 {
-    let letter = side.letter(place);
+    if place == 0 {
+        return Kind::Front;
+    }
+    Kind::Behind(side.letter(place - 1))
+}
+
+// The kind of a place of a power, or of another side.
+fn kind_at(side: &Word, place: usize, power: bool) -> Kind
+    requires { place < length side.now }
+    ensures { result ≡ kind_of power side.now place }
+{
     if power {
-        return powers_list(letter);
+        return Kind::Power;
     }
     if side.len() - place < 3 {
-        return ends_list(letter);
+        return end_kind(side, place);
     }
-    list_before(letter, side.letter(place + 1))
+    Kind::Before(side.letter(place + 1))
 }
 
 // The place that the list tells.
@@ -135,20 +163,21 @@ fn place_told(place: usize, power: bool) -> usize
     if power { 0 } else { place }
 }
 
-// Each place of the side of a pair is in its list. Refused only where memory is wanting.
+// Each place of the side of a pair is in its group. Refused only where memory is wanting.
 fn note_all(
     alloc: Global,
-    lists: &mut Vec<Vec<(usize, usize)>>,
+    letters: &mut Vec<Vec<Group>>,
     side: &Word,
     pair: usize,
     power: bool,
 ) -> Result<(), NoMemory>
-    ensures { OnOk result (AreNoted power (map (λ v. v.items) lists.old.items)
-        (map (λ v. v.items) lists.new.items) side.now pair) }
+    ensures { OnOk result (AreNoted power (map (λ v. v.items) letters.old.items)
+        (map (λ v. v.items) letters.new.items) side.now pair) }
 {
     for place in 0..side.len() {
-        let number = list_number(side, place, power);
-        note(alloc, lists, number, (pair, place_told(place, power)))?;
+        let kind = kind_at(side, place, power);
+        let told = (pair, place_told(place, power));
+        put_at(alloc, letters, side.letter(place), kind, told)?;
     }
     Ok(())
 }
@@ -158,21 +187,21 @@ fn is_power(side: &Word, other: &Word) -> bool {
     other.is_empty() && period(side) < side.len()
 }
 
-// The places of a pair's first side, or of its second, are in their lists. Refused only where
+// The places of a pair's first side, or of its second, are in their groups. Refused only where
 // memory is wanting.
 fn note_side(
     alloc: Global,
-    lists: &mut Vec<Vec<(usize, usize)>>,
+    letters: &mut Vec<Vec<Group>>,
     pair: &(Word, Word),
     number: usize,
     second: bool,
 ) -> Result<(), NoMemory>
-    ensures { OnOk result (IsSideNoted (map (λ v. v.items) lists.old.items)
-        (map (λ v. v.items) lists.new.items) (side_of second pair.now) number) }
+    ensures { OnOk result (IsSideNoted (map (λ v. v.items) letters.old.items)
+        (map (λ v. v.items) letters.new.items) (side_of second pair.now) number) }
 {
     let word = side(pair, second);
     let power = is_power(word, other_side(pair, second));
-    note_all(alloc, lists, word, number, power)
+    note_all(alloc, letters, word, number, power)
 }
 
 /// The first side of the pair, or the second.
@@ -195,42 +224,22 @@ impl Uses {
     pub fn new(alloc: Global, pairs: &Pairs, second: bool) -> Result<Uses, NoMemory>
         ensures { IfOk result (AreUses second pairs.now) }
     {
-        let mut lists = Vec::new(alloc);
+        let mut letters = Vec::new(alloc);
         for number in 0..pairs.len() {
-            note_side(alloc, &mut lists, pairs.pair(number), number, second)?;
+            note_side(alloc, &mut letters, pairs.pair(number), number, second)?;
         }
-        Ok(Uses { lists })
+        Ok(Uses { letters })
     }
 
-    // The list of this number.
-    fn list(&self, number: usize) -> &[(usize, usize)]
-        ensures { result.now ≡ list_at self.now number }
+    /// The groups of the places of the letter.
+    pub fn of(&self, letter: Letter) -> &[Group]
+        ensures { result.now ≡ groups_at self.now letter }
     {
-        if number < self.lists.len() {
-            self.lists[number].as_slice()
+        let number = letter.number();
+        if number < self.letters.len() {
+            self.letters[number].as_slice()
         } else {
             &[]
         }
-    }
-
-    /// The powers in which the letter stands.
-    pub fn powers(&self, letter: Letter) -> &[(usize, usize)]
-        ensures { result.now ≡ list_at self.now (of_powers letter) }
-    {
-        self.list(powers_list(letter))
-    }
-
-    /// The places of the letter with at most one letter behind.
-    pub fn ends(&self, letter: Letter) -> &[(usize, usize)]
-        ensures { result.now ≡ list_at self.now (of_ends letter) }
-    {
-        self.list(ends_list(letter))
-    }
-
-    /// The places of the letter before another one, with more behind.
-    pub fn ahead_of(&self, letter: Letter, next: Letter) -> &[(usize, usize)]
-        ensures { result.now ≡ list_at self.now (before letter next) }
-    {
-        self.list(list_before(letter, next))
     }
 }

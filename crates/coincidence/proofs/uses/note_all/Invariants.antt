@@ -3,4 +3,4 @@ use Rattle.coincidence.proofs.UsesLaws.{AreNotedTo}
 use Rattle.coincidence.proofs.uses.note_all.Given as goal
 
 abbrev pub invariant-loop-place : goal.invariant-loop-place
-invariant-loop-place l = AreNotedTo l.power (map (λ v. v.items) l.initial.lists.items) (map (λ v. v.items) l.lists.items) l.side l.pair l.place
+invariant-loop-place l = AreNotedTo l.power (map (λ v. v.items) l.initial.letters.items) (map (λ v. v.items) l.letters.items) l.side l.pair l.place
