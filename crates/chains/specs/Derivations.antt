@@ -84,12 +84,14 @@ pub record GoesOn (d : Derived) (old_left : List ChainStep) (old : Walk)
 -- right one
 abbrev pub AreKept : {S : Type 0} → Derived → HashMap ℕ (Vec ChainStep) S → Type 0
 AreKept {S} d kept = (number : ℕ) (chain : Vec ChainStep) (left right : Word)
-    → get nat_eq kept number ≡ Some chain → slice_get (all_of d).relations number ≡ Some (left, right)
+    → get nat_eq kept number ≡ Some chain
+    → slice_get (all_of d).relations number ≡ Some (left, right)
     → LeadTo d.presentation left (steps_of chain.items) right
 
 -- the other steps lead to each word to which the steps lead
 abbrev pub LeadAlike : Presentation → Word → List ChainStep → List ChainStep → Type 0
-LeadAlike p u steps others = (v : Word) → LeadTo p u (steps_of steps) v → LeadTo p u (steps_of others) v
+LeadAlike p u steps others = (v : Word) → LeadTo p u (steps_of steps) v
+    → LeadTo p u (steps_of others) v
 
 -- the log has the words of the first facts of another, so many, and perhaps other steps
 pub record IsFrontOf (n : ℕ) (d front : Derived) : Type 0 where

@@ -365,7 +365,8 @@ impl Derivations {
         steps: &[ChainStep],
         limit: u64,
     ) -> Result<Vec<ChainStep>, NoMemory>
-        ensures { IfOk result (λ found. LeadAlike (all_of self.now) from.now steps.now found.items) }
+        ensures { IfOk result (λ found.
+            LeadAlike (all_of self.now) from.now steps.now found.items) }
     {
         match self.find_lighter(guide, from, steps, limit)? {
             Some(found) => Ok(found),

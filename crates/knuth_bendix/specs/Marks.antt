@@ -22,7 +22,8 @@ bit a b = 2 ^ (a % 8 * 8 + b % 8)
 -- the bits of the first letters of a word, so many, each with the letter behind it
 abbrev pub bits_up_to : Word → ℕ → ℕ
 bits_up_to f zero = 0
-bits_up_to f (suc n) = bit_or (bits_up_to f n) (bit (slice_index_or f n 0) (slice_index_or f (suc n) 0))
+bits_up_to f (suc n) = bit_or (bits_up_to f n)
+    (bit (slice_index_or f n 0) (slice_index_or f (suc n) 0))
 
 -- the sign of a word: the bits of each two letters of which one follows the other
 abbrev pub sign : Word → ℕ

@@ -26,7 +26,8 @@ fn pair_is_joined(
     requires second { second < length rules.now }
     requires ahead { AreSharesOf (rule_at rules.now first).0 ahead.now }
     ensures { IfOk result (λ joined. MatchBool joined
-        (AreJoined ahead.now.lengths rules.now [] (rule_at rules.now first) (rule_at rules.now second))
+        (AreJoined ahead.now.lengths rules.now [] (rule_at rules.now first)
+        (rule_at rules.now second))
         ((u : Letters) × (v : Letters) × IsSplit ahead.now.lengths rules.now u v)) }
 {
     let marks = rules.marks(second);

@@ -82,8 +82,8 @@ impl Index {
 
     // The index of the rules, of which it is given whether the last one alone is new.
     fn after(self, alloc: Global, rules: &KeptRules, one_more: bool) -> Result<Index, NoMemory>
-        requires { one_more ≡ true → (others : List (Letters × Letters)) × (last : Letters × Letters)
-            × (rules.now ≡ others ++ last ∷ []) × IsIndexOf others self }
+        requires { one_more ≡ true → (others : List (Letters × Letters))
+            × (last : Letters × Letters) × (rules.now ≡ others ++ last ∷ []) × IsIndexOf others self }
         ensures { IfOk result (IsIndexOf rules.now) }
     {
         if !one_more {

@@ -172,8 +172,8 @@ impl Presentation {
         })
     }
 
-    // The presentation with the marker as a further last letter, and marked pairs as further relations.
-    // Refused only where memory is wanting.
+    // The presentation with the marker as a further last letter, and marked pairs as further
+    // relations. Refused only where memory is wanting.
     pub(crate) fn with_marker(
         &self,
         alloc: Global,

@@ -209,8 +209,8 @@ IsDone order place letter n a =
 abbrev pub state_at : Graph → ℕ → ℕ → ℕ
 state_at targets node letter = unwrap_or (target targets node letter) 0
 
--- the tables while they are filled: for each state and letter a state and an end, and for each state
--- a link
+-- the tables while they are filled: for each state and letter a state and an end, and for each
+-- state a link
 pub record Filling : Type 0 where
   pub targets : Graph
   pub links : List ℕ

@@ -52,7 +52,8 @@ impl Trie {
     fn descend(&mut self, node: usize, letter: Letter, prefix: Prefix) -> Result<usize, NoMemory>
         requires node { node < length self.old.prefixes.items }
         requires letter { letter < self.old.letters }
-        requires children { AreRows (length self.old.prefixes.items) self.old.letters self.old.children }
+        requires children { AreRows (length self.old.prefixes.items) self.old.letters
+            self.old.children }
         requires lefts { AreRows (length self.old.prefixes.items) self.old.letters self.old.lefts }
         ensures { IfOk result (FindsChild node letter prefix self.old self.new) }
     {

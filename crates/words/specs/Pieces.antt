@@ -15,5 +15,7 @@ pieces (suc n) letters = pieces n letters ++ take 32 (drop (n * 32) letters) ∷
 abbrev pub letters_hash : List ℕ → fed.HashWrites
 letters_hash letters = pieces (suc (length letters / 32)) letters
 
-pub same_letters_hash : (u v : List ℕ) → IsTrue (pointwise nat_eq u v) → letters_hash u ≡ letters_hash v
-same_letters_hash u v equal = ap letters_hash ((slice_eq-Decides Decides-eqb u v (pointwise nat_eq u v) refl).0 equal)
+pub same_letters_hash : (u v : List ℕ) → IsTrue (pointwise nat_eq u v)
+    → letters_hash u ≡ letters_hash v
+same_letters_hash u v equal =
+    ap letters_hash ((slice_eq-Decides Decides-eqb u v (pointwise nat_eq u v) refl).0 equal)
