@@ -32,14 +32,6 @@ pub record IsCopiedTo (k : ℕ) (old new : Graph) (n a : ℕ) : Type 0 where
   pub done : (p b : ℕ) → IsBefore p b n a → target new p b ≡ target old p b
   pub later : (p b : ℕ) → (IsBefore p b n a → ⊥) → target new p b ≡ None
 
-pub copy_start : (k : ℕ) (old : Graph) → 0 < length old → IsCopiedTo k old (replicate (length old) (replicate k None)) 0 0
-copy_start k old h = let bare = bare_upto k old [] h in record {
-  graph = bare.graph;
-  nodes = bare.nodes;
-  done = λ p b before. absurd (elim before [ inl l ↦ absurd (omega (arith, l)) | inr l ↦ absurd (omega (arith, l.1)) ]);
-  later = λ p b _. target_bare (length old) k p b;
-}
-
 before_or : (p b n a : ℕ) → IsBefore p b n (a + 1) → IsBefore p b n a ⊎ ((p ≡ n) × (b ≡ a))
 before_or = before_next
 

@@ -6,9 +6,6 @@ use Rattle.coincidence.specs.Live.{IsOn}
 use Rattle.coincidence.specs.Replaced.{AreReplaced, IsKnown, StaysInClass}
 use Rattle.coincidence.proofs.MarkLaws.{on_within}
 
-pub stays_here : (is : List Bool) (replaced_by : List ℕ) (node : ℕ) → StaysInClass is replaced_by replaced_by node node
-stays_here is replaced_by node = λ was class replaced on. (replaced, on, refl)
-
 pub stays_more : (is : List Bool) (old mid new : List ℕ) (node next to : ℕ) → StaysInClass is old mid node next → StaysInClass is mid new next to → StaysInClass is old new node to
 stays_more is old mid new node next to p q = λ was class replaced on.
     let f = p was class replaced on in
