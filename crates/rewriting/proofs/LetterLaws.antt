@@ -2,13 +2,13 @@
 use Rattle.std.proofs.Common.{◌≡◌, ℕ, ◌+◌, ◌<◌, ◌≤◌, ◌⊎◌, List, [], ◌∷◌, length, take, get_or, slice_get, Some, refl, sym, ap, subst, arith, inl, inr, cond, nat_cmp, Ordering, Less, Equal, Greater}
 use Rattle.std.specs.Ordering.{is_lt, ord_max}
 use Rattle.std.proofs.lemmas.Map.Keys.{ge_from_not_lt}
-use Rattle.std.proofs.lemmas.List.{nil_from_length, take_more}
+use Rattle.std.proofs.lemmas.List.{take_more}
 use Rattle.std.proofs.lemmas.Option.{get_or_from_slice_get}
 use Rattle.std.proofs.lemmas.List.Elements.{All-nil, All-cons, All-push}
 use Rattle.theory.specs.Word.{Word, IsOver}
 use Rattle.theory.proofs.Words.{nat_from_Less, over_append}
 use Rattle.rewriting.specs.Rules.{AreOver}
-use Rattle.rewriting.specs.Tries.{IsLeftLength, left_at}
+use Rattle.rewriting.specs.Tries.{IsLeftLengthTo, left_at}
 pub use Rattle.rewriting.specs.Reductions.{letters_in, letters_in_rules, letters_for}
 
 pub over_more : (k m : ℕ) (u : Word) → k ≤ m → IsOver k u → IsOver m u
@@ -43,10 +43,6 @@ rules_over k (r ∷ rs) h =
 pub over_for : (rules : List (Word × Word)) (word : Word) → AreOver (letters_for rules word) rules
 over_for rules word = rules_over (letters_for rules word) rules (omega arith)
 
--- the number of letters of one of the first left sides, so many, or 0 where these are none
-abbrev pub IsReached : List (Word × Word) → ℕ → ℕ → Type 0
-IsReached rules count n = ((count ≡ 0) × (n ≡ 0)) ⊎ ((place : ℕ) × (place < count) × (length (left_at rules place) ≡ n))
-
 -- the greater of two numbers
 greater : (a b : ℕ) → (a ≤ ord_max nat_cmp a b) × (b ≤ ord_max nat_cmp a b) × ((ord_max nat_cmp a b ≡ a) ⊎ (ord_max nat_cmp a b ≡ b))
 greater a b = go (nat_cmp b a) refl
@@ -57,8 +53,8 @@ greater a b = go (nat_cmp b a) refl
     go Greater e = let most = ge_from_not_lt b a (ap is_lt e) in (omega (arith, most), omega arith, inr refl)
 
 -- one left side more
-pub reached_more : (rules : List (Word × Word)) (count old size new : ℕ) → size ≡ length (left_at rules count) → new ≡ ord_max nat_cmp old size → IsReached rules count old
-    → (old ≤ new) × (length (left_at rules count) ≤ new) × IsReached rules (count + 1) new
+pub reached_more : (rules : List (Word × Word)) (count old size new : ℕ) → size ≡ length (left_at rules count) → new ≡ ord_max nat_cmp old size → IsLeftLengthTo rules count old
+    → (old ≤ new) × (length (left_at rules count) ≤ new) × IsLeftLengthTo rules (count + 1) new
 reached_more rules count old size new is made reached =
     let g = greater old size in (
       omega (arith, made, g.0),
@@ -71,8 +67,3 @@ reached_more rules count old size new is made reached =
         | inr takes ↦ inr (count, omega arith, omega (arith, is, made, takes))
       ],
     )
-
--- all left sides
-pub reached_all : (rules : List (Word × Word)) (count n : ℕ) → count ≡ length rules → IsReached rules count n → IsLeftLength rules n
-reached_all rules count n all (inl none) = inl (nil_from_length rules (omega (arith, all, none.0)), none.1)
-reached_all rules count n all (inr at) = inr (at.0, omega (arith, at.1, all), at.2)

@@ -1,7 +1,7 @@
 -- The states level by level.
 use Rattle.std.proofs.Common.{◌≡◌, ℕ, ◌+◌, ◌-◌, ◌<◌, ◌≤◌, List, [], ◌∷◌, ◌++◌, length, take, drop, get_or, refl, sym, ◌∙◌, ap, subst, arith, ◌⊎◌, inl, inr, Option, Some, None, Contains, length-append, length-take, take-append-drop}
 use Rattle.std.proofs.lemmas.Bool.{cases_eq, cases_lt}
-use Rattle.std.proofs.lemmas.List.{get_or_append_left, get_or-append_right, get_or_default, get_or-map, get_or_past}
+use Rattle.std.proofs.lemmas.List.{get_or_append_left, get_or-append_right, get_or_default, get_or-map, get_or_past, nil_from_length}
 use Rattle.std.proofs.lemmas.List.Elements.{Contains-push, Contains-push_cases, Contains-append_left, Contains-append_right}
 use Rattle.theory.specs.Word.{Word, IsOver}
 use Rattle.theory.specs.Graph.{Graph, target}
@@ -105,11 +105,7 @@ module _ (rules : List (Word × Word)) (t : Tree) (is : IsTrie rules t) where
       root j h = ap (λ z. get_or t.states z []) (first j h) ∙ is.prefixes.root
 
       zero_is : (n : ℕ) → n < length t.states → length (get_or t.states n []) ≤ 0 → 0 ≡ n
-      zero_is n h short = is.distinct 0 n is.prefixes.some h (is.prefixes.root ∙ nil (get_or t.states n []) short)
-        where
-          nil : (u : Word) → length u ≤ 0 → [] ≡ u
-          nil [] h = refl
-          nil (a ∷ u) h = absurd (omega (arith, h))
+      zero_is n h short = is.distinct 0 n is.prefixes.some h (is.prefixes.root ∙ sym (nil_from_length (get_or t.states n []) (omega (arith, short))))
 
   module _ (over : (n : ℕ) → IsOver t.letters (get_or t.states n [])) (most : ℕ) (order level next : List ℕ) (before : IsOrderTo t.states most order level) (made : AreChildren t.letters t.children level (length level) next) where
     next_at : (x : ℕ) → Contains next x → (x < length t.states) × (length (get_or t.states x []) ≡ most + 1)

@@ -3,7 +3,6 @@ pub mod Standing
 pub mod LetterLaws
 pub mod StateLaws
 pub mod StateLists
-pub mod Searches
 pub mod TrieLaws
 pub mod LevelLaws
 pub mod LinkLaws

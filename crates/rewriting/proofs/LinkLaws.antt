@@ -1,7 +1,7 @@
 -- The tables of the automaton, an entry after another.
 use Rattle.std.proofs.Common.{◌≡◌, ℕ, ◌+◌, ◌<◌, ◌≤◌, List, [], ◌∷◌, ◌++◌, length, drop, get_or, set, replicate, refl, sym, ◌∙◌, ap, ap₂, subst, subst₂, arith, ◌⊎◌, inl, inr, Option, Some, None, Contains, length-append, length-set, length-drop, unwrap_or}
 use Rattle.std.proofs.lemmas.Bool.{cases_eq, cases_lt}
-use Rattle.std.proofs.lemmas.List.{get_or_default, get_or-set_same, get_or-set_other, get_or-replicate, length-replicate, append_assoc}
+use Rattle.std.proofs.lemmas.List.{get_or_default, get_or-set_same, get_or-set_other, get_or-replicate, length-replicate, nil_from_length}
 use Rattle.std.specs.Option.{ForSome, option_or}
 use Rattle.theory.specs.Word.{Word, IsOver}
 use Rattle.theory.specs.Graph.{target}
@@ -10,15 +10,11 @@ use Rattle.cells.proofs.EntryLaws.{put_cases, rows_bare, rows_entry, rows_put, t
 use Rattle.theory.proofs.Words.{over_right}
 use Rattle.theory.proofs.FactsLaws.{last_letter}
 use Rattle.rewriting.specs.Rules.{AreFalling}
-use Rattle.rewriting.specs.States.{HasEnd, IsLongest}
-use Rattle.rewriting.specs.Tries.{left_at, longer, Filling, IsChild, IsFilled, IsLeft, IsOrder, IsEnd, Reads, IsDone, AreTables, IsLinkedTo, IsBehind, IsTreeOf, Tree, linked, state_at, tree_of}
-use Rattle.rewriting.specs.Links.{AreLevels, AreLinkedTo, FitLevels, filling_of}
-use Rattle.rewriting.specs.declared.levels.Levels.{Levels}
-use Rattle.rewriting.specs.declared.links.Tables.{Tables}
-use Rattle.rewriting.proofs.Standing.{filled, listed_at, listed_falls}
+use Rattle.rewriting.specs.States.{IsLongest}
+use Rattle.rewriting.specs.Tries.{left_at, longer, Filling, IsChild, IsFilled, IsLeft, IsGrown, IsOrder, IsEnd, Reads, IsDone, IsLinkedTo, IsBehind, Tree, linked, state_at}
+use Rattle.rewriting.proofs.Standing.{listed_at}
 use Rattle.rewriting.proofs.StateLists.{contains_at, item_at}
-use Rattle.rewriting.proofs.StateLaws.{end_kept, longest_more, empty_longest}
-use Rattle.rewriting.proofs.LevelLaws.{state_over}
+use Rattle.rewriting.proofs.StateLaws.{empty_reduced, end_kept, end_reduces, ends_more, longest_more, empty_longest}
 use Rattle.rewriting.proofs.TrieLaws.{longer_one}
 
 -- a word in front of its last letters
@@ -30,31 +26,13 @@ drop_longer : (u : Word) (a : ℕ) → 0 < length u → drop 1 (u ++ a ∷ []) �
 drop_longer [] a h = absurd (omega (arith, h))
 drop_longer (b ∷ u) a h = refl
 
-nil_short : (u : Word) → length u ≤ 0 → [] ≡ u
-nil_short [] h = refl
-nil_short (a ∷ u) h = absurd (omega (arith, h))
-
 -- the first number, or the second, where both are few
 pub first_few : (most : ℕ) (first second : Option ℕ) → ForSome first (λ n. n < most) → ForSome second (λ n. n < most) → ForSome (option_or first second) (λ n. n < most)
 first_few most None second f s = s
 first_few most (Some number) second f s = f
 
-module _ (levels : Levels) (falling : AreFalling levels.rules.now) (are : AreLevels levels) where
-  abbrev rules : List (Word × Word)
-  rules = levels.rules.now
-
-  abbrev t : Tree
-  t = tree_of levels.rules.now levels.trie.now
-
-  abbrev order : List ℕ
-  order = levels.order.now
-
-  abbrev is : IsTreeOf rules levels.trie.now
-  is = are.grown
-
-  over : (n : ℕ) → IsOver t.letters (get_or t.states n [])
-  over = state_over t.letters rules levels.trie.now.prefixes.items are.over
-
+module _ {rules : List (Word × Word)} (falling : AreFalling rules) {t : Tree} (is : IsGrown rules (length rules) t)
+    (over : (n : ℕ) → IsOver t.letters (get_or t.states n [])) {order : List ℕ} (ordered : IsOrder t.states order) where
   -- a child is the state that it makes
   child_is : (m a n : ℕ) → m < length t.states → a < t.letters → n < length t.states → longer t.states m a ≡ get_or t.states n [] → target t.children m a ≡ Some n
   child_is m a n hm ha hn word = go (target t.children m a) refl (is.trie.child m a hm ha)
@@ -67,23 +45,20 @@ module _ (levels : Levels) (falling : AreFalling levels.rules.now) (are : AreLev
   earlier : (place n : ℕ) → place < length order → n < length t.states → length (get_or t.states n []) < length (get_or t.states (get_or order place 0) [])
       → (j : ℕ) × (j < place) × (j < length order) × (get_or order j 0 ≡ n)
   earlier place n inside h less =
-      let has = are.order.each n h in
+      let has = ordered.each n h in
       let at : get_or order has.0 0 ≡ n = item_at order n 0 has in
       elim (cases_lt has.0 place) [
         | inl l ↦ (has.0, l, has.1, at)
-        | inr m ↦ absurd (let up = are.order.rises place has.0 m has.1 in omega (arith, up, less, ap (λ z. length (get_or t.states z [])) at))
+        | inr m ↦ absurd (let up = ordered.rises place has.0 m has.1 in omega (arith, up, less, ap (λ z. length (get_or t.states z [])) at))
       ]
 
-  module _ (place letter : ℕ) (inside : place < length order) (below : letter < t.letters) (old : Tables)
-      (tables : FitLevels levels old) (before : AreLinkedTo levels place letter old) where
-    abbrev f : Filling
-    f = filling_of old
-
+  module _ {place letter : ℕ} (inside : place < length order) (below : letter < t.letters) {f : Filling}
+      (before : IsLinkedTo rules t order place letter f) where
     abbrev node : ℕ
     node = get_or order place 0
 
     node_in : node < length t.states
-    node_in = are.order.within place inside
+    node_in = ordered.within place inside
 
     abbrev word : Word
     word = longer t.states node letter
@@ -108,25 +83,15 @@ module _ (levels : Levels) (falling : AreFalling levels.rules.now) (are : AreLev
           (child_is there.0 l.1 node there.1 b node_in (ap (λ u. u ++ l.1 ∷ []) parent ∙ sym l.2))
     ]
 
-    no_end : HasEnd rules [] → ⊥
-    no_end h =
-        let some = filled h.left h.right (listed_falls rules falling h.left h.right h.listed) in
-        omega (arith, some, ap length h.is, length-append h.before h.left)
-
     -- an end of the shorter word
     end_more : (u : Word) (at a : ℕ) → IsLongest t.states u at → (e : Option ℕ) → IsEnd rules (longer t.states at a) e → IsEnd rules (u ++ a ∷ []) e
     end_more u at a longest None h = λ end. h (end_kept rules falling t.states is.are u at a longest end)
-    end_more u at a longest (Some number) h = record {
-      within = h.within;
-      before = longest.before ++ h.before;
-      is = ap (λ x. x ++ a ∷ []) longest.is ∙ append_assoc longest.before (get_or t.states at []) (a ∷ []) ∙ ap (λ x. longest.before ++ x) h.is ∙ sym (append_assoc longest.before h.before (left_at rules number));
-    }
+    end_more u at a longest (Some number) h = ends_more rules t.states u at a number longest h
 
     behind_root : 0 ≡ length (get_or t.states node []) → Reads rules t.states behind 0 None
     behind_root e =
-        let at : [] ≡ behind =
-        ap (λ u. drop 1 (u ++ letter ∷ [])) (nil_short (get_or t.states node []) (omega (arith, e))) in
-        subst (λ u. Reads rules t.states u 0 None) at (record { longest = empty_longest rules falling t.states is.are; ends = no_end })
+        subst (λ u. Reads rules t.states (drop 1 (u ++ letter ∷ [])) 0 None) (sym (nil_from_length (get_or t.states node []) (sym e)))
+        (record { longest = empty_longest rules falling t.states is.are; ends = λ h. end_reduces rules [] h (empty_reduced rules falling) })
 
     behind_link : 0 < length (get_or t.states node [])
         → Reads rules t.states behind (state_at f.targets (get_or f.links node 0) letter) (target f.ends (get_or f.links node 0) letter)
@@ -153,7 +118,7 @@ module _ (levels : Levels) (falling : AreFalling levels.rules.now) (are : AreLev
         some : 0 < length (get_or t.states node [])
         some = elim (cases_lt 0 (length (get_or t.states node []))) [
           | inl l ↦ l
-          | inr m ↦ absurd (h.0 (is.trie.distinct node 0 node_in is.trie.prefixes.some (sym (nil_short (get_or t.states node []) m) ∙ sym is.trie.prefixes.root)))
+          | inr m ↦ absurd (h.0 (is.trie.distinct node 0 node_in is.trie.prefixes.some (nil_from_length (get_or t.states node []) (omega (arith, m)) ∙ sym is.trie.prefixes.root)))
         ]
 
     whole : (a : ℕ) × (word ≡ a ∷ behind)
@@ -240,18 +205,20 @@ module _ (levels : Levels) (falling : AreFalling levels.rules.now) (are : AreLev
       pub entry_within : to < length t.states
       entry_within = (target_right r (behind_reads r e) child child_here).within
 
-      pub entry_step : AreTables t entered × IsLinkedTo rules t order place (letter + 1) entered
-      entry_step = (
-        record {
-          some = tables.some;
-          target_rows = rows_put (length t.states) t.letters f.targets tables.target_rows node letter (Some to) node_in;
-          end_rows = rows_put (length t.states) t.letters f.ends tables.end_rows node letter end node_in;
+      pub entry_step : IsLinkedTo rules t order place (letter + 1) entered
+      entry_step = record {
+        tables = record {
+          some = before.tables.some;
+          target_rows = rows_put (length t.states) t.letters f.targets before.tables.target_rows node letter (Some to) node_in;
+          end_rows = rows_put (length t.states) t.letters f.ends before.tables.end_rows node letter end node_in;
           links_count = linked_count child;
           targets_within = targets_within;
           links_within = λ i h. linked_within i h child refl;
-        },
-        record { reads = reads; there = there; link = link },
-      )
+        };
+        reads = reads;
+        there = there;
+        link = link;
+      }
         where
           read : Reads rules t.states behind r.0 r.1
           read = behind_reads r e
@@ -260,25 +227,25 @@ module _ (levels : Levels) (falling : AreFalling levels.rules.now) (are : AreLev
           now = record { longest = target_right r read child child_here; ends = end_right r read (target t.lefts node letter) refl (is.trie.left node letter node_in below) }
 
           target_put : IsPut f.targets entered.targets node letter (Some to)
-          target_put = rows_entry (length t.states) t.letters f.targets tables.target_rows node letter (Some to) node_in below
+          target_put = rows_entry (length t.states) t.letters f.targets before.tables.target_rows node letter (Some to) node_in below
 
           end_put : IsPut f.ends entered.ends node letter end
-          end_put = rows_entry (length t.states) t.letters f.ends tables.end_rows node letter end node_in below
+          end_put = rows_entry (length t.states) t.letters f.ends before.tables.end_rows node letter end node_in below
 
           linked_count : (c : Option ℕ) → length (linked c r.0 f.links) ≡ length t.states
-          linked_count None = tables.links_count
-          linked_count (Some x) = length-set f.links x r.0 ∙ tables.links_count
+          linked_count None = before.tables.links_count
+          linked_count (Some x) = length-set f.links x r.0 ∙ before.tables.links_count
 
           targets_within : (i a : ℕ) → state_at entered.targets i a < length t.states
-          targets_within = put_cases (λ i a z. unwrap_or z 0 < length t.states) f.targets _ node letter (Some to) target_put now.longest.within (λ i a d. tables.targets_within i a)
+          targets_within = put_cases (λ i a z. unwrap_or z 0 < length t.states) f.targets _ node letter (Some to) target_put now.longest.within (λ i a d. before.tables.targets_within i a)
 
           linked_within : (i : ℕ) → i < length t.states → (c : Option ℕ) → target t.children node letter ≡ c → get_or (linked c r.0 f.links) i 0 < length t.states
-          linked_within i h None e = tables.links_within i h
+          linked_within i h None e = before.tables.links_within i h
           linked_within i h (Some x) e = elim (cases_eq i x) [
             | inl s ↦
-                let here : get_or (set f.links x r.0) i 0 ≡ r.0 = ap (λ z. get_or (set f.links x r.0) z 0) s ∙ get_or-set_same f.links x r.0 0 (omega (arith, child_within x e, tables.links_count)) in
+                let here : get_or (set f.links x r.0) i 0 ≡ r.0 = ap (λ z. get_or (set f.links x r.0) z 0) s ∙ get_or-set_same f.links x r.0 0 (omega (arith, child_within x e, before.tables.links_count)) in
                 subst (λ z. z < length t.states) (sym here) read.longest.within
-            | inr d ↦ subst (λ z. z < length t.states) (sym (get_or-set_other f.links x i r.0 0 d)) (tables.links_within i h)
+            | inr d ↦ subst (λ z. z < length t.states) (sym (get_or-set_other f.links x i r.0 0 d)) (before.tables.links_within i h)
           ]
 
           reads : (n a : ℕ) → n < length t.states → a < t.letters → IsDone order place (letter + 1) n a
@@ -300,7 +267,7 @@ module _ (levels : Levels) (falling : AreFalling levels.rules.now) (are : AreLev
           ]
           linked_is n a to hn ha done made (Some x) e = elim (cases_eq to x) [
             | inl s ↦
-                let here : get_or (set f.links x r.0) to 0 ≡ r.0 = ap (λ z. get_or (set f.links x r.0) z 0) s ∙ get_or-set_same f.links x r.0 0 (omega (arith, child_within x e, tables.links_count)) in
+                let here : get_or (set f.links x r.0) to 0 ≡ r.0 = ap (λ z. get_or (set f.links x r.0) z 0) s ∙ get_or-set_same f.links x r.0 0 (omega (arith, child_within x e, before.tables.links_count)) in
                 let made_is : word ≡ get_or t.states to [] = sym (subst (λ found. IsChild t.states word found) e child_here).1 ∙ ap (λ z. get_or t.states z []) (sym s) in
                 subst₂ (λ (u : Word) (z : ℕ). IsLongest t.states u z) (ap (drop 1) made_is) (sym here) read.longest
             | inr d ↦
@@ -321,6 +288,7 @@ module _ (levels : Levels) (falling : AreFalling levels.rules.now) (are : AreLev
 pub row_linked : (rules : List (Word × Word)) (t : Tree) (order : List ℕ) (place letter : ℕ) (f : Filling) → place < length order → t.letters ≤ letter
     → IsLinkedTo rules t order place letter f → IsLinkedTo rules t order (place + 1) 0 f
 row_linked rules t order place letter f inside past is = record {
+  tables = is.tables;
   reads = λ n a hn ha done. is.reads n a hn ha (sooner n a ha done);
   there = λ n a hn ha done. is.there n a hn ha (sooner n a ha done);
   link = λ n a to hn ha done. is.link n a to hn ha (sooner n a ha done);
@@ -333,9 +301,25 @@ row_linked rules t order place letter f inside past is = record {
     ]
     sooner n a ha (inr h) = absurd (omega (arith, h.2))
 
+-- tables without entries
+abbrev pub empty_filling : Tree → Filling
+empty_filling t = record {
+  targets = replicate (length t.states) (replicate t.letters None);
+  links = replicate (length t.states) 0;
+  ends = replicate (length t.states) (replicate t.letters None);
+}
+
 -- nothing comes before the first row
-pub none_linked : (rules : List (Word × Word)) (t : Tree) (order : List ℕ) (f : Filling) → IsLinkedTo rules t order 0 0 f
-none_linked rules t order f = record {
+pub none_linked : (rules : List (Word × Word)) (t : Tree) (order : List ℕ) → 0 < length t.states → IsLinkedTo rules t order 0 0 (empty_filling t)
+none_linked rules t order some = record {
+  tables = record {
+    some = some;
+    target_rows = rows_bare (length t.states) t.letters;
+    end_rows = rows_bare (length t.states) t.letters;
+    links_count = length-replicate (length t.states) 0;
+    targets_within = λ i a. subst (λ (z : Option ℕ). unwrap_or z 0 < length t.states) (sym (target_bare (length t.states) t.letters i a)) some;
+    links_within = λ i h. subst (λ z. z < length t.states) (sym (get_or-replicate (length t.states) i 0 0 h)) some;
+  };
   reads = λ n a hn ha done. absurd (none n a done);
   there = λ n a hn ha done. absurd (none n a done);
   link = λ n a to hn ha done. absurd (none n a done);
@@ -345,30 +329,12 @@ none_linked rules t order f = record {
     none n a (inl h) = omega (arith, h.1)
     none n a (inr h) = omega (arith, h.2)
 
--- tables without entries
-abbrev pub empty_filling : Tree → Filling
-empty_filling t = record {
-  targets = replicate (length t.states) (replicate t.letters None);
-  links = replicate (length t.states) 0;
-  ends = replicate (length t.states) (replicate t.letters None);
-}
-
-pub empty_tables : (t : Tree) → 0 < length t.states → AreTables t (empty_filling t)
-empty_tables t some = record {
-  some = some;
-  target_rows = rows_bare (length t.states) t.letters;
-  end_rows = rows_bare (length t.states) t.letters;
-  links_count = length-replicate (length t.states) 0;
-  targets_within = λ i a. subst (λ (z : Option ℕ). unwrap_or z 0 < length t.states) (sym (target_bare (length t.states) t.letters i a)) some;
-  links_within = λ i h. subst (λ z. z < length t.states) (sym (get_or-replicate (length t.states) i 0 0 h)) some;
-}
-
 -- in the end each entry is right
-pub all_filled : (rules : List (Word × Word)) (t : Tree) (order : List ℕ) (f : Filling) → IsOrder t.states order → AreTables t f → IsLinkedTo rules t order (length order) 0 f → IsFilled rules t f
-all_filled rules t order f ordered tables is = record {
-  tables = tables;
+pub all_filled : (rules : List (Word × Word)) (t : Tree) (order : List ℕ) (f : Filling) → IsOrder t.states order → IsLinkedTo rules t order (length order) 0 f → IsFilled rules t f
+all_filled rules t order f ordered is = record {
+  tables = is.tables;
   reads = λ n a hn ha. is.reads n a hn ha (done n a hn);
-  full = λ n a hn ha. let within : n < length t.states = omega (arith, hn, tables.target_rows.count) in is.there n a within ha (done n a within);
+  full = λ n a hn ha. let within : n < length t.states = omega (arith, hn, is.tables.target_rows.count) in is.there n a within ha (done n a within);
 }
   where
     done : (n a : ℕ) → n < length t.states → IsDone order (length order) 0 n a

@@ -1,5 +1,5 @@
 -- What the table and a scan of the newer rules tell of a word and a letter.
-use Rattle.std.proofs.Common.{◌≡◌, ℕ, zero, suc, ◌+◌, ◌-◌, ◌<◌, ◌≤◌, Bool, true, IsTrue, ◌↔◌, List, [], ◌∷◌, ◌++◌, length, take, drop, reverse, set, get_or, eqb, refl, sym, ◌∙◌, ap, subst, arith, inl, inr, Option, Some, None, Contains, length-append}
+use Rattle.std.proofs.Common.{◌≡◌, ℕ, zero, suc, ◌+◌, ◌-◌, ◌<◌, ◌≤◌, Bool, true, IsTrue, ◌↔◌, List, [], ◌∷◌, ◌++◌, length, take, drop, reverse, set, get_or, eqb, refl, sym, ◌∙◌, ap, subst, arith, inl, inr, Option, Some, None}
 use Rattle.std.specs.Cmp.Lexicographic.{pointwise}
 use Rattle.std.proofs.lemmas.Bool.{cases_eq, cases_lt}
 use Rattle.std.proofs.lemmas.Bool.Decides.{Decides-eqb}
@@ -11,7 +11,7 @@ use Rattle.theory.proofs.FactsLaws.{last_letter}
 use Rattle.rewriting.specs.Rules.{AreFalling}
 use Rattle.rewriting.specs.States.{EndsAt, HasEnd, IsLongest, IsStep}
 use Rattle.rewriting.specs.Tables.{IsTableOf}
-use Rattle.rewriting.specs.Tries.{left_at, longer, Reads}
+use Rattle.rewriting.specs.Tries.{IsEnd, left_at, longer, Reads}
 use Rattle.rewriting.specs.Newer.{AreNewer}
 use Rattle.rewriting.proofs.NewerLaws.{same_newer}
 use Rattle.rewriting.specs.Reductions.{IsAtStep}
@@ -19,9 +19,9 @@ use Rattle.rewriting.specs.declared.reductions.Reduction.{Reduction}
 use Rattle.rewriting.specs.Lookups.{IsAtLetter, IsLookup, IsPlaced, IsReducingBy, IsRewritingAt, StandsLast, moves_of, no_moves, reads_to, states_by}
 use Rattle.rewriting.specs.declared.lookups.Lookup.{Lookup}
 use Rattle.rewriting.proofs.Standing.{listed_at, rule_read}
+use Rattle.rewriting.proofs.TrieLaws.{grown_start}
 use Rattle.rewriting.proofs.ReductionLaws.{last_read, reducing_start}
-use Rattle.rewriting.proofs.Searches.{end_found}
-use Rattle.rewriting.proofs.StateLaws.{empty_longest, end_kept, end_reduces, longest_more, reduced_front}
+use Rattle.rewriting.proofs.StateLaws.{empty_longest, end_found, end_kept, end_reduces, ends_more, longest_more, reduced_front}
 
 -- the left side of a rule is listed
 listed_left : (rules : List (Word × Word)) (place : ℕ) → place < length rules → Listed rules (left_at rules place) (get_or rules place ([], [])).1
@@ -72,18 +72,7 @@ module _ (rules : List (Word × Word)) (lookup : Lookup) (is : IsLookup rules lo
 module _ (rules : List (Word × Word)) (lookup : Lookup) (done : Word) (state a t : ℕ) (end : Option ℕ) (at : IsAtLetter rules lookup done state)
     (reads : Reads at.is.tabled (reads_to at) (longer (reads_to at) state a) t end) where
   table_end : (n : ℕ) → end ≡ Some n → EndsAt at.is.tabled (done ++ a ∷ []) n
-  table_end n some = go end some reads
-    where
-      go : (e : Option ℕ) → e ≡ Some n → Reads at.is.tabled (reads_to at) (longer (reads_to at) state a) t e → EndsAt at.is.tabled (done ++ a ∷ []) n
-      go None s r = let bad : ⊥ = cc in absurd bad
-      go (Some m) s r =
-          let i : m ≡ n = cc in
-          subst (λ z. EndsAt at.is.tabled (done ++ a ∷ []) z) i (record {
-            within = r.ends.within;
-            before = at.longest.before ++ r.ends.before;
-            is = ap (λ x. x ++ a ∷ []) at.longest.is ∙ append_assoc at.longest.before (get_or (reads_to at) state []) (a ∷ []) ∙ ap (λ x. at.longest.before ++ x) r.ends.is
-                ∙ sym (append_assoc at.longest.before r.ends.before (left_at at.is.tabled m));
-          })
+  table_end n some = ends_more at.is.tabled (reads_to at) done state a n at.longest (subst (λ e. IsEnd at.is.tabled (longer (reads_to at) state a) e) some reads.ends)
 
   pub number_within : (n : ℕ) → end ≡ Some n → n < length lookup.places.items
   number_within n some = let w = (table_end n some).within in omega (arith, w, at.is.count)
@@ -96,13 +85,10 @@ module _ (rules : List (Word × Word)) (lookup : Lookup) (done : Word) (state a 
 
     pub next_none : end ≡ None → IsStep rules (reads_to at) (done ++ a ∷ []) t None
     next_none none = (
-      none_ends rules lookup at.is done a at.reduced scanned (λ h. go end none reads (end_kept at.is.tabled at.is.falling (reads_to at) at.is.table.states.are done state a at.longest h)),
+      none_ends rules lookup at.is done a at.reduced scanned (λ h. subst (λ e. IsEnd at.is.tabled (longer (reads_to at) state a) e) none reads.ends
+          (end_kept at.is.tabled at.is.falling (reads_to at) at.is.table.states.are done state a at.longest h)),
       longest_more at.is.tabled at.is.falling (reads_to at) at.is.table.states.are done state t a at.longest reads.longest,
     )
-      where
-        go : (e : Option ℕ) → e ≡ None → Reads at.is.tabled (reads_to at) (longer (reads_to at) state a) t e → HasEnd at.is.tabled (longer (reads_to at) state a) → ⊥
-        go None s r = r.ends
-        go (Some m) s r = let bad : ⊥ = cc in absurd bad
 
 -- a word is its other letters and its last one
 last_split : (word : Word) (last b : ℕ) → last + 1 ≡ length word → b ≡ get_or word last b → word ≡ take last word ++ b ∷ []
@@ -113,36 +99,16 @@ last_split (x ∷ y ∷ word) zero b size at = absurd (omega (arith, size))
 last_split (x ∷ y ∷ word) (suc last) b size at = ap (λ w. x ∷ w) (last_split (y ∷ word) last b (omega (arith, size)) at)
 
 -- no rule
-abbrev states_none : List Word
-states_none = [] ∷ []
-
 empty_table : IsTableOf 0 [] no_moves
-empty_table = record {
-  letters = refl;
-  over = λ i d within. absurd (omega (arith, within));
-  states = record {
-    are = record {
-      prefixes = record {
-        some = omega arith;
-        root = refl;
-        closed = λ p a has. absurd (not_snoc p a has);
-      };
-      lefts = λ n below within. absurd (omega (arith, within));
-    };
-    distinct = λ i j hi hj e. omega (arith, hi, hj);
-    only = λ n h. inl (only n h);
-  };
-  reads = λ n a h below. absurd (omega (arith, below));
-  full = λ n a h. absurd (omega (arith, h));
-}
-  where
-    only : (n : ℕ) → n < length (states_none) → get_or states_none n [] ≡ []
-    only zero h = refl
-    only (suc n) h = absurd (omega (arith, h))
-
-    not_snoc : (p : Word) (a : ℕ) → Contains states_none (p ++ a ∷ []) → ⊥
-    not_snoc p a (zero, h, e) = omega (arith, ap length e, length-append p (a ∷ []))
-    not_snoc p a (suc i, h, e) = omega (arith, h)
+empty_table =
+    let none = grown_start 0 [] in
+    record {
+      letters = refl;
+      over = λ i d within. absurd (omega (arith, within));
+      states = record { are = none.are; distinct = none.trie.distinct; only = none.trie.only };
+      reads = λ n a h below. absurd (omega (arith, below));
+      full = λ n a h. absurd (omega (arith, h));
+    }
 
 pub empty_lookup : (lookup : Lookup) → moves_of lookup ≡ no_moves → lookup.places.items ≡ [] → lookup.first ≡ 0 → AreNewer [] lookup.first lookup.newer → IsLookup [] lookup
 empty_lookup lookup moves places first newer = record {

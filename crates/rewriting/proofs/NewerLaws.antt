@@ -200,7 +200,7 @@ abbrev pub height : Option ℕ → ℕ
 height None = 0
 height (Some n) = n + 1
 
-module _ (rules : List (Word × Word)) (first : ℕ) (newer : Newer) (are : AreNewer rules first newer) (done : Word) (a rest key : ℕ) (few : key < 256)
+module _ {rules : List (Word × Word)} {first : ℕ} {newer : Newer} (are : AreNewer rules first newer) (done : Word) (a rest key : ℕ) (few : key < 256)
     (rest_is : rest ≡ key_from 0 (take (length done - (length done - (newer.depth - 1))) (drop (length done - (newer.depth - 1)) done))) (made : key ≡ (rest * 7 + a) % 256) where
   key_is : key ≡ (key_from 0 (drop (length done - (newer.depth - 1)) done) * 7 + a) % 256
   key_is = made ∙ ap (λ r. (r * 7 + a) % 256) (rest_is ∙ ap (key_from 0) (take_rest done (length done - (newer.depth - 1))))

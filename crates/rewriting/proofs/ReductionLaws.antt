@@ -2,7 +2,7 @@
 use Rattle.std.proofs.Common.{◌≡◌, ℕ, suc, ◌+◌, ◌-◌, ◌*◌, ◌<◌, ◌≤◌, List, [], ◌∷◌, ◌++◌, length, take, drop, reverse, get_or, refl, sym, ◌∙◌, ap, ap₂, subst, subst₂, arith, inl, inr, Option, Some, None, length-append, take-append-drop}
 use Rattle.std.proofs.Math.Nat.{suc-mul, mul-le-mul_right}
 use Rattle.std.proofs.lemmas.Bool.{cases_eq}
-use Rattle.std.proofs.lemmas.List.{append_assoc, append-nil, reverse-append, reverse-reverse, take-append-le, take_all, take_at, take-take, get_or_append_left, get_or_push, get_or-take, get_or_default, length-reverse, length-take-le, get_or_read}
+use Rattle.std.proofs.lemmas.List.{append_assoc, append-nil, reverse-append, reverse-reverse, take-append-le, take_all, take_at, take-take, get_or_append_left, get_or_push, get_or-take, get_or_default, length-reverse, length-take-le, get_or_read, nil_from_length}
 use Rattle.theory.specs.Word.{Word, IsOver}
 use Rattle.theory.specs.Chain.{Step}
 use Rattle.theory.specs.declared.Kind.TheVariants.{TwoSided}
@@ -13,12 +13,12 @@ use Rattle.theory.proofs.Completeness.{step_falls}
 use Rattle.rewriting.specs.Rules.{AreFalling}
 use Rattle.rewriting.specs.States.{AreStates, EndsAt, HasEnd, IsLongest, IsStep}
 use Rattle.rewriting.specs.Tries.{left_at, longer, Reads}
-use Rattle.rewriting.specs.Reductions.{rank, letters_for, kept, IsAtStep, IsReducing, weight, weight_at}
+use Rattle.rewriting.specs.Reductions.{rank, letters_for, kept, IsAtStep, IsReducing, IsReductionBy, weight, weight_at}
 use Rattle.rewriting.specs.declared.reductions.Reduction.{Reduction}
 use Rattle.rewriting.proofs.Ranks.{rank_below}
 use Rattle.rewriting.proofs.LetterLaws.{over_for, over_itself}
 use Rattle.rewriting.proofs.Standing.{filled, listed_falls, rule_read}
-use Rattle.rewriting.proofs.StateLaws.{end_kept, longest_more, empty_reduced, reduced_front, reduced_more}
+use Rattle.rewriting.proofs.StateLaws.{end_kept, ends_more, longest_more, empty_reduced, reduced_front, reduced_more}
 
 -- a lesser place, and few letters left
 pub lighter : (r s b m n : ℕ) → r < s → m < b → r * b + m < s * b + n
@@ -188,9 +188,12 @@ module _ (rules : List (Word × Word)) (falling : AreFalling rules) (states : Li
       whole = ap₂ (λ (u v : Word). u ++ reverse v) d r ∙ reverse-reverse word
 
 -- with nothing left the word is what is done
-pub reducing_end : (rules : List (Word × Word)) (states : List Word) (word done rest : Word) (path : List ℕ) → IsReducing rules states word done rest path → rest ≡ []
-    → Reduces (Listed rules) word done
-reducing_end rules states word done rest path is e = subst (λ u. Reduces (Listed rules) word u) (ap (λ v. done ++ reverse v) e ∙ append-nil done) is.reaches
+module _ {rules items : List (Word × Word)} (same : items ≡ rules) {states : List Word} {word : Word} (r : Reduction) (is : IsReductionBy items states word r)
+    (none : length r.rest.items ≡ 0) {w : Word} (made : w ≡ r.done.items) where
+  pub read_end : Reduces (Listed rules) word w × IsReduced (Listed rules) w
+  read_end =
+      subst₂ (λ (rs : List (Word × Word)) (u : Word). Reduces (Listed rs) word u × IsReduced (Listed rs) u) same (sym made)
+      (subst (λ u. Reduces (Listed items) word u) (ap (λ v. r.done.items ++ reverse v) (nil_from_length r.rest.items none) ∙ append-nil r.done.items) is.reaches, is.reduced)
 
 -- what a table tells of a state and a letter, of a word at whose end the state is the longest one
 pub step_read : (rules : List (Word × Word)) → AreFalling rules → (states : List Word) → AreStates rules states → (done : Word) (state a t : ℕ) (end : Option ℕ) → IsLongest states done state
@@ -199,15 +202,10 @@ step_read rules falling states are done state a t None last reads = (
   λ ends. reads.ends (end_kept rules falling states are done state a last ends),
   longest_more rules falling states are done state t a last reads.longest,
 )
-step_read rules falling states are done state a t (Some number) last reads = record {
-  within = reads.ends.within;
-  before = last.before ++ reads.ends.before;
-  is = ap (λ x. x ++ a ∷ []) last.is ∙ append_assoc last.before (get_or states state []) (a ∷ []) ∙ ap (λ x. last.before ++ x) reads.ends.is
-      ∙ sym (append_assoc last.before reads.ends.before (left_at rules number));
-}
+step_read rules falling states are done state a t (Some number) last reads = ends_more rules states done state a number last reads.ends
 
 -- a step of a reduction, by what stands at the end
-module _ (rules : List (Word × Word)) (falling : AreFalling rules) (states : List Word) (word : Word) (r : Reduction) (a : ℕ) (step : ℕ × Option ℕ)
+module _ {rules : List (Word × Word)} (falling : AreFalling rules) {states : List Word} {word : Word} {r : Reduction} {a : ℕ} {step : ℕ × Option ℕ}
     (at : IsAtStep rules states word r a step) where
   abbrev Follows : Word → Word → List ℕ → Type 0
   Follows d q p = IsReducing rules states word d q p × (weight rules word d q < weight_at rules word a r)

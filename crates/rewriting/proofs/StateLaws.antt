@@ -1,12 +1,12 @@
 -- The states at the end of a word, and reduced words.
 use Rattle.std.proofs.Common.{◌≡◌, ℕ, ◌<◌, ◌≤◌, List, [], ◌∷◌, ◌++◌, length, take, get_or, refl, sym, ◌∙◌, ap, subst, arith, inl, inr, Contains, append_assoc, append-nil, length-append}
-use Rattle.std.proofs.lemmas.List.{take_at, same_from_push}
+use Rattle.std.proofs.lemmas.List.{get_or_default, take_at, same_from_push}
 use Rattle.theory.specs.Word.{Word}
 use Rattle.theory.specs.Completion.{IsReduced, Listed}
 use Rattle.theory.proofs.Words.{cut_between}
 use Rattle.theory.proofs.FactsLaws.{last_letter}
 use Rattle.rewriting.specs.Rules.{AreFalling}
-use Rattle.rewriting.specs.States.{HasEnd, IsLongest, AreStates}
+use Rattle.rewriting.specs.States.{EndsAt, HasEnd, IsLongest, AreStates}
 use Rattle.rewriting.proofs.Standing.{filled, listed_falls, listed_at}
 
 -- of two ends of one word the shorter stands at the end of the longer
@@ -42,6 +42,26 @@ end_reduces rules u h reduced =
       source = h.is ∙ ap (λ x. h.before ++ x) (sym (append-nil h.left));
       target = refl;
     })
+
+-- the left side of a rule
+pub end_found : (rules : List (Word × Word)) (u : Word) (number : ℕ) → EndsAt rules u number → HasEnd rules u
+end_found rules u number h = record {
+  left = (get_or rules number ([], [])).0;
+  right = (get_or rules number ([], [])).1;
+  before = h.before;
+  listed = (number, h.within, get_or_default rules number (get_or rules number ([], [])) ([], []) h.within);
+  is = h.is;
+}
+
+-- a left side at the end of a state and a letter stands at the end of the word and the letter
+pub ends_more : (rules : List (Word × Word)) (states : List Word) (u : Word) (place a number : ℕ) → IsLongest states u place → EndsAt rules (get_or states place [] ++ a ∷ []) number
+    → EndsAt rules (u ++ a ∷ []) number
+ends_more rules states u place a number longest h = record {
+  within = h.within;
+  before = longest.before ++ h.before;
+  is = ap (λ x. x ++ a ∷ []) longest.is ∙ append_assoc longest.before (get_or states place []) (a ∷ []) ∙ ap (λ x. longest.before ++ x) h.is
+      ∙ sym (append_assoc longest.before h.before (get_or rules number ([], [])).0);
+}
 
 module _ (rules : List (Word × Word)) (falling : AreFalling rules) where
   pub empty_reduced : IsReduced (Listed rules) []

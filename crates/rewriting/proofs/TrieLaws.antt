@@ -20,10 +20,6 @@ letter_below k [] i d over h = absurd (omega (arith, h))
 letter_below k (a ∷ u) zero d over h = over.0
 letter_below k (a ∷ u) (suc i) d over h = letter_below k u i d over.1 (omega (arith, h))
 
--- one state more
-pub words_more : (rules : List (Word × Word)) (prefixes : List Prefix) (p : Prefix) → words_of rules (prefixes ++ p ∷ []) ≡ words_of rules prefixes ++ state_of rules p ∷ []
-words_more rules prefixes p = map-append (state_of rules) prefixes (p ∷ [])
-
 pub words_count : (rules : List (Word × Word)) (prefixes : List Prefix) → length (words_of rules prefixes) ≡ length prefixes
 words_count rules prefixes = length-map prefixes (state_of rules)
 
@@ -187,7 +183,7 @@ module _ (rules : List (Word × Word)) (old : Tree) (read : Prefix) (was now : T
 
       tree_is : tree_of rules now ≡ grown_by rules t is.trie node letter is.within below h.missing
       tree_is = same_tree now.letters was.letters (states_of rules now) (t.states ++ longer t.states node letter ∷ []) now.children _ now.lefts (with_node was.letters was.lefts)
-          h.letters (ap (words_of rules) h.prefixes ∙ words_more rules was.prefixes.items more ∙ ap (λ w. t.states ++ w ∷ []) (sym word_is))
+          h.letters (ap (words_of rules) h.prefixes ∙ map-append (state_of rules) was.prefixes.items (more ∷ []) ∙ ap (λ w. t.states ++ w ∷ []) (sym word_is))
           (h.children ∙ ap (λ z. with_entry (with_node was.letters was.children) node letter (Some z)) number_is) h.lefts
 
       grown : Grown old.states (left_at rules read.rule) (read.count + 1 + 1) (t.states ++ longer t.states node letter ∷ [])
@@ -286,7 +282,7 @@ grown_start k rules = record {
     only = λ n h. inl (let e : n ≡ 0 = omega (arith, h) in ap (λ (i : ℕ). get_or {A = Word} ([] ∷ []) i []) e);
     child_rows = rows_bare 1 k;
     left_rows = rows_bare 1 k;
-    child = λ n a hn ha. subst (λ t. IsChild ([] ∷ []) (longer ([] ∷ []) n a) t) (sym (target_bare 1 k n a)) (alone n a hn);
+    child = λ n a hn ha. subst (λ t. IsChild ([] ∷ []) (longer ([] ∷ []) n a) t) (sym (target_bare 1 k n a)) (no_longer (get_or ([] ∷ []) n []) a);
     left = λ n a hn ha. subst (λ t. IsLeft rules (longer ([] ∷ []) n a) t) (sym (target_bare 1 k n a)) tt;
   };
   are = record { prefixes = prefixes; lefts = λ n h. absurd (omega (arith, h)) };
@@ -299,14 +295,11 @@ grown_start k rules = record {
         let e : [] ≡ p ++ a ∷ [] = ap (λ n. get_or ([] ∷ []) n (p ++ a ∷ [])) (sym z) ∙ h.2 in
         omega (arith, ap length e, length-append p (a ∷ []))
 
-    alone : (n a : ℕ) → n < 1 → Contains ([] ∷ []) (longer ([] ∷ []) n a) → ⊥
-    alone n a h = no_longer (get_or ([] ∷ []) n []) a
-
     prefixes : ArePrefixes ([] ∷ [])
     prefixes = record { some = omega arith; root = refl; closed = λ p a h. absurd (no_longer p a h) }
 
 -- the left side of a rule, as the code reads it
-module _ (rules : List (Word × Word)) (number : ℕ) (rule : Word × Word) (letters : Word) (inside : number < length rules) (read : rule ≡ get_or rules number rule) (is : letters ≡ rule.0) where
+module _ (rules : List (Word × Word)) {number : ℕ} {rule : Word × Word} {letters : Word} (inside : number < length rules) (read : rule ≡ get_or rules number rule) (is : letters ≡ rule.0) where
   pub left_read : letters ≡ left_at rules number
   left_read = is ∙ ap (λ (p : Word × Word). p.0) (rule_read rules rules number rule refl inside read)
 

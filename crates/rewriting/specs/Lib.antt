@@ -1,7 +1,6 @@
 pub mod Rules
 pub mod States
 pub mod Tries
-pub mod Links
 pub mod Tables
 pub mod Reductions
 pub mod Newer

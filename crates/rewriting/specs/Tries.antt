@@ -3,18 +3,25 @@ use Rattle.std.specs.Prelude.{◌≡◌, ◌≢◌, ℕ, ◌+◌, ◌<◌, ◌�
 use Rattle.theory.specs.Word.{Word}
 use Rattle.theory.specs.Graph.{Graph, IsComplete, target}
 use Rattle.cells.specs.Rows.{AreRows, with_entry, with_node}
+use Rattle.rewriting.specs.Rules.{AreOver}
 use Rattle.rewriting.specs.States.{ArePrefixes, AreStatesTo, EndsAt, Grown, HasEnd, IsLongest}
 use Rattle.rewriting.specs.declared.tries.Prefix.{Prefix}
 use Rattle.rewriting.specs.declared.tries.Trie.{Trie}
+use Rattle.rewriting.specs.declared.levels.Levels.{Levels}
+use Rattle.rewriting.specs.declared.links.Tables.{Tables}
 
 -- the left side of the rule at a place
 abbrev pub left_at : List (Word × Word) → ℕ → Word
 left_at rules number = (slice_index_or rules number ([], [])).0
 
+-- the number of letters of one of the first left sides, so many, or 0 where these are none
+abbrev pub IsLeftLengthTo : List (Word × Word) → ℕ → ℕ → Type 0
+IsLeftLengthTo rules count n = ((count ≡ 0) × (n ≡ 0))
+    ⊎ ((place : ℕ) × (place < count) × (length (left_at rules place) ≡ n))
+
 -- the number of letters of a left side, or 0 where there is no rule
 abbrev pub IsLeftLength : List (Word × Word) → ℕ → Type 0
-IsLeftLength rules n = ((rules ≡ []) × (n ≡ 0))
-    ⊎ ((place : ℕ) × (place < length rules) × (length (left_at rules place) ≡ n))
+IsLeftLength rules = IsLeftLengthTo rules (length rules)
 
 -- the word of a prefix: so many letters of the left side of a rule
 abbrev pub state_of : List (Word × Word) → Prefix → Word
@@ -228,6 +235,7 @@ pub record AreTables (t : Tree) (f : Filling) : Type 0 where
 -- the entries before the place in the order and the letter are right
 pub record IsLinkedTo (rules : List (Word × Word)) (t : Tree) (order : List ℕ) (place letter : ℕ)
     (f : Filling) : Type 0 where
+  pub tables : AreTables t f
   pub reads : (n a : ℕ) → n < length t.states → a < t.letters → IsDone order place letter n a
       → Reads rules t.states (longer t.states n a) (state_at f.targets n a) (target f.ends n a)
   pub there : (n a : ℕ) → n < length t.states → a < t.letters → IsDone order place letter n a
@@ -258,3 +266,27 @@ IsBehind node letter f r =
 abbrev pub linked : Option ℕ → ℕ → List ℕ → List ℕ
 linked None to links = links
 linked (Some child) to links = slice_set links child to
+
+-- the tree of the rules, and all its states in order
+pub record AreLevels (levels : Levels) : Type 0 where
+  pub over : AreOver levels.trie.now.letters levels.rules.now
+  pub grown : IsTreeOf levels.rules.now levels.trie.now
+  pub order : IsOrder (states_of levels.rules.now levels.trie.now) levels.order.now
+
+-- what is filled
+abbrev pub filling_of : Tables → Filling
+filling_of tables = record {
+  targets = tables.targets;
+  links = tables.links.items;
+  ends = tables.ends;
+}
+
+-- the entries before a place in the order and a letter are right
+abbrev pub AreLinkedTo : Levels → ℕ → ℕ → Tables → Type 0
+AreLinkedTo levels place letter tables =
+    IsLinkedTo levels.rules.now (tree_of levels.rules.now levels.trie.now) levels.order.now
+    place letter (filling_of tables)
+
+-- each entry of the tables of a tree is right
+abbrev pub AreFilled : List (Word × Word) → Trie → Tables → Type 0
+AreFilled rules trie tables = IsFilled rules (tree_of rules trie) (filling_of tables)

@@ -5,8 +5,7 @@ ghost use Rattle.theory.specs.Word.{Word as Letters};
 ghost use Rattle.theory.specs.Graph.{target as target_of, path as path_of, IsGraph};
 ghost use Rattle.rewriting.specs.Rules.{AreFalling, AreOver};
 ghost use Rattle.rewriting.specs.Tables.{IsTable, IsTableOf, Moves, edges, move_by};
-ghost use Rattle.rewriting.specs.Tries.{IsTreeOf, Reads, longer, words_of};
-ghost use Rattle.rewriting.specs.Links.{AreFilled};
+ghost use Rattle.rewriting.specs.Tries.{IsTreeOf, Reads, longer, words_of, AreFilled};
 
 use crate::levels::Levels;
 use crate::links::{Tables, tables_of};

@@ -2,8 +2,7 @@
 // (Aho and Corasick 1975).
 ghost use Rattle.std.specs.Prelude.{◌≡◌, ℕ, ◌+◌, ◌<◌, ◌≤◌, length, replicate, Option, IfOk};
 ghost use Rattle.std.specs.Option.{ForSome};
-ghost use Rattle.rewriting.specs.Tries.{IsBehind, linked};
-ghost use Rattle.rewriting.specs.Links.{AreFilled, AreLevels, AreLinkedTo, FitLevels, filling_of};
+ghost use Rattle.rewriting.specs.Tries.{IsBehind, linked, AreFilled, AreLevels, AreLinkedTo, filling_of};
 
 use crate::levels::Levels;
 use cells::{Cells, NUMBERS_AT_MOST};
@@ -58,10 +57,8 @@ impl Tables {
         requires levels { AreLevels levels.now }
         requires index { index < length levels.now.order.now }
         requires letter { letter < levels.now.trie.now.letters }
-        requires tables { FitLevels levels.now self.old }
         requires linked { AreLinkedTo levels.now index letter self.old }
-        ensures tables { FitLevels levels.now self.new }
-        ensures linked { AreLinkedTo levels.now index (letter + 1) self.new }
+        ensures { AreLinkedTo levels.now index (letter + 1) self.new }
     {
         let _count = levels.rules.len();
         let trie = levels.trie;
@@ -81,10 +78,8 @@ impl Tables {
         requires few { levels.now.trie.now.letters ≤ 256 }
         requires levels { AreLevels levels.now }
         requires index { index < length levels.now.order.now }
-        requires tables { FitLevels levels.now self.old }
         requires linked { AreLinkedTo levels.now index 0 self.old }
-        ensures tables { FitLevels levels.now self.new }
-        ensures linked { AreLinkedTo levels.now (index + 1) 0 self.new }
+        ensures { AreLinkedTo levels.now (index + 1) 0 self.new }
     {
         let trie = levels.trie;
         for letter in 0..trie.letters {

@@ -114,8 +114,8 @@ impl Newer {
         self.latest.len() == KEYS && self.depth <= left.len()
     }
 
-    /// The last rule of the list is put behind these, which are all others behind the first ones, so
-    /// many. Refused only where memory is wanting.
+    /// The last rule of the list is put behind these, which are all others behind the first ones,
+    /// so many. Refused only where memory is wanting.
     pub fn put_last(&mut self, rules: &Rules, first: usize) -> Result<(), NoMemory>
         requires { (others : List (Letters × Letters)) × (last : Letters × Letters)
             × (rules.now ≡ others ++ last ∷ []) × AreNewer others first self.old }

@@ -1,5 +1,5 @@
-use Rattle.rewriting.specs.Links.{AreLinkedTo, FitLevels}
+use Rattle.rewriting.specs.Tries.{AreLinkedTo}
 use Rattle.rewriting.proofs.links.tables_of.Given as goal
 
 abbrev pub invariant-loop-index : goal.invariant-loop-index
-invariant-loop-index l = record { tables : FitLevels l.levels l.tables; linked : AreLinkedTo l.levels l.index 0 l.tables }
+invariant-loop-index l = AreLinkedTo l.levels l.index 0 l.tables

@@ -16,17 +16,8 @@ returns-clause-grown c =
     let all : c.loop-rule.rule ≡ length c.args.rules.now = omega (arith, ap (λ (rs : List (Word × Word)). length rs) c.rules.view_is) in
     subst (λ n. IsTreeTo c.args.rules.now n c.loop-rule.trie) all c.loop-rule.invariant.grown
 
-pub insert-requires-clause-few : goal.insert-requires-clause-few
-insert-requires-clause-few c = omega (arith, c.loop-rule-test.true)
-
 pub insert-requires-clause-over : goal.insert-requires-clause-over
 insert-requires-clause-over c = subst (λ k. AreOver k c.args.rules.now) (sym c.loop-rule.invariant.letters) c.requires
-
-pub insert-requires-clause-rule : goal.insert-requires-clause-rule
-insert-requires-clause-rule c = omega (arith, c.loop-rule-test.true, ap (λ (rs : List (Word × Word)). length rs) c.rules.view_is)
-
-pub insert-requires-clause-grown : goal.insert-requires-clause-grown
-insert-requires-clause-grown c = c.loop-rule.invariant.grown
 
 pub loop-rule-preserved : goal.loop-rule-preserved
 loop-rule-preserved c = record { letters = c.in_ok-insert.ensures.letters ∙ c.loop-rule.invariant.letters; grown = c.in_ok-insert.ensures.grown }

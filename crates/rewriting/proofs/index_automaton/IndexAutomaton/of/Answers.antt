@@ -19,17 +19,8 @@ returns c =
       full = λ n a hn ha. c.in_ok-tables.ensures.full n a hn (omega (arith, ha, c.in_ok-trie.ensures.letters));
     }
 
-pub trie_of-requires : goal.trie_of-requires
-trie_of-requires c = c.requires.over
-
-pub linked-requires-clause-few : goal.linked-requires-clause-few
-linked-requires-clause-few c = omega (arith, c.requires.few, c.in_ok-trie.ensures.letters)
-
 pub linked-requires-clause-over : goal.linked-requires-clause-over
 linked-requires-clause-over c = subst (λ k. AreOver k c.args.rules.now) (sym c.in_ok-trie.ensures.letters) c.requires.over
-
-pub linked-requires-clause-grown : goal.linked-requires-clause-grown
-linked-requires-clause-grown c = c.in_ok-trie.ensures.grown
 
 pub invariant_of-result : goal.invariant_of-result
 invariant_of-result c =

@@ -1,12 +1,10 @@
 use Rattle.std.proofs.Common.{rules, List, ◌++◌, reverse, sym, ◌∙◌, subst, arith}
 use Rattle.std.proofs.lemmas.List.{nil_from_length}
 use Rattle.theory.specs.Word.{Word}
-use Rattle.theory.specs.Completion.{IsReduced, Listed, Reduces}
-use Rattle.rewriting.specs.Lookups.{states_by}
 use Rattle.rewriting.specs.Traces.{LeadBy, word_so_far}
 use Rattle.rewriting.specs.declared.traces.Applied.{Applied}
 use Rattle.rewriting.proofs.TraceLaws.{traced_end, traced_start}
-use Rattle.rewriting.proofs.ReductionLaws.{reducing_end}
+use Rattle.rewriting.proofs.ReductionLaws.{read_end}
 use Rattle.rewriting.proofs.LookupLaws.{reducing_by_start}
 use Rattle.rewriting.proofs.kept_rules.KeptRules.reduce_traced.Goals as goal
 
@@ -20,16 +18,13 @@ loop-letter-init c = record {
 
 pub returns-clause-reached : goal.returns-clause-reached
 returns-clause-reached c =
-    let by = c.loop-letter.invariant.rewriting in
-    let ended = reducing_end c.self.inside.rules (states_by by.is) c.args.word.now
-    c.loop-letter.reduction.done.items c.loop-letter.reduction.rest.items c.loop-letter.reduction.states.items by.reducing (nil_from_length c.loop-letter.reduction.rest.items (omega (arith, c.in_default.ensures.cases.0, c.loop-letter.reduction.rest.ok))) in
-    let told = subst (λ (rs : List (Word × Word)). Reduces (Listed rs) c.args.word.now c.loop-letter.reduction.done.items) c.self.view_is ended in
-    subst (λ u. Reduces (Listed c.args.self.now) c.args.word.now u) (sym (c.in_ok-reduced.ensures ∙ c.as_slice.ensures.value)) told
+    (read_end c.self.view_is c.loop-letter.reduction c.loop-letter.invariant.rewriting.reducing (omega (arith, c.in_default.ensures.cases.0, c.loop-letter.reduction.rest.ok))
+    (c.in_ok-reduced.ensures ∙ c.as_slice.ensures.value)).0
 
 pub returns-clause-reduced : goal.returns-clause-reduced
 returns-clause-reduced c =
-    let told = subst (λ (rs : List (Word × Word)). IsReduced (Listed rs) c.loop-letter.reduction.done.items) c.self.view_is c.loop-letter.invariant.rewriting.reducing.reduced in
-    subst (λ u. IsReduced (Listed c.args.self.now) u) (sym (c.in_ok-reduced.ensures ∙ c.as_slice.ensures.value)) told
+    (read_end c.self.view_is c.loop-letter.reduction c.loop-letter.invariant.rewriting.reducing (omega (arith, c.in_default.ensures.cases.0, c.loop-letter.reduction.rest.ok))
+    (c.in_ok-reduced.ensures ∙ c.as_slice.ensures.value)).1
 
 pub returns-clause-traced : goal.returns-clause-traced
 returns-clause-traced c =

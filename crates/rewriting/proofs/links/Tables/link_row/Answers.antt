@@ -1,10 +1,9 @@
 use Rattle.std.proofs.Common.{arith}
-use Rattle.rewriting.specs.Links.{filling_of}
-use Rattle.rewriting.specs.Tries.{tree_of}
+use Rattle.rewriting.specs.Tries.{tree_of, filling_of}
 use Rattle.rewriting.proofs.LinkLaws.{row_linked}
 use Rattle.rewriting.proofs.links.Tables.link_row.Goals as goal
 
-pub returns-clause-linked : goal.returns-clause-linked
-returns-clause-linked c =
+pub returns : goal.returns
+returns c =
     row_linked c.args.levels.now.rules.now (tree_of c.args.levels.now.rules.now c.args.levels.now.trie.now) c.args.levels.now.order.now c.args.index c.loop-letter.letter
-    (filling_of c.loop-letter.self) c.requires.index (omega arith) c.loop-letter.invariant.linked
+    (filling_of c.loop-letter.self) c.requires.index (omega arith) c.loop-letter.invariant

@@ -12,5 +12,4 @@ returns-clause-kept c =
     ∙ ap (λ (rs : List (Word × Word)). rs ++ (c.args.left, c.args.right) ∷ []) (sym (none_goes c.args.left c.args.rules (c.has_in_left.ensures c.if-has_in_left.false)).0)
 
 pub returns-clause-gone : goal.returns-clause-gone
-returns-clause-gone c =
-    c.new.ensures.items ∙ sym (none_goes c.args.left c.args.rules (c.has_in_left.ensures c.if-has_in_left.false)).1
+returns-clause-gone c = c.new.ensures.items ∙ sym (none_goes c.args.left c.args.rules (c.has_in_left.ensures c.if-has_in_left.false)).1

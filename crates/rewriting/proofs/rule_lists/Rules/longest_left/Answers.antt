@@ -1,7 +1,7 @@
-use Rattle.std.proofs.Common.{◌≡◌, ◌≤◌, length, refl, ◌∙◌, ap, arith, below_more}
+use Rattle.std.proofs.Common.{◌≡◌, ◌≤◌, length, refl, ◌∙◌, ap, subst, arith, below_more}
 use Rattle.theory.specs.Word.{Word}
-use Rattle.rewriting.specs.Tries.{left_at}
-use Rattle.rewriting.proofs.LetterLaws.{reached_all, reached_more}
+use Rattle.rewriting.specs.Tries.{IsLeftLengthTo, left_at}
+use Rattle.rewriting.proofs.LetterLaws.{reached_more}
 use Rattle.rewriting.proofs.Standing.{rule_read}
 use Rattle.rewriting.proofs.rule_lists.Rules.longest_left.Goals as goal
 
@@ -18,4 +18,4 @@ loop-place-preserved c =
     }
 
 pub returns-clause-reached : goal.returns-clause-reached
-returns-clause-reached c = reached_all c.args.self.now c.loop-place.place c.loop-place.longest (omega arith) c.loop-place.invariant.reached
+returns-clause-reached c = subst (λ count. IsLeftLengthTo c.args.self.now count c.loop-place.longest) (omega arith) c.loop-place.invariant.reached
