@@ -1,5 +1,5 @@
 -- The words of a frame as paths, and the next of them.
-use Rattle.std.proofs.Common.{◌≡◌, ◌↔◌, ℕ, zero, suc, ◌+◌, ◌-◌, ◌<◌, ◌≤◌, List, [], ◌∷◌, ◌++◌, length, map, get_or, refl, sym, ◌∙◌, ap, subst, arith, inl, inr, Bool, true, false, not, Option, Some, None, Vec, Global, option_and_then}
+use Rattle.std.proofs.Common.{◌≡◌, ◌↔◌, ℕ, zero, suc, ◌+◌, ◌-◌, ◌<◌, ◌≤◌, List, [], ◌∷◌, ◌++◌, length, map, get_or, refl, sym, ◌∙◌, ap, subst, arith, inl, inr, Bool, true, Option, Some, None, Vec, Global, option_and_then}
 use Rattle.std.specs.Option.{MatchOption, is_some}
 use Rattle.std.proofs.lemmas.Bool.{cases_lt}
 use Rattle.std.proofs.lemmas.List.{get_or_append_left, get_or_push, length-map, length_push, map_push}
@@ -295,9 +295,3 @@ module _ (a : Reading) (frame : Frame) (reader : IsReader a.letters a.rules a.gr
         go : (o : Option ℕ) → f.limit ≡ o → AreFinite (IsFramed a frame) ◌≺◌
         go None e = absurd (some e)
         go (Some limit) e = framed_list limit e
-
-pub none_test : (o : Option ℕ) (answer : Bool) → is_some o ≡ not answer → (answer ≡ true) ↔ (o ≡ None)
-none_test None true e = (λ t. refl, λ n. refl)
-none_test None false e = absurd (let no : ⊥ = cc in no)
-none_test (Some x) true e = absurd (let no : ⊥ = cc in no)
-none_test (Some x) false e = (λ t. absurd (let no : ⊥ = cc in no), λ n. none_then x n _)

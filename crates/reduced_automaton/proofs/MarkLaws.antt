@@ -2,7 +2,7 @@
 use Rattle.std.proofs.Common.{◌≡◌, ◌↔◌, ℕ, zero, suc, ◌+◌, ◌-◌, ◌<◌, ◌≤◌, List, [], ◌∷◌, ◌++◌, length, map, take, get_or, refl, sym, ◌∙◌, ap, subst, arith, inl, inr, Bool, true, false, Option, Some, None, Vec, Global, if◌then◌else◌}
 use Rattle.std.specs.Option.{is_some}
 use Rattle.std.proofs.lemmas.Bool.{cases_lt}
-use Rattle.std.proofs.lemmas.List.{get_or-map, get_or-take, get_or_past, get_or_append_left, get_or_push, length-map, length-take-le, length_push, take_more}
+use Rattle.std.proofs.lemmas.List.{get_or-map, get_or-take, get_or_past, get_or_read, get_or_append_left, get_or_push, length-map, length-take-le, length_push, take_more}
 use Rattle.theory.specs.Word.{Word}
 use Rattle.theory.specs.Graph.{Graph, target, path, IsGraph}
 use Rattle.cells.proofs.EntryLaws.{target_is}
@@ -62,6 +62,9 @@ module _ (m : ℕ) (g : Graph) where
       | inr past ↦ let bad : None ≡ Some next = sym (narrowed_past node a past) ∙ e in cc
     ];
   }
+
+pub marked_not : (b : Bool) → b ≡ false → b ≡ true → ⊥
+marked_not b e t = let bad : false ≡ true = sym e ∙ t in cc
 
 -- Marks one after another.
 pub marks_start : (P : ℕ → Type 0) → AreMarks P 0 []
@@ -176,33 +179,24 @@ module _ (p : Paths) (graph : AreIn p) where
     λ h. end_here p node h,
   )
 
+  -- an edge to a marked node, where an edge leads from what Q says to what P says, and back
+  leads_as : (P Q : ℕ → Type 0) (marks : List Bool) → AreMarks P (length p.graph) marks
+      → ((node a next : ℕ) → target p.graph node a ≡ Some next → P next → Q node)
+      → ((node : ℕ) → Q node → (a next : ℕ) × (target p.graph node a ≡ Some next) × P next) → (node : ℕ) → LeadsTo p.graph marks node ↔ Q node
+  leads_as P Q marks h behind first node = (
+    λ leads. behind node leads.letter leads.next leads.is ((h.at leads.next (graph.nodes node leads.letter leads.next leads.is)).0 leads.marked),
+    λ q. let f = first node q in record { letter = f.0; next = f.1; is = f.2; marked = (h.at f.1 (graph.nodes node f.0 f.1 f.2)).1 f.3 },
+  )
+
   pub layer_more : (n : ℕ) (marks : List Bool) → AreMarks (λ node. GoesOn p node n) (length p.graph) marks
       → (node : ℕ) → LeadsTo p.graph marks node ↔ GoesOn p node (n + 1)
-  layer_more n marks h node = (
-    λ leads. goes_behind p graph node leads.letter leads.next n leads.is ((h.at leads.next (graph.nodes node leads.letter leads.next leads.is)).0 leads.marked),
-    λ goes.
-        let first = goes_first p node n goes in
-        record {
-          letter = first.0;
-          next = first.1;
-          is = first.2;
-          marked = (h.at first.1 (graph.nodes node first.0 first.1 first.2)).1 first.3;
-        },
-  )
+  layer_more n marks h =
+      leads_as (λ node. GoesOn p node n) (λ node. GoesOn p node (n + 1)) marks h (λ node a next e goes. goes_behind p graph node a next n e goes) (λ node goes. goes_first p node n goes)
 
   pub far_more : (n : ℕ) (marks : List Bool) → AreMarks (λ node. GoesFar p node n) (length p.graph) marks
       → (node : ℕ) → LeadsTo p.graph marks node ↔ GoesFar p node (n + 1)
-  far_more n marks h node = (
-    λ leads. far_behind p graph node leads.letter leads.next n leads.is ((h.at leads.next (graph.nodes node leads.letter leads.next leads.is)).0 leads.marked),
-    λ goes.
-        let first = far_first p node n goes in
-        record {
-          letter = first.0;
-          next = first.1;
-          is = first.2;
-          marked = (h.at first.1 (graph.nodes node first.0 first.1 first.2)).1 first.3;
-        },
-  )
+  far_more n marks h =
+      leads_as (λ node. GoesFar p node n) (λ node. GoesFar p node (n + 1)) marks h (λ node a next e far. far_behind p graph node a next n e far) (λ node far. far_first p node n far)
 
   module _ (ends : List Bool) (are : AreMarks (λ node. GoesOn p node 0) (length p.graph) ends) where
     pub growing_start : AreGrowing p ends ends 1 true
@@ -272,17 +266,21 @@ module _ (p : Paths) (graph : AreIn p) where
     pub far_start : (far : List Bool) → AreMarks (λ node. GoesFar p node 0) (length p.graph) far → AreFar p start 0 far
     far_start far h = record { marks = h; before = λ n less. absurd (omega arith); few = omega (arith, count_most far, h.long) }
 
-    module _ (letters : ℕ) (far : List Bool) (h : AreFar p start letters far) where
-      pub far_limit : (IsMarked far start → ⊥) → IsLimit p start (Some letters)
+    -- the mark of the start, as the code reads it
+    module _ (letters : ℕ) (far : List Bool) (h : AreFar p start letters far) (mark : Bool) (at : mark ≡ get_or far start mark) where
+      is_read : mark ≡ get_or far start false
+      is_read = get_or_read far start mark (omega (arith, inside, h.marks.long)) at false
+
+      pub far_limit : mark ≡ false → IsLimit p start (Some letters)
       far_limit none n = (
         λ goes. elim (cases_lt n letters) [
           | inl less ↦ less
-          | inr more ↦ absurd (none ((h.marks.at start inside).1 (far_less p start n letters more goes)))
+          | inr more ↦ absurd (marked_not mark none (is_read ∙ (h.marks.at start inside).1 (far_less p start n letters more goes)))
         ],
         λ less. h.before n less,
       )
 
-      module _ (t : IsMarked far start) (next : List Bool) (layer : AreMarks (LeadsTo p.graph far) (length p.graph) next) where
+      module _ (some : mark ≡ true) (next : List Bool) (layer : AreMarks (LeadsTo p.graph far) (length p.graph) next) where
         pub far_next : AreMarks (λ node. GoesFar p node (letters + 1)) (length p.graph) next
         far_next = marks_same (LeadsTo p.graph far) (λ node. GoesFar p node (letters + 1)) (length p.graph) next (λ node less. far_more letters far h.marks node) layer
 
@@ -295,7 +293,7 @@ module _ (p : Paths) (graph : AreIn p) where
         far_step fewer =
             record {
               marks = far_next;
-              before = λ n less. far_less p start letters n (omega arith) ((h.marks.at start inside).0 t);
+              before = λ n less. far_less p start letters n (omega arith) ((h.marks.at start inside).0 (sym is_read ∙ some));
               few = omega (arith, fewer, h.few);
             }
 
@@ -311,7 +309,7 @@ module _ (p : Paths) (graph : AreIn p) where
             (far_behind p graph node leads.letter leads.next (letters + n) leads.is (endless same n leads.next leads.marked))
 
         pub far_endless : count_marked far ≤ count_marked next → IsLimit p start None
-        far_endless same n = (λ goes. tt, λ none. far_less p start (letters + n) n (omega arith) (endless same n start t))
+        far_endless same n = (λ goes. tt, λ none. far_less p start (letters + n) n (omega arith) (endless same n start (sym is_read ∙ some)))
 
 -- the ends of a frame
 pub ends_are : (g : Graph) (frame : Frame) (node : ℕ) (mark : Bool) → mark ≡ is_some (path g node frame.suffix)
@@ -363,6 +361,3 @@ pub layer_in : (g : Graph) (frame : Frame) (marks read new : List Bool) → read
 layer_in g frame marks read new e h =
     marks_end (LeadsTo (narrowed frame.letters g) marks) (length g) (length (frame_paths g frame).graph) new (sym (narrowed_count frame.letters g))
     (subst (λ (xs : List Bool). AreMarks (LeadsTo (narrowed frame.letters g) xs) (length g) new) e h)
-
-pub marked_not : (b : Bool) → b ≡ false → b ≡ true → ⊥
-marked_not b e t = let bad : false ≡ true = sym e ∙ t in cc

@@ -218,9 +218,9 @@ module _ (p : Paths) where
             (next_along (take place u) (a ∷ drop (place + 1) u) (b ∷ v) root node here at)
 
         -- a rise at a place of the word
-        pub rise_at : (n b next : ℕ) → n + place + 1 ≡ length u → IsLeastEdge p node n (a + 1) b next → IsRise p root u place b next n
+        pub rise_at : (n b next : ℕ) → n + place + 1 ≡ length u → IsLeastEdge p node n (a + 1) b next → IsRise p root u (record { place = place; letter = b; node = next; count = n })
         rise_at n b next size edge =
-            record { within = omega arith; goes = edge.goes; next = λ v least. scan_next n b next v size edge least }
+            record { within = omega arith; short = omega (arith, size); goes = edge.goes; next = λ v least. scan_next n b next v size edge least }
 
     -- no edge at all
     pub without_ends : (node n : ℕ) → IsWithoutEdge p node n 0 → GoesOn p node (n + 1) → ⊥

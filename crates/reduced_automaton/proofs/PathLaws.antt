@@ -1,5 +1,5 @@
 -- Words that lead to an end, letter by letter.
-use Rattle.std.proofs.Common.{◌≡◌, ◌↔◌, ℕ, ◌+◌, ◌≤◌, [], ◌∷◌, length, Bool, true, false, refl, sym, ◌∙◌, ap, arith, Option, Some, None, option_and_then}
+use Rattle.std.proofs.Common.{◌≡◌, ◌↔◌, ℕ, ◌+◌, ◌≤◌, [], ◌∷◌, length, Bool, true, false, not, refl, sym, ◌∙◌, ap, arith, Option, Some, None, option_and_then}
 use Rattle.std.specs.Option.{MatchOption, is_some}
 use Rattle.theory.specs.Word.{Word}
 use Rattle.theory.specs.Graph.{target, path}
@@ -85,3 +85,10 @@ some_as (Some x) P R Q S h e on = on x h
 -- a test that fails
 pub not_then : (b : Bool) (P : Type 0) → (b ≡ true) ↔ P → b ≡ false → P → ⊥
 not_then b P h e p = let bad : false ≡ true = sym e ∙ h.1 p in cc
+
+-- a test whether there is none
+pub none_test : (o : Option ℕ) (answer : Bool) → is_some o ≡ not answer → (answer ≡ true) ↔ (o ≡ None)
+none_test None true e = (λ t. refl, λ n. refl)
+none_test None false e = absurd (let no : ⊥ = cc in no)
+none_test (Some x) true e = absurd (let no : ⊥ = cc in no)
+none_test (Some x) false e = (λ t. absurd (let no : ⊥ = cc in no), λ n. absurd (let no : ⊥ = cc in no))

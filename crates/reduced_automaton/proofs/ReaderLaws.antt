@@ -11,8 +11,7 @@ use Rattle.rewriting.specs.Rules.{AreFalling}
 use Rattle.rewriting.specs.States.{HasEnd, IsLongest, AreStates}
 use Rattle.rewriting.specs.Tables.{Moves, move_by, edges, IsTable, IsTableOf}
 use Rattle.rewriting.specs.Tries.{Reads, longer, words_of}
-use Rattle.rewriting.proofs.Searches.{end_found}
-use Rattle.rewriting.proofs.StateLaws.{empty_longest, empty_reduced, end_kept, end_reduces, longest_more, reduced_front, reduced_more}
+use Rattle.rewriting.proofs.StateLaws.{empty_longest, empty_reduced, end_found, end_kept, end_reduces, longest_more, reduced_front, reduced_more}
 use Rattle.rewriting.proofs.TableLaws.{edge_is, table_graph}
 use Rattle.rewriting.proofs.TrieLaws.{words_count}
 use Rattle.reduced_automaton.specs.Paths.{HasPath, all_paths}

@@ -1,8 +1,8 @@
 -- A next reduced word, or none; and how many there are.
-use Rattle.std.proofs.Common.{◌≡◌, ◌↔◌, ℕ, zero, suc, ◌+◌, ◌-◌, ◌<◌, ◌≤◌, List, [], ◌∷◌, length, get_or, replicate, refl, sym, ◌∙◌, ap, subst, arith, ◌⊎◌, inl, inr, Bool, true, false, Option, Some, None}
+use Rattle.std.proofs.Common.{◌≡◌, ◌↔◌, ℕ, zero, suc, ◌+◌, ◌-◌, ◌<◌, ◌≤◌, List, [], ◌∷◌, length, get_or, replicate, refl, sym, ◌∙◌, ap, subst, arith, ◌⊎◌, inl, inr, Bool, true, false, not, Option, Some, None}
 use Rattle.std.specs.Option.{MatchOption, is_some}
 use Rattle.std.proofs.lemmas.Bool.{cases_lt}
-use Rattle.std.proofs.lemmas.List.{length-replicate}
+use Rattle.std.proofs.lemmas.List.{get_or_read, length-replicate}
 use Rattle.std.proofs.lemmas.Option.{same_Some}
 use Rattle.theory.specs.Word.{Word, IsOver}
 use Rattle.theory.specs.ShortLex.{◌≺◌}
@@ -15,7 +15,7 @@ use Rattle.theory.proofs.ClassLaws.{shortlex_strict}
 use Rattle.word_graph.proofs.EdgeLaws.{target_in}
 use Rattle.reduced_automaton.specs.Paths.{AreIn, GoesFar, GoesOn, HasPath, IsLastOfLength, IsLeastEdge, IsLeastPath, IsNextOfLength, IsWithoutEdge, Paths, all_paths}
 use Rattle.reduced_automaton.specs.Automaton.{Allows, AreDepths, IsReader, IsReducedWord, Reading}
-use Rattle.reduced_automaton.proofs.PathLaws.{goes_as, goes_behind, goes_path}
+use Rattle.reduced_automaton.proofs.PathLaws.{goes_as, goes_behind, goes_path, none_test}
 use Rattle.reduced_automaton.proofs.DepthLaws.{goes_shorter, option_cases}
 use Rattle.reduced_automaton.proofs.NextPaths.{IsPassed, end_here, last_here, last_nil, least_behind, least_is, least_nil, next_as_long, next_behind, next_here, passed_last, passed_more, passed_next, passed_start, passed_word, without_ends}
 use Rattle.rewriting.proofs.LetterLaws.{over_more}
@@ -274,7 +274,7 @@ module _ (a : Reading) (g : Graph) (reader : IsReader a.letters a.rules g) where
       | inr next ↦ inr (next.0, next_same (HasPath (all_paths a.letters g) 0) (IsReducedWord a) ◌≺◌ reads cursor next.0 next.1)
     ]
 
-    pub infinite_from : get_or depths 0 None ≡ None → AreInfinite (IsReducedWord a) ◌≺◌
+    infinite_from : get_or depths 0 None ≡ None → AreInfinite (IsReducedWord a) ◌≺◌
     infinite_from e = endless_infinite a.letters (IsReducedWord a) (λ u h. h.over) goes_on long
       where
         long : (n : ℕ) → (u : Word) × IsReducedWord a u × (n ≤ length u)
@@ -285,18 +285,30 @@ module _ (a : Reading) (g : Graph) (reader : IsReader a.letters a.rules g) where
         subst (λ (o : Option ℕ). Allows o (length u)) e
         (far_allows (length u) (record { word = u; long = omega arith; has = (reads u).1 h }))
 
-    pub infinite_depth : AreInfinite (IsReducedWord a) ◌≺◌ → get_or depths 0 None ≡ None
+    infinite_depth : AreInfinite (IsReducedWord a) ◌≺◌ → get_or depths 0 None ≡ None
     infinite_depth infinite = go (get_or depths 0 None) refl
       where
         go : (o : Option ℕ) → get_or depths 0 None ≡ o → o ≡ None
         go None e = refl
         go (Some most) e = absurd (ended_finite a.letters (IsReducedWord a) (λ u h. h.over) goes_on most (few_letters most e) infinite)
 
-    pub finite_from : (get_or depths 0 None ≡ None → ⊥) → AreFinite (IsReducedWord a) ◌≺◌
+    finite_from : (get_or depths 0 None ≡ None → ⊥) → AreFinite (IsReducedWord a) ◌≺◌
     finite_from some = elim (option_cases (get_or depths 0 None)) [
       | inl none ↦ absurd (some none)
       | inr most ↦ list_of_all a.letters (IsReducedWord a) (λ u h. h.over) goes_on most.0 (few_letters most.0 most.1)
     ]
+
+    -- a test of the depth of the root, as the code reads it
+    module _ (depth : Option ℕ) (at : depth ≡ get_or depths 0 depth) (answer : Bool) (tested : is_some depth ≡ not answer) where
+      test : (answer ≡ true) ↔ (get_or depths 0 None ≡ None)
+      test = none_test (get_or depths 0 None) answer
+          (ap is_some (sym (get_or_read depths 0 depth (omega (arith, is.count, reader.graph.rooted)) at None)) ∙ tested)
+
+      pub infinite_tested : (answer ≡ true) ↔ AreInfinite (IsReducedWord a) ◌≺◌
+      infinite_tested = (λ t. infinite_from (test.0 t), λ infinite. test.1 (infinite_depth infinite))
+
+      pub finite_tested : answer ≡ false → AreFinite (IsReducedWord a) ◌≺◌
+      finite_tested f = finite_from (λ none. let bad : false ≡ true = sym f ∙ test.1 none in cc)
 
   -- a path there, or none
   pub reduced_is : (u : Word) → IsOver a.letters u → (there : Bool) → there ≡ is_some (path g 0 u) → (there ≡ true) ↔ IsReduced (Listed a.rules) u

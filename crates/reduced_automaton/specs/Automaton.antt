@@ -6,6 +6,7 @@ use Rattle.theory.specs.Graph.{Graph, IsGraph, target}
 use Rattle.word_graph.specs.Gaps.{count_none}
 use Rattle.rewriting.specs.States.{HasEnd, IsLongest}
 use Rattle.rewriting.specs.Tables.{IsTableOf, Moves, edges}
+use Rattle.rewriting.specs.Tries.{words_of}
 use Rattle.reduced_automaton.specs.Paths.{GoesOn, HasPath, all_paths}
 
 -- words over so many letters, rules for them, the states by which they are read, and the graph of
@@ -42,12 +43,21 @@ pub record AreDepths (k : ℕ) (g : Graph) (depths : List (Option ℕ)) : Type 0
   pub depth : (node n : ℕ) → node < length g
       → GoesOn (all_paths k g) node n ↔ Allows (slice_index_or depths node None) n
 
+-- the automaton of rules and their table
+abbrev pub reading_of : List (Word × Word) → Moves → Reading
+reading_of rules m = record {
+  letters = m.letters;
+  rules = rules;
+  states = words_of rules m.prefixes;
+  graph = edges m;
+}
+
 -- what an automaton holds
-pub record IsAutomaton (k : ℕ) (rules : List (Word × Word)) (m : Moves)
+pub record IsAutomaton (rules : List (Word × Word)) (m : Moves)
     (most : List (Option ℕ)) : Type 0 where
-  pub table : IsTableOf k rules m
-  pub reader : IsReader k rules (edges m)
-  pub depths : AreDepths k (edges m) most
+  pub table : IsTableOf m.letters rules m
+  pub reader : IsReader m.letters rules (edges m)
+  pub depths : AreDepths m.letters (edges m) most
 
 -- the edge of the letter a leads from the node to one whose depth allows n letters more
 pub record LeadsBy (g : Graph) (depths : List (Option ℕ)) (node n a : ℕ) : Type 0 where

@@ -4,7 +4,9 @@ use Rattle.std.specs.Option.{is_some}
 use Rattle.theory.specs.Word.{Word}
 use Rattle.theory.specs.Graph.{Graph, path, target}
 use Rattle.reduced_automaton.specs.Paths.{GoesFar, GoesOn, HasPath, IsLeastPath, Paths, narrowed}
+use Rattle.rewriting.specs.Tables.{edges}
 use Rattle.reduced_automaton.specs.declared.frames.Frame.{Frame}
+use Rattle.reduced_automaton.specs.declared.frames.Scope.{Scope}
 use Rattle.reduced_automaton.specs.declared.framings.Framing.{Framing}
 
 -- the paths by the first letters to where the suffix can be read
@@ -79,6 +81,10 @@ pub record IsLeastFrom (p : Paths) (node first : ℕ) (w : Word) : Type 0 where
   pub next : IsNextLength p node first length
   pub least : IsLeastPath p node length w
 
+-- the paths of a scope
+abbrev pub paths_in : Scope → Paths
+paths_in scope = frame_paths (edges scope.graph.now) scope.frame.now
+
 -- what is found once for the frame in the graph of so many letters
 pub record IsFraming (k : ℕ) (g : Graph) (frame : Frame) (f : Framing) : Type 0 where
   pub few : frame.letters ≤ k
@@ -87,3 +93,8 @@ pub record IsFraming (k : ℕ) (g : Graph) (frame : Frame) (f : Framing) : Type 
   pub none : f.start ≡ None → f.limit ≡ Some 0
   pub spread : IsSpread (frame_paths g frame) f.spread
   pub layers : AreLayers (frame_paths g frame) (map (λ v. v.items) f.layers.items)
+
+-- what is found once for a scope
+abbrev pub IsFramingIn : Scope → Framing → Type 0
+IsFramingIn scope f =
+    IsFraming scope.graph.now.letters (edges scope.graph.now) scope.frame.now f

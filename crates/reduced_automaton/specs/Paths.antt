@@ -3,6 +3,7 @@ use Rattle.std.specs.Prelude.{◌≡◌, ℕ, ◌<◌, ◌≤◌, Bool, true, Li
 use Rattle.theory.specs.Word.{Word, IsOver}
 use Rattle.theory.specs.ShortLex.{◌≺◌}
 use Rattle.theory.specs.Graph.{Graph, IsGraph, path, target}
+use Rattle.reduced_automaton.specs.declared.readers.Rise.{Rise}
 
 -- paths by words over so many letters, along the edges of a graph, to nodes that are ends
 pub record Paths : Type 0 where
@@ -78,10 +79,11 @@ pub record AreNodesAlong (g : Graph) (root : ℕ) (u : Word) (nodes : List ℕ) 
       → path g root (take place u) ≡ Some (slice_index nodes place)
   pub end : length nodes < length u → path g root (take (length nodes) u) ≡ None
 
--- so many letters of u, the letter a, and then the least word of n letters from the node make the
--- next word that is as long as u
-pub record IsRise (p : Paths) (root : ℕ) (u : Word) (place a node n : ℕ) : Type 0 where
-  pub within : place ≤ length u
-  pub goes : GoesOn p node n
-  pub next : (v : Word) → IsLeastPath p node n v
-      → IsNextOfLength p root u (take place u ++ a ∷ v)
+-- the letters of u before the place, the letter, and then the least word of so many letters from
+-- the node make the next word that is as long as u
+pub record IsRise (p : Paths) (root : ℕ) (u : Word) (rise : Rise) : Type 0 where
+  pub within : rise.place ≤ length u
+  pub short : rise.count ≤ length u
+  pub goes : GoesOn p rise.node rise.count
+  pub next : (v : Word) → IsLeastPath p rise.node rise.count v
+      → IsNextOfLength p root u (take rise.place u ++ rise.letter ∷ v)

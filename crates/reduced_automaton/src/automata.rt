@@ -13,7 +13,7 @@ ghost use Rattle.reduced_automaton.specs.Frames.{IsFramed};
 ghost use Rattle.reduced_automaton.specs.Framings.{IsFraming};
 
 use crate::depths::depths_of;
-use crate::frames::Frame;
+use crate::frames::{Frame, Scope};
 use crate::framings::Framing;
 use crate::readers::next_path;
 use ports::NoMemory;
@@ -27,27 +27,19 @@ use words::{Letter, Word};
 #[derive(Drop)]
 pub struct Automaton {
     alloc: Global,
-    letters: usize,
     rules: Rules,
     table: IndexAutomaton,
     depths: Vec<Option<usize>>,
 }
 
 impl Model for Automaton {
-    ghost use Rattle.reduced_automaton.specs.Automaton.{IsAutomaton, Reading};
-    ghost use Rattle.rewriting.specs.Tables.{edges};
-    ghost use Rattle.rewriting.specs.Tries.{words_of};
+    ghost use Rattle.reduced_automaton.specs.Automaton.{IsAutomaton, Reading, reading_of};
 
     ghost Value = { Reading };
 
-    ghost view = { λ a. record {
-      letters = a.letters;
-      rules = a.rules;
-      states = words_of a.rules a.table.prefixes;
-      graph = edges a.table;
-    } };
+    ghost view = { λ a. reading_of a.rules a.table };
 
-    ghost invariant = { λ a. IsAutomaton a.letters a.rules a.table a.depths.items };
+    ghost invariant = { λ a. IsAutomaton a.rules a.table a.depths.items };
 }
 
 impl Automaton {
@@ -66,7 +58,6 @@ impl Automaton {
         let depths = depths_of(alloc, &table)?;
         Ok(Automaton {
             alloc,
-            letters,
             rules,
             table,
             depths,
@@ -188,7 +179,12 @@ impl Automaton {
             (IsLast (IsFramed self.now frame.now) ◌≺◌ (option_copied after.entry))
             (IsNext (IsFramed self.now frame.now) ◌≺◌ (option_copied after.entry))) }
     {
-        framing.next_after(self.alloc, &self.table, frame, after)
+        let scope = Scope {
+            alloc: self.alloc,
+            graph: &self.table,
+            frame,
+        };
+        framing.next_after(&scope, after)
     }
 
     /// Whether infinitely many words stand in the frame, whose letters are at most as many as those

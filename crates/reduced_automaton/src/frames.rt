@@ -8,6 +8,8 @@ ghost use Rattle.reduced_automaton.specs.Frames.{IsFramed};
 use crate::automata::Automaton;
 use crate::framings::Framing;
 use ports::NoMemory;
+use rewriting::IndexAutomaton;
+use std::alloc::Global;
 use std::marker::Model;
 use words::Word;
 
@@ -19,6 +21,14 @@ pub struct Frame {
     pub prefix: Word,
     pub letters: usize,
     pub suffix: Word,
+}
+
+/// Where the words of a frame are looked for: the graph, and the frame.
+#[derive(Clone, Copy)]
+pub struct Scope<'a> {
+    pub alloc: Global,
+    pub graph: &'a IndexAutomaton,
+    pub frame: &'a Frame,
 }
 
 /// An automaton with a frame, and what is found once to list the words in it.

@@ -4,11 +4,11 @@ ghost use Rattle.std.specs.Option.{option_copied};
 ghost use Rattle.theory.specs.Graph.{path as path_of};
 ghost use Rattle.theory.specs.ShortLex.{◌≺◌};
 ghost use Rattle.theory.specs.Listing.{IsLast, IsNext};
-ghost use Rattle.reduced_automaton.specs.Framings.{IsFraming, IsLeastFrom, IsNextLength, IsPathIn, IsUnder, frame_paths};
+ghost use Rattle.reduced_automaton.specs.Framings.{IsFraming, IsFramingIn, IsLeastFrom, IsNextLength, IsPathIn, IsUnder, paths_in};
 ghost use Rattle.reduced_automaton.specs.Paths.{GoesFar, IsLastOfLength, IsNextOfLength};
 ghost use Rattle.rewriting.specs.Tables.{edges};
 
-use crate::frames::Frame;
+use crate::frames::{Frame, Scope};
 use crate::marks::{ends_of, layer_behind, leading, limit_of};
 use crate::paths::FramePaths;
 use crate::readers::{least_word, next_as_long};
@@ -65,21 +65,15 @@ impl Framing {
     }
 
     // Finds the layers up to this one.
-    fn grow(
-        &mut self,
-        alloc: Global,
-        graph: &IndexAutomaton,
-        frame: &Frame,
-        count: usize,
-    ) -> Result<(), NoMemory>
-        requires { IsFraming graph.now.letters (edges graph.now) frame.now self.old }
-        ensures framing { IsFraming graph.now.letters (edges graph.now) frame.now self.new }
+    fn grow(&mut self, scope: &Scope, count: usize) -> Result<(), NoMemory>
+        requires { IsFramingIn scope.now self.old }
+        ensures framing { IsFramingIn scope.now self.new }
         ensures known { OnOk result (count < length self.new.layers.items) }
     {
-        let _letters = graph.letters();
+        let _letters = scope.graph.letters();
         while self.layers.len() <= count {
             let last = self.layers[self.layers.len() - 1].as_slice();
-            let layer = layer_behind(alloc, graph, frame.letters, last)?;
+            let layer = layer_behind(scope.alloc, scope.graph, scope.frame.letters, last)?;
             self.layers.push(layer)?;
         }
         Ok(())
@@ -88,52 +82,48 @@ impl Framing {
     // The least word in the frame that is as long as the word, and greater.
     fn next_of_length(
         &mut self,
-        alloc: Global,
-        graph: &IndexAutomaton,
-        frame: &Frame,
+        scope: &Scope,
         start: usize,
         word: &Word,
     ) -> Result<Option<Word>, NoMemory>
-        requires framing { IsFraming graph.now.letters (edges graph.now) frame.now self.old }
+        requires framing { IsFramingIn scope.now self.old }
         requires start { self.old.start ≡ Some start }
-        ensures framing { IsFraming graph.now.letters (edges graph.now) frame.now self.new }
+        ensures framing { IsFramingIn scope.now self.new }
         ensures next { IfOk result (λ next. MatchOption next
-            (IsLastOfLength (frame_paths (edges graph.now) frame.now) start word.now)
-            (IsNextOfLength (frame_paths (edges graph.now) frame.now) start word.now)) }
+            (IsLastOfLength (paths_in scope.now) start word.now)
+            (IsNextOfLength (paths_in scope.now) start word.now)) }
     {
         if !is_under(self.limit, word.len()) {
             return Ok(None);
         }
-        self.grow(alloc, graph, frame, word.len())?;
-        let paths = FramePaths::new(graph, frame, self.layers.as_slice());
-        next_as_long(alloc, &paths, start, word)
+        self.grow(scope, word.len())?;
+        let paths = FramePaths::new(scope.graph, scope.frame, self.layers.as_slice());
+        next_as_long(scope.alloc, &paths, start, word)
     }
 
     // The least length of a word in the frame, from a number on.
     fn next_length(
         &mut self,
-        alloc: Global,
-        graph: &IndexAutomaton,
-        frame: &Frame,
+        scope: &Scope,
         start: usize,
         from: usize,
     ) -> Result<Option<usize>, NoMemory>
-        requires framing { IsFraming graph.now.letters (edges graph.now) frame.now self.old }
+        requires framing { IsFramingIn scope.now self.old }
         requires start { self.old.start ≡ Some start }
-        ensures framing { IsFraming graph.now.letters (edges graph.now) frame.now self.new }
+        ensures framing { IsFramingIn scope.now self.new }
         ensures known { IfOk result (λ next. MatchOption next (Unit {0})
             (λ count. count < length self.new.layers.items)) }
         ensures next { IfOk result (λ next. MatchOption next
-            (GoesFar (frame_paths (edges graph.now) frame.now) start from → ⊥)
-            (IsNextLength (frame_paths (edges graph.now) frame.now) start from)) }
+            (GoesFar (paths_in scope.now) start from → ⊥)
+            (IsNextLength (paths_in scope.now) start from)) }
     {
-        let _letters = graph.letters();
+        let _letters = scope.graph.letters();
         if !is_under(self.limit, from) {
             return Ok(None);
         }
         let mut count = from;
         for more in 0..self.spread {
-            self.grow(alloc, graph, frame, count)?;
+            self.grow(scope, count)?;
             if self.layers[count][start] {
                 return Ok(Some(count));
             }
@@ -145,51 +135,49 @@ impl Framing {
     // The least word in the frame of at least so many letters.
     fn least_from(
         &mut self,
-        alloc: Global,
-        graph: &IndexAutomaton,
-        frame: &Frame,
+        scope: &Scope,
         start: usize,
         from: usize,
     ) -> Result<Option<Word>, NoMemory>
-        requires framing { IsFraming graph.now.letters (edges graph.now) frame.now self.old }
+        requires framing { IsFramingIn scope.now self.old }
         requires start { self.old.start ≡ Some start }
-        ensures framing { IsFraming graph.now.letters (edges graph.now) frame.now self.new }
+        ensures framing { IsFramingIn scope.now self.new }
         ensures next { IfOk result (λ next. MatchOption next
-            (GoesFar (frame_paths (edges graph.now) frame.now) start from → ⊥)
-            (IsLeastFrom (frame_paths (edges graph.now) frame.now) start from)) }
+            (GoesFar (paths_in scope.now) start from → ⊥)
+            (IsLeastFrom (paths_in scope.now) start from)) }
     {
-        let Some(count) = self.next_length(alloc, graph, frame, start, from)? else {
+        let Some(count) = self.next_length(scope, start, from)? else {
             return Ok(None);
         };
-        let paths = FramePaths::new(graph, frame, self.layers.as_slice());
-        Ok(Some(least_word(alloc, &paths, start, count)?))
+        let paths = FramePaths::new(scope.graph, scope.frame, self.layers.as_slice());
+        Ok(Some(least_word(scope.alloc, &paths, start, count)?))
     }
 
     /// The least word in the frame after the cursor, or the least at all; `None` exactly where
     /// there is none. Refused only where memory is wanting.
     pub fn next_after(
         &mut self,
-        alloc: Global,
-        graph: &IndexAutomaton,
-        frame: &Frame,
+        scope: &Scope,
         after: Option<&Word>,
     ) -> Result<Option<Word>, NoMemory>
-        requires { IsFraming graph.now.letters (edges graph.now) frame.now self.old }
-        ensures framing { IsFraming graph.now.letters (edges graph.now) frame.now self.new }
+        requires { IsFramingIn scope.now self.old }
+        ensures framing { IsFramingIn scope.now self.new }
         ensures next { IfOk result (λ next. MatchOption next
-            (IsLast (IsPathIn (edges graph.now) frame.now) ◌≺◌ (option_copied after.entry))
-            (IsNext (IsPathIn (edges graph.now) frame.now) ◌≺◌ (option_copied after.entry))) }
+            (IsLast (IsPathIn (edges scope.now.graph.now) scope.now.frame.now) ◌≺◌
+            (option_copied after.entry))
+            (IsNext (IsPathIn (edges scope.now.graph.now) scope.now.frame.now) ◌≺◌
+            (option_copied after.entry))) }
     {
         let Some(start) = self.start else {
             return Ok(None);
         };
         let Some(word) = after else {
-            return self.least_from(alloc, graph, frame, start, 0);
+            return self.least_from(scope, start, 0);
         };
-        let next = self.next_of_length(alloc, graph, frame, start, word)?;
+        let next = self.next_of_length(scope, start, word)?;
         if next.is_some() {
             return Ok(next);
         }
-        self.least_from(alloc, graph, frame, start, word.letters().len() + 1)
+        self.least_from(scope, start, word.letters().len() + 1)
     }
 }

@@ -15,14 +15,14 @@ use rewriting::IndexAutomaton;
 use std::alloc::Global;
 use words::{Letter, Word};
 
-// Where the next word leaves a word: behind so many letters, by a letter to a node, from which so
-// many letters follow.
+/// Where the next word leaves a word: behind so many letters, by a letter to a node, from which so
+/// many letters follow.
 #[derive(Clone, Copy)]
-struct Rise {
-    place: usize,
-    letter: Letter,
-    node: usize,
-    count: usize,
+pub struct Rise {
+    pub place: usize,
+    pub letter: Letter,
+    pub node: usize,
+    pub count: usize,
 }
 
 // The node to which the edge of the letter leads, where so many letters lead on from there.
@@ -91,8 +91,7 @@ fn rise_within<P: KnownPaths>(paths: &P, root: usize, word: &Word, nodes: &[usiz
     requires known { Allows (P.known paths.now) (length word.now) }
     requires nodes { AreNodesAlong (P.paths paths.now).graph root word.now nodes.now }
     ensures { MatchOption result (IsLastOfLength (P.paths paths.now) root word.now)
-        (λ rise. (rise.count ≤ length word.now)
-        × IsRise (P.paths paths.now) root word.now rise.place rise.letter rise.node rise.count) }
+        (IsRise (P.paths paths.now) root word.now) }
 {
     let _letters = paths.letters();
     for place in (0..nodes.len()).rev() {

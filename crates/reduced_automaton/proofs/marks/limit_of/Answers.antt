@@ -1,9 +1,8 @@
-use Rattle.std.proofs.Common.{◌≡◌, ◌<◌, length, get_or, false, sym, ◌∙◌, ap, arith}
-use Rattle.std.proofs.lemmas.List.{get_or_read}
+use Rattle.std.proofs.Common.{◌≡◌, ◌<◌, length, sym, ap, arith}
 use Rattle.reduced_automaton.specs.Paths.{AreIn, GoesFar}
 use Rattle.reduced_automaton.specs.Framings.{count_marked, frame_paths}
 use Rattle.rewriting.specs.Tables.{edges}
-use Rattle.reduced_automaton.proofs.MarkLaws.{far_endless, far_limit, far_start, far_step, frame_graph, layer_in, marked_not, marks_end, narrowed_count, not_fewer}
+use Rattle.reduced_automaton.proofs.MarkLaws.{far_endless, far_limit, far_start, far_step, frame_graph, layer_in, marks_end, narrowed_count, not_fewer}
 use Rattle.reduced_automaton.proofs.marks.limit_of.Goals as goal
 
 pub loop-alloc-init : goal.loop-alloc-init
@@ -20,13 +19,11 @@ loop-alloc-preserved c =
     let p = frame_paths g c.args.frame.now in
     let graph : AreIn p = frame_graph c.letters-letters.result c.args.graph.now.letters g c.args.frame.now c.letters-letters.ensures.letters c.letters-letters.ensures.graph c.requires.few in
     let inside : c.args.start < length p.graph = omega (arith, c.requires.start, narrowed_count c.args.frame.now.letters g) in
-    let there : c.args.start < length c.loop-alloc.far.items = omega (arith, inside, c.loop-alloc.invariant.marks.long) in
-    let read : c.index.result.now ≡ get_or c.loop-alloc.far.items c.args.start false = get_or_read _ _ _ there c.index.ensures false in
     let layer = layer_in g c.args.frame.now c.loop-alloc.far.items c.as_slice.result.now c.in_ok-next.next.items c.as_slice.ensures.value c.in_ok-next.ensures in
     let less = c.has_fewer.ensures.0 c.if-not-has_fewer.false in
     let lesser : count_marked c.as_slice-in-loop-alloc.result.now ≡ count_marked c.in_ok-next.next.items = ap count_marked c.as_slice-in-loop-alloc.ensures.value in
     let greater : count_marked c.as_slice-in-loop-alloc-2.result.now ≡ count_marked c.loop-alloc.far.items = ap count_marked c.as_slice-in-loop-alloc-2.ensures.value in
-    far_step p graph c.args.start inside c.loop-alloc.letters c.loop-alloc.far.items c.loop-alloc.invariant (sym read ∙ c.loop-alloc-test.true) c.in_ok-next.next.items layer
+    far_step p graph c.args.start inside c.loop-alloc.letters c.loop-alloc.far.items c.loop-alloc.invariant c.index.result.now c.index.ensures c.loop-alloc-test.true c.in_ok-next.next.items layer
     (omega (arith, less, lesser, greater))
 
 pub returns-then-not-has_fewer : goal.returns-then-not-has_fewer
@@ -35,13 +32,11 @@ returns-then-not-has_fewer c =
     let p = frame_paths g c.args.frame.now in
     let graph : AreIn p = frame_graph c.letters-letters.result c.args.graph.now.letters g c.args.frame.now c.letters-letters.ensures.letters c.letters-letters.ensures.graph c.requires.few in
     let inside : c.args.start < length p.graph = omega (arith, c.requires.start, narrowed_count c.args.frame.now.letters g) in
-    let there : c.args.start < length c.loop-alloc.far.items = omega (arith, inside, c.loop-alloc.invariant.marks.long) in
-    let read : c.index.result.now ≡ get_or c.loop-alloc.far.items c.args.start false = get_or_read _ _ _ there c.index.ensures false in
     let layer = layer_in g c.args.frame.now c.loop-alloc.far.items c.as_slice.result.now c.in_ok-next.next.items c.as_slice.ensures.value c.in_ok-next.ensures in
     let few = not_fewer c.has_fewer.result (count_marked c.as_slice-in-loop-alloc.result.now) (count_marked c.as_slice-in-loop-alloc-2.result.now) c.has_fewer.ensures c.if-not-has_fewer.true in
     let lesser : count_marked c.as_slice-in-loop-alloc.result.now ≡ count_marked c.in_ok-next.next.items = ap count_marked c.as_slice-in-loop-alloc.ensures.value in
     let greater : count_marked c.as_slice-in-loop-alloc-2.result.now ≡ count_marked c.loop-alloc.far.items = ap count_marked c.as_slice-in-loop-alloc-2.ensures.value in
-    far_endless p graph c.args.start inside c.loop-alloc.letters c.loop-alloc.far.items c.loop-alloc.invariant (sym read ∙ c.loop-alloc-test.true) c.in_ok-next.next.items layer
+    far_endless p graph c.args.start inside c.loop-alloc.letters c.loop-alloc.far.items c.loop-alloc.invariant c.index.result.now c.index.ensures c.loop-alloc-test.true c.in_ok-next.next.items layer
     (omega (arith, few, lesser, greater))
 
 pub returns : goal.returns
@@ -50,7 +45,4 @@ returns c =
     let p = frame_paths g c.args.frame.now in
     let graph : AreIn p = frame_graph c.letters-letters.result c.args.graph.now.letters g c.args.frame.now c.letters-letters.ensures.letters c.letters-letters.ensures.graph c.requires.few in
     let inside : c.args.start < length p.graph = omega (arith, c.requires.start, narrowed_count c.args.frame.now.letters g) in
-    let there : c.args.start < length c.loop-alloc.far.items = omega (arith, inside, c.loop-alloc.invariant.marks.long) in
-    let read : c.index.result.now ≡ get_or c.loop-alloc.far.items c.args.start false = get_or_read _ _ _ there c.index.ensures false in
-    far_limit p graph c.args.start inside c.loop-alloc.letters c.loop-alloc.far.items c.loop-alloc.invariant
-    (marked_not (get_or c.loop-alloc.far.items c.args.start false) (sym read ∙ c.loop-alloc-test.false))
+    far_limit p graph c.args.start inside c.loop-alloc.letters c.loop-alloc.far.items c.loop-alloc.invariant c.index.result.now c.index.ensures c.loop-alloc-test.false

@@ -1,4 +1,4 @@
-use Rattle.std.proofs.Common.{◌≡◌, ◌+◌, ◌-◌, ◌<◌, ◌≤◌, length, get_or, subst, arith}
+use Rattle.std.proofs.Common.{◌≡◌, ◌+◌, ◌-◌, ◌<◌, length, get_or, subst, arith}
 use Rattle.reduced_automaton.specs.Paths.{IsLeastEdge, IsWithoutEdge}
 use Rattle.reduced_automaton.proofs.PathLaws.{allows_less}
 use Rattle.reduced_automaton.proofs.NextPaths.{IsLastBehind, rise_at, scan_end, scan_start, scan_step}
@@ -19,14 +19,11 @@ returns-in-Some g c =
     let inside : c.loop-place.place - 1 < length c.args.nodes.now = omega arith in
     let size : c.len.result - (c.loop-place.place - 1) - 1 + (c.loop-place.place - 1) + 1 ≡ length c.args.word.now = omega (arith, c.requires.nodes.few) in
     let node = get_or c.args.nodes.now (c.loop-place.place - 1) 0 in
-    let few : c.len.result - (c.loop-place.place - 1) - 1 ≤ length c.args.word.now = omega (arith, c.len.ensures) in (
-      few,
-      rise_at p c.letters-letters.ensures.graph c.args.root c.args.word.now (c.loop-place.place - 1) node c.letter.result
-          (c.requires.nodes.at (c.loop-place.place - 1) inside) c.letter.ensures
-          (subst (λ z. IsLastBehind p c.args.root c.args.word.now z) back c.loop-place.invariant)
-          (c.len.result - (c.loop-place.place - 1) - 1) c.in-Some.edge.0 c.in-Some.edge.1 size
-          (subst (λ z. IsLeastEdge p node (c.len.result - (c.loop-place.place - 1) - 1) (z + 1) c.in-Some.edge.0 c.in-Some.edge.1) c.number-above.ensures c.in-Some.ensures),
-    )
+    rise_at p c.letters-letters.ensures.graph c.args.root c.args.word.now (c.loop-place.place - 1) node c.letter.result
+    (c.requires.nodes.at (c.loop-place.place - 1) inside) c.letter.ensures
+    (subst (λ z. IsLastBehind p c.args.root c.args.word.now z) back c.loop-place.invariant)
+    (c.len.result - (c.loop-place.place - 1) - 1) c.in-Some.edge.0 c.in-Some.edge.1 size
+    (subst (λ z. IsLeastEdge p node (c.len.result - (c.loop-place.place - 1) - 1) (z + 1) c.in-Some.edge.0 c.in-Some.edge.1) c.number-above.ensures c.in-Some.ensures)
 
 pub loop-place-preserved : goal.loop-place-preserved
 loop-place-preserved g c =

@@ -1,6 +1,7 @@
 use Rattle.std.proofs.Common.{◌≡◌, true, false, sym, ◌∙◌, subst}
 use Rattle.reduced_automaton.specs.Automaton.{IsReader, Reading}
-use Rattle.reduced_automaton.proofs.FrameLaws.{framed_finite, framed_infinite, none_test}
+use Rattle.reduced_automaton.proofs.FrameLaws.{framed_finite, framed_infinite}
+use Rattle.reduced_automaton.proofs.PathLaws.{none_test}
 use Rattle.reduced_automaton.proofs.automata.Automaton.is_infinite_by.Goals as goal
 
 pub returns-clause-infinite : goal.returns-clause-infinite

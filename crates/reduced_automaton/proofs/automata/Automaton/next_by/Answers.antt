@@ -13,13 +13,12 @@ use Rattle.reduced_automaton.proofs.automata.Automaton.next_by.Goals as goal
 pub next_after-requires : goal.next_after-requires
 next_after-requires c =
     let P : Reading → Type 0 = λ r. IsFraming r.letters r.graph c.args.frame.now c.args.framing.now in
-    subst (λ k. IsFraming k (edges c.self.inside.table) c.args.frame.now c.args.framing.now) (sym c.self.invariant.table.letters) (subst P (sym c.self.view_is) c.requires)
+    subst P (sym c.self.view_is) c.requires
 
 pub returns-clause-framing : goal.returns-clause-framing
 returns-clause-framing c =
     let P : Reading → Type 0 = λ r. IsFraming r.letters r.graph c.args.frame.now c.next_after.new.self in
-    subst P c.self.view_is
-    (subst (λ k. IsFraming k (edges c.self.inside.table) c.args.frame.now c.next_after.new.self) c.self.invariant.table.letters c.next_after.ensures.framing)
+    subst P c.self.view_is c.next_after.ensures.framing
 
 pub returns-clause-goes_on : goal.returns-clause-goes_on
 returns-clause-goes_on c =

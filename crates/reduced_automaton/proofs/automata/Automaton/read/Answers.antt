@@ -14,4 +14,4 @@ read-requires c =
 pub returns : goal.returns
 returns c =
     let P : Reading → Type 0 = λ r. Reads r.rules r.states (longer r.states c.args.state c.args.letter) c.read.result.0 c.read.result.1 in
-    subst P c.self.view_is (c.read.ensures c.self.inside.letters c.self.inside.rules c.len-count.ensures.falling c.self.invariant.table)
+    subst P c.self.view_is (c.read.ensures c.self.inside.table.letters c.self.inside.rules c.len-count.ensures.falling c.self.invariant.table)

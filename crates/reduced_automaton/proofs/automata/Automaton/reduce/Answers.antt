@@ -1,12 +1,8 @@
-use Rattle.std.proofs.Common.{sym, subst}
+use Rattle.std.proofs.Common.{subst}
 use Rattle.std.specs.Result.{IfOk}
 use Rattle.theory.specs.Completion.{IsReduced, Listed, Reduces}
-use Rattle.rewriting.specs.Tables.{IsTableOf}
 use Rattle.reduced_automaton.specs.Automaton.{Reading}
 use Rattle.reduced_automaton.proofs.automata.Automaton.reduce.Goals as goal
-
-pub reduce-requires : goal.reduce-requires
-reduce-requires c = subst (λ k. IsTableOf k c.self.inside.rules c.self.inside.table) (sym c.self.invariant.table.letters) c.self.invariant.table
 
 pub returns-clause-reached : goal.returns-clause-reached
 returns-clause-reached c =

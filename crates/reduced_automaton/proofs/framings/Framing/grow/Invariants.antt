@@ -1,10 +1,9 @@
 use Rattle.std.proofs.Common.{◌+◌, ◌-◌, length}
-use Rattle.reduced_automaton.specs.Framings.{IsFraming}
-use Rattle.rewriting.specs.Tables.{edges}
+use Rattle.reduced_automaton.specs.Framings.{IsFramingIn}
 use Rattle.reduced_automaton.proofs.framings.Framing.grow.Given as goal
 
-abbrev pub invariant-loop-alloc : goal.invariant-loop-alloc
-invariant-loop-alloc l = IsFraming l.graph.letters (edges l.graph) l.frame l.self
+abbrev pub invariant-loop-self : goal.invariant-loop-self
+invariant-loop-self l = IsFramingIn l.scope l.self
 
-abbrev pub decreases-loop-alloc : goal.decreases-loop-alloc
-decreases-loop-alloc l = l.count + 1 - length l.self.layers.items
+abbrev pub decreases-loop-self : goal.decreases-loop-self
+decreases-loop-self l = l.count + 1 - length l.self.layers.items
