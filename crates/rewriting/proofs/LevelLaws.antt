@@ -8,7 +8,7 @@ use Rattle.theory.specs.Graph.{Graph, target}
 use Rattle.theory.proofs.Words.{over_left, over_right}
 use Rattle.theory.proofs.FactsLaws.{last_letter}
 use Rattle.rewriting.specs.Rules.{AreOver}
-use Rattle.rewriting.specs.Tries.{left_at, state_of, words_of, longer, IsChild, IsTrie, IsOrder, IsOrderTo, IsChildOf, Gathers, AreChildren, Tree}
+use Rattle.rewriting.specs.Tries.{left_at, state_of, words_of, longer, IsChild, IsTrie, IsOrderTo, IsChildOf, Gathers, AreChildren, Tree}
 use Rattle.rewriting.proofs.StateLists.{contains_at, item_at}
 use Rattle.rewriting.proofs.TrieLaws.{words_count}
 use Rattle.rewriting.specs.declared.tries.Prefix.{Prefix}
@@ -185,11 +185,3 @@ module _ (rules : List (Word × Word)) (t : Tree) (is : IsTrie rules t) where
               let low = within i (omega (arith, h, l)) in
               omega (arith, low.1, top.1, ap (λ z. length (get_or t.states z [])) (at_next j mj))
         ]
-
--- the order at the end
-pub order_end : (states : List Word) (most : ℕ) (order level : List ℕ) → ((n : ℕ) → n < length states → length (get_or states n []) ≤ most) → IsOrderTo states most order level → IsOrder states order
-order_end states most order level few is = record {
-  within = λ j h. (is.within j h).0;
-  each = λ n h. is.each n h (few n h);
-  rises = is.rises;
-}

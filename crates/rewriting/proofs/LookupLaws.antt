@@ -98,31 +98,6 @@ last_split (x ∷ []) (suc last) b size at = absurd (omega (arith, size))
 last_split (x ∷ y ∷ word) zero b size at = absurd (omega (arith, size))
 last_split (x ∷ y ∷ word) (suc last) b size at = ap (λ w. x ∷ w) (last_split (y ∷ word) last b (omega (arith, size)) at)
 
--- no rule
-empty_table : IsTableOf 0 [] no_moves
-empty_table =
-    let none = grown_start 0 [] in
-    record {
-      letters = refl;
-      over = λ i d within. absurd (omega (arith, within));
-      states = record { are = none.are; distinct = none.trie.distinct; only = none.trie.only };
-      reads = λ n a h below. absurd (omega (arith, below));
-      full = λ n a h. absurd (omega (arith, h));
-    }
-
-pub empty_lookup : (lookup : Lookup) → moves_of lookup ≡ no_moves → lookup.places.items ≡ [] → lookup.first ≡ 0 → AreNewer [] lookup.first lookup.newer → IsLookup [] lookup
-empty_lookup lookup moves places first newer = record {
-  letters = 0;
-  tabled = [];
-  falling = λ i d within. absurd (omega (arith, within));
-  table = subst (λ m. IsTableOf 0 [] m) (sym moves) empty_table;
-  few = omega (arith, first);
-  known = λ place before. absurd (omega (arith, before, first));
-  count = ap length places;
-  placed = λ number within. absurd (omega (arith, within));
-  newer = newer;
-}
-
 -- the same left sides
 pub same_lefts : (rules new : List (Word × Word)) (lookup : Lookup) → IsLookup rules lookup → length new ≡ length rules
     → ((place : ℕ) → left_at new place ≡ left_at rules place) → IsLookup new lookup
@@ -157,6 +132,22 @@ all_lookup rules lookup letters falling table count first each newer = record {
   placed = λ n h. subst (λ p. IsPlaced rules lookup.first (left_at rules n) p) (sym (each n h)) (h, refl);
   newer = newer;
 }
+
+-- no rule
+empty_table : IsTableOf 0 [] no_moves
+empty_table =
+    let none = grown_start 0 [] in
+    record {
+      letters = refl;
+      over = λ i d within. absurd (omega (arith, within));
+      states = record { are = none.are; distinct = none.trie.distinct; only = none.trie.only };
+      reads = λ n a h below. absurd (omega (arith, below));
+      full = λ n a h. absurd (omega (arith, h));
+    }
+
+pub empty_lookup : (lookup : Lookup) → moves_of lookup ≡ no_moves → lookup.places.items ≡ [] → lookup.first ≡ 0 → AreNewer [] lookup.first lookup.newer → IsLookup [] lookup
+empty_lookup lookup moves places first newer =
+    all_lookup [] lookup 0 (λ i d within. absurd (omega (arith, within))) (subst (λ m. IsTableOf 0 [] m) (sym moves) empty_table) (ap length places) first (λ place h. absurd (omega (arith, h))) newer
 
 -- a rule with another right side
 pub right_lookup : (rules new : List (Word × Word)) (lookup : Lookup) (place : ℕ) (right : Word) → IsLookup rules lookup → place < length rules

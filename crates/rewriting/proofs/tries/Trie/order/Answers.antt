@@ -1,7 +1,7 @@
 use Rattle.std.proofs.Common.{◌+◌, ◌++◌, ℕ, List, length, sym, ◌∙◌, ap, subst, arith}
 use Rattle.rewriting.specs.Tries.{IsOrderTo, AreChildren, states_of, tree_of}
 use Rattle.rewriting.proofs.TrieLaws.{words_count}
-use Rattle.rewriting.proofs.LevelLaws.{order_start, order_step, order_end, state_over, state_short}
+use Rattle.rewriting.proofs.LevelLaws.{order_start, order_step, state_over, state_short}
 use Rattle.rewriting.proofs.tries.Trie.order.Goals as goal
 
 pub loop-init : goal.loop-init
@@ -19,9 +19,10 @@ loop-preserved c =
     c.loop.invariant made)
 
 pub returns : goal.returns
-returns c =
-    order_end (states_of c.args.rules.now c.args.self.now) c.loop.counter c.loop.order.items c.loop.level.items
-    (λ n h.
-    state_short c.args.rules.now c.args.self.now.prefixes.items c.loop.counter (λ i. let few = c.longest_left-end.ensures.most i in let past = c.loop-test.false in omega (arith, few, past)) n
-    (omega (arith, h, words_count c.args.rules.now c.args.self.now.prefixes.items)))
-    c.loop.invariant
+returns c = record {
+  within = λ j h. (c.loop.invariant.within j h).0;
+  each = λ n h. c.loop.invariant.each n h
+      (state_short c.args.rules.now c.args.self.now.prefixes.items c.loop.counter (λ i. let few = c.longest_left-end.ensures.most i in let past = c.loop-test.false in omega (arith, few, past)) n
+      (omega (arith, h, words_count c.args.rules.now c.args.self.now.prefixes.items)));
+  rises = c.loop.invariant.rises;
+}
