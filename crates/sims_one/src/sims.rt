@@ -32,8 +32,8 @@ struct Found {
 
 /// A search for the standard tables of at most so many classes at which the relations of a
 /// presentation hold, in the order of their rows (libsemigroups, `Sims1`). In a semigroup the root
-/// is no class, and no edge leads to it. It is for those who want the tables one by one; the program
-/// asks for pages.
+/// is no class, and no edge leads to it. It is for those who want the tables one by one; the
+/// program asks for pages.
 ///
 /// Each call but `new` may find memory wanting. It then answers `NoMemory`, as does each later
 /// call.
