@@ -24,6 +24,13 @@ pub enum Verdict {
     Undecided(Ended),
 }
 
+impl Verdict {
+    /// Lets go of what was found, all of it in one place.
+    pub fn let_go(self) {
+        drop(self);
+    }
+}
+
 // What is known of the problem by the lane that has decided it.
 fn known(
     alloc: Global,

@@ -38,6 +38,11 @@ fn run(completion: &mut Completion) -> Result<(), NoMemory>
     }
 }
 
+/// Lets go of a completion, all of it in one place.
+pub fn drop_completion(completion: Completion) {
+    drop(completion);
+}
+
 /// The completion of the relations and the pairs within so many letters, which logs, at its end.
 /// Refused only where memory is wanting.
 pub fn logged_completion(
@@ -59,7 +64,7 @@ pub fn logged_completion(
     match run(&mut completion) {
         Ok(()) => Ok(completion),
         Err(fault) => {
-            drop(completion);
+            drop_completion(completion);
             Err(fault)
         }
     }

@@ -9,6 +9,6 @@ mod logged;
 mod told;
 
 pub use awaited::{Awaited, awaited_by};
-pub use completing::logged_completion;
+pub use completing::{drop_completion, logged_completion};
 pub use logged::write_logged;
 pub use told::write_told;

@@ -169,6 +169,11 @@ impl Script {
         Ok(())
     }
 
+    /// Lets go of the script, all of it in one place.
+    pub fn let_go(self) {
+        drop(self);
+    }
+
     /// What the script poses.
     pub fn problem(&self) -> &Problem
         ensures problem { result.now ≡ self.now.problem }

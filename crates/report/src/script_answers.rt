@@ -81,6 +81,6 @@ pub fn write_answers<R: Threads + Sync, O: Sink, G: Gate + Sync>(
 {
     let mut state = State::new(bounds);
     let written = write_all_answers(rt, alloc, script, &mut state, out, gate);
-    drop(state);
+    state.let_go();
     written
 }

@@ -10,7 +10,7 @@ use congruence::{Verdict, solve};
 use knuth_bendix::Completion;
 use ports::{Gate, NoMemory};
 use problem::{Budgets, Problem};
-use query_answers::logged_completion;
+use query_answers::{drop_completion, logged_completion};
 use report_lines::KnownElements;
 use std::alloc::Global;
 use std::mem::replace;
@@ -28,6 +28,20 @@ pub struct State {
     pub(crate) verdict: Option<Verdict>,
     completion: Option<Completion>,
     pub(crate) elements: KnownElements,
+}
+
+// Lets go of a verdict, if there is one, where verdicts come from.
+fn drop_verdict(verdict: Option<Verdict>) {
+    if let Some(verdict) = verdict {
+        verdict.let_go();
+    }
+}
+
+// Lets go of a completion that logs, if there is one.
+fn drop_log(completion: Option<Completion>) {
+    if let Some(completion) = completion {
+        drop_completion(completion);
+    }
 }
 
 impl State {
@@ -66,7 +80,7 @@ impl State {
             return Ok(());
         }
         let verdict = solve(rt, alloc, problem, &self.budgets, self.workers, gate)?;
-        drop(replace(&mut self.verdict, Some(verdict)));
+        drop_verdict(replace(&mut self.verdict, Some(verdict)));
         Ok(())
     }
 
@@ -84,8 +98,21 @@ impl State {
             return Ok(());
         }
         let completion = logged_completion(alloc, problem, self.budgets.length)?;
-        drop(replace(&mut self.completion, Some(completion)));
+        drop_log(replace(&mut self.completion, Some(completion)));
         Ok(())
+    }
+
+    /// Lets go of what was found.
+    pub fn let_go(self) {
+        let State {
+            verdict,
+            completion,
+            elements,
+            ..
+        } = self;
+        drop_verdict(verdict);
+        drop_log(completion);
+        drop(elements);
     }
 
     // The completion that logs, if it was run.
