@@ -36,7 +36,7 @@ fn run_under<R: Threads + Sync, S: Source, O: Sink, G: Gate + Sync>(
 {
     let script = choose_script(alloc, settings, source)?;
     let written = write_report(rt, alloc, settings, &script, out, gate);
-    drop(script);
+    script.let_go();
     Ok(written?)
 }
 
