@@ -1,5 +1,6 @@
 pub mod Paths
 pub mod EdgeLaws
+pub mod EntryLaws
 pub mod OrderLaws
 pub mod WalkLaws
 pub mod StepLaws
