@@ -7,6 +7,7 @@ pub mod DueSpec
 pub mod Marks
 pub mod Table
 pub mod Holding
+pub mod Indexes
 pub mod Pending
 pub mod Links
 pub mod Absorbing

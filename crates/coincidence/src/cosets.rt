@@ -3,8 +3,10 @@ ghost use Rattle.std.specs.Prelude.{◌≡◌, ℕ, ◌<◌, ◌≤◌, List, []
 ghost use Rattle.theory.specs.Congruence.{Congruence, IsWellFormed};
 ghost use Rattle.theory.specs.Graph.{target as target_of};
 ghost use Rattle.word_graph.specs.Edges.{with_edge, with_node};
+ghost use Rattle.coincidence.specs.Absorbing.{Extends};
 ghost use Rattle.coincidence.specs.Cosets.{IsWhole};
 ghost use Rattle.coincidence.specs.Live.{IsOn};
+ghost use Rattle.coincidence.specs.declared.pending.Pending.TheVariants.{NewNode};
 
 use crate::edges::Edges;
 use crate::order::Order;
@@ -44,24 +46,53 @@ impl Cosets {
         ensures live { IfOk result (λ t. t.live.items ≡ true ∷ []) }
         ensures marked { IfOk result (λ t. t.marked.items ≡ false ∷ []) }
     {
-        let edges = Edges::new(alloc, letters)?;
-        let mut live = Vec::new(alloc);
-        live.push(true)?;
-        let mut marked = Vec::new(alloc);
-        marked.push(false)?;
         let order = Order::new(alloc)?;
-        let mut pending = Worklist::new(alloc);
-        pending.push_node(0)?;
-        Ok(Cosets {
+        let edges = Edges::new(alloc, letters)?;
+        let mut cosets = Cosets::bare(alloc, edges, order);
+        match cosets.add_root() {
+            Ok(()) => Ok(cosets),
+            Err(fault) => {
+                drop(cosets);
+                Err(fault)
+            }
+        }
+    }
+
+    // Edges and an order of nodes, beside which nothing is noted yet.
+    fn bare(alloc: Global, edges: Edges, order: Order) -> Cosets
+        ensures edges { result.edges ≡ edges }
+        ensures order { result.order ≡ order }
+        ensures live { result.live.items ≡ [] }
+        ensures marked { result.marked.items ≡ [] }
+        ensures pending { result.pending ≡ [] }
+        ensures seen { result.seen ≡ [] }
+    {
+        Cosets {
             edges,
-            live,
-            marked,
+            live: Vec::new(alloc),
+            marked: Vec::new(alloc),
             order,
-            pending,
+            pending: Worklist::new(alloc),
             replaced_by: Vec::new(alloc),
             queue: Vec::new(alloc),
             seen: Seen::new(alloc),
-        })
+        }
+    }
+
+    // The root is live, without mark, and pending. Refused only where memory is wanting.
+    fn add_root(&mut self) -> Result<(), NoMemory>
+        ensures edges { self.new.edges ≡ self.old.edges }
+        ensures order { self.new.order ≡ self.old.order }
+        ensures live { OnOk result (self.new.live.items ≡ self.old.live.items ++ true ∷ []) }
+        ensures marked { OnOk result
+            (self.new.marked.items ≡ self.old.marked.items ++ false ∷ []) }
+        ensures pending { OnOk result
+            (Extends (self.old.pending ++ NewNode 0 ∷ []) self.new.pending) }
+        ensures seen { self.new.seen ≡ self.old.seen }
+    {
+        self.live.push(true)?;
+        self.marked.push(false)?;
+        self.pending.push_node(0)
     }
 
     /// Makes an edge of the letter from a live node to a new one, whose number it gives; both are

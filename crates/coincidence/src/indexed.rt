@@ -1,6 +1,7 @@
 // Congruences whose relations are found by their letters.
 ghost use Rattle.std.specs.Prelude.{◌≡◌, false, true, length, IfOk};
 ghost use Rattle.presentation.specs.Presented.{IsPosed};
+ghost use Rattle.coincidence.specs.Indexes.{IsIndex, IsSideIndex};
 ghost use Rattle.coincidence.specs.Starts.{AreStarts};
 ghost use Rattle.coincidence.specs.Uses.{ArePeriods, AreUses};
 
@@ -12,57 +13,75 @@ use presentation::{Congruence, Pairs, Presentation};
 use std::alloc::Global;
 use std::marker::Model;
 
-// A congruence, the places of letters in the sides of its relations, and the periods of these.
+// The places of letters in the first sides of relations, or in the second ones, and the periods of
+// these sides.
 #[derive(Drop)]
-pub struct Indexed {
-    congruence: Congruence,
-    firsts: Uses,
-    seconds: Uses,
-    first_periods: Periods,
-    second_periods: Periods,
+struct SideIndex {
+    uses: Uses,
+    periods: Periods,
+}
+
+impl SideIndex {
+    // The index of these sides. Refused only where memory is wanting.
+    fn new(alloc: Global, relations: &Pairs, second: bool) -> Result<SideIndex, NoMemory>
+        ensures { IfOk result (IsSideIndex second relations.now) }
+    {
+        let uses = Uses::new(alloc, relations, second)?;
+        let periods = Periods::new(alloc, relations, second)?;
+        Ok(SideIndex { uses, periods })
+    }
+}
+
+// The index of both sides of relations, and these by the letters with which they begin.
+#[derive(Drop)]
+struct Index {
+    firsts: SideIndex,
+    seconds: SideIndex,
     starts: Starts,
 }
 
+impl Index {
+    // The index of the relations. Refused only where memory is wanting.
+    fn new(alloc: Global, relations: &Pairs) -> Result<Index, NoMemory>
+        ensures { IfOk result (IsIndex relations.now) }
+    {
+        let firsts = SideIndex::new(alloc, relations, false)?;
+        let seconds = SideIndex::new(alloc, relations, true)?;
+        let starts = Starts::new(alloc, relations)?;
+        Ok(Index {
+            firsts,
+            seconds,
+            starts,
+        })
+    }
+}
+
+// A congruence, and the index of its relations.
+#[derive(Drop)]
+pub struct Indexed {
+    congruence: Congruence,
+    index: Index,
+}
+
 impl Model for Indexed {
-    ghost use Rattle.std.specs.Prelude.{true, false};
     ghost use Rattle.presentation.specs.Presented.{Posed};
-    ghost use Rattle.coincidence.specs.Starts.{AreStarts};
-    ghost use Rattle.coincidence.specs.Uses.{ArePeriods, AreUses};
+    ghost use Rattle.coincidence.specs.Indexes.{IsIndex};
 
     ghost Value = { Posed };
 
     ghost view = { λ c. c.congruence };
 
-    ghost invariant = { λ c. record {
-      firsts : AreUses false c.congruence.congruence.presentation.relations c.firsts;
-      seconds : AreUses true c.congruence.congruence.presentation.relations c.seconds;
-      first_periods : ArePeriods false c.congruence.congruence.presentation.relations
-          c.first_periods;
-      second_periods : ArePeriods true c.congruence.congruence.presentation.relations
-          c.second_periods;
-      starts : AreStarts c.congruence.congruence.presentation.relations c.starts;
-    } };
+    ghost invariant = { λ c. IsIndex c.congruence.congruence.presentation.relations c.index };
 }
 
 impl Indexed {
-    /// The congruence with its index. Refused only where memory is wanting.
-    pub fn new(alloc: Global, congruence: Congruence) -> Result<Indexed, NoMemory>
-        ensures { IfOk result (λ c. c ≡ congruence) }
+    /// A copy of the congruence, with an index. Refused only where memory is wanting.
+    pub fn copy_of(alloc: Global, congruence: &Congruence) -> Result<Indexed, NoMemory>
+        ensures { IfOk result (λ c. c ≡ congruence.now) }
     {
-        let relations = congruence.presentation().relations();
-        let firsts = Uses::new(alloc, relations, false)?;
-        let seconds = Uses::new(alloc, relations, true)?;
-        let first_periods = Periods::new(alloc, relations, false)?;
-        let second_periods = Periods::new(alloc, relations, true)?;
-        let starts = Starts::new(alloc, relations)?;
-        Ok(Indexed {
-            congruence,
-            firsts,
-            seconds,
-            first_periods,
-            second_periods,
-            starts,
-        })
+        let congruence = congruence.copy(alloc)?;
+        let index = Index::new(alloc, congruence.presentation().relations())?;
+        Ok(Indexed { congruence, index })
     }
 
     /// The presentation, as [`Congruence::presentation`] gives it.
@@ -88,28 +107,35 @@ impl Indexed {
         self.congruence.presentation().relations()
     }
 
+    // The index of the first sides of the relations, or of the second ones.
+    fn sides(&self, second: bool) -> &SideIndex
+        ensures { IsSideIndex second self.now.congruence.presentation.relations result.now }
+    {
+        if second {
+            &self.index.seconds
+        } else {
+            &self.index.firsts
+        }
+    }
+
     /// The places of the first sides of the relations, or of the second ones.
     pub fn uses(&self, second: bool) -> &Uses
         ensures { AreUses second self.now.congruence.presentation.relations result.now }
     {
-        if second { &self.seconds } else { &self.firsts }
+        &self.sides(second).uses
     }
 
     /// The periods of the first sides of the relations, or of the second ones.
     pub fn periods(&self, second: bool) -> &Periods
         ensures { ArePeriods second self.now.congruence.presentation.relations result.now }
     {
-        if second {
-            &self.second_periods
-        } else {
-            &self.first_periods
-        }
+        &self.sides(second).periods
     }
 
     /// The relations by the letters with which their sides begin.
     pub fn starts(&self) -> &Starts
         ensures { AreStarts self.now.congruence.presentation.relations result.now }
     {
-        &self.starts
+        &self.index.starts
     }
 }

@@ -72,15 +72,20 @@ impl Table {
         ensures marked { IfOk result (λ t. t.marked ≡ false ∷ []) }
         ensures ok { IfOk result (λ t. t.failed ≡ false) }
     {
-        let congruence = Indexed::new(alloc, congruence.copy(alloc)?)?;
         let cosets = Cosets::new(alloc, congruence.presentation().letters())?;
         let _letters = cosets.edges.letters();
-        Ok(Table {
-            alloc,
-            congruence,
-            cosets,
-            failed: false,
-        })
+        match Indexed::copy_of(alloc, congruence) {
+            Ok(congruence) => Ok(Table {
+                alloc,
+                congruence,
+                cosets,
+                failed: false,
+            }),
+            Err(fault) => {
+                drop(cosets);
+                Err(fault)
+            }
+        }
     }
 
     /// Where the edge of the letter leads from the node. `None` exactly where there is no such
