@@ -10,11 +10,12 @@ use Rattle.coincidence.specs.Marks.{AllMarked, IsFirstUnmarked}
 use Rattle.coincidence.specs.Table.{CosetTable, IsTable}
 use Rattle.coset_enumeration.specs.Enumeration.{EnumerationRun, IsAt, IsFresh, IsTold}
 
--- the graph shows the facts after so many rows
+-- the paths of the graph relate what the facts do after so many rows; of nodes that no word leads
+-- to, nothing is said
 abbrev pub IsAtStage : Congruence → ℕ → Graph → Type 0
 IsAtStage c made = IsAt (HltStage c made) (HltFacts c)
 
--- the graph shows the facts of the last stage, at which the strategy has ended
+-- they relate what the facts of the last stage do, at which the strategy has ended
 abbrev pub IsAtEnd : Congruence → ℕ → Graph → Type 0
 IsAtEnd c made = IsAt (λ words. HltStage c made words × HasEnded c words) (HltFacts c)
 
@@ -27,8 +28,8 @@ abbrev pub MarksMet : CosetTable → List Word → Type 0
 MarksMet t U = (u : Word) (n : ℕ) → path t.graph 0 u ≡ Some n
     → IsOn t.marked n ↔ IsMet (SameEnd t.graph) U u
 
--- the table shows the facts after so many rows, and marks what is met; the strategy has not ended
--- with fewer
+-- the paths of the table relate what the facts do after so many rows, and it marks what is met; the
+-- strategy has not ended with fewer
 pub record HasRows (t : CosetTable) (made : ℕ) : Type 0 where
   pub words : List Word
   pub stage : HltStage t.congruence made words

@@ -202,8 +202,8 @@ impl Racer for Hlt {
 
     /// One row with all that follows from it, and after a row whose number is a multiple of 100 all
     /// that follows at all words; at the first turn, before it, what the pairs give. Without a
-    /// budget no row is made. After it the graph shows the facts of the stage with so many rows,
-    /// unless memory was wanting.
+    /// budget no row is made. After it the paths of the graph relate what the facts of the stage
+    /// with so many rows do, unless memory was wanting.
     fn advance(&mut self) -> Progress
         ensures task { (self.new.congruence ≡ self.old.congruence)
             × (self.new.budget ≡ self.old.budget) }

@@ -9,7 +9,7 @@ use Rattle.words.specs.declared.fault.AlphabetFault.TheVariants.{Empty, NotALett
 abbrev pub IsLetterByte : Bool → ℕ → Type 0
 IsLetterByte wide b = ((97 ≤ b) × (b ≤ 122)) ⊎ (IsTrue wide × (65 ≤ b) × (b ≤ 90))
 
--- the byte `#` of the marker, a letter that no text is read to
+-- the byte `#` of the marker, a letter that stands in no script
 abbrev pub marker : ℕ
 marker = 35
 

@@ -13,8 +13,8 @@ use std::marker::Model;
 // The most letters of a word that is read.
 const MOST_LETTERS: usize = 4096;
 
-/// The byte of the marker: a letter that no text is read to, for words that are set apart from all
-/// that is read.
+/// The byte of the marker: a letter that no alphabet of [`new`](Alphabet::new) or
+/// [`wide`](Alphabet::wide) has, for words that are set apart from all that they read.
 pub const MARKER: u8 = b'#';
 
 /// An alphabet: one or more letters, no two alike, in order (libsemigroups, the alphabet of a
