@@ -1,5 +1,5 @@
 // The last test: whether overlaps lead to one word.
-ghost use Rattle.std.specs.Prelude.{◌≡◌, ℕ, ◌+◌, ◌-◌, ◌<◌, ◌≤◌, false, [], length, IfOk, MatchBool};
+ghost use Rattle.std.specs.Prelude.{◌≡◌, ℕ, ◌+◌, ◌-◌, ◌<◌, ◌≤◌, false, [], length, None, IfOk, MatchBool};
 ghost use Rattle.theory.specs.Word.{Word as Letters};
 ghost use Rattle.knuth_bendix.specs.Marks.{AreSharesOf};
 ghost use Rattle.knuth_bendix.specs.Overlaps.{AreJoined, HasLength, IsSplit, rule_at};
@@ -12,6 +12,27 @@ use crate::overlaps::Pending;
 use crate::shares::Shares;
 use ports::NoMemory;
 use std::alloc::Global;
+
+// Whether each overlap of two rules leads to one word. Nothing waits, nor is logged, before; what
+// waits then are words that differ.
+fn joins_without_rest(
+    pending: &mut Pending,
+    rules: &IndexedRules,
+    first: usize,
+    second: usize,
+    lengths: Lengths,
+) -> Result<bool, NoMemory>
+    requires first { first < length rules.now }
+    requires second { second < length rules.now }
+    requires empty { pending.old.equations ≡ [] }
+    requires unlogged { pending.old.log ≡ None }
+    ensures { IfOk result (λ joined. MatchBool joined
+        (AreJoined lengths rules.now [] (rule_at rules.now first) (rule_at rules.now second))
+        ((u : Letters) × (v : Letters) × IsSplit lengths rules.now u v)) }
+{
+    pending.join_shared(rules, first, second, lengths)?;
+    Ok(pending.equations.is_empty())
+}
 
 // Whether each overlap of two rules leads to one word. What the left side of the first may share is
 // given.
@@ -35,8 +56,9 @@ fn pair_is_joined(
         return Ok(true);
     }
     let mut pending = Pending::new(alloc, Equations::new(alloc), Log::none());
-    pending.join_shared(rules, first, second, ahead.lengths)?;
-    Ok(pending.equations.is_empty())
+    let joined = joins_without_rest(&mut pending, rules, first, second, ahead.lengths);
+    drop(pending);
+    joined
 }
 
 // Whether an overlap of a left side of so many letters with one that is no longer than the longest
