@@ -12,12 +12,42 @@ ghost use Rattle.knuth_bendix.specs.Overlaps.{critical_pair, overlaps_by};
 use crate::indexed_rules::IndexedRules;
 use chains::{ChainStep, Derivations, Fact, around, turn_back};
 use ports::NoMemory;
-use presentation::Presentation;
+use presentation::{Pairs, Presentation};
 use rewriting::{Applied, Reduction};
 use std::alloc::Global;
 use std::collections::HashMap;
 use std::marker::Model;
 use words::Word;
+
+// The two words of a pair in memory of their own.
+fn copied(alloc: Global, left: &Word, right: &Word) -> Result<(Word, Word), NoMemory>
+    ensures { IfOk result (λ pair. pair ≡ (left.now, right.now)) }
+{
+    let left = left.copy(alloc)?;
+    let right = right.copy(alloc)?;
+    Ok((left, right))
+}
+
+// The fact that the steps lead from the first word of the pair to the second.
+fn fact_of(alloc: Global, pair: &(Word, Word), steps: Vec<ChainStep>) -> Result<Fact, NoMemory>
+    ensures left { IfOk result (λ fact. fact.left ≡ pair.now.0) }
+    ensures right { IfOk result (λ fact. fact.right ≡ pair.now.1) }
+    ensures steps { IfOk result (λ fact. fact.steps ≡ steps) }
+{
+    let (left, right) = copied(alloc, &pair.0, &pair.1)?;
+    Ok(Fact { left, right, steps })
+}
+
+// The number of each relation, by its words.
+fn numbers_of(alloc: Global, relations: &Pairs) -> Result<HashMap<(Word, Word), usize>, NoMemory> {
+    let mut numbers = HashMap::new(alloc);
+    for number in 0..relations.len() {
+        let pair = relations.pair(number);
+        let words = copied(alloc, &pair.0, &pair.1)?;
+        let _old = numbers.insert(words, number)?;
+    }
+    Ok(numbers)
+}
 
 // Facts, and the number under which the fact of two words is likely to be found.
 #[derive(Drop)]
@@ -101,16 +131,27 @@ impl Facts {
         ensures logged { OnOk result
             (IsLogged (Some self.new.derivations) (left.now, right.now)) }
     {
-        let pair = (left.copy(alloc)?, right.copy(alloc)?);
+        let pair = copied(alloc, left, right)?;
         if self.is_found(&pair) {
             return Ok(());
         }
+        self.push_new(alloc, pair, steps)
+    }
+
+    // The same, where the pair of the two words is in memory of its own.
+    fn push_new(
+        &mut self,
+        alloc: Global,
+        pair: (Word, Word),
+        steps: Vec<ChainStep>,
+    ) -> Result<(), NoMemory>
+        requires { LeadTo (all_of self.old.derivations) pair.0 (steps_of steps.items) pair.1 }
+        ensures grows { OnOk result
+            (Grows (Some self.old.derivations) (Some self.new.derivations)) }
+        ensures logged { OnOk result (IsLogged (Some self.new.derivations) pair) }
+    {
         let number = self.derivations.len();
-        let fact = Fact {
-            left: left.copy(alloc)?,
-            right: right.copy(alloc)?,
-            steps,
-        };
+        let fact = fact_of(alloc, &pair, steps)?;
         self.derivations.push(fact)?;
         let _none = self.likely.insert(pair, number)?;
         Ok(())
@@ -147,14 +188,8 @@ impl Log {
           facts = [];
         })) }
     {
+        let likely = numbers_of(alloc, presentation.relations())?;
         let derivations = Derivations::new(alloc, presentation)?;
-        let relations = presentation.relations();
-        let mut likely = HashMap::new(alloc);
-        for number in 0..relations.len() {
-            let pair = relations.pair(number);
-            let words = (pair.0.copy(alloc)?, pair.1.copy(alloc)?);
-            let _old = likely.insert(words, number)?;
-        }
         Ok(Log {
             facts: Some(Facts {
                 derivations,
