@@ -56,9 +56,7 @@ fn pair_is_joined(
         return Ok(true);
     }
     let mut pending = Pending::new(alloc, Equations::new(alloc), Log::none());
-    let joined = joins_without_rest(&mut pending, rules, first, second, ahead.lengths);
-    drop(pending);
-    joined
+    joins_without_rest(&mut pending, rules, first, second, ahead.lengths)
 }
 
 // Whether an overlap of a left side of so many letters with one that is no longer than the longest

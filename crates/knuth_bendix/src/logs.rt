@@ -28,14 +28,20 @@ fn copied(alloc: Global, left: &Word, right: &Word) -> Result<(Word, Word), NoMe
     Ok((left, right))
 }
 
-// The fact that the steps lead from the first word of the pair to the second.
-fn fact_of(alloc: Global, pair: &(Word, Word), steps: Vec<ChainStep>) -> Result<Fact, NoMemory>
-    ensures left { IfOk result (λ fact. fact.left ≡ pair.now.0) }
-    ensures right { IfOk result (λ fact. fact.right ≡ pair.now.1) }
-    ensures steps { IfOk result (λ fact. fact.steps ≡ steps) }
+// Puts in the fact that the steps lead from the first word of the pair to the second.
+fn push_fact(
+    alloc: Global,
+    derivations: &mut Derivations,
+    pair: &(Word, Word),
+    steps: Vec<ChainStep>,
+) -> Result<(), NoMemory>
+    requires { LeadTo (all_of derivations.old) pair.now.0 (steps_of steps.items) pair.now.1 }
+    ensures grows { OnOk result (Grows (Some derivations.old) (Some derivations.new)) }
+    ensures logged { OnOk result (IsLogged (Some derivations.new) pair.now) }
 {
     let (left, right) = copied(alloc, &pair.0, &pair.1)?;
-    Ok(Fact { left, right, steps })
+    derivations.push(Fact { left, right, steps })?;
+    Ok(())
 }
 
 // The number of each relation, by its words.
@@ -135,24 +141,8 @@ impl Facts {
         if self.is_found(&pair) {
             return Ok(());
         }
-        self.push_new(alloc, pair, steps)
-    }
-
-    // The same, where the pair of the two words is in memory of its own.
-    fn push_new(
-        &mut self,
-        alloc: Global,
-        pair: (Word, Word),
-        steps: Vec<ChainStep>,
-    ) -> Result<(), NoMemory>
-        requires { LeadTo (all_of self.old.derivations) pair.0 (steps_of steps.items) pair.1 }
-        ensures grows { OnOk result
-            (Grows (Some self.old.derivations) (Some self.new.derivations)) }
-        ensures logged { OnOk result (IsLogged (Some self.new.derivations) pair) }
-    {
         let number = self.derivations.len();
-        let fact = fact_of(alloc, &pair, steps)?;
-        self.derivations.push(fact)?;
+        push_fact(alloc, &mut self.derivations, &pair, steps)?;
         let _none = self.likely.insert(pair, number)?;
         Ok(())
     }

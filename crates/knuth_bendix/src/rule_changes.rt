@@ -1,10 +1,10 @@
 // Adding a rule, and what it changes in the rules that are there.
-ghost use Rattle.std.specs.Prelude.{◌≡◌, ℕ, ◌<◌, length, IfOk, IsTrue, OnOk, ◌↔◌};
+ghost use Rattle.std.specs.Prelude.{◌≡◌, ℕ, ◌+◌, ◌*◌, ◌<◌, length, IfOk, IsTrue, OnOk, ◌↔◌};
 ghost use Rattle.theory.specs.ShortLex.{◌≺◌};
 ghost use Rattle.theory.specs.Word.{IsFactor, Word as Letters};
 ghost use Rattle.knuth_bendix.specs.Changes.{AddsRule, IsDone, Joins, Rewrites};
 ghost use Rattle.knuth_bendix.specs.Held.{held_of};
-ghost use Rattle.knuth_bendix.specs.Overlaps.{rule_at};
+ghost use Rattle.knuth_bendix.specs.Overlaps.{AreJoined, AreShort, Gains, rule_at};
 ghost use Rattle.knuth_bendix.specs.Logs.{AreLogged, Grows, IsLogged, KeepsLog, LogsHeld, LogsRule, Shows};
 ghost use Rattle.theory.specs.Completion.{IsReduced, Listed, Reduces};
 
@@ -122,6 +122,34 @@ fn rewrite_rights(
     Ok(())
 }
 
+// Rewrites the right sides in which the left side of the newest rule stands, and joins its overlaps
+// in words of such lengths.
+fn settle_newest(
+    rules: &mut IndexedRules,
+    newest: usize,
+    lengths: Lengths,
+    pending: &mut Pending,
+) -> Result<(), NoMemory>
+    requires newest { newest < length rules.old }
+    requires held { LogsHeld pending.old.log rules.old pending.old.equations }
+    ensures rewrites { OnOk result (Rewrites rules.old rules.new) }
+    ensures done { OnOk result ((i : ℕ) → i < length rules.new
+        → IsDone (rule_at rules.old newest).0 rules.old rules.new i) }
+    ensures gains { OnOk result ((most : ℕ) → AreShort most rules.new
+        → Gains lengths rules.new pending.old.equations pending.new.equations
+        (length rules.new * (most + most))) }
+    ensures joined { OnOk result ((other : ℕ) → other < length rules.new
+        → AreJoined lengths rules.new pending.new.equations (rule_at rules.new newest)
+        (rule_at rules.new other)
+        × AreJoined lengths rules.new pending.new.equations (rule_at rules.new other)
+        (rule_at rules.new newest)) }
+    ensures logged { OnOk result
+        (KeepsLog pending.old.log pending.new.log rules.new pending.new.equations) }
+{
+    rewrite_rights(pending.alloc, rules, newest, &mut pending.log)?;
+    pending.join_all(rules, newest, lengths)
+}
+
 // The rules with one more, which leads from the one word to the other. Rules in which its left side
 // stands become equations, and so do the words to which its overlaps within the length lead where
 // no rules join them.
@@ -143,8 +171,7 @@ fn add_rule(
     let (mut rules, gone) = rules.add(left, right)?;
     pending.equations.extend(gone)?;
     let newest = rules.len() - 1;
-    rewrite_rights(pending.alloc, &mut rules, newest, &mut pending.log)?;
-    pending.join_all(&rules, newest, Lengths::UpTo(length))?;
+    settle_newest(&mut rules, newest, Lengths::UpTo(length), pending)?;
     Ok(rules)
 }
 
