@@ -6,10 +6,9 @@ ghost use Rattle.chains.specs.Chains.{IsStraight};
 ghost use Rattle.theory.specs.Congruence.{of_presentation};
 ghost use Rattle.theory.specs.Class.{IsRuleList, SameClass};
 ghost use Rattle.theory.specs.Completion.{AreRules, CompletionEnds, Listed, Rule};
-ghost use Rattle.knuth_bendix.specs.Changes.{Joins};
 ghost use Rattle.knuth_bendix.specs.Held.{IsSound, held_of};
 ghost use Rattle.knuth_bendix.specs.Overlaps.{AreShort};
-ghost use Rattle.knuth_bendix.specs.Logs.{IsLogOf, IsLogged, KeepsLog, LogsHeld};
+ghost use Rattle.knuth_bendix.specs.Logs.{IsLogOf, KeepsLog, LogsHeld};
 ghost use Rattle.knuth_bendix.specs.Runs.{AreShortRelations, CompletionRun, IsTurn};
 
 use crate::confluence::are_joined;
@@ -128,44 +127,35 @@ fn last_answer(ends: bool) -> Progress
     }
 }
 
-// The turn that joins the pair.
-fn joined_turn(
-    rules: IndexedRules,
-    pair: (Word, Word),
-    length: usize,
-    pending: &mut Pending,
-) -> Result<(IndexedRules, Progress), NoMemory>
-    requires pair { IsLogged pending.old.log pair }
-    requires held { LogsHeld pending.old.log rules pending.old.equations }
-    ensures joins { IfOk result (λ turn. (turn.1 ≡ Progress.More) × Joins length pair.0 pair.1
-        (held_of rules pending.old.equations) (held_of turn.0 pending.new.equations)) }
-    ensures logged { IfOk result (λ turn.
-        KeepsLog pending.old.log pending.new.log turn.0 pending.new.equations) }
-{
-    let joined = join(rules, &pair, length, pending);
-    drop(pair);
-    Ok((joined?, Progress::More))
-}
-
-// Whether completion ends, once no equation is left. What words are reduced by is made anew first.
-fn ends_rebuilt(
-    alloc: Global,
+// One turn: an equation is joined, or if none is left, it is decided whether completion ends.
+fn make_turn(
     presentation: &Presentation,
     length: usize,
     rules: &mut IndexedRules,
-) -> Result<bool, NoMemory>
-    requires { IsSound presentation.now.presentation length
-        (record { rules = rules.old; equations = [] }) }
-    ensures rules { OnOk result (rules.new ≡ rules.old) }
-    ensures ends { IfOk result (λ ends. MatchBool ends
-        (CompletionEnds presentation.now.presentation length)
-        (CompletionEnds presentation.now.presentation length → ⊥)) }
+    pending: &mut Pending,
+) -> Result<Progress, NoMemory>
+    requires sound { IsSound presentation.now.presentation length
+        (held_of rules.old pending.old.equations) }
+    requires held { LogsHeld pending.old.log rules.old pending.old.equations }
+    ensures turn { IfOk result (IsTurn presentation.now.presentation length
+        (held_of rules.old pending.old.equations) (held_of rules.new pending.new.equations)) }
+    ensures logged { OnOk result
+        (KeepsLog pending.old.log pending.new.log rules.new pending.new.equations) }
 {
-    rules.rebuild()?;
-    ends(alloc, presentation, length, rules)
+    match pending.equations.pop() {
+        Some(pair) => {
+            join(rules, &pair, length, pending)?;
+            Ok(Progress::More)
+        }
+        None => {
+            rules.rebuild()?;
+            let ends = ends(pending.alloc, presentation, length, rules)?;
+            Ok(last_answer(ends))
+        }
+    }
 }
 
-// One turn: an equation is joined, or if none is left, it is decided whether completion ends.
+// The rules and what is told after one turn.
 fn go_on(
     presentation: &Presentation,
     length: usize,
@@ -180,14 +170,9 @@ fn go_on(
     ensures logged { IfOk result (λ turn.
         KeepsLog pending.old.log pending.new.log turn.0 pending.new.equations) }
 {
-    match pending.equations.pop() {
-        Some(pair) => { joined_turn(rules, pair, length, pending) }
-        None => {
-            let mut rules = rules;
-            let ends = ends_rebuilt(pending.alloc, presentation, length, &mut rules)?;
-            Ok((rules, last_answer(ends)))
-        }
-    }
+    let mut rules = rules;
+    let said = make_turn(presentation, length, &mut rules, pending)?;
+    Ok((rules, said))
 }
 
 // What a turn leaves: after want of memory no rules are held.

@@ -1,10 +1,12 @@
 // Adding a rule, and what it changes in the rules that are there.
-ghost use Rattle.std.specs.Prelude.{◌≡◌, ℕ, ◌+◌, ◌*◌, ◌<◌, length, IfOk, IsTrue, OnOk, ◌↔◌};
+ghost use Rattle.std.specs.Prelude.{◌≡◌, ℕ, ◌<◌, ◌∷◌, ◌++◌, [], length, not, IfOk, IsTrue, OnOk, ◌↔◌};
+ghost use Rattle.std.specs.List.{filter};
+ghost use Rattle.rewriting.specs.Rules.{stands_in};
 ghost use Rattle.theory.specs.ShortLex.{◌≺◌};
 ghost use Rattle.theory.specs.Word.{IsFactor, Word as Letters};
 ghost use Rattle.knuth_bendix.specs.Changes.{AddsRule, IsDone, Joins, Rewrites};
 ghost use Rattle.knuth_bendix.specs.Held.{held_of};
-ghost use Rattle.knuth_bendix.specs.Overlaps.{AreJoined, AreShort, Gains, rule_at};
+ghost use Rattle.knuth_bendix.specs.Overlaps.{rule_at};
 ghost use Rattle.knuth_bendix.specs.Logs.{AreLogged, Grows, IsLogged, KeepsLog, LogsHeld, LogsRule, Shows};
 ghost use Rattle.theory.specs.Completion.{IsReduced, Listed, Reduces};
 
@@ -17,6 +19,7 @@ use ports::NoMemory;
 use rewriting::has_factor;
 use std::alloc::Global;
 use std::cmp::Ordering;
+use std::mem;
 use words::{Word, shortlex};
 
 // The reduced right side of a rule. The rule that has it is logged.
@@ -122,57 +125,50 @@ fn rewrite_rights(
     Ok(())
 }
 
-// Rewrites the right sides in which the left side of the newest rule stands, and joins its overlaps
-// in words of such lengths.
-fn settle_newest(
+// Takes out the rules in whose left sides that of a new rule stands, and puts the new rule at the
+// end. What was taken out is given back, in order.
+fn put_rule(
+    alloc: Global,
     rules: &mut IndexedRules,
-    newest: usize,
-    lengths: Lengths,
-    pending: &mut Pending,
-) -> Result<(), NoMemory>
-    requires newest { newest < length rules.old }
-    requires held { LogsHeld pending.old.log rules.old pending.old.equations }
-    ensures rewrites { OnOk result (Rewrites rules.old rules.new) }
-    ensures done { OnOk result ((i : ℕ) → i < length rules.new
-        → IsDone (rule_at rules.old newest).0 rules.old rules.new i) }
-    ensures gains { OnOk result ((most : ℕ) → AreShort most rules.new
-        → Gains lengths rules.new pending.old.equations pending.new.equations
-        (length rules.new * (most + most))) }
-    ensures joined { OnOk result ((other : ℕ) → other < length rules.new
-        → AreJoined lengths rules.new pending.new.equations (rule_at rules.new newest)
-        (rule_at rules.new other)
-        × AreJoined lengths rules.new pending.new.equations (rule_at rules.new other)
-        (rule_at rules.new newest)) }
-    ensures logged { OnOk result
-        (KeepsLog pending.old.log pending.new.log rules.new pending.new.equations) }
+    left: Word,
+    right: Word,
+) -> Result<Vec<(Word, Word)>, NoMemory>
+    requires { right ≺ left }
+    ensures kept { OnOk result
+        (rules.new ≡ filter (λ q. not (stands_in left q.0)) rules.old ++ (left, right) ∷ []) }
+    ensures gone { IfOk result (λ gone.
+        gone.items ≡ filter (λ q. stands_in left q.0) rules.old) }
 {
-    rewrite_rights(pending.alloc, rules, newest, &mut pending.log)?;
-    pending.join_all(rules, newest, lengths)
+    let old = mem::replace(rules, IndexedRules::new(alloc));
+    let (new, gone) = old.add(left, right)?;
+    *rules = new;
+    Ok(gone)
 }
 
-// The rules with one more, which leads from the one word to the other. Rules in which its left side
-// stands become equations, and so do the words to which its overlaps within the length lead where
-// no rules join them.
+// Adds the rule that leads from the one word to the other. Rules in which its left side stands
+// become equations, and so do the words to which its overlaps within the length lead where no rules
+// join them.
 fn add_rule(
-    rules: IndexedRules,
+    rules: &mut IndexedRules,
     left: Word,
     right: Word,
     length: usize,
     pending: &mut Pending,
-) -> Result<IndexedRules, NoMemory>
+) -> Result<(), NoMemory>
     requires falls { right ≺ left }
     requires rule { IsLogged pending.old.log (left, right) }
-    requires held { LogsHeld pending.old.log rules pending.old.equations }
-    ensures adds { IfOk result (λ new. AddsRule length left right
-        (held_of rules pending.old.equations) (held_of new pending.new.equations)) }
-    ensures logged { IfOk result (λ new.
-        KeepsLog pending.old.log pending.new.log new pending.new.equations) }
+    requires held { LogsHeld pending.old.log rules.old pending.old.equations }
+    ensures adds { OnOk result (AddsRule length left right
+        (held_of rules.old pending.old.equations) (held_of rules.new pending.new.equations)) }
+    ensures logged { OnOk result
+        (KeepsLog pending.old.log pending.new.log rules.new pending.new.equations) }
 {
-    let (mut rules, gone) = rules.add(left, right)?;
+    let gone = put_rule(pending.alloc, rules, left, right)?;
     pending.equations.extend(gone)?;
     let newest = rules.len() - 1;
-    settle_newest(&mut rules, newest, Lengths::UpTo(length), pending)?;
-    Ok(rules)
+    rewrite_rights(pending.alloc, rules, newest, &mut pending.log)?;
+    pending.join_all(rules, newest, Lengths::UpTo(length))?;
+    Ok(())
 }
 
 // Logs the rule that two words make to which those of a pair were reduced, each with the steps that
@@ -225,25 +221,25 @@ fn reduce_both(
     Ok((left.0, right.0))
 }
 
-/// The rules made to join the two words: where they lead to different words, a rule is added. Its
-/// overlaps whose words have at most `length` letters are joined too, or become equations. Refused
-/// only where memory is wanting.
+/// Joins the two words: where the rules lead them to different words, a rule is added. Its overlaps
+/// whose words have at most `length` letters are joined too, or become equations. Refused only
+/// where memory is wanting.
 pub fn join(
-    rules: IndexedRules,
+    rules: &mut IndexedRules,
     pair: &(Word, Word),
     length: usize,
     pending: &mut Pending,
-) -> Result<IndexedRules, NoMemory>
+) -> Result<(), NoMemory>
     requires pair { IsLogged pending.old.log pair.now }
-    requires held { LogsHeld pending.old.log rules pending.old.equations }
-    ensures joins { IfOk result (λ new. Joins length pair.now.0 pair.now.1
-        (held_of rules pending.old.equations) (held_of new pending.new.equations)) }
-    ensures logged { IfOk result (λ new.
-        KeepsLog pending.old.log pending.new.log new pending.new.equations) }
+    requires held { LogsHeld pending.old.log rules.old pending.old.equations }
+    ensures joins { OnOk result (Joins length pair.now.0 pair.now.1
+        (held_of rules.old pending.old.equations) (held_of rules.new pending.new.equations)) }
+    ensures logged { OnOk result
+        (KeepsLog pending.old.log pending.new.log rules.new pending.new.equations) }
 {
-    let (left, right) = reduce_both(pending.alloc, &rules, pair, &mut pending.log)?;
+    let (left, right) = reduce_both(pending.alloc, rules, pair, &mut pending.log)?;
     match shortlex(&left, &right) {
-        Ordering::Equal => Ok(rules),
+        Ordering::Equal => Ok(()),
         Ordering::Less => add_rule(rules, right, left, length, pending),
         Ordering::Greater => add_rule(rules, left, right, length, pending),
     }

@@ -1,9 +1,6 @@
 use Rattle.std.proofs.Common.{sym}
-use Rattle.std.proofs.lemmas.Result.{IfOk-weaker}
-use Rattle.knuth_bendix.specs.Held.{held_of}
-use Rattle.knuth_bendix.specs.Logs.{KeepsLog}
+use Rattle.std.proofs.lemmas.Result.{on_ok_weaker}
 use Rattle.knuth_bendix.proofs.LogLaws.{keeps_after, keeps_none, still_held}
-use Rattle.knuth_bendix.specs.Changes.{AddsRule, Joins}
 use Rattle.knuth_bendix.proofs.RuleChanges.{greater_first, joins_equal, joins_greater}
 use Rattle.knuth_bendix.proofs.rule_changes.join.Goals as goal
 
@@ -12,7 +9,7 @@ add_rule-requires-in-Greater-clause-falls c = greater_first c.in_ok-left.left c.
 
 pub returns-in-Equal-clause-joins : goal.returns-in-Equal-clause-joins
 returns-in-Equal-clause-joins c =
-    joins_equal c.args.length c.args.pair.now.0 c.args.pair.now.1 c.in_ok-left.left c.in_ok-left.right c.args.rules c.args.pending.now.equations
+    joins_equal c.args.length c.args.pair.now.0 c.args.pair.now.1 c.in_ok-left.left c.in_ok-left.right c.args.rules.now c.args.pending.now.equations
     (record {
       down_left = c.in_ok-left.ensures.down_left;
       down_right = c.in_ok-left.ensures.down_right;
@@ -23,17 +20,15 @@ returns-in-Equal-clause-joins c =
 
 pub returns-in-Greater-clause-joins : goal.returns-in-Greater-clause-joins
 returns-in-Greater-clause-joins c =
-    IfOk-weaker c.add_rule-in-Greater.result
-    (λ new. AddsRule c.args.length c.in_ok-left.left c.in_ok-left.right (held_of c.args.rules c.args.pending.now.equations) (held_of new c.add_rule-in-Greater.new.pending.equations))
-    (λ new. Joins c.args.length c.args.pair.now.0 c.args.pair.now.1 (held_of c.args.rules c.args.pending.now.equations) (held_of new c.add_rule-in-Greater.new.pending.equations))
-    (λ new adds. joins_greater c.args.length c.args.pair.now.0 c.args.pair.now.1 c.in_ok-left.left c.in_ok-left.right c.args.rules c.args.pending.now.equations
+    on_ok_weaker c.add_rule-in-Greater.result
+    (λ adds. joins_greater c.args.length c.args.pair.now.0 c.args.pair.now.1 c.in_ok-left.left c.in_ok-left.right c.args.rules.now c.args.pending.now.equations
     (record {
       down_left = c.in_ok-left.ensures.down_left;
       down_right = c.in_ok-left.ensures.down_right;
       end_left = c.in_ok-left.ensures.end_left;
       end_right = c.in_ok-left.ensures.end_right;
     })
-    new c.add_rule-in-Greater.new.pending.equations c.in-Greater.ensures adds)
+    c.add_rule-in-Greater.new.rules c.add_rule-in-Greater.new.pending.equations c.in-Greater.ensures adds)
     c.add_rule-in-Greater.ensures.adds
 
 pub add_rule-requires-clause-rule : goal.add_rule-requires-clause-rule
@@ -44,27 +39,24 @@ add_rule-requires-in-Greater-clause-rule c = c.in_ok-left.ensures.rule.greater (
 
 pub add_rule-requires-clause-held : goal.add_rule-requires-clause-held
 add_rule-requires-clause-held c =
-    still_held c.args.pending.now.log c.reduce_both.new.log c.args.rules c.args.pending.now.equations c.in_ok-left.ensures.grows c.requires.held
+    still_held c.args.pending.now.log c.reduce_both.new.log c.args.rules.now c.args.pending.now.equations c.in_ok-left.ensures.grows c.requires.held
 
 pub add_rule-requires-in-Greater-clause-held : goal.add_rule-requires-in-Greater-clause-held
 add_rule-requires-in-Greater-clause-held c =
-    still_held c.args.pending.now.log c.reduce_both.new.log c.args.rules c.args.pending.now.equations c.in_ok-left.ensures.grows c.requires.held
+    still_held c.args.pending.now.log c.reduce_both.new.log c.args.rules.now c.args.pending.now.equations c.in_ok-left.ensures.grows c.requires.held
 
 pub returns-in-Equal-clause-logged : goal.returns-in-Equal-clause-logged
 returns-in-Equal-clause-logged c =
-    keeps_after c.args.pending.now.log c.reduce_both.new.log c.reduce_both.new.log c.args.rules c.args.pending.now.equations c.in_ok-left.ensures.grows
-    (keeps_none c.reduce_both.new.log c.args.rules c.args.pending.now.equations
-    (still_held c.args.pending.now.log c.reduce_both.new.log c.args.rules c.args.pending.now.equations c.in_ok-left.ensures.grows c.requires.held))
+    keeps_after c.args.pending.now.log c.reduce_both.new.log c.reduce_both.new.log c.args.rules.now c.args.pending.now.equations c.in_ok-left.ensures.grows
+    (keeps_none c.reduce_both.new.log c.args.rules.now c.args.pending.now.equations
+    (still_held c.args.pending.now.log c.reduce_both.new.log c.args.rules.now c.args.pending.now.equations c.in_ok-left.ensures.grows c.requires.held))
 
 pub returns-in-Less-clause-logged : goal.returns-in-Less-clause-logged
 returns-in-Less-clause-logged c =
-    IfOk-weaker c.add_rule.result (λ new. KeepsLog c.reduce_both.new.log c.add_rule.new.pending.log new c.add_rule.new.pending.equations)
-    (λ new. KeepsLog c.args.pending.now.log c.add_rule.new.pending.log new c.add_rule.new.pending.equations)
-    (λ new. keeps_after c.args.pending.now.log c.reduce_both.new.log c.add_rule.new.pending.log new c.add_rule.new.pending.equations c.in_ok-left.ensures.grows) c.add_rule.ensures.logged
+    on_ok_weaker c.add_rule.result (keeps_after c.args.pending.now.log c.reduce_both.new.log c.add_rule.new.pending.log c.add_rule.new.rules c.add_rule.new.pending.equations c.in_ok-left.ensures.grows)
+    c.add_rule.ensures.logged
 
 pub returns-in-Greater-clause-logged : goal.returns-in-Greater-clause-logged
 returns-in-Greater-clause-logged c =
-    IfOk-weaker c.add_rule-in-Greater.result (λ new. KeepsLog c.reduce_both.new.log c.add_rule-in-Greater.new.pending.log new c.add_rule-in-Greater.new.pending.equations)
-    (λ new. KeepsLog c.args.pending.now.log c.add_rule-in-Greater.new.pending.log new c.add_rule-in-Greater.new.pending.equations)
-    (λ new. keeps_after c.args.pending.now.log c.reduce_both.new.log c.add_rule-in-Greater.new.pending.log new c.add_rule-in-Greater.new.pending.equations c.in_ok-left.ensures.grows)
+    on_ok_weaker c.add_rule-in-Greater.result (keeps_after c.args.pending.now.log c.reduce_both.new.log c.add_rule-in-Greater.new.pending.log c.add_rule-in-Greater.new.rules c.add_rule-in-Greater.new.pending.equations c.in_ok-left.ensures.grows)
     c.add_rule-in-Greater.ensures.logged
