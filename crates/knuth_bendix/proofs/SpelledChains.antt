@@ -1,5 +1,5 @@
 -- What the chains of a logged completion say.
-use Rattle.std.proofs.Common.{◌≡◌, ℕ, true, List, [], refl, sym, ◌∙◌, ap, arith, subst, subst₂, ◌⊎◌, inl, inr, Option, None, Some, Result, Ok, Err, is_some, IfOk, MatchResult}
+use Rattle.std.proofs.Common.{◌≡◌, ℕ, true, List, [], refl, sym, ◌∙◌, ap, arith, subst, subst₂, ◌⊎◌, inl, inr, Option, None, Some, Result, Ok, Err, is_some, OnOk, MatchResult}
 use Rattle.theory.specs.Word.{Word}
 use Rattle.theory.specs.Congruence.{Presentation, IsWellFormed, of_presentation}
 use Rattle.theory.specs.Chain.{Related}
@@ -44,27 +44,28 @@ pub record IsSettled (p : Presentation) (old settled : Option Derived) (rules eq
   pub held : LogsHeld settled rules equations
   pub same : (said ≡ NoMemory → ⊥) → is_some settled ≡ is_some old
 
-pub settled_log : {E : Type 0} (p : Presentation) (old new settled : Option Derived) (equations : List (Word × Word))
-    (turn : Result (List (Word × Word) × Progress) E) (rest : List (Word × Word) × Progress)
-    → IsLogOf p old → IfOk turn (λ t. KeepsLog old new t.0 equations) → MatchResult turn (λ t. rest ≡ t) (λ _. (rest.0 ≡ []) × (rest.1 ≡ NoMemory))
-    → ((rest.1 ≡ NoMemory → ⊥) → settled ≡ new) → (rest.1 ≡ NoMemory → settled ≡ None)
-    → IsSettled p old settled rest.0 equations rest.1
-settled_log p old new settled equations (Ok t) rest is keeps left kept lost =
+pub settled_log : {E : Type 0} (p : Presentation) (old new settled : Option Derived) (rules equations rest : List (Word × Word))
+    (turn : Result Progress E) (said : Progress)
+    → IsLogOf p old → OnOk turn (KeepsLog old new rules equations)
+    → MatchResult turn (λ t. (said ≡ t) × (rest ≡ rules)) (λ _. (said ≡ NoMemory) × (rest ≡ []))
+    → ((said ≡ NoMemory → ⊥) → settled ≡ new) → (said ≡ NoMemory → settled ≡ None)
+    → IsSettled p old settled rest equations said
+settled_log p old new settled rules equations rest (Ok t) said is keeps left kept lost =
     record {
-      log_of = elim (is_starved rest.1) [
+      log_of = elim (is_starved said) [
         | inl e ↦ log_of_none p settled (lost e)
         | inr n ↦ subst (IsLogOf p) (sym (kept n)) (log_grows p old new is keeps.grows)
       ];
-      held = elim (is_starved rest.1) [
-        | inl e ↦ none_held settled rest.0 equations (lost e)
+      held = elim (is_starved said) [
+        | inl e ↦ none_held settled rest equations (lost e)
         | inr n ↦
-            subst₂ (λ (log : Option Derived) (r : List (Word × Word) × Progress). LogsHeld log r.0 equations) (sym (kept n)) (sym left) keeps.held
+            subst₂ (λ (log : Option Derived) (rs : List (Word × Word)). LogsHeld log rs equations) (sym (kept n)) (sym left.1) keeps.held
       ];
       same = λ n. ap (λ (o : Option Derived). is_some o) (kept n) ∙ logged_grows old new keeps.grows;
     }
-settled_log p old new settled equations (Err none) rest is keeps left kept lost =
+settled_log p old new settled rules equations rest (Err none) said is keeps left kept lost =
     record {
-      log_of = log_of_none p settled (lost left.1);
-      held = none_held settled rest.0 equations (lost left.1);
-      same = λ n. absurd (n left.1);
+      log_of = log_of_none p settled (lost left.0);
+      held = none_held settled rest equations (lost left.0);
+      same = λ n. absurd (n left.0);
     }

@@ -1,5 +1,5 @@
 -- Turns of a completion.
-use Rattle.std.proofs.Common.{◌≡◌, ℕ, ◌+◌, ◌*◌, ◌<◌, ◌≤◌, Bool, true, false, List, [], ◌∷◌, length, cond, refl, sym, subst, arith, inl, inr, IfOk, MatchBool, MatchResult, Result, Ok, Err}
+use Rattle.std.proofs.Common.{◌≡◌, ℕ, ◌+◌, ◌*◌, ◌<◌, ◌≤◌, Bool, true, false, List, [], ◌∷◌, length, cond, refl, sym, subst, subst₂, arith, inl, inr, IfOk, MatchBool, MatchResult, Result, Ok, Err}
 use Rattle.std.specs.List.{All}
 use Rattle.std.specs.List.Sorted.{IsPermutation}
 use Rattle.std.proofs.lemmas.List.Sorted.{length_permutation}
@@ -127,12 +127,12 @@ leaves_turn left p L held rules equations new_rules new_equations said same is t
     record { run = here.run; nearer = λ e. subst (λ (n : ℕ). left_of p L new_rules new_equations < n) is (here.more e) }
 
 -- what a turn leaves, whether or not it met want of memory
-pub turn_leaves : {E : Type 0} (left : ℕ) (p : Presentation) (L : ℕ) (held rules equations new_equations : List (Word × Word))
-    (turn : Result (List (Word × Word) × Progress) E) (rest : List (Word × Word) × Progress)
-    → held ≡ rules → left_of p L rules equations ≡ left → IfOk turn (λ t. IsTurn p L (held_of held equations) (held_of t.0 new_equations) t.1)
-    → MatchResult turn (λ t. rest ≡ t) (λ _. (rest.0 ≡ []) × (rest.1 ≡ NoMemory)) → Leaves left p L rest.0 new_equations rest.1
-turn_leaves left p L held rules equations new_equations (Ok t) rest same is turn e =
-    subst (λ (r : List (Word × Word) × Progress). Leaves left p L r.0 new_equations r.1) (sym e)
-    (leaves_turn left p L held rules equations t.0 new_equations t.1 same is turn)
-turn_leaves left p L held rules equations new_equations (Err none) rest same is turn e =
-    subst (λ (said : Progress). Leaves left p L rest.0 new_equations said) (sym e.1) (leaves_starved left p L rest.0 new_equations e.0)
+pub turn_leaves : {E : Type 0} (left : ℕ) (p : Presentation) (L : ℕ) (rules equations new_rules new_equations rest : List (Word × Word))
+    (turn : Result Progress E) (said : Progress)
+    → left_of p L rules equations ≡ left → IfOk turn (IsTurn p L (held_of rules equations) (held_of new_rules new_equations))
+    → MatchResult turn (λ t. (said ≡ t) × (rest ≡ new_rules)) (λ _. (said ≡ NoMemory) × (rest ≡ [])) → Leaves left p L rest new_equations said
+turn_leaves left p L rules equations new_rules new_equations rest (Ok t) said is turn e =
+    subst₂ (λ (rs : List (Word × Word)) (told : Progress). Leaves left p L rs new_equations told) (sym e.1) (sym e.0)
+    (leaves_turn left p L rules rules equations new_rules new_equations t refl is turn)
+turn_leaves left p L rules equations new_rules new_equations rest (Err none) said is turn e =
+    subst (λ (told : Progress). Leaves left p L rest new_equations told) (sym e.0) (leaves_starved left p L rest new_equations e.1)

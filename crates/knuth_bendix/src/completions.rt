@@ -25,7 +25,6 @@ use race::{Progress, Racer};
 use rewriting::Rules;
 use std::alloc::Global;
 use std::marker::Model;
-use std::mem;
 use words::{Word, shortlex};
 
 /// A completion of a presentation within a bound on the length of words: an engine that decides
@@ -128,7 +127,7 @@ fn last_answer(ends: bool) -> Progress
 }
 
 // One turn: an equation is joined, or if none is left, it is decided whether completion ends.
-fn make_turn(
+fn go_on(
     presentation: &Presentation,
     length: usize,
     rules: &mut IndexedRules,
@@ -155,37 +154,17 @@ fn make_turn(
     }
 }
 
-// The rules and what is told after one turn.
-fn go_on(
-    presentation: &Presentation,
-    length: usize,
-    rules: IndexedRules,
-    pending: &mut Pending,
-) -> Result<(IndexedRules, Progress), NoMemory>
-    requires sound { IsSound presentation.now.presentation length
-        (held_of rules pending.old.equations) }
-    requires held { LogsHeld pending.old.log rules pending.old.equations }
-    ensures turn { IfOk result (λ turn. IsTurn presentation.now.presentation length
-        (held_of rules pending.old.equations) (held_of turn.0 pending.new.equations) turn.1) }
-    ensures logged { IfOk result (λ turn.
-        KeepsLog pending.old.log pending.new.log turn.0 pending.new.equations) }
-{
-    let mut rules = rules;
-    let said = make_turn(presentation, length, &mut rules, pending)?;
-    Ok((rules, said))
-}
-
-// What a turn leaves: after want of memory no rules are held.
-fn left_by(
-    alloc: Global,
-    turn: Result<(IndexedRules, Progress), NoMemory>,
-) -> (IndexedRules, Progress)
-    ensures { MatchResult turn (λ t. result ≡ t)
-        (λ _. (result.0 ≡ []) × (result.1 ≡ Progress.NoMemory)) }
+// What a turn tells: after want of memory no rules are held.
+fn told_by(alloc: Global, turn: Result<Progress, NoMemory>, rules: &mut IndexedRules) -> Progress
+    ensures { MatchResult turn (λ said. (result ≡ said) × (rules.new ≡ rules.old))
+        (λ _. (result ≡ Progress.NoMemory) × (rules.new ≡ [])) }
 {
     match turn {
-        Ok(turn) => turn,
-        Err(NoMemory) => (IndexedRules::new(alloc), Progress::NoMemory),
+        Ok(said) => said,
+        Err(NoMemory) => {
+            *rules = IndexedRules::new(alloc);
+            Progress::NoMemory
+        }
     }
 }
 
@@ -242,11 +221,14 @@ impl Racer for Completion {
         let Progress::More = self.said else {
             return self.said;
         };
-        let rules = mem::replace(&mut self.rules, IndexedRules::new(self.alloc));
-        let turn = go_on(&self.presentation, self.length, rules, &mut self.pending);
-        let (rules, said) = left_by(self.alloc, turn);
+        let turn = go_on(
+            &self.presentation,
+            self.length,
+            &mut self.rules,
+            &mut self.pending,
+        );
+        let said = told_by(self.alloc, turn, &mut self.rules);
         settle(&mut self.pending.log, said);
-        self.rules = rules;
         self.said = said;
         said
     }

@@ -5,7 +5,7 @@ use Rattle.knuth_bendix.specs.Runs.{IsTurn}
 use Rattle.knuth_bendix.specs.Logs.{LogsHeld}
 use Rattle.knuth_bendix.proofs.LogLaws.{keeps_none, taken_held}
 use Rattle.knuth_bendix.proofs.Turns.{end_turn, join_turn}
-use Rattle.knuth_bendix.proofs.completions.make_turn.Goals as goal
+use Rattle.knuth_bendix.proofs.completions.go_on.Goals as goal
 
 pub returns-in_ok-join-in-Some-clause-turn : goal.returns-in_ok-join-in-Some-clause-turn
 returns-in_ok-join-in-Some-clause-turn c =
