@@ -1,5 +1,5 @@
 // The tables behind a front part that a page asks for.
-ghost use Rattle.std.specs.Prelude.{◌≡◌, ◌≤◌, ◌<◌, ◌≢◌, ◌↔◌, ℕ, List, length, IfOk, OnOk, IsTrue, MatchOption, true, false};
+ghost use Rattle.std.specs.Prelude.{◌≡◌, ◌≤◌, ◌<◌, ◌≢◌, ◌↔◌, ℕ, List, length, IfOk, OnOk, IsTrue, MatchOption, true, false, []};
 ghost use Rattle.std.specs.declared.cmp.Ordering.TheVariants.{Less, Equal, Greater};
 ghost use Rattle.theory.specs.LowIndex.{graph_of};
 ghost use Rattle.sims_one.specs.Targets.{table_of, IsTable, IsWithin};
@@ -158,6 +158,33 @@ fn add_wanted(
     Ok(())
 }
 
+// Fills the empty list with the tables that are asked for, from that of the branch on, up to one
+// more than a page has. A function of its own, since here no way out lets anything go.
+fn add_tables(
+    request: &Request,
+    front: &[usize],
+    branch: &mut Branch,
+    tables: &mut Vec<Vec<usize>>,
+) -> Result<(), Halt>
+    requires asked { IsAsked (asked request.now) }
+    requires first { IsFirstWithin (asked request.now) front.now request.now.cursor.now
+        branch.old.targets.items branch.old.levels }
+    requires empty { tables.old.items ≡ [] }
+    ensures { OnOk result (AreTablesWithin (asked request.now) front.now
+        (lists_in tables.new.items)) }
+{
+    let _letters = request.presentation.letters();
+    loop {
+        add_wanted(request, &branch.targets, tables)?;
+        if tables.len() > request.count {
+            return Ok(());
+        }
+        if !search_next(request.presentation, request.classes, branch, front.len())? {
+            return Ok(());
+        }
+    }
+}
+
 /// The first tables that go on behind the front part and are asked for, in order, one more than a
 /// page has; all of them where they are fewer. The search may take so many steps. It ends early
 /// only where it would take more, or where memory is wanting.
@@ -171,23 +198,9 @@ pub fn tables_within(
     ensures { IfOk result (λ ts. AreTablesWithin (asked request.now) front.now
         (lists_in ts.items)) }
 {
-    let _letters = request.presentation.letters();
     let mut tables = Vec::new(request.alloc);
-    let Some(mut branch) = first_within(request, front, steps)? else {
-        return Ok(tables);
-    };
-    loop {
-        add_wanted(request, &branch.targets, &mut tables)?;
-        if tables.len() > request.count {
-            return Ok(tables);
-        }
-        if !search_next(
-            request.presentation,
-            request.classes,
-            &mut branch,
-            front.len(),
-        )? {
-            return Ok(tables);
-        }
+    if let Some(mut branch) = first_within(request, front, steps)? {
+        add_tables(request, front, &mut branch, &mut tables)?;
     }
+    Ok(tables)
 }

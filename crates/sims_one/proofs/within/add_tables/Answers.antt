@@ -6,7 +6,7 @@ use Rattle.sims_one.specs.Asked.{asked, AddsWanted}
 use Rattle.sims_one.specs.Fronts.{lists_in}
 use Rattle.sims_one.proofs.RankLaws.{table_falls}
 use Rattle.sims_one.proofs.WantedLaws.{listed_on, tables_end, tables_enough, first_after, kept_front}
-use Rattle.sims_one.proofs.within.tables_within.Goals as goal
+use Rattle.sims_one.proofs.within.add_tables.Goals as goal
 
 pub returns-then-len-request : goal.returns-then-len-request
 returns-then-len-request c =

@@ -3,7 +3,7 @@ use Rattle.sims_one.specs.Asked.{asked}
 use Rattle.sims_one.specs.Fronts.{lists_in}
 use Rattle.sims_one.proofs.RankLaws.{rank}
 use Rattle.sims_one.proofs.WantedLaws.{AreListed}
-use Rattle.sims_one.proofs.within.tables_within.Given as goal
+use Rattle.sims_one.proofs.within.add_tables.Given as goal
 
 abbrev pub invariant-loop-branch : goal.invariant-loop-branch
 invariant-loop-branch l = record {
