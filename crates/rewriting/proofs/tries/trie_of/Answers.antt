@@ -21,3 +21,15 @@ insert-requires-clause-over c = subst (λ k. AreOver k c.args.rules.now) (sym c.
 
 pub loop-rule-preserved : goal.loop-rule-preserved
 loop-rule-preserved c = record { letters = c.in_ok-insert.ensures.letters ∙ c.loop-rule.invariant.letters; grown = c.in_ok-insert.ensures.grown }
+
+pub insert-requires-clause-few : goal.insert-requires-clause-few
+insert-requires-clause-few c = omega (arith, c.if-len-gt-NUMBERS_AT_MOST.false, c.loop-rule-test.true, c.len.ensures, c.len-rule-end.ensures)
+
+pub insert-requires-clause-rule : goal.insert-requires-clause-rule
+insert-requires-clause-rule c = omega (arith, ap (λ (rs : List (Word × Word)). length rs) c.rules.view_is, c.loop-rule-test.true, c.len-rule-end.ensures, c.rules.inside.items.ok)
+
+pub insert-requires-clause-grown : goal.insert-requires-clause-grown
+insert-requires-clause-grown c = c.loop-rule.invariant.grown
+
+pub returns-clause-letters : goal.returns-clause-letters
+returns-clause-letters c = c.loop-rule.invariant.letters

@@ -1,4 +1,4 @@
-use Rattle.std.proofs.Common.{◌≡◌, ◌+◌, ◌-◌, ◌<◌, ◌≤◌, length, drop, lit<, ap, refl, sym, subst, ◌∙◌, arith}
+use Rattle.std.proofs.Common.{◌≡◌, ◌+◌, ◌-◌, ◌<◌, ◌≤◌, length, drop, lit<, ap, refl, sym, subst, subst₂, ◌∙◌, arith}
 use Rattle.std.proofs.lemmas.List.{length-set}
 use Rattle.theory.specs.Word.{Word}
 use Rattle.rewriting.specs.Newer.{AreNewerTo, end_key}
@@ -37,4 +37,19 @@ returns c =
       some = subst (λ d. 0 < d) (sym is.depth) c.depth_of.ensures.some;
       long = λ place from inside. subst (λ d. d ≤ length (left_at rules place)) (sym is.depth) (c.depth_of.ensures.long place from inside);
       to = subst (λ n. AreNewerTo rules c.args.first n newer) (sym is.to.all) is.to;
+    }
+
+pub rule-requires : goal.rule-requires
+rule-requires c = omega (arith, c.loop-place-test.true, c.len-place-end.ensures.len)
+
+pub push-requires : goal.push-requires
+push-requires c =
+    let rules = c.args.rules.now in
+    let place = c.loop-place.place in
+    let within : place < length rules = omega (arith, c.loop-place-test.true, c.len-place-end.ensures.len) in
+    let left_is : left_at rules place ≡ c.letters.result.now =
+    sym (c.letters.ensures ∙ ap (λ (r : Word × Word). r.0) (rule_read rules rules place c.rule.result.now refl within c.rule.ensures.rule)) in
+    record {
+      long = subst₂ (λ d (w : Word). d ≤ length w) (sym c.loop-place.invariant.depth) left_is (c.depth_of.ensures.long place c.loop-place.auto.place within);
+      keys = c.loop-place.invariant.keys;
     }
