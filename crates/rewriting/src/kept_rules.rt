@@ -9,7 +9,7 @@ ghost use Rattle.rewriting.specs.Traces.{LeadBy};
 
 use crate::factors::word_of;
 use crate::lookups::Lookup;
-use crate::reductions::{Reduction, begin, unread};
+use crate::reductions::{Reduction, begin};
 use crate::rule_lists::Rules;
 use crate::traces::{Applied, note};
 use ports::NoMemory;
@@ -176,7 +176,8 @@ impl KeptRules {
         let _count = self.rules.len();
         let alloc = self.rules.alloc;
         let mut trace = Vec::new(alloc);
-        let mut reduction = unread(alloc, word)?;
+        let mut reduction = Reduction::new(alloc);
+        begin(&mut reduction, word)?;
         while let Some(letter) = reduction.rest.pop() {
             let applied = self
                 .lookup

@@ -53,10 +53,8 @@ impl Trie {
         requires grown { IsTreeOf rules.now self.now }
         ensures { IfOk result (λ order. IsOrder (states_of rules.now self.now) order.items) }
     {
-        let mut order = Vec::new(alloc);
-        order.push(0)?;
-        let mut level = Vec::new(alloc);
-        level.push(0)?;
+        let mut order = Vec::from_elem(alloc, 0, 1)?;
+        let mut level = Vec::from_elem(alloc, 0, 1)?;
         for _ in 0..rules.longest_left() {
             level = self.next_level(alloc, level.as_slice())?;
             order.extend_from_slice(level.as_slice())?;

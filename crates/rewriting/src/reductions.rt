@@ -64,17 +64,6 @@ pub fn begin(reduction: &mut Reduction, word: &Word) -> Result<(), NoMemory>
     put_reversed(&mut reduction.rest, word.letters())
 }
 
-/// Nothing is read of the word. Refused only where memory is wanting.
-pub fn unread(alloc: Global, word: &Word) -> Result<Reduction, NoMemory>
-    ensures done { IfOk result (λ r. r.done.items ≡ []) }
-    ensures states { IfOk result (λ r. r.states.items ≡ 0 ∷ []) }
-    ensures rest { IfOk result (λ r. r.rest.items ≡ reverse word.now) }
-{
-    let mut reduction = Reduction::new(alloc);
-    begin(&mut reduction, word)?;
-    Ok(reduction)
-}
-
 /// The letter is read, and the state follows. Refused only where memory is wanting.
 pub fn push(reduction: &mut Reduction, letter: Letter, state: usize) -> Result<(), NoMemory>
     ensures done { OnOk result
@@ -131,6 +120,26 @@ impl IndexAutomaton {
         Ok(())
     }
 
+    // The same in room that is there.
+    fn reduce_in(
+        &self,
+        room: &mut Reduction,
+        alloc: Global,
+        rules: &Rules,
+        word: &Word,
+    ) -> Result<Word, NoMemory>
+        requires { IsTableOf self.now.letters rules.now self.now }
+        ensures reached { IfOk result (λ w. Reduces (Listed rules.now) word.now w) }
+        ensures reduced { IfOk result (λ w. IsReduced (Listed rules.now) w) }
+    {
+        let _count = rules.len();
+        begin(room, word)?;
+        while let Some(letter) = room.rest.pop() {
+            self.read_letter(rules, word, room, letter)?;
+        }
+        word_of(alloc, room.done.as_slice())
+    }
+
     /// A word to which the rules lead from the word, and to which none applies; the automaton is
     /// that of the rules. The word is read once, letter by letter, and where a left side ends,
     /// reading goes on where it began with the right side. Refused only where memory is wanting.
@@ -139,11 +148,7 @@ impl IndexAutomaton {
         ensures reached { IfOk result (λ w. Reduces (Listed rules.now) word.now w) }
         ensures reduced { IfOk result (λ w. IsReduced (Listed rules.now) w) }
     {
-        let _count = rules.len();
-        let mut reduction = unread(alloc, word)?;
-        while let Some(letter) = reduction.rest.pop() {
-            self.read_letter(rules, word, &mut reduction, letter)?;
-        }
-        word_of(alloc, reduction.done.as_slice())
+        let mut room = Reduction::new(alloc);
+        self.reduce_in(&mut room, alloc, rules, word)
     }
 }

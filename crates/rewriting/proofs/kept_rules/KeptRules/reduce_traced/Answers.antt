@@ -12,8 +12,8 @@ pub loop-letter-init : goal.loop-letter-init
 loop-letter-init c = record {
   rewriting =
       reducing_by_start c.self.inside.rules c.len-count.ensures.falling c.self.inside.lookup c.self.invariant c.args.word.now
-      c.in_ok-reduction.reduction.done.items c.in_ok-reduction.reduction.rest.items c.in_ok-reduction.reduction.states.items c.in_ok-reduction.ensures.done c.in_ok-reduction.ensures.rest c.in_ok-reduction.ensures.states;
-  traced = traced_start c.self.inside.rules c.args.word.now c.new-trace.result.items c.in_ok-reduction.reduction.done.items c.in_ok-reduction.reduction.rest.items c.new-trace.ensures.items c.in_ok-reduction.ensures.done c.in_ok-reduction.ensures.rest;
+      c.begin.new.reduction.done.items c.begin.new.reduction.rest.items c.begin.new.reduction.states.items c.in_ok-begin.ensures.done c.in_ok-begin.ensures.rest c.in_ok-begin.ensures.states;
+  traced = traced_start c.self.inside.rules c.args.word.now c.new-trace.result.items c.begin.new.reduction.done.items c.begin.new.reduction.rest.items c.new-trace.ensures.items c.in_ok-begin.ensures.done c.in_ok-begin.ensures.rest;
 }
 
 pub returns-clause-reached : goal.returns-clause-reached

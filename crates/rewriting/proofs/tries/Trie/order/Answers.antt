@@ -5,17 +5,17 @@ use Rattle.rewriting.proofs.LevelLaws.{order_start, order_step, state_over, stat
 use Rattle.rewriting.proofs.tries.Trie.order.Goals as goal
 
 pub loop-init : goal.loop-init
-loop-init c = rw (c.in_ok-push.ensures.items, c.in_ok-push-2.ensures.items, c.new-order.ensures.items, c.new-level.ensures.items)
+loop-init c = rw (c.in_ok-order.ensures.items_if_clones_equal (λ y e. e), c.in_ok-level.ensures.items_if_clones_equal (λ y e. e))
     (order_start c.args.rules.now (tree_of c.args.rules.now c.args.self.now) c.requires.grown.trie)
 
 pub loop-preserved : goal.loop-preserved
 loop-preserved c =
-    let made : AreChildren c.args.self.now.letters c.args.self.now.children c.loop.level.items (length c.loop.level.items) c.in_ok-level.level.items =
-    subst (λ (xs : List ℕ). AreChildren c.args.self.now.letters c.args.self.now.children xs (length xs) c.in_ok-level.level.items) c.as_slice.ensures.value c.in_ok-level.ensures in
-    subst (λ (xs : List ℕ). IsOrderTo (states_of c.args.rules.now c.args.self.now) (c.loop.counter + 1) xs c.in_ok-level.level.items)
+    let made : AreChildren c.args.self.now.letters c.args.self.now.children c.loop.level.items (length c.loop.level.items) c.in_ok-level-2.level.items =
+    subst (λ (xs : List ℕ). AreChildren c.args.self.now.letters c.args.self.now.children xs (length xs) c.in_ok-level-2.level.items) c.as_slice.ensures.value c.in_ok-level-2.ensures in
+    subst (λ (xs : List ℕ). IsOrderTo (states_of c.args.rules.now c.args.self.now) (c.loop.counter + 1) xs c.in_ok-level-2.level.items)
     (sym (c.in_ok-extend_from_slice.ensures.items ∙ ap (λ (xs : List ℕ). c.loop.order.items ++ xs) c.as_slice-in-loop.ensures.value))
     (order_step c.args.rules.now (tree_of c.args.rules.now c.args.self.now) c.requires.grown.trie
-    (state_over c.args.self.now.letters c.args.rules.now c.args.self.now.prefixes.items c.requires.over) c.loop.counter c.loop.order.items c.loop.level.items c.in_ok-level.level.items
+    (state_over c.args.self.now.letters c.args.rules.now c.args.self.now.prefixes.items c.requires.over) c.loop.counter c.loop.order.items c.loop.level.items c.in_ok-level-2.level.items
     c.loop.invariant made)
 
 pub returns : goal.returns
