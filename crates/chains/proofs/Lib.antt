@@ -1,6 +1,7 @@
 pub mod StandingLaws
 pub mod ChainLaws
 pub mod LighterLaws
+pub mod PendingLaws
 pub mod WalkLaws
 pub mod DerivationLaws
 pub mod SpellLaws

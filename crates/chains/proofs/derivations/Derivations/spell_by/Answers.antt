@@ -1,5 +1,6 @@
 use Rattle.std.proofs.Common.{◌≡◌, length, arith}
 use Rattle.std.proofs.lemmas.List.{nil_from_length}
+use Rattle.chains.proofs.PendingLaws.{none_left, some_left}
 use Rattle.chains.proofs.SpellLaws.{left_fit, spelled_on, spelled_out}
 use Rattle.chains.proofs.derivations.Derivations.spell_by.Goals as goal
 
@@ -15,4 +16,10 @@ loop-pending-preserved c =
 pub returns : goal.returns
 returns c =
     spelled_out c.args.self.now c.args.from.now c.args.steps.now c.loop-pending.pending.items c.loop-pending.walk c.loop-pending.invariant
-    (let none : length c.loop-pending.pending.items ≡ 0 = grind (arith, c.is_empty.ensures, c.loop-pending-test.false) in nil_from_length c.loop-pending.pending.items none)
+    (let none : length c.loop-pending.pending.items ≡ 0 = omega (arith, none_left _ c.is_empty.result c.is_empty.ensures c.loop-pending-test.false, c.loop-pending.pending.ok) in nil_from_length c.loop-pending.pending.items none)
+
+pub read_next-requires-clause-begun : goal.read_next-requires-clause-begun
+read_next-requires-clause-begun c = (c.args.from.now, c.loop-pending.invariant.stands)
+
+pub read_next-requires-clause-some : goal.read_next-requires-clause-some
+read_next-requires-clause-some c = omega (arith, some_left _ c.loop-pending-test.ensures, c.loop-pending.pending.ok)
