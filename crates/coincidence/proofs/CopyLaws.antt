@@ -1,13 +1,12 @@
 -- A graph that is copied edge by edge.
-use Rattle.std.proofs.Common.{◌≡◌, ◌≢◌, ℕ, suc, ◌+◌, ◌<◌, ◌≤◌, List, [], ◌∷◌, refl, sym, ◌∙◌, ap, arith, ◌⊎◌, inl, inr, Option, Some, None, length, subst, get_or, replicate, length-set, set}
+use Rattle.std.proofs.Common.{◌≡◌, ◌≢◌, ℕ, suc, ◌+◌, ◌<◌, ◌≤◌, List, [], ◌∷◌, refl, sym, ◌∙◌, ap, arith, ◌⊎◌, inl, inr, Option, Some, None, length, subst, get_or, length-set, set}
 use Rattle.std.proofs.lemmas.Bool.{cases_eq, cases_lt}
 use Rattle.theory.specs.Graph.{Graph, target, IsGraph}
 use Rattle.word_graph.specs.Edges.{with_edge}
 use Rattle.word_graph.specs.Walk.{IsBefore}
 use Rattle.word_graph.proofs.EdgeLaws.{target_edged, target_other, target_in, graph_edged}
-use Rattle.cells.proofs.EntryLaws.{target_bare, target_is}
+use Rattle.cells.proofs.EntryLaws.{target_is}
 use Rattle.word_graph.proofs.WalkLaws.{before_next}
-use Rattle.coincidence.proofs.FoldLaws.{bare_upto}
 
 -- lists that read the same
 row_same : (xs ys : List (Option ℕ)) → length xs ≡ length ys → ((i : ℕ) → get_or xs i None ≡ get_or ys i None) → xs ≡ ys

@@ -11,7 +11,7 @@ use Rattle.theory.specs.Congruence.{Congruence}
 use Rattle.theory.specs.Graph.{Graph, target, path, IsGraph, IsClosedAt}
 use Rattle.word_graph.proofs.WalkLaws.{some_same}
 use Rattle.coincidence.specs.Closing.{IsEdged, by_relation, by_pair}
-use Rattle.coincidence.specs.DueSpec.{IsDueAt, IsDueAnywhere, IsDueIn}
+use Rattle.coincidence.specs.DueSpec.{IsDueAt, IsDueIn}
 use Rattle.coincidence.specs.Live.{IsOn, IsLiveGraph, IsIdentified}
 use Rattle.coincidence.specs.Marks.{IsCarried, KeepsMarks, KeepsNumbers}
 use Rattle.coincidence.specs.Pending.{IsAmong, IsClosedBut, IsRenewed, Crosses}
@@ -83,12 +83,6 @@ due_of_edge pairs g live node letter due is there h = go due h
     go Nothing h = drop_edge pairs g live node letter h
     go (Edge j a m) h = (h.0.0, before_live g live is h.0.0 node h.0.1 on h.0.2, h.0.3, h.1)
     go (Join j a t m) h = (h.0.0, before_live g live is h.0.0 node h.0.1 on h.0.2, h.0.3, h.1, h.2)
-
--- what an entry asks for is asked for somewhere
-pub due_anywhere : (pairs : List (Word × Word)) (g : Graph) (live : List Bool) (entry : Pending) (due : Due) → (due ≡ Nothing → ⊥) → IsDueOf pairs g live entry due → IsDueAnywhere pairs g live due
-due_anywhere pairs g live entry Nothing not h = absurd (not refl)
-due_anywhere pairs g live entry (Edge j a m) not h = h
-due_anywhere pairs g live entry (Join j a t m) not h = h
 
 -- where nothing is pending, the pairs alone are left
 pub due_last : (c : Congruence) (g : Graph) (live : List Bool) (due : Due) → IsClosedBut c.presentation.relations g live [] → IsDueAt g 0 c.pairs due → IsDueIn c g live None due

@@ -1,7 +1,7 @@
 -- Reading relations at nodes.
-use Rattle.std.proofs.Common.{◌≡◌, ℕ, ◌+◌, ◌-◌, ◌<◌, ◌≤◌, List, [], ◌∷◌, ◌++◌, refl, sym, ◌∙◌, ap, arith, ◌⊎◌, inl, inr, Option, Some, None, length, subst, get_or, slice_get, take, Bool, true, false}
+use Rattle.std.proofs.Common.{◌≡◌, ℕ, ◌+◌, ◌-◌, ◌<◌, ◌≤◌, List, [], ◌∷◌, ◌++◌, refl, sym, ◌∙◌, ap, arith, ◌⊎◌, inl, inr, Option, Some, length, subst, get_or, slice_get, take, Bool}
 use Rattle.std.proofs.lemmas.Bool.{cases_lt}
-use Rattle.std.proofs.lemmas.List.{take_more, take_all, same_from_push, get_or_past, get_or_read}
+use Rattle.std.proofs.lemmas.List.{take_more, take_all, same_from_push, get_or_read}
 use Rattle.std.proofs.lemmas.Option.{slice_get_within, get_or_from_slice_get}
 use Rattle.theory.specs.Word.{Word}
 use Rattle.theory.specs.Congruence.{Congruence, EitherWay}
@@ -32,12 +32,6 @@ from_nothing g node n last end at t r s cut hr hs e same j a m k =
 
 pub reads : (g : Graph) (node n last end at l : ℕ) (r s : Word) → s ≡ take n s ++ last ∷ [] → path g node r ≡ Some end → path g node (take n s) ≡ Some at → l ≡ last → ReadsTo g node r s at l end
 reads g node n last end at l r s cut hr hs e = (take n s, cut ∙ ap (λ b. take n s ++ b ∷ []) (sym e), hr, hs)
-
--- a pair's sides ask what the list asks
-pub from_pairs : (g : Graph) (node : ℕ) (pairs : List (Word × Word)) (r s : Word) (d : Due) → (d ≡ Nothing → ⊥) → EitherWay pairs r s → IsDueFrom g node r s d → IsDueAt g node pairs d
-from_pairs g node pairs r s Nothing not e h = absurd (not refl)
-from_pairs g node pairs r s (Edge j a m) not e h = (record { r = r; s = h.0.0; sides = subst (λ z. EitherWay pairs r z) (h.0.1) e; first = h.0.2; second = h.0.3 }, h.1)
-from_pairs g node pairs r s (Join j a t m) not e h = (record { r = r; s = h.0.0; sides = subst (λ z. EitherWay pairs r z) (h.0.1) e; first = h.0.2; second = h.0.3 }, h.1, h.2)
 
 -- both ways of the first pairs ask for nothing
 abbrev pub IsQuiet : Graph → ℕ → List (Word × Word) → ℕ → Type 0
@@ -80,32 +74,8 @@ at_node pairs g live node Nothing on not h = absurd (not refl)
 at_node pairs g live node (Edge j a m) on not h = (node, on, h.0, h.1)
 at_node pairs g live node (Join j a t m) on not h = (node, on, h.0, h.1, h.2)
 
--- what is asked at all live nodes, where nothing is asked at the root
-pub due_everywhere : (c : Congruence) (g : Graph) (live : List Bool) (d : Due) → IsLiveGraph g live → IsClosedAt c.pairs g 0 → IsDueAnywhere c.presentation.relations g live d → IsDueIn c g live None d
-due_everywhere c g live Nothing is root h = (λ node _ on. h node on, root)
-due_everywhere c g live (Edge j a m) is root h = let r = is.reached h.0 h.1 in (by_relation h.0 r.0 tt r.1 h.2, h.3)
-due_everywhere c g live (Join j a t m) is root h = let r = is.reached h.0 h.1 in (by_relation h.0 r.0 tt r.1 h.2, h.3, h.4)
-
--- and at one
+-- what is asked at a live node, where nothing is asked at the root
 pub due_here : (c : Congruence) (g : Graph) (live : List Bool) (node : ℕ) (d : Due) → IsLiveGraph g live → IsOn live node → IsClosedAt c.pairs g 0 → IsDueAt g node c.presentation.relations d → IsDueIn c g live (Some node) d
 due_here c g live node Nothing is on root h = (λ n same _. subst (IsClosedAt c.presentation.relations g) (sym same) h, root)
 due_here c g live node (Edge j a m) is on root h = let r = is.reached node on in (by_relation node r.0 refl r.1 h.0, h.1)
 due_here c g live node (Join j a t m) is on root h = let r = is.reached node on in (by_relation node r.0 refl r.1 h.0, h.1, h.2)
-
--- the live nodes before n are closed
-abbrev pub IsClosedBefore : List (Word × Word) → Graph → List Bool → ℕ → Type 0
-IsClosedBefore pairs g live n = (k : ℕ) → k < n → IsOn live k → IsClosedAt pairs g k
-
-pub before_more : (pairs : List (Word × Word)) (g : Graph) (live : List Bool) (n : ℕ) → (IsOn live n → IsClosedAt pairs g n) → IsClosedBefore pairs g live n → IsClosedBefore pairs g live (n + 1)
-before_more pairs g live n here b = λ k h on. go k (cases_lt k n) h on
-  where
-    go : (k : ℕ) → (k < n) ⊎ (n ≤ k) → k < n + 1 → IsOn live k → IsClosedAt pairs g k
-    go k (inl l) h on = b k l on
-    go k (inr l) h on = let e : n ≡ k = omega (arith, l, h) in subst (λ z. IsOn live z → IsClosedAt pairs g z) e here on
-
-pub before_all : (pairs : List (Word × Word)) (g : Graph) (live : List Bool) → IsClosedBefore pairs g live (length live) → (node : ℕ) → IsOn live node → IsClosedAt pairs g node
-before_all pairs g live b node on = go (cases_lt node (length live))
-  where
-    go : (node < length live) ⊎ (length live ≤ node) → IsClosedAt pairs g node
-    go (inl l) = b node l on
-    go (inr l) = absurd (let e : get_or live node false ≡ false = get_or_past live node false l in let e' : false ≡ true = sym e ∙ on in let none : ⊥ = cc in none)

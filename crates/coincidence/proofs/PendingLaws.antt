@@ -237,10 +237,6 @@ closed_node pairs g live pending x here closed node r s a m j on old_node sides 
     node_same : (n x : ℕ) → NewNode n ≡ NewNode x → n ≡ x
     node_same n x e = cc
 
--- nothing has changed
-pub renewed_same : (g : Graph) (live : List Bool) (pending : List Pending) → IsRenewed g g live live pending pending
-renewed_same g live pending = record { edges = λ n a t e. inr e; nodes = λ n on. inr on; pending = λ p h. h; kept = λ j a m _ _ e. e }
-
 -- one edge more, which is pending
 pub renewed_edged : (old new : Graph) (live : List Bool) (pending : List Pending) (j a m : ℕ) → IsEdged old new j a m → IsRenewed old new live live pending (pending ++ NewEdge j a ∷ [])
 renewed_edged old new live pending j a m f = record {

@@ -9,12 +9,14 @@ use Rattle.theory.specs.Word.{Word}
 use Rattle.theory.specs.Graph.{Graph, target, path}
 use Rattle.coincidence.specs.Pending.{IsAmong}
 use Rattle.coincidence.specs.Reading.{IsQuietBoth, IsDueAlong, IsDueBehind, IsDueThrough}
-use Rattle.coincidence.specs.Uses.{side_of, other_of, Places, kind_of, kind_of_end, told, groups_at, StandsIn, Stands, ArePlaces, AreUses, IsDueAtPlace, IsDueAtPlaces, IsDueInPowers, IsDueOfKind, IsShut, IsDueInGroup, IsDueInSides}
+use Rattle.coincidence.specs.Places.{Places}
+use Rattle.coincidence.specs.Uses.{side_of, other_of, kind_of, kind_of_end, told, groups_at, StandsIn, Stands, ArePlaces, AreUses, IsDueAtPlace, IsDueAtPlaces, IsDueInPowers, IsDueOfKind, IsShut, IsDueInGroup, IsDueInSides}
 use Rattle.coincidence.specs.Links.{Links, IsLinked}
 use Rattle.coincidence.specs.declared.groups.Group.{Group}
 use Rattle.coincidence.specs.declared.groups.Kind.{Kind}
 use Rattle.coincidence.specs.declared.groups.Kind.TheVariants.{Power, Front, Before, Behind}
 use Rattle.theory.proofs.GraphLaws.{path_front, path_letter}
+use Rattle.word_graph.proofs.WalkLaws.{some_same}
 use Rattle.coincidence.specs.declared.due.Due.{Due}
 use Rattle.coincidence.specs.declared.due.Due.TheVariants.{Nothing, Edge, Join}
 use Rattle.coincidence.proofs.DueLaws.{pair_contained}
@@ -124,6 +126,14 @@ stuck_second g node next a b e none = ap (λ z. option_and_then (λ next. path g
 less_of : (a b : ℕ) → nat_lt a b ≡ true → a < b
 less_of a b e = grind (arith, e)
 
+zero_of : (a : ℕ) → nat_eq a 0 ≡ true → a ≡ 0
+zero_of a e = grind (arith, e)
+
+-- of a pair for which nothing is asked either side may be the first
+front_quiet : (second : Bool) (g : Graph) (node : ℕ) (pair : Word × Word) → IsQuietBoth g node pair.0 pair.1 → IsQuietBoth g node (side_of second pair) (other_of second pair)
+front_quiet false g node pair quiet = quiet
+front_quiet true g node pair quiet = (quiet.1, quiet.0)
+
 pub none_of : (o : Option ℕ) → is_some o ≡ false → o ≡ None
 none_of None e = refl
 none_of (Some x) e = cc
@@ -134,27 +144,27 @@ no_source k t node letter is none n e = listing_end t node letter (λ _. ⊥) (s
 
 -- one of the groups of a letter
 pub group_places : (second : Bool) (pairs : List (Word × Word)) (groups : List Group) (k : ℕ) (d : Group) → k < length groups
-    → ((i p : ℕ) (kind : Kind) (d : Word × Word) → StandsIn groups kind (i, p) → (i < length pairs) × (p < length (side_of second (get_or pairs i d)))) → ArePlaces second pairs (get_or groups k d).places.items
+    → ((i p : ℕ) (kind : Kind) (d : Word × Word) → StandsIn groups kind (i, p) → (i < length pairs) × (p < length (side_of second (get_or pairs i d)))) → ArePlaces second pairs (get_or groups k d).places
 group_places second pairs [] k d less all = absurd (omega (arith, less))
 group_places second pairs (g ∷ groups) zero d less all = λ i p e h. all i p g.kind e (inl (refl, h))
 group_places second pairs (g ∷ groups) (suc k) d less all = group_places second pairs groups k d (omega (arith, less)) (λ i p kind e h. all i p kind e (inr h))
 
 module _ (second : Bool) (g : Graph) (pairs : List (Word × Word)) (node letter : ℕ) where
   -- what is asked for in a group
-  pub group_due : (group : Group) (due : Due) → IsDueOfKind second g pairs node letter group.kind group.places.items due → IsDueInGroup second g pairs node letter group due
+  pub group_due : (group : Group) (due : Due) → IsDueOfKind second g pairs node letter group.kind group.places due → IsDueInGroup second g pairs node letter group due
   group_due group Nothing h = inr h
   group_due group (Edge j a m) h = asks group.kind h
     where
-      asks : (kind : Kind) → IsDueOfKind second g pairs node letter kind group.places.items (Edge j a m) → IsDueThrough g pairs node letter (Edge j a m)
+      asks : (kind : Kind) → IsDueOfKind second g pairs node letter kind group.places (Edge j a m) → IsDueThrough g pairs node letter (Edge j a m)
       asks Power h = h
-      asks Front h = h
+      asks Front h = ((node, [], refl, h.0), h.1)
       asks (Before b) h = h
       asks (Behind b) h = h
   group_due group (Join j a t m) h = asks group.kind h
     where
-      asks : (kind : Kind) → IsDueOfKind second g pairs node letter kind group.places.items (Join j a t m) → IsDueThrough g pairs node letter (Join j a t m)
+      asks : (kind : Kind) → IsDueOfKind second g pairs node letter kind group.places (Join j a t m) → IsDueThrough g pairs node letter (Join j a t m)
       asks Power h = h
-      asks Front h = h
+      asks Front h = ((node, [], refl, h.0), h.1, h.2)
       asks (Before b) h = h
       asks (Behind b) h = h
 
@@ -166,7 +176,7 @@ module _ (second : Bool) (g : Graph) (pairs : List (Word × Word)) (node letter 
   -- nothing is asked for at a place of the kind
   abbrev IsQuietOfKind : Kind → ℕ → ℕ → Type 0
   IsQuietOfKind Power i p = (d : Word × Word) → IsDueAlong g node letter (side_of second (get_or pairs i d)) (side_of second (get_or pairs i d)) (other_of second (get_or pairs i d)) Nothing
-  IsQuietOfKind Front i p = (d : Word × Word) → IsDueAtPlace second g node (get_or pairs i d) p Nothing
+  IsQuietOfKind Front i p = (d : Word × Word) → IsQuietBoth g node (get_or pairs i d).0 (get_or pairs i d).1
   IsQuietOfKind (Before b) i p = (d : Word × Word) → IsDueAtPlace second g node (get_or pairs i d) p Nothing
   IsQuietOfKind (Behind b) i p = (d : Word × Word) → IsDueAtPlace second g node (get_or pairs i d) p Nothing
 
@@ -192,7 +202,7 @@ module _ (second : Bool) (g : Graph) (pairs : List (Word × Word)) (node letter 
   stands_quiet [] kind i p all h = absurd h
   stands_quiet (group ∷ groups) kind i p all (inl h) = elim (all 0 group (omega arith)) [
     | inl shut ↦ inl (subst (IsShut g node letter) h.0 shut)
-    | inr quiet ↦ inr (subst (λ z. IsQuietOfKind z i p) h.0 (kind_quiet group.kind group.places.items i p quiet h.1))
+    | inr quiet ↦ inr (subst (λ z. IsQuietOfKind z i p) h.0 (kind_quiet group.kind group.places i p quiet h.1))
   ]
   stands_quiet (group ∷ groups) kind i p all (inr h) = stands_quiet groups kind i p (λ k d less. all (suc k) d (omega (arith, less))) h
 
@@ -227,8 +237,13 @@ module _ (second : Bool) (g : Graph) (pairs : List (Word × Word)) (node letter 
       here : (kind : Kind) (q : ℕ) → Stands letters (get_or side p 0) kind (i, q) → IsShut g node letter kind ⊎ IsQuietOfKind kind i q
       here kind q h = stands_quiet (groups_at letters letter) kind i q (λ m e l. groups m e (omega (arith, l, end))) (subst (λ z. Stands letters z kind (i, q)) is h)
 
-      first : Stands letters (get_or side p 0) Front (i, p) → Quiet
-      first h = elim (here Front p h) [ inl shut ↦ absurd shut | inr quiet ↦ quiet d n leads ]
+      -- the side begins with the letter, so it is read from the node
+      first : p ≡ 0 → Stands letters (get_or side p 0) Front (i, p) → Quiet
+      first none h = elim (here Front p h) [
+        | inl shut ↦ absurd shut
+        | inr quiet ↦ (let at_node : n ≡ node = some_same n node (sym (ap (λ k. path g n (take k side)) none) ∙ leads) in
+            subst (λ z. IsQuietBoth g z side other) (sym at_node) (front_quiet second g node (get_or pairs i d) (quiet d)))
+      ]
 
       -- the letter before leads to the node
       led : (p ≡ 0 → ⊥) → ((m : ℕ) → target g m (get_or side (p - 1) 0) ≡ Some node → ⊥) → Quiet
@@ -242,7 +257,7 @@ module _ (second : Bool) (g : Graph) (pairs : List (Word × Word)) (node letter 
       later some h = elim (here (Behind (get_or side (p - 1) 0)) p h) [ inl shut ↦ led some shut | inr quiet ↦ quiet d n leads ]
 
       by_place : (b : Bool) → nat_eq p 0 ≡ b → Stands letters (get_or side p 0) (cond b Front (Behind (get_or side (p - 1) 0))) (i, p) → Quiet
-      by_place true e h = first h
+      by_place true e h = first (zero_of p e) h
       by_place false e h = later (λ z. let no : true ≡ false = ap (λ k. nat_eq k 0) (sym z) ∙ e in cc) h
 
       long : p + 2 < length side → Stands letters (get_or side p 0) (Before (get_or side (p + 1) 0)) (i, p) → Quiet

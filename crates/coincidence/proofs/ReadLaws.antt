@@ -1,7 +1,7 @@
 -- Reading across an edge, back along lists of sources.
 use Rattle.std.proofs.Common.{◌≡◌, ◌≢◌, ℕ, ◌+◌, ◌-◌, ◌<◌, ◌≤◌, List, [], ◌∷◌, ◌++◌, refl, sym, ◌∙◌, ap, arith, ◌⊎◌, inl, inr, Option, Some, None, zero, suc, length, subst, get_or, slice_get, take, drop, option_and_then}
 use Rattle.std.proofs.lemmas.Bool.{cases_lt}
-use Rattle.std.proofs.lemmas.List.{append_assoc, length-append, take-append-drop, take_more, get_or_read}
+use Rattle.std.proofs.lemmas.List.{append_assoc, length-append, take-append-drop, take_more}
 use Rattle.std.proofs.lemmas.Option.{slice_get_within, get_or_from_slice_get}
 use Rattle.std.proofs.Math.Seq.{take-append_seam}
 use Rattle.theory.specs.Word.{Word}
@@ -221,20 +221,6 @@ along_found g node letter front side first second (Join j a t m) not h = (front,
 abbrev pub IsQuietThrough : Graph → ℕ → ℕ → List (Word × Word) → ℕ → Type 0
 IsQuietThrough g node letter pairs i = (k : ℕ) (d : Word × Word) → k < i
     → IsDueAlong g node letter (get_or pairs k d).0 (get_or pairs k d).0 (get_or pairs k d).1 Nothing × IsDueAlong g node letter (get_or pairs k d).1 (get_or pairs k d).1 (get_or pairs k d).0 Nothing
-
-pub through_more : (g : Graph) (node letter : ℕ) (pairs : List (Word × Word)) (i : ℕ) (p : Word × Word) → i < length pairs → p ≡ get_or pairs i p
-    → IsDueAlong g node letter p.0 p.0 p.1 Nothing → IsDueAlong g node letter p.1 p.1 p.0 Nothing → IsQuietThrough g node letter pairs i → IsQuietThrough g node letter pairs (i + 1)
-through_more g node letter pairs i p less e one two q = λ k d h. go k d (cases_lt k i) h
-  where
-    Quiet : Word × Word → Type 0
-    Quiet z = IsDueAlong g node letter z.0 z.0 z.1 Nothing × IsDueAlong g node letter z.1 z.1 z.0 Nothing
-
-    go : (k : ℕ) (d : Word × Word) → (k < i) ⊎ (i ≤ k) → k < i + 1 → Quiet (get_or pairs k d)
-    go k d (inl l) h = q k d l
-    go k d (inr l) h =
-        let k_is : i ≡ k = omega (arith, l, h) in
-        let is : p ≡ get_or pairs i d = get_or_read pairs i p less e d in
-        subst (λ z. Quiet (get_or pairs z d)) k_is (subst Quiet is (one, two))
 
 pub through_end : (g : Graph) (node letter : ℕ) (pairs : List (Word × Word)) → IsQuietThrough g node letter pairs (length pairs) → IsDueThrough g pairs node letter Nothing
 through_end g node letter pairs q n r s a m j sides first second crosses = go sides

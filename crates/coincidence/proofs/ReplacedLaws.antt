@@ -1,5 +1,5 @@
 -- Where lost nodes have gone.
-use Rattle.std.proofs.Common.{◌≡◌, ◌≢◌, ℕ, ◌<◌, List, Bool, true, false, refl, sym, ◌∙◌, ap, arith, ◌⊎◌, inl, inr, length, subst, set, get_or, slice_index, length-set}
+use Rattle.std.proofs.Common.{◌≡◌, ◌≢◌, ℕ, ◌<◌, List, Bool, true, false, sym, ◌∙◌, ap, arith, ◌⊎◌, inl, inr, length, subst, set, get_or, slice_index, length-set}
 use Rattle.std.proofs.lemmas.Bool.{cases_eq}
 use Rattle.std.proofs.lemmas.List.{get_or-set_same, get_or-set_other, get_or_read}
 use Rattle.coincidence.specs.Live.{IsOn}

@@ -40,12 +40,7 @@ lone_edge k t node letter source is first last =
         let more : target t.nexts source letter ≡ Some y = ap (λ z. target t.nexts z letter) (some_same source x chain.0) ∙ chain.1.0 in
         let no : None ≡ Some y = sym last ∙ more in cc
 
--- the walk so far, and one edge more in front of it
-pub lone_none : (g : Graph) (node to : ℕ) (word : Word) → IsLoneWalk g node (take (to - to) (drop to word)) node
-lone_none g node to word =
-    let none : to - to ≡ 0 = omega arith in
-    subst (λ z. IsLoneWalk g node (take z (drop to word)) node) (sym none) refl
-
+-- one edge more in front of the walk so far
 pub lone_step : (g : Graph) (at node source letter place to : ℕ) (word : Word) → place < to → slice_get word place ≡ Some letter → IsLoneEdge g source letter at
     → IsLoneWalk g at (take (to - (place + 1)) (drop (place + 1) word)) node → IsLoneWalk g source (take (to - place) (drop place word)) node
 lone_step g at node source letter place to word less here edge walk =

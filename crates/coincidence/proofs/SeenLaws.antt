@@ -1,22 +1,22 @@
 -- Relations that were seen to hold at nodes.
-use Rattle.std.proofs.Common.{◌≡◌, ℕ, zero, suc, ◌+◌, ◌-◌, min, [], ◌∷◌, ◌++◌, ◌/◌, true, ◌*◌, ◌%◌, ◌^◌, ◌<◌, ◌≤◌, ◌⊎◌, List, refl, sym, ◌∙◌, ap, subst, arith, inl, inr, Some, length, get_or, set, take, drop, slice_index, eqb, w64, Bool, false, Option, None, option_and_then}
+use Rattle.std.proofs.Common.{◌≡◌, ℕ, zero, suc, ◌-◌, min, [], ◌∷◌, ◌++◌, ◌/◌, true, ◌*◌, ◌%◌, ◌^◌, ◌<◌, ◌≤◌, ◌⊎◌, List, refl, sym, ◌∙◌, ap, subst, arith, inl, inr, Some, length, get_or, set, take, drop, slice_index, eqb, w64, Bool, false, Option, None, option_and_then}
 use Rattle.std.proofs.lemmas.Bool.{cases_eq, cases_lt, eqb-true}
 use Rattle.std.proofs.lemmas.List.{get_or_read, get_or-take, get_or_past, get_or-set_same, get_or-set_other, length-take, take-append-drop}
 use Rattle.std.proofs.lemmas.Nat.{and_le_l}
 use Rattle.std.proofs.lemmas.Nat.Bits.{bit_at-lt, bit_at-trailing_zeros, bit_at-zero, bit_at_and, bit_at_clear_other, bit_at_clear_same, bit_at_not, bit_at_set_other, bit_at_set_same, shr_and_one}
 use Rattle.std.specs.Int.{bit_at, bit_not, trailing_zeros}
-use Rattle.std.specs.Prelude.{bit_and, bit_or}
+use Rattle.std.specs.Prelude.{bit_and, bit_or, IfSome}
 use Rattle.theory.specs.Word.{Word}
 use Rattle.theory.specs.Graph.{Graph, path, target}
 use Rattle.coincidence.specs.Holding.{MeetAt}
 use Rattle.coincidence.specs.Merging.{EdgesReached, IsFolded, IsReached}
 use Rattle.theory.proofs.GraphLaws.{path_append}
 use Rattle.coincidence.specs.Rings.{turned}
-use Rattle.coincidence.specs.Seen.{AreSidesOf, HasBit, HoldWhereSeen, IsMaskOf, IsSeen}
-use Rattle.coincidence.specs.Uses.{Places, other_of, side_of}
+use Rattle.coincidence.specs.Places.{HasBit, IsMaskOf, IsWith, Places}
+use Rattle.coincidence.specs.Seen.{AreSidesOf, HoldWhereSeen, IsSeen}
+use Rattle.coincidence.specs.Uses.{other_of, side_of}
 use Rattle.word_graph.proofs.WalkLaws.{some_same}
 use Rattle.coincidence.proofs.MergeLaws.{folded_path}
-use Rattle.coincidence.proofs.PlaceLaws.{place_of}
 
 -- past the last number nothing was seen
 none_seen : (seen : List ℕ) (n i : ℕ) → length seen ≤ n → IsSeen seen n i → ⊥
@@ -30,21 +30,26 @@ bit_seen seen node relation word few less read is =
     let at : word ≡ get_or seen node 0 = get_or_read seen node word less read 0 in
     (few, ap (λ z. bit_at z relation) (sym at) ∙ sym (shr_and_one word relation) ∙ eqb-true (bit_and (word / 2 ^ relation) 1) 1 is)
 
--- the bits of a mask that are not those of a node
-pub bits_unseen : (seen : List ℕ) (node mask word : ℕ) → word < 2 ^ 64 → node < length seen → word ≡ get_or seen node word → (i : ℕ) → HasBit mask i → HasBit (bit_and mask (bit_not w64 word)) i ⊎ IsSeen seen node i
-bits_unseen seen node mask word small less read i h = elim (cases_eq (bit_at word i) 1) [
-  | inl one ↦ inr (h.0, ap (λ z. bit_at z i) (sym at) ∙ one)
+-- the bits of a mask that another has not
+pub bits_without : (mask word : ℕ) → word < 2 ^ 64 → (i : ℕ) → HasBit mask i → HasBit (bit_and mask (bit_not w64 word)) i ⊎ HasBit word i
+bits_without mask word small i h = elim (cases_eq (bit_at word i) 1) [
+  | inl one ↦ inr (h.0, one)
   | inr off ↦ inl (h.0, bit_at_and mask (bit_not w64 word) i ∙ both (bit_at word i) (bit_at mask i) (bit_at (bit_not w64 word) i) (bit_at-lt word i) off h.1 (bit_at_not w64 word i small h.0))
 ]
   where
-    at : word ≡ get_or seen node 0
-    at = get_or_read seen node word less read 0
-
     both : (a b c : ℕ) → a < 2 → (a ≡ 1 → ⊥) → b ≡ 1 → c ≡ 1 - a → min b c ≡ 1
     both a b c few off e f =
         let none : a ≡ 0 = omega (arith, few, off) in
         let one : c ≡ 1 = f ∙ ap (λ z. 1 - z) none in
         ap (λ z. min z c) e ∙ ap (min 1) one
+
+-- those that are not those of a node
+pub bits_unseen : (seen : List ℕ) (node mask word result : ℕ) → node < length seen → word ≡ get_or seen node word → ((i : ℕ) → HasBit mask i → HasBit result i ⊎ HasBit word i)
+    → (i : ℕ) → HasBit mask i → HasBit result i ⊎ IsSeen seen node i
+bits_unseen seen node mask word result less read left i h = elim (left i h) [
+  | inl still ↦ inl still
+  | inr was ↦ inr (subst (λ z. HasBit z i) (get_or_read seen node word less read 0) was)
+]
 
 -- the lowest bit is taken away
 module _ (mask first : ℕ) (some : mask ≡ 0 → ⊥) (small : mask < 2 ^ 64) (is : first ≡ trailing_zeros w64 mask) where
@@ -73,29 +78,29 @@ pub no_bit : (mask i : ℕ) → mask ≡ 0 → HasBit mask i → ⊥
 no_bit mask i none h = let e : bit_at mask i ≡ 0 = ap (λ z. bit_at z i) none ∙ bit_at-zero i in omega (arith, e, h.1)
 
 -- one bit more
-bit_here : (mask i : ℕ) → i < 64 → HasBit (bit_or mask (1 * 2 ^ i % 2 ^ 64)) i
+pub bit_here : (mask i : ℕ) → i < 64 → HasBit (bit_or mask (1 * 2 ^ i % 2 ^ 64)) i
 bit_here mask i few = (few, bit_at_set_same w64 mask i few)
 
-bit_still : (mask i b : ℕ) → i < 64 → HasBit mask b → HasBit (bit_or mask (1 * 2 ^ i % 2 ^ 64)) b
+pub bit_still : (mask i b : ℕ) → i < 64 → HasBit mask b → HasBit (bit_or mask (1 * 2 ^ i % 2 ^ 64)) b
 bit_still mask i b few h = elim (cases_eq b i) [
   | inl same ↦ subst (HasBit (bit_or mask (1 * 2 ^ i % 2 ^ 64))) (sym same) (bit_here mask i few)
   | inr off ↦ (h.0, bit_at_set_other w64 mask i few b off ∙ h.1)
 ]
 
--- the first relations of a list have their bits
-abbrev pub HaveBits : ℕ → Places → ℕ → Type 0
-HaveBits mask list count = (k : ℕ) → k < count → HasBit mask (get_or list k (0, 0)).0
+pub bit_from : (mask i b : ℕ) → i < 64 → HasBit (bit_or mask (1 * 2 ^ i % 2 ^ 64)) b → HasBit mask b ⊎ (b ≡ i)
+bit_from mask i b few h = elim (cases_eq b i) [
+  | inl same ↦ inr same
+  | inr off ↦ inl (h.0, sym (bit_at_set_other w64 mask i few b off) ∙ h.1)
+]
 
-pub bits_more : (mask new : ℕ) (list : Places) (k i : ℕ) → i < 64 → i ≡ (get_or list k (0, 0)).0 → new ≡ bit_or mask (1 * 2 ^ i % 2 ^ 64) → HaveBits mask list k → HaveBits new list (k + 1)
-bits_more mask new list k i few at is have j less = subst (λ z. HasBit z (get_or list j (0, 0)).0) (sym is) (elim (cases_eq j k) [
-  | inl same ↦ subst (λ z. HasBit (bit_or mask (1 * 2 ^ i % 2 ^ 64)) (get_or list z (0, 0)).0) (sym same) (subst (HasBit (bit_or mask (1 * 2 ^ i % 2 ^ 64))) at (bit_here mask i few))
-  | inr off ↦ bit_still mask i (get_or list j (0, 0)).0 few (have j (omega (arith, less, off)))
-])
-
-pub bits_end : (mask : ℕ) (list : Places) (k : ℕ) → k ≡ length list → HaveBits mask list k → IsMaskOf mask list
-bits_end mask list k end have i p h =
-    let r = place_of (i, p) (0, 0) list h in
-    subst (λ (z : ℕ × ℕ). HasBit mask z.0) r.2 (have r.0 (omega (arith, r.1, end)))
+-- the mask of a list with a place more
+pub mask_grown : (old new : Places) (place : ℕ × ℕ) (mask result : Option ℕ) → IsWith old new place → IfSome mask (λ m. IsMaskOf m old)
+    → IfSome result (λ m. HasBit m place.0 × ((was : ℕ) × (mask ≡ Some was) × ((i : ℕ) → HasBit was i → HasBit m i))) → IfSome result (λ m. IsMaskOf m new)
+mask_grown old new place mask None more is h = tt
+mask_grown old new place mask (Some m) more is (here, rest) = λ i p among. elim (more.2 (i, p) among) [
+  | inl before ↦ rest.2 i (subst (λ z. IfSome z (λ n. IsMaskOf n old)) rest.1 is i p before)
+  | inr e ↦ subst (λ (z : ℕ × ℕ). HasBit m z.0) (sym e) here
+]
 
 -- a number more, with no bit
 pub pushed_zero : (seen : List ℕ) (n : ℕ) → get_or (seen ++ 0 ∷ []) n 0 ≡ get_or seen n 0

@@ -1,8 +1,7 @@
 -- Reading at a node by the letters that lead on.
-use Rattle.std.proofs.Common.{◌≡◌, ℕ, zero, suc, ◌+◌, ◌-◌, ◌<◌, ◌≤◌, List, [], ◌∷◌, ◌++◌, refl, sym, ◌∙◌, ap, subst, arith, ◌⊎◌, inl, inr, Option, Some, None, option_and_then, length, get_or, take}
+use Rattle.std.proofs.Common.{◌≡◌, ℕ, ◌+◌, ◌-◌, ◌<◌, ◌≤◌, List, [], ◌∷◌, refl, sym, ◌∙◌, ap, subst, arith, ◌⊎◌, inl, inr, Option, Some, None, option_and_then, length, get_or, take}
 use Rattle.std.proofs.lemmas.Bool.{cases_eq, cases_lt}
-use Rattle.std.proofs.lemmas.List.{get_or_default, get_or_push, get_or_read}
-use Rattle.std.specs.Prelude.{IfSome}
+use Rattle.std.proofs.lemmas.List.{get_or_default, get_or_read}
 use Rattle.theory.specs.Word.{Word}
 use Rattle.theory.specs.Graph.{Graph, target, path, IsGraph, IsClosedAt}
 use Rattle.word_graph.proofs.EdgeLaws.{target_in}
@@ -10,9 +9,10 @@ use Rattle.coincidence.specs.DueSpec.{IsDueAt}
 use Rattle.coincidence.specs.Pending.{IsAmong}
 use Rattle.coincidence.specs.Reading.{IsQuietBoth, IsDueBoth}
 use Rattle.coincidence.specs.Merging.{IsReached}
-use Rattle.coincidence.specs.Seen.{HasBit, HoldWhereSeen, IsMaskOf, IsSeen}
-use Rattle.coincidence.specs.Starts.{AreMasks, AreStarts, IsDueByLetter, IsDueInList, IsDueInMask, list_for, start_in, start_of}
-use Rattle.coincidence.specs.Uses.{IsNoted, Places, list_at}
+use Rattle.coincidence.specs.Places.{HasBit, Places}
+use Rattle.coincidence.specs.Seen.{HoldWhereSeen, IsSeen}
+use Rattle.coincidence.specs.Starts.{AreFirstLetters, AreStarts, Begins, IsDueByLetter, IsDueInMask, IsShutAt, list_for, start_in, start_of}
+use Rattle.coincidence.specs.Uses.{IsDueInList, IsNoted, list_at}
 use Rattle.coincidence.specs.declared.due.Due.{Due}
 use Rattle.coincidence.specs.declared.due.Due.TheVariants.{Nothing, Edge, Join}
 use Rattle.coincidence.proofs.DueLaws.{pair_contained, quiet_closed}
@@ -101,24 +101,6 @@ mask_found g pairs node mask i due not less h =
     go (Edge j a m) not h = h
     go (Join j a t m) not h = h
 
--- behind the end nothing else is new
-push_other : {X : Type 0} (xs : List X) (y d : X) (i : ℕ) → (i ≡ length xs → ⊥) → get_or (xs ++ y ∷ []) i d ≡ get_or xs i d
-push_other [] y d zero off = absurd (off refl)
-push_other [] y d (suc i) off = refl
-push_other (x ∷ xs) y d zero off = refl
-push_other (x ∷ xs) y d (suc i) off = push_other xs y d i (λ e. off (ap (λ z. suc z) e))
-
--- a mask more
-pub masks_more : (lists : List Places) (masks new : List (Option ℕ)) (list : Places) (number : ℕ) (mask : Option ℕ) → length masks ≡ number → list ≡ list_at lists number
-    → IfSome mask (λ m. IsMaskOf m list) → new ≡ masks ++ mask ∷ [] → AreMasks lists masks → AreMasks lists new
-masks_more lists masks new list number mask count at is more all a m read = go (cases_eq a number) (ap (λ (z : List (Option ℕ)). get_or z a None) (sym more) ∙ read)
-  where
-    go : (a ≡ number) ⊎ (a ≡ number → ⊥) → get_or (masks ++ mask ∷ []) a None ≡ Some m → IsMaskOf m (list_at lists a)
-    go (inl same) e =
-        let here : mask ≡ Some m = sym (get_or_push masks mask None a (count ∙ sym same)) ∙ e in
-        subst (λ z. IsMaskOf m (list_at lists z)) (sym same) (subst (IsMaskOf m) at (subst (λ (z : Option ℕ). IfSome z (λ n. IsMaskOf n list)) here is))
-    go (inr off) e = all a m (sym (push_other masks mask None a (λ z. off (z ∙ count))) ∙ e)
-
 pub list_found : (g : Graph) (pairs : List (Word × Word)) (node i : ℕ) (list : Places) (pair : Word × Word) (due : Due) → (due ≡ Nothing → ⊥) → i < length pairs → pair ≡ get_or pairs i pair
     → IsDueBoth g node pair.0 pair.1 due → IsDueInList g pairs node list due
 list_found g pairs node i list pair due not less at h = go due not (at_found g node pairs pair due not (pair_contained pairs i pair less at) h)
@@ -129,20 +111,10 @@ list_found g pairs node i list pair due not less at h = go due not (at_found g n
     go (Join j a t m) not h = h
 
 -- what a list asks for
-pub list_asks : (g : Graph) (pairs : List (Word × Word)) (node : ℕ) (list : Places) (due : Due) → (due ≡ Nothing → ⊥) → IsDueInList g pairs node list due → IsDueAt g node pairs due
-list_asks g pairs node list Nothing not h = absurd (not refl)
-list_asks g pairs node list (Edge j a m) not h = h
-list_asks g pairs node list (Join j a t m) not h = h
-
 pub by_letter : (g : Graph) (pairs : List (Word × Word)) (node x : ℕ) (lists : List Places) (due : Due) → IsDueInList g pairs node (list_at lists (x + 1)) due → IsDueByLetter g pairs node lists x due
 by_letter g pairs node x lists Nothing h = inr h
 by_letter g pairs node x lists (Edge j a m) h = h
 by_letter g pairs node x lists (Join j a t m) h = h
-
-pub letter_asks : (g : Graph) (pairs : List (Word × Word)) (node x : ℕ) (lists : List Places) (due : Due) → (due ≡ Nothing → ⊥) → IsDueByLetter g pairs node lists x due → IsDueAt g node pairs due
-letter_asks g pairs node x lists Nothing not h = absurd (not refl)
-letter_asks g pairs node x lists (Edge j a m) not h = h
-letter_asks g pairs node x lists (Join j a t m) not h = h
 
 -- a side stops where its first letter does not lead on
 front_stops : (g : Graph) (node x y : ℕ) (side : Word) → target g node x ≡ None → path g node (take (length (x ∷ y ∷ side) - 1) (x ∷ y ∷ side)) ≡ None
@@ -196,3 +168,68 @@ letters_end k g pairs node lists graph starts short all = quiet_closed g node pa
       | inl none ↦ inl none
       | inr quiet ↦ inr (quiet i 0 d (subst (λ a. IsAmong (i, 0) (list_at lists a)) e (starts.all i d less)))
     ]
+
+-- a pair asks for nothing where a letter that begins a side of it does not lead on
+begun_quiet : (g : Graph) (node x : ℕ) (pair : Word × Word) → Begins x pair → target g node x ≡ None → IsQuietBoth g node pair.0 pair.1
+begun_quiet g node x pair begins none = elim begins [
+  | inl one ↦ stopped_quiet g node pair.0 pair.1 (start_stops g node x pair.0 one none)
+  | inr two ↦ (let quiet = stopped_quiet g node pair.1 pair.0 (start_stops g node x pair.1 two none) in (quiet.1, quiet.0))
+]
+
+-- what the pairs of a mask ask for, where the others are shut or hold
+pub open_asks : (g : Graph) (pairs : List (Word × Word)) (node every opened mask : ℕ) (letters seen : List ℕ) (due : Due) → AreFirstLetters pairs every letters → IsReached g node → HoldWhereSeen pairs g seen
+    → ((i : ℕ) → HasBit every i → HasBit opened i ⊎ IsShutAt g node letters i) → ((i : ℕ) → HasBit opened i → HasBit mask i ⊎ IsSeen seen node i) → IsDueInMask g pairs node mask due → IsDueAt g node pairs due
+open_asks g pairs node every opened mask letters seen Nothing first reached hold shut unseen quiet = quiet_closed g node pairs one
+  where
+    one : (i : ℕ) (d : Word × Word) → i < length pairs → IsQuietBoth g node (get_or pairs i d).0 (get_or pairs i d).1
+    one i d less = elim (shut i (first.every i less)) [
+      | inr stops ↦ begun_quiet g node stops.0 (get_or pairs i d) (first.only stops.0 i d less stops.1) stops.2
+      | inl opens ↦ elim (unseen i opens) [
+        | inl bit ↦ quiet i d bit less
+        | inr was ↦ (let met = hold node i d was reached in met_quiet g node met.0 (get_or pairs i d).0 (get_or pairs i d).1 met.1 met.2)
+      ]
+    ]
+open_asks g pairs node every opened mask letters seen (Edge j a m) first reached hold shut unseen asks = asks
+open_asks g pairs node every opened mask letters seen (Join j a t m) first reached hold shut unseen asks = asks
+
+-- one letter more is looked at
+pub open_more : (g : Graph) (node every opened new x : ℕ) (letters : List ℕ) → target g node x ≡ None → ((i : ℕ) → HasBit opened i → HasBit new i ⊎ HasBit (get_or letters x 0) i)
+    → ((i : ℕ) → HasBit every i → HasBit opened i ⊎ IsShutAt g node letters i) → (i : ℕ) → HasBit every i → HasBit new i ⊎ IsShutAt g node letters i
+open_more g node every opened new x letters none left before i h = elim (before i h) [
+  | inr stops ↦ inr stops
+  | inl opens ↦ elim (left i opens) [ inl still ↦ inl still | inr gone ↦ inr (x, gone, none) ]
+]
+
+-- the first pairs have their bits, and letters those of pairs that they begin
+pub record AreFirstLettersTo (pairs : List (Word × Word)) (mask : ℕ) (letters : List ℕ) (count : ℕ) : Type 0 where
+  pub every : (i : ℕ) → i < count → HasBit mask i
+  pub only : (x i : ℕ) (d : Word × Word) → i < length pairs → HasBit (get_or letters x 0) i → Begins x (get_or pairs i d)
+
+-- bits of a letter that begins a side of the pair, or none more
+abbrev pub AreNotedOf : List ℕ → List ℕ → Option ℕ → ℕ → Type 0
+AreNotedOf old new first pair = (x i : ℕ) → HasBit (get_or new x 0) i → HasBit (get_or old x 0) i ⊎ ((first ≡ Some x) × (i ≡ pair))
+
+pub first_step : (pairs : List (Word × Word)) (every mask : ℕ) (old mid new : List ℕ) (count : ℕ) (pair : Word × Word) (one two : Option ℕ) → count < length pairs → pair ≡ get_or pairs count pair → one ≡ start_in pair.0 → two ≡ start_in pair.1
+    → HasBit mask count → ((i : ℕ) → HasBit every i → HasBit mask i) → AreNotedOf old mid one count → AreNotedOf mid new two count → AreFirstLettersTo pairs every old count → AreFirstLettersTo pairs mask new (count + 1)
+first_step pairs every mask old mid new count pair one two less at is_one is_two here still noted later k = record {
+  every = λ i l. elim (cases_eq i count) [
+    | inl same ↦ subst (HasBit mask) (sym same) here
+    | inr off ↦ still i (k.every i (omega (arith, l, off)))
+  ];
+  only = λ x i d l h. elim (later x i h) [
+    | inr new_two ↦ at_pair x i d new_two.1 (inr (sym is_two ∙ new_two.0))
+    | inl was ↦ elim (noted x i was) [
+      | inr new_one ↦ at_pair x i d new_one.1 (inl (sym is_one ∙ new_one.0))
+      | inl before ↦ k.only x i d l before
+    ]
+  ];
+}
+  where
+    at_pair : (x i : ℕ) (d : Word × Word) → i ≡ count → Begins x pair → Begins x (get_or pairs i d)
+    at_pair x i d same begins = subst (λ z. Begins x (get_or pairs z d)) (sym same) (subst (Begins x) (get_or_read pairs count pair less at d) begins)
+
+pub first_end : (pairs : List (Word × Word)) (mask : ℕ) (letters : List ℕ) (count : ℕ) → count ≡ length pairs → AreFirstLettersTo pairs mask letters count → AreFirstLetters pairs mask letters
+first_end pairs mask letters count end k = record {
+  every = λ i less. k.every i (omega (arith, less, end));
+  only = k.only;
+}

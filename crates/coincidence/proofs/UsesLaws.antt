@@ -5,7 +5,8 @@ use Rattle.std.proofs.lemmas.List.{get_or_append_left, get_or_push, get_or_read,
 use Rattle.std.proofs.lemmas.Option.{get_or_from_slice_get}
 use Rattle.theory.specs.Word.{Word}
 use Rattle.coincidence.specs.Pending.{IsAmong}
-use Rattle.coincidence.specs.Uses.{ArePeriods, side_of, Places, list_at, kind_of, told, groups_at, StandsIn, Stands, IsListed, AreUses, IsNoted, IsWith, IsPut, IsPutAt, AreNoted, IsSideNoted}
+use Rattle.coincidence.specs.Places.{Places, IsWith}
+use Rattle.coincidence.specs.Uses.{ArePeriods, side_of, list_at, kind_of, told, groups_at, StandsIn, Stands, IsListed, AreUses, IsNoted, IsPut, IsPutAt, AreNoted, IsSideNoted}
 use Rattle.coincidence.specs.declared.groups.Group.{Group}
 use Rattle.coincidence.specs.declared.groups.Kind.{Kind}
 use Rattle.coincidence.specs.Rings.{IsPeriod}
@@ -88,17 +89,17 @@ pushed_with old e new is = (subst (IsAmong e) (sym is) (among_last e old), λ f 
 
 -- a place more among groups
 pub group_put : (groups : List Group) (k : ℕ) (old new : Group) (kind : Kind) (e : ℕ × ℕ) → k < length groups → old ≡ get_or groups k old → old.kind ≡ kind → new.kind ≡ old.kind
-    → IsWith old.places.items new.places.items e → IsPut groups (set groups k new) kind e
+    → IsWith old.places new.places e → IsPut groups (set groups k new) kind e
 group_put [] k old new kind e less at is same more = absurd (omega (arith, less))
 group_put (g ∷ groups) zero old new kind e less at is same more = record {
   here = inl (same ∙ is, more.0);
   still = λ q f h. elim h [
-    | inl in_g ↦ inl (same ∙ ap (λ (z : Group). z.kind) at ∙ in_g.0, more.1 f (subst (λ (z : Group). IsAmong f z.places.items) (sym at) in_g.1))
+    | inl in_g ↦ inl (same ∙ ap (λ (z : Group). z.kind) at ∙ in_g.0, more.1 f (subst (λ (z : Group). IsAmong f z.places) (sym at) in_g.1))
     | inr later ↦ inr later
   ];
   from = λ q f h. elim h [
     | inl in_new ↦ elim (more.2 f in_new.1) [
-      | inl was ↦ inl (inl (sym (ap (λ (z : Group). z.kind) at) ∙ sym same ∙ in_new.0, subst (λ (z : Group). IsAmong f z.places.items) at was))
+      | inl was ↦ inl (inl (sym (ap (λ (z : Group). z.kind) at) ∙ sym same ∙ in_new.0, subst (λ (z : Group). IsAmong f z.places) at was))
       | inr is_e ↦ inr is_e
     ]
     | inr later ↦ inl (inr later)
@@ -116,16 +117,16 @@ group_put (g ∷ groups) (suc k) old new kind e less at is same more = later (gr
       ];
     }
 
-pub group_more : (groups : List Group) (new : Group) (kind : Kind) (e : ℕ × ℕ) → new.kind ≡ kind → new.places.items ≡ e ∷ [] → IsPut groups (groups ++ new ∷ []) kind e
-group_more [] new kind e is places = record {
-  here = inl (is, subst (IsAmong e) (sym places) (inl refl));
+pub group_more : (groups : List Group) (new : Group) (kind : Kind) (e : ℕ × ℕ) → new.kind ≡ kind → IsWith [] new.places e → IsPut groups (groups ++ new ∷ []) kind e
+group_more [] new kind e is alone = record {
+  here = inl (is, alone.0);
   still = λ q f h. absurd h;
   from = λ q f h. elim h [
-    | inl in_new ↦ elim (subst (IsAmong f) places in_new.1) [ inl same ↦ inr same | inr none ↦ absurd none ]
+    | inl in_new ↦ elim (alone.2 f in_new.1) [ inl none ↦ absurd none | inr same ↦ inr same ]
     | inr none ↦ absurd none
   ];
 }
-group_more (g ∷ groups) new kind e is places = later (group_more groups new kind e is places)
+group_more (g ∷ groups) new kind e is alone = later (group_more groups new kind e is alone)
   where
     later : IsPut groups (groups ++ new ∷ []) kind e → IsPut (g ∷ groups) (g ∷ (groups ++ new ∷ [])) kind e
     later r = record {

@@ -1,8 +1,8 @@
 -- The index of relations: where letters stand in their sides, the periods of these, and with which
 -- letters they begin.
-use Rattle.std.specs.Prelude.{Bool, true, false, List}
+use Rattle.std.specs.Prelude.{Bool, true, false, List, IfSome}
 use Rattle.theory.specs.Word.{Word}
-use Rattle.coincidence.specs.Starts.{AreStarts}
+use Rattle.coincidence.specs.Starts.{AreFirstLetters, AreStarts}
 use Rattle.coincidence.specs.Uses.{ArePeriods, AreUses}
 use Rattle.coincidence.specs.declared.indexed.Index.{Index}
 use Rattle.coincidence.specs.declared.indexed.SideIndex.{SideIndex}
@@ -17,3 +17,4 @@ pub record IsIndex (pairs : List (Word × Word)) (index : Index) : Type 0 where
   pub firsts : IsSideIndex false pairs index.firsts
   pub seconds : IsSideIndex true pairs index.seconds
   pub starts : AreStarts pairs index.starts
+  pub first_letters : IfSome index.first_letters (λ f. AreFirstLetters pairs f.every f.letters.items)

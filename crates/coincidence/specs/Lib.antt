@@ -19,6 +19,7 @@ pub mod Ordering
 pub mod Kept
 pub mod Rings
 pub mod Replaced
+pub mod Places
 pub mod Uses
 pub mod Starts
 pub mod Seen

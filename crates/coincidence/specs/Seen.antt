@@ -1,20 +1,10 @@
 -- Relations that were seen to hold at nodes.
 use Rattle.std.specs.Prelude.{◌≡◌, ◌⊎◌, ℕ, ◌<◌, List, length, slice_index_or}
-use Rattle.std.specs.Int.{bit_at}
 use Rattle.theory.specs.Word.{Word}
 use Rattle.theory.specs.Graph.{Graph}
 use Rattle.coincidence.specs.Holding.{MeetAt}
 use Rattle.coincidence.specs.Merging.{IsReached}
-use Rattle.coincidence.specs.Pending.{IsAmong}
-use Rattle.coincidence.specs.Uses.{Places}
-
--- the relation is one of the first, and its bit is set
-abbrev pub HasBit : ℕ → ℕ → Type 0
-HasBit mask i = (i < 64) × (bit_at mask i ≡ 1)
-
--- so for each relation of the list
-abbrev pub IsMaskOf : ℕ → Places → Type 0
-IsMaskOf mask list = (i p : ℕ) → IsAmong (i, p) list → HasBit mask i
+use Rattle.coincidence.specs.Places.{HasBit}
 
 -- of the first relations, each was seen to hold at the node whose bit of the node's number is set
 abbrev pub IsSeen : List ℕ → ℕ → ℕ → Type 0

@@ -5,8 +5,8 @@ use Rattle.theory.specs.Graph.{Graph, target}
 use Rattle.coincidence.specs.DueSpec.{IsDueAt}
 use Rattle.coincidence.specs.Pending.{IsAmong}
 use Rattle.coincidence.specs.Reading.{IsQuietBoth}
-use Rattle.coincidence.specs.Seen.{HasBit, IsMaskOf}
-use Rattle.coincidence.specs.Uses.{Places, list_at}
+use Rattle.coincidence.specs.Places.{HasBit, Places}
+use Rattle.coincidence.specs.Uses.{IsDueInList, list_at}
 use Rattle.coincidence.specs.declared.due.Due.{Due}
 use Rattle.coincidence.specs.declared.due.Due.TheVariants.{Nothing, Edge, Join}
 
@@ -32,17 +32,20 @@ pub record AreStarts (pairs : List (Word × Word)) (lists : List Places) : Type 
   pub all : (i : ℕ) (d : Word × Word) → i < length pairs
       → IsAmong (i, 0) (list_at lists (start_of (slice_index_or pairs i d)))
 
--- beside each list stand the bits of its pairs, if each has one
-abbrev pub AreMasks : List Places → List (Option ℕ) → Type 0
-AreMasks lists masks = (a mask : ℕ) → slice_index_or masks a None ≡ Some mask
-    → IsMaskOf mask (list_at lists a)
+-- the letter begins a side of the pair, which has more
+abbrev pub Begins : ℕ → Word × Word → Type 0
+Begins x pair = (start_in pair.0 ≡ Some x) ⊎ (start_in pair.1 ≡ Some x)
 
--- what the pairs of a list ask for at the node
-abbrev pub IsDueInList : Graph → List (Word × Word) → ℕ → Places → Due → Type 0
-IsDueInList g pairs node list Nothing = (i p : ℕ) (d : Word × Word) → IsAmong (i, p) list
-    → IsQuietBoth g node (slice_index_or pairs i d).0 (slice_index_or pairs i d).1
-IsDueInList g pairs node list (Edge j a m) = IsDueAt g node pairs (Edge j a m)
-IsDueInList g pairs node list (Join j a t m) = IsDueAt g node pairs (Join j a t m)
+-- each pair has its bit, and a letter's number only those of pairs that it begins
+pub record AreFirstLetters (pairs : List (Word × Word)) (mask : ℕ) (letters : List ℕ) : Type 0 where
+  pub every : (i : ℕ) → i < length pairs → HasBit mask i
+  pub only : (x i : ℕ) (d : Word × Word) → i < length pairs
+      → HasBit (slice_index_or letters x 0) i → Begins x (slice_index_or pairs i d)
+
+-- a letter has its bit by which no edge leads on from the node
+abbrev pub IsShutAt : Graph → ℕ → List ℕ → ℕ → Type 0
+IsShutAt g node letters i = (x : ℕ) × HasBit (slice_index_or letters x 0) i
+    × (target g node x ≡ None)
 
 -- what the pairs of a mask ask for there
 abbrev pub IsDueInMask : Graph → List (Word × Word) → ℕ → ℕ → Due → Type 0

@@ -2,8 +2,10 @@
 use Rattle.std.specs.Prelude.{◌≡◌, ℕ, ◌+◌, ◌-◌, ◌<◌, ◌⊎◌, nat_eq, nat_lt, cond, List, [], ◌∷◌, Bool, true, false, length, slice_index_or, take, Some, None}
 use Rattle.theory.specs.Word.{Word}
 use Rattle.theory.specs.Graph.{Graph, path, target}
+use Rattle.coincidence.specs.DueSpec.{IsDueAt}
 use Rattle.coincidence.specs.Pending.{IsAmong}
-use Rattle.coincidence.specs.Reading.{IsDueAlong, IsDueBehind, IsDueThrough}
+use Rattle.coincidence.specs.Places.{Places}
+use Rattle.coincidence.specs.Reading.{IsDueAlong, IsDueBehind, IsDueThrough, IsQuietBoth}
 use Rattle.coincidence.specs.Rings.{IsPeriod}
 use Rattle.coincidence.specs.declared.due.Due.{Due}
 use Rattle.coincidence.specs.declared.due.Due.TheVariants.{Nothing, Edge, Join}
@@ -36,9 +38,6 @@ abbrev pub told : Bool → ℕ → ℕ
 told true p = 0
 told false p = p
 
-abbrev pub Places : Type 0
-Places = List (ℕ × ℕ)
-
 -- the list of this number
 abbrev pub list_at : List Places → ℕ → Places
 list_at lists a = slice_index_or lists a []
@@ -46,7 +45,7 @@ list_at lists a = slice_index_or lists a []
 -- the entry stands among those of the kind
 abbrev pub StandsIn : List Group → Kind → ℕ × ℕ → Type 0
 StandsIn [] kind entry = ⊥
-StandsIn (g ∷ groups) kind entry = ((g.kind ≡ kind) × IsAmong entry g.places.items)
+StandsIn (g ∷ groups) kind entry = ((g.kind ≡ kind) × IsAmong entry g.places)
     ⊎ StandsIn groups kind entry
 
 -- the groups of a letter
@@ -89,11 +88,6 @@ pub record IsNoted (old new : List Places) (a : ℕ) (entry : ℕ × ℕ) : Type
   pub still : (b : ℕ) (e : ℕ × ℕ) → IsAmong e (list_at old b) → IsAmong e (list_at new b)
   pub from : (b : ℕ) (e : ℕ × ℕ) → IsAmong e (list_at new b)
       → IsAmong e (list_at old b) ⊎ (e ≡ entry)
-
--- the list has the entry, and nothing else is new
-abbrev pub IsWith : Places → Places → ℕ × ℕ → Type 0
-IsWith old new entry = IsAmong entry new × ((e : ℕ × ℕ) → IsAmong e old → IsAmong e new)
-    × ((e : ℕ × ℕ) → IsAmong e new → IsAmong e old ⊎ (e ≡ entry))
 
 -- among groups the entry stands with those of the kind, and nothing else is new
 pub record IsPut (old new : List Group) (kind : Kind) (entry : ℕ × ℕ) : Type 0 where
@@ -146,12 +140,19 @@ IsDueInPowers second g pairs node letter places (Edge j a m) =
 IsDueInPowers second g pairs node letter places (Join j a t m) =
     IsDueThrough g pairs node letter (Join j a t m)
 
--- what is asked for at places of the kind
+-- what the pairs of a list ask for at the node
+abbrev pub IsDueInList : Graph → List (Word × Word) → ℕ → Places → Due → Type 0
+IsDueInList g pairs node list Nothing = (i p : ℕ) (d : Word × Word) → IsAmong (i, p) list
+    → IsQuietBoth g node (slice_index_or pairs i d).0 (slice_index_or pairs i d).1
+IsDueInList g pairs node list (Edge j a m) = IsDueAt g node pairs (Edge j a m)
+IsDueInList g pairs node list (Join j a t m) = IsDueAt g node pairs (Join j a t m)
+
+-- what is asked for at places of the kind: those in front are read at the node
 abbrev pub IsDueOfKind : Bool → Graph → List (Word × Word) → ℕ → ℕ → Kind → Places → Due → Type 0
 IsDueOfKind second g pairs node letter Power places due =
     IsDueInPowers second g pairs node letter places due
 IsDueOfKind second g pairs node letter Front places due =
-    IsDueAtPlaces second g pairs node letter places due
+    IsDueInList g pairs node places due
 IsDueOfKind second g pairs node letter (Before b) places due =
     IsDueAtPlaces second g pairs node letter places due
 IsDueOfKind second g pairs node letter (Behind b) places due =
@@ -168,7 +169,7 @@ IsShut g node letter (Behind b) = (n : ℕ) → target g n b ≡ Some node → �
 -- what a group asks for
 abbrev pub IsDueInGroup : Bool → Graph → List (Word × Word) → ℕ → ℕ → Group → Due → Type 0
 IsDueInGroup second g pairs node letter group Nothing = IsShut g node letter group.kind
-    ⊎ IsDueOfKind second g pairs node letter group.kind group.places.items Nothing
+    ⊎ IsDueOfKind second g pairs node letter group.kind group.places Nothing
 IsDueInGroup second g pairs node letter group (Edge j a m) =
     IsDueThrough g pairs node letter (Edge j a m)
 IsDueInGroup second g pairs node letter group (Join j a t m) =

@@ -7,16 +7,18 @@ ghost use Rattle.coincidence.specs.Reading.{IsCut, IsDueBoth, IsDueBehind, IsDue
 ghost use Rattle.coincidence.specs.Rings.{IsPeriod};
 ghost use Rattle.coincidence.specs.Seen.{AreSidesOf, HoldWhereSeen};
 ghost use Rattle.coincidence.specs.declared.due.Due.TheVariants.{Nothing};
-ghost use Rattle.coincidence.specs.Uses.{ArePeriods, AreUses, ArePlaces, IsDueAtPlaces, IsDueInPowers, IsDueInGroup, IsDueInSides, IsDueOfKind, IsShut};
+ghost use Rattle.coincidence.specs.Uses.{ArePeriods, AreUses, ArePlaces, IsDueAtPlaces, IsDueInList, IsDueInPowers, IsDueInGroup, IsDueInSides, IsDueOfKind, IsShut};
 
 use crate::due::Due;
 use crate::edges::{Edge, Edges};
 use crate::groups::{Group, Kind};
 use crate::indexed::Indexed;
 use crate::periods::Periods;
-use crate::reads::{OneSide, asked_beside};
+use crate::places::PlaceList;
+use crate::reads::{Begun, OneSide, asked_beside, due_at_fronts};
 use crate::rings::comes_round;
 use crate::seen::Seen;
+use crate::starts::Starts;
 use crate::uses::{Uses, other_side, side};
 use presentation::Pairs;
 use words::{Letter, Word};
@@ -205,8 +207,8 @@ fn due_along(edges: &Edges, edge: &Edge, one: &OneSide, count: usize, seen: &mut
     Due::Nothing
 }
 
-// The first sides of pairs, or the second ones, where letters stand in them, their periods, and the
-// edges along which they are read.
+// The first sides of pairs, or the second ones, where letters stand in them, their periods, the
+// edges along which they are read, and what serves to read pairs at a node.
 #[derive(Drop)]
 struct Sides<'a> {
     edges: &'a Edges,
@@ -214,6 +216,8 @@ struct Sides<'a> {
     second: bool,
     uses: &'a Uses,
     periods: &'a Periods,
+    firsts: &'a Periods,
+    starts: &'a Starts,
 }
 
 // What pairs ask for at places of the letter, read from the node on.
@@ -314,21 +318,40 @@ fn is_open(edges: &Edges, node: usize, letter: Letter, kind: Kind) -> bool
     }
 }
 
+// What pairs ask for at the node, in front of whose sides a letter stands.
+fn due_in_front(node: usize, sides: &Sides, fronts: &PlaceList, seen: &mut Seen) -> Due
+    requires firsts { ArePeriods false sides.now.pairs.now sides.now.firsts.now }
+    requires places { ArePlaces sides.now.second sides.now.pairs.now fronts.now }
+    requires node { IsReached sides.now.edges.now.graph node }
+    requires seen { HoldWhereSeen sides.now.pairs.now sides.now.edges.now.graph seen.old }
+    ensures due { IsDueInList sides.now.edges.now.graph sides.now.pairs.now node fronts.now
+        result }
+    ensures seen { HoldWhereSeen sides.now.pairs.now sides.now.edges.now.graph seen.new }
+{
+    let begun = Begun {
+        pairs: sides.pairs,
+        periods: sides.firsts,
+        starts: sides.starts,
+    };
+    due_at_fronts(sides.edges, node, &begun, fronts, seen)
+}
+
 // What pairs ask for at places of one kind.
 fn due_of_kind(node: usize, letter: Letter, sides: &Sides, group: &Group, seen: &mut Seen) -> Due
+    requires firsts { ArePeriods false sides.now.pairs.now sides.now.firsts.now }
     requires periods { ArePeriods sides.now.second sides.now.pairs.now sides.now.periods.now }
-    requires places { ArePlaces sides.now.second sides.now.pairs.now group.now.places.items }
+    requires places { ArePlaces sides.now.second sides.now.pairs.now group.now.places }
     requires reached { EdgesReached sides.now.edges.now.graph }
     requires node { IsReached sides.now.edges.now.graph node }
     requires seen { HoldWhereSeen sides.now.pairs.now sides.now.edges.now.graph seen.old }
     ensures due { IsDueOfKind sides.now.second sides.now.edges.now.graph sides.now.pairs.now node
-        letter group.now.kind group.now.places.items result }
+        letter group.now.kind group.now.places result }
     ensures seen { HoldWhereSeen sides.now.pairs.now sides.now.edges.now.graph seen.new }
 {
     let places = group.places.as_slice();
     match group.kind {
         Kind::Power => due_in_powers(node, letter, sides, places, seen),
-        Kind::Front => due_at_places(node, letter, sides, places, seen),
+        Kind::Front => due_in_front(node, sides, &group.places, seen),
         Kind::Before(_) => due_at_places(node, letter, sides, places, seen),
         Kind::Behind(_) => due_at_places(node, letter, sides, places, seen),
     }
@@ -336,8 +359,9 @@ fn due_of_kind(node: usize, letter: Letter, sides: &Sides, group: &Group, seen: 
 
 // What pairs ask for at the places of a group, if they may be crossed.
 fn due_in_group(node: usize, letter: Letter, sides: &Sides, group: &Group, seen: &mut Seen) -> Due
+    requires firsts { ArePeriods false sides.now.pairs.now sides.now.firsts.now }
     requires periods { ArePeriods sides.now.second sides.now.pairs.now sides.now.periods.now }
-    requires places { ArePlaces sides.now.second sides.now.pairs.now group.now.places.items }
+    requires places { ArePlaces sides.now.second sides.now.pairs.now group.now.places }
     requires reached { EdgesReached sides.now.edges.now.graph }
     requires node { IsReached sides.now.edges.now.graph node }
     requires seen { HoldWhereSeen sides.now.pairs.now sides.now.edges.now.graph seen.old }
@@ -355,6 +379,7 @@ fn due_in_group(node: usize, letter: Letter, sides: &Sides, group: &Group, seen:
 // letter from the node.
 fn due_in_sides(node: usize, letter: Letter, sides: &Sides, seen: &mut Seen) -> Due
     requires uses { AreUses sides.now.second sides.now.pairs.now sides.now.uses.now }
+    requires firsts { ArePeriods false sides.now.pairs.now sides.now.firsts.now }
     requires periods { ArePeriods sides.now.second sides.now.pairs.now sides.now.periods.now }
     requires reached { EdgesReached sides.now.edges.now.graph }
     requires node { IsReached sides.now.edges.now.graph node }
@@ -396,6 +421,8 @@ fn due_in_relations(
         second,
         uses: congruence.uses(second),
         periods: congruence.periods(second),
+        firsts: congruence.periods(false),
+        starts: congruence.starts(),
     };
     due_in_sides(edge.node, edge.letter, &sides, seen)
 }

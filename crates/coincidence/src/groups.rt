@@ -1,9 +1,10 @@
 // Places of sides at which a letter stands, in groups by what stands beside it.
 ghost use Rattle.std.specs.Prelude.{◌≡◌, ◌<◌, [], ◌∷◌, true, length, slice_index_or, IfOk, IfSome, OnOk};
-ghost use Rattle.coincidence.specs.Uses.{IsPut, IsWith};
+ghost use Rattle.coincidence.specs.Places.{IsWith};
+ghost use Rattle.coincidence.specs.Uses.{IsPut};
 ghost use Rattle.coincidence.specs.declared.groups.Kind.TheVariants.{Power, Front, Before, Behind};
 
-use crate::uses::ends_with;
+use crate::places::PlaceList;
 use ports::NoMemory;
 use std::alloc::Global;
 use words::Letter;
@@ -21,11 +22,11 @@ pub enum Kind {
     Behind(Letter),
 }
 
-/// Places of one kind: the number of a pair, and a place in its side.
+/// Places of one kind.
 #[derive(Drop)]
 pub struct Group {
     pub kind: Kind,
-    pub places: Vec<(usize, usize)>,
+    pub places: PlaceList,
 }
 
 // Whether it is the kind of powers.
@@ -93,25 +94,21 @@ fn find(groups: &Vec<Group>, kind: &Kind) -> Option<usize>
     None
 }
 
-// The place is in the group, at its end if it is new. Refused only where memory is wanting.
+// The place is in the group. Refused only where memory is wanting.
 fn push_place(group: &mut Group, place: (usize, usize)) -> Result<(), NoMemory>
     ensures kind { group.new.kind ≡ group.old.kind }
-    ensures places { OnOk result (IsWith group.old.places.items group.new.places.items place) }
+    ensures places { OnOk result (IsWith group.old.places group.new.places place) }
 {
-    if ends_with(&group.places, place) {
-        return Ok(());
-    }
-    group.places.push(place)?;
-    Ok(())
+    group.places.add(place)
 }
 
 // A group of the kind with the place alone. Refused only where memory is wanting.
 fn group_with(alloc: Global, kind: Kind, place: (usize, usize)) -> Result<Group, NoMemory>
     ensures kind { IfOk result (λ group. group.kind ≡ kind) }
-    ensures places { IfOk result (λ group. group.places.items ≡ place ∷ []) }
+    ensures places { IfOk result (λ group. IsWith [] group.places place) }
 {
-    let mut places = Vec::new(alloc);
-    places.push(place)?;
+    let mut places = PlaceList::new(alloc);
+    places.add(place)?;
     Ok(Group { kind, places })
 }
 

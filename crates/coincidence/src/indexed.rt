@@ -1,10 +1,11 @@
 // Congruences whose relations are found by their letters.
-ghost use Rattle.std.specs.Prelude.{◌≡◌, false, true, length, IfOk};
+ghost use Rattle.std.specs.Prelude.{◌≡◌, false, true, length, IfOk, IfSome};
 ghost use Rattle.presentation.specs.Presented.{IsPosed};
 ghost use Rattle.coincidence.specs.Indexes.{IsIndex, IsSideIndex};
-ghost use Rattle.coincidence.specs.Starts.{AreStarts};
+ghost use Rattle.coincidence.specs.Starts.{AreFirstLetters, AreStarts};
 ghost use Rattle.coincidence.specs.Uses.{ArePeriods, AreUses};
 
+use crate::first_letters::FirstLetters;
 use crate::periods::Periods;
 use crate::starts::Starts;
 use crate::uses::Uses;
@@ -38,6 +39,7 @@ struct Index {
     firsts: SideIndex,
     seconds: SideIndex,
     starts: Starts,
+    first_letters: Option<FirstLetters>,
 }
 
 impl Index {
@@ -48,10 +50,12 @@ impl Index {
         let firsts = SideIndex::new(alloc, relations, false)?;
         let seconds = SideIndex::new(alloc, relations, true)?;
         let starts = Starts::new(alloc, relations)?;
+        let first_letters = FirstLetters::new(alloc, relations)?;
         Ok(Index {
             firsts,
             seconds,
             starts,
+            first_letters,
         })
     }
 }
@@ -137,5 +141,13 @@ impl Indexed {
         ensures { AreStarts self.now.congruence.presentation.relations result.now }
     {
         &self.index.starts
+    }
+
+    /// The bits of the relations by the letters with which their sides begin, if each has a bit.
+    pub fn first_letters(&self) -> &Option<FirstLetters>
+        ensures { IfSome result.now (λ f. AreFirstLetters
+            self.now.congruence.presentation.relations f.every f.letters.items) }
+    {
+        &self.index.first_letters
     }
 }

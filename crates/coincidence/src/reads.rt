@@ -9,14 +9,16 @@ ghost use Rattle.coincidence.specs.Reading.{IsDueBoth};
 ghost use Rattle.coincidence.specs.Pending.{IsAmong};
 ghost use Rattle.coincidence.specs.Rings.{turned};
 ghost use Rattle.coincidence.specs.Seen.{HoldWhereSeen, IsSeen};
-ghost use Rattle.coincidence.specs.Starts.{AreStarts, IsDueByLetter, IsDueInList, IsDueInMask};
+ghost use Rattle.coincidence.specs.Starts.{AreFirstLetters, AreStarts, IsDueByLetter, IsDueInMask};
 ghost use Rattle.coincidence.specs.declared.due.Due.TheVariants.{Nothing};
-ghost use Rattle.coincidence.specs.Uses.{list_at, ArePeriods};
+ghost use Rattle.coincidence.specs.Uses.{list_at, ArePeriods, IsDueInList};
 
 use crate::due::Due;
 use crate::edges::Edges;
+use crate::first_letters::FirstLetters;
 use crate::indexed::Indexed;
 use crate::periods::Periods;
+use crate::places::PlaceList;
 use crate::seen::{Seen, take_first};
 use crate::starts::Starts;
 use presentation::Pairs;
@@ -95,6 +97,7 @@ fn meet(first: Option<usize>, second: Option<usize>) -> bool
 
 /// What a pair asks for at the node, read both ways, or `None` where it holds there. The first side
 /// is read but for its last letter.
+#[inline(always)]
 pub fn asked_beside(
     edges: &Edges,
     node: usize,
@@ -121,6 +124,7 @@ pub fn asked_beside(
 }
 
 // What a pair asks for at the node, read both ways, or `None` where it holds there.
+#[inline(always)]
 fn asked(edges: &Edges, node: usize, pair: &(Word, Word)) -> Option<Due>
     ensures { MatchOption result (MeetAt edges.now.graph node pair.now)
         (IsDueBoth edges.now.graph node pair.now.0 pair.now.1) }
@@ -217,16 +221,17 @@ fn note_round(edges: &Edges, node: usize, one: &OneSide, count: usize, seen: &mu
     }
 }
 
-// Pairs, the periods of their first sides, and their lists by the letters with which they begin.
+/// Pairs, the periods of their first sides, and their lists by the letters with which they begin.
 #[derive(Drop)]
-struct Begun<'a> {
-    pairs: &'a Pairs,
-    periods: &'a Periods,
-    starts: &'a Starts,
+pub struct Begun<'a> {
+    pub pairs: &'a Pairs,
+    pub periods: &'a Periods,
+    pub starts: &'a Starts,
 }
 
 // A pair that holds at the node is seen to hold there, and a power beside the empty word also where
 // its letters lead as often as they are repeated.
+#[inline(always)]
 fn note_held(edges: &Edges, node: usize, begun: &Begun, number: usize, seen: &mut Seen)
     requires number { number < length begun.now.pairs.now }
     requires periods { ArePeriods false begun.now.pairs.now begun.now.periods.now }
@@ -250,6 +255,7 @@ fn note_held(edges: &Edges, node: usize, begun: &Begun, number: usize, seen: &mu
 }
 
 // What a pair asks for at the node. It is seen to hold there if it does.
+#[inline(always)]
 fn due_or_seen(edges: &Edges, node: usize, begun: &Begun, number: usize, seen: &mut Seen) -> Due
     requires number { number < length begun.now.pairs.now }
     requires periods { ArePeriods false begun.now.pairs.now begun.now.periods.now }
@@ -310,6 +316,7 @@ fn due_in_list(
 }
 
 // What the pair of a number asks for at the node, if there is one.
+#[inline(always)]
 fn due_of_number(edges: &Edges, node: usize, begun: &Begun, number: usize, seen: &mut Seen) -> Due
     requires periods { ArePeriods false begun.now.pairs.now begun.now.periods.now }
     requires seen { HoldWhereSeen begun.now.pairs.now edges.now.graph seen.old }
@@ -326,6 +333,7 @@ fn due_of_number(edges: &Edges, node: usize, begun: &Begun, number: usize, seen:
 }
 
 // What the pairs of a mask ask for at the node.
+#[inline(always)]
 fn due_in_mask(edges: &Edges, node: usize, begun: &Begun, mask: u64, seen: &mut Seen) -> Due
     requires periods { ArePeriods false begun.now.pairs.now begun.now.periods.now }
     requires seen { HoldWhereSeen begun.now.pairs.now edges.now.graph seen.old }
@@ -355,10 +363,7 @@ fn due_by_letter(edges: &Edges, node: usize, begun: &Begun, letter: Letter, seen
     let Some(_) = edges.target(node, letter) else {
         return Due::Nothing;
     };
-    match begun.starts.unseen(letter, node, seen) {
-        None => due_in_list(edges, node, begun, begun.starts.of(letter), seen),
-        Some(mask) => due_in_mask(edges, node, begun, mask, seen),
-    }
+    due_in_list(edges, node, begun, begun.starts.of(letter), seen)
 }
 
 // What pairs with some letter in front ask for at the node.
@@ -382,8 +387,64 @@ fn due_by_letters(edges: &Edges, node: usize, begun: &Begun, seen: &mut Seen) ->
     Due::Nothing
 }
 
-/// What the relations ask for at the node. Only those are looked at that begin with a letter that
-/// leads on, and were not seen to hold there.
+// What pairs with some letter in front, or with none, ask for at the node.
+fn due_in_lists(edges: &Edges, node: usize, begun: &Begun, seen: &mut Seen) -> Due
+    requires starts { AreStarts begun.now.pairs.now begun.now.starts.now }
+    requires periods { ArePeriods false begun.now.pairs.now begun.now.periods.now }
+    requires node { IsReached edges.now.graph node }
+    requires seen { HoldWhereSeen begun.now.pairs.now edges.now.graph seen.old }
+    ensures due { IsDueAt edges.now.graph node begun.now.pairs.now result }
+    ensures seen { HoldWhereSeen begun.now.pairs.now edges.now.graph seen.new }
+{
+    match due_in_list(edges, node, begun, begun.starts.short(), seen) {
+        Due::Nothing => due_by_letters(edges, node, begun, seen),
+        due => due,
+    }
+}
+
+// What the pairs ask for at the node, where each has a bit.
+fn due_where_open(
+    edges: &Edges,
+    node: usize,
+    begun: &Begun,
+    first: &FirstLetters,
+    seen: &mut Seen,
+) -> Due
+    requires first { AreFirstLetters begun.now.pairs.now first.now.every first.now.letters.items }
+    requires periods { ArePeriods false begun.now.pairs.now begun.now.periods.now }
+    requires node { IsReached edges.now.graph node }
+    requires seen { HoldWhereSeen begun.now.pairs.now edges.now.graph seen.old }
+    ensures due { IsDueAt edges.now.graph node begun.now.pairs.now result }
+    ensures seen { HoldWhereSeen begun.now.pairs.now edges.now.graph seen.new }
+{
+    let mask = seen.unseen(node, first.open(edges, node));
+    due_in_mask(edges, node, begun, mask, seen)
+}
+
+/// What the pairs of a list, in front of whose sides a letter stands, ask for at the node. Those
+/// that were seen to hold there are not read.
+pub fn due_at_fronts(
+    edges: &Edges,
+    node: usize,
+    begun: &Begun,
+    fronts: &PlaceList,
+    seen: &mut Seen,
+) -> Due
+    requires within { (i p : ℕ) → IsAmong (i, p) fronts.now → i < length begun.now.pairs.now }
+    requires periods { ArePeriods false begun.now.pairs.now begun.now.periods.now }
+    requires node { IsReached edges.now.graph node }
+    requires seen { HoldWhereSeen begun.now.pairs.now edges.now.graph seen.old }
+    ensures due { IsDueInList edges.now.graph begun.now.pairs.now node fronts.now result }
+    ensures seen { HoldWhereSeen begun.now.pairs.now edges.now.graph seen.new }
+{
+    match fronts.mask() {
+        None => due_in_list(edges, node, begun, fronts.as_slice(), seen),
+        Some(mask) => due_in_mask(edges, node, begun, seen.unseen(node, mask), seen),
+    }
+}
+
+/// What the relations ask for at the node. Only those are looked at of which no side begins with a
+/// letter that does not lead on, and that were not seen to hold there.
 pub fn due_at_start(edges: &Edges, node: usize, congruence: &Indexed, seen: &mut Seen) -> Due
     requires node { IsReached edges.now.graph node }
     requires seen { HoldWhereSeen congruence.now.congruence.presentation.relations edges.now.graph
@@ -398,8 +459,8 @@ pub fn due_at_start(edges: &Edges, node: usize, congruence: &Indexed, seen: &mut
         periods: congruence.periods(false),
         starts: congruence.starts(),
     };
-    match due_in_list(edges, node, &begun, begun.starts.short(), seen) {
-        Due::Nothing => due_by_letters(edges, node, &begun, seen),
-        due => due,
+    match congruence.first_letters() {
+        None => due_in_lists(edges, node, &begun, seen),
+        Some(first) => due_where_open(edges, node, &begun, first, seen),
     }
 }

@@ -1,6 +1,7 @@
 // Which relations were seen to hold at which nodes.
 ghost use Rattle.std.specs.Prelude.{◌≡◌, ◌<◌, ◌⊎◌, ℕ, [], true, length, slice_index_or, OnOk, IfNone, IfSome};
-ghost use Rattle.coincidence.specs.Seen.{HasBit, IsMaskOf, IsSeen};
+ghost use Rattle.coincidence.specs.Places.{HasBit};
+ghost use Rattle.coincidence.specs.Seen.{IsSeen};
 
 use ports::NoMemory;
 use std::alloc::Global;
@@ -24,18 +25,23 @@ impl Model for Seen {
     ghost view = { λ s. s.relations.items };
 }
 
-/// The bits of the relations of a list, if each of them is one of which it is kept.
-pub fn mask_of(list: &[(usize, usize)]) -> Option<u64>
-    ensures { IfSome result (λ mask. IsMaskOf mask list.now) }
+/// The mask with the bit of the relation, if it is one of which it is kept.
+pub fn with_bit(mask: u64, relation: usize) -> Option<u64>
+    ensures here { IfSome result (λ new. HasBit new relation) }
+    ensures still { IfSome result (λ new. (i : ℕ) → HasBit mask i → HasBit new i) }
+    ensures from { IfSome result (λ new. (i : ℕ) → HasBit new i → HasBit mask i ⊎ (i ≡ relation)) }
 {
-    let mut mask = 0;
-    for k in 0..list.len() {
-        if RELATIONS_KEPT <= list[k].0 {
-            return None;
-        }
-        mask |= 1 << list[k].0;
+    if RELATIONS_KEPT <= relation {
+        return None;
     }
-    Some(mask)
+    Some(mask | 1 << relation)
+}
+
+/// The bits of the mask that the other has not.
+pub fn without(mask: u64, other: u64) -> u64
+    ensures { (i : ℕ) → HasBit mask i → HasBit result i ⊎ HasBit other i }
+{
+    mask & !other
 }
 
 /// Takes the first relation out of a mask.
@@ -54,14 +60,14 @@ pub fn take_first(mask: &mut u64) -> Option<usize>
     Some(first as usize)
 }
 
-// There is a number for the node. Only want of memory refuses it.
-fn make_room(relations: &mut Vec<u64>, node: usize) -> Result<(), NoMemory>
-    ensures room { OnOk result (node < length relations.new.items) }
-    ensures same { (n : ℕ) → slice_index_or relations.new.items n 0
-        ≡ slice_index_or relations.old.items n 0 }
+/// There is a mask of this number; those that are new have no bit. Only want of memory refuses it.
+pub fn make_room(masks: &mut Vec<u64>, number: usize) -> Result<(), NoMemory>
+    ensures room { OnOk result (number < length masks.new.items) }
+    ensures same { (n : ℕ) → slice_index_or masks.new.items n 0
+        ≡ slice_index_or masks.old.items n 0 }
 {
-    while relations.len() <= node {
-        relations.push(0)?;
+    while masks.len() <= number {
+        masks.push(0)?;
     }
     Ok(())
 }
@@ -96,7 +102,7 @@ impl Seen {
         if self.relations.len() <= node {
             return mask;
         }
-        mask & !self.relations[node]
+        without(mask, self.relations[node])
     }
 
     /// The relation was seen to hold at the node. It is not kept where memory is wanting, nor of

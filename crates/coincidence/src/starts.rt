@@ -1,11 +1,8 @@
 // Pairs by the letters with which their sides begin.
-ghost use Rattle.std.specs.Prelude.{◌≡◌, ◌⊎◌, ℕ, ◌+◌, map, IfOk, IfSome};
-ghost use Rattle.coincidence.specs.Pending.{IsAmong};
-ghost use Rattle.coincidence.specs.Seen.{HasBit, IsSeen};
-ghost use Rattle.coincidence.specs.Starts.{AreMasks, AreStarts, list_for, start_in};
+ghost use Rattle.std.specs.Prelude.{◌≡◌, ◌+◌, IfOk};
+ghost use Rattle.coincidence.specs.Starts.{AreStarts, list_for, start_in};
 ghost use Rattle.coincidence.specs.Uses.{list_at};
 
-use crate::seen::{Seen, mask_of};
 use crate::uses::note;
 use ports::NoMemory;
 use presentation::Pairs;
@@ -14,28 +11,23 @@ use std::marker::Model;
 use words::{Letter, Word};
 
 // Lists of the numbers of pairs, by the first letter of a side that has more letters. A pair asks
-// for nothing at a node from which no edge of this letter leads. Beside each list stand the bits of
-// its pairs, so that those that were seen to hold are passed over at once.
+// for nothing at a node from which no edge of this letter leads.
 #[derive(Drop)]
 pub struct Starts {
     lists: Vec<Vec<(usize, usize)>>,
-    masks: Vec<Option<u64>>,
 }
 
 impl Model for Starts {
     ghost use Rattle.std.specs.Prelude.{List, map};
-    ghost use Rattle.coincidence.specs.Starts.{AreMasks};
-    ghost use Rattle.coincidence.specs.Uses.{Places};
+    ghost use Rattle.coincidence.specs.Places.{Places};
 
     ghost Value = { List Places };
 
     ghost view = { λ s. map (λ v. v.items) s.lists.items };
-
-    ghost invariant = { λ s. AreMasks (map (λ v. v.items) s.lists.items) s.masks.items };
 }
 
-// The first letter of the side, if it has more.
-fn start_in(side: &Word) -> Option<Letter>
+/// The first letter of the side, if it has more.
+pub fn start_in(side: &Word) -> Option<Letter>
     ensures { result ≡ start_in side.now }
 {
     if side.len() < 2 {
@@ -55,17 +47,6 @@ fn list_for(first: Option<Letter>, second: Option<Letter>) -> usize
     }
 }
 
-// The masks of lists. Refused only where memory is wanting.
-fn masks_of(alloc: Global, lists: &Vec<Vec<(usize, usize)>>) -> Result<Vec<Option<u64>>, NoMemory>
-    ensures { IfOk result (λ masks. AreMasks (map (λ v. v.items) lists.now.items) masks.items) }
-{
-    let mut masks = Vec::new(alloc);
-    for number in 0..lists.len() {
-        masks.push(mask_of(lists[number].as_slice()))?;
-    }
-    Ok(masks)
-}
-
 impl Starts {
     /// The pairs by their starts. Refused only where memory is wanting.
     pub fn new(alloc: Global, pairs: &Pairs) -> Result<Starts, NoMemory>
@@ -77,8 +58,7 @@ impl Starts {
             let list = list_for(start_in(&pair.0), start_in(&pair.1));
             note(alloc, &mut lists, list, (number, 0))?;
         }
-        let masks = masks_of(alloc, &lists)?;
-        Ok(Starts { lists, masks })
+        Ok(Starts { lists })
     }
 
     // The list of this number.
@@ -104,21 +84,5 @@ impl Starts {
         ensures { result.now ≡ list_at self.now (letter + 1) }
     {
         self.list(letter.number() + 1)
-    }
-    /// The bits of the pairs with the letter in front that were not seen to hold at the node, if
-    /// each of them has one.
-    pub fn unseen(&self, letter: Letter, node: usize, seen: &Seen) -> Option<u64>
-        ensures { IfSome result (λ mask. (i p : ℕ)
-            → IsAmong (i, p) (list_at self.now (letter + 1))
-            → HasBit mask i ⊎ IsSeen seen.now node i) }
-    {
-        let number = letter.number() + 1;
-        if self.masks.len() <= number {
-            return None;
-        }
-        match self.masks[number] {
-            None => None,
-            Some(mask) => Some(seen.unseen(node, mask)),
-        }
     }
 }

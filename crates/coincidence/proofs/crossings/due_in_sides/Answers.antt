@@ -10,7 +10,7 @@ due_in_group-requires-clause-places c =
     let pairs = c.args.sides.now.pairs.now in
     let groups = c.of-groups.result.now in
     let less : c.loop-k.k < length groups = omega arith in
-    subst (λ (z : Group). ArePlaces second pairs z.places.items) (sym c.index-groups-k.is)
+    subst (λ (z : Group). ArePlaces second pairs z.places) (sym c.index-groups-k.is)
     (group_places second pairs groups c.loop-k.k c.index-groups-k.result less (λ i p kind d h. c.requires.uses.within c.args.letter i p kind d (subst (λ (z : List Group). StandsIn z kind (i, p)) c.of-groups.ensures h)))
 
 pub loop-k-preserved : goal.loop-k-preserved

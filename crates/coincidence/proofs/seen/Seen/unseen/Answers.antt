@@ -3,5 +3,5 @@ use Rattle.coincidence.proofs.SeenLaws.{bits_unseen}
 use Rattle.coincidence.proofs.seen.Seen.unseen.Goals as goal
 
 pub returns : goal.returns
-returns c = bits_unseen c.args.self.now c.args.node c.args.mask c.index.result.now (omega arith)
-    (omega (arith, c.if-len-node.false, c.len.ensures, ap length c.self.view_is)) (c.index.ensures ∙ ap (λ z. get_or z c.args.node c.index.result.now) c.self.view_is)
+returns c = bits_unseen c.args.self.now c.args.node c.args.mask c.index.result.now c.without.result
+    (omega (arith, c.if-len-node.false, c.len.ensures, ap length c.self.view_is)) (c.index.ensures ∙ ap (λ z. get_or z c.args.node c.index.result.now) c.self.view_is) c.without.ensures
