@@ -1,10 +1,10 @@
 -- Relations that were seen to hold at nodes.
-use Rattle.std.proofs.Common.{◌≡◌, ℕ, zero, suc, ◌-◌, min, [], ◌∷◌, ◌++◌, ◌/◌, true, ◌*◌, ◌%◌, ◌^◌, ◌<◌, ◌≤◌, ◌⊎◌, List, refl, sym, ◌∙◌, ap, subst, arith, inl, inr, Some, length, get_or, set, take, drop, slice_index, eqb, w64, Bool, false, Option, None, option_and_then}
+use Rattle.std.proofs.Common.{◌≡◌, ℕ, zero, suc, ◌-◌, min, [], ◌∷◌, ◌++◌, ◌/◌, true, ◌*◌, ◌%◌, ◌^◌, ◌<◌, ◌≤◌, ◌⊎◌, List, refl, sym, ◌∙◌, ap, subst, arith, inl, inr, Some, length, get_or, set, take, drop, slice_index, eqb, w64, Bool, false, Option, None, option_and_then, ◌+◌}
 use Rattle.std.proofs.lemmas.Bool.{cases_eq, cases_lt, eqb-true}
 use Rattle.std.proofs.lemmas.List.{get_or_read, get_or-take, get_or_past, get_or-set_same, get_or-set_other, length-take, take-append-drop}
-use Rattle.std.proofs.lemmas.Nat.{and_le_l}
-use Rattle.std.proofs.lemmas.Nat.Bits.{bit_at-lt, bit_at-trailing_zeros, bit_at-zero, bit_at_and, bit_at_clear_other, bit_at_clear_same, bit_at_not, bit_at_set_other, bit_at_set_same, shr_and_one}
-use Rattle.std.specs.Int.{bit_at, bit_not, trailing_zeros}
+use Rattle.std.proofs.lemmas.Nat.{and_le_l, shr-shr, shr_le}
+use Rattle.std.proofs.lemmas.Nat.Bits.{bit_at-lt, bit_at-trailing_ones, bit_at-trailing_zeros, bit_at-zero, bit_at_ones, bit_at_and, bit_at_clear_other, bit_at_clear_same, bit_at_not, bit_at_set_other, bit_at_set_same, shr_and_one}
+use Rattle.std.specs.Int.{bit_at, bit_not, trailing_ones, trailing_zeros}
 use Rattle.std.specs.Prelude.{bit_and, bit_or, IfSome}
 use Rattle.theory.specs.Word.{Word}
 use Rattle.theory.specs.Graph.{Graph, path, target}
@@ -29,6 +29,23 @@ pub bit_seen : (seen : List ℕ) (node relation word : ℕ) → relation < 64 �
 bit_seen seen node relation word few less read is =
     let at : word ≡ get_or seen node 0 = get_or_read seen node word less read 0 in
     (few, ap (λ z. bit_at z relation) (sym at) ∙ sym (shr_and_one word relation) ∙ eqb-true (bit_and (word / 2 ^ relation) 1) 1 is)
+
+-- and those of a run of bits from one on
+pub run_seen : (seen : List ℕ) (node relation word i : ℕ) → word < 2 ^ 64 → node < length seen → word ≡ get_or seen node word → relation ≤ i → i < 64 → i < relation + trailing_ones w64 (word / 2 ^ relation) → IsSeen seen node i
+run_seen seen node relation word i small less read from few within = (few, ap (λ z. bit_at z i) (sym at) ∙ ap (bit_at word) split ∙ ap (λ x. x % 2) (sym (shr-shr word relation (i - relation))) ∙ one (cases_lt (word / 2 ^ relation + 1) (2 ^ 64)))
+  where
+    at : word ≡ get_or seen node 0
+    at = get_or_read seen node word less read 0
+
+    split : i ≡ relation + (i - relation)
+    split = omega (arith, from)
+
+    one : (word / 2 ^ relation + 1 < 2 ^ 64) ⊎ (2 ^ 64 ≤ word / 2 ^ relation + 1) → bit_at (word / 2 ^ relation) (i - relation) ≡ 1
+    one (inl below) = (bit_at-trailing_ones w64 (word / 2 ^ relation) below).2 (i - relation) (omega (arith, from, within))
+    one (inr all) = ap (λ z. bit_at z (i - relation)) (full all) ∙ bit_at_ones 64 (i - relation) (omega (arith, few))
+      where
+        full : 2 ^ 64 ≤ word / 2 ^ relation + 1 → word / 2 ^ relation ≡ 2 ^ 64 - 1
+        full all = omega (arith, all, small, shr_le word relation)
 
 -- the bits of a mask that another has not
 pub bits_without : (mask word : ℕ) → word < 2 ^ 64 → (i : ℕ) → HasBit mask i → HasBit (bit_and mask (bit_not w64 word)) i ⊎ HasBit word i

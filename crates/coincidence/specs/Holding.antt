@@ -1,5 +1,5 @@
 -- Relations that hold at a node.
-use Rattle.std.specs.Prelude.{◌≡◌, ℕ, ◌<◌, ◌⊎◌, Bool, true, List, Some, slice_index_or}
+use Rattle.std.specs.Prelude.{◌≡◌, ℕ, ◌<◌, ◌≤◌, ◌⊎◌, Bool, true, List, Some, slice_index_or}
 use Rattle.std.specs.Option.{ForSome}
 use Rattle.theory.specs.Word.{Word}
 use Rattle.theory.specs.Congruence.{EitherWay}
@@ -17,6 +17,11 @@ MeetAt g node pair = (m : ℕ) × (path g node pair.0 ≡ Some m) × (path g nod
 -- the pairs before the place do so
 abbrev pub HoldBefore : List (Word × Word) → Graph → ℕ → ℕ → Type 0
 HoldBefore pairs g node place = (k : ℕ) (p : Word × Word) → k < place
+    → MeetAt g node (slice_index_or pairs k p)
+
+-- and those from one place up to another
+abbrev pub HoldFrom : List (Word × Word) → Graph → ℕ → ℕ → ℕ → Type 0
+HoldFrom pairs g node from to = (k : ℕ) (p : Word × Word) → from ≤ k → k < to
     → MeetAt g node (slice_index_or pairs k p)
 
 -- the pair does so, or asks for this

@@ -1,5 +1,5 @@
 // Which relations were seen to hold at which nodes.
-ghost use Rattle.std.specs.Prelude.{◌≡◌, ◌<◌, ◌⊎◌, ℕ, [], true, length, slice_index_or, OnOk, IfNone, IfSome};
+ghost use Rattle.std.specs.Prelude.{◌≡◌, ◌<◌, ◌≤◌, ◌⊎◌, ℕ, [], true, length, slice_index_or, OnOk, IfNone, IfSome};
 ghost use Rattle.coincidence.specs.Places.{HasBit};
 ghost use Rattle.coincidence.specs.Seen.{IsSeen};
 
@@ -93,6 +93,20 @@ impl Seen {
             return false;
         }
         (self.relations[node] >> relation) & 1 == 1
+    }
+
+    /// The first relation, this one or one behind it, that was not seen to hold at the node.
+    pub fn next_unseen(&self, node: usize, relation: usize) -> usize
+        ensures { (i : ℕ) → relation ≤ i → i < result → IsSeen self.now node i }
+    {
+        if RELATIONS_KEPT <= relation {
+            return relation;
+        }
+        if self.relations.len() <= node {
+            return relation;
+        }
+        let seen = self.relations[node] >> relation;
+        RELATIONS_KEPT.min(relation + seen.trailing_ones() as usize)
     }
 
     /// The relations of the mask that were not seen to hold at the node.

@@ -8,7 +8,7 @@ ghost use Rattle.theory.specs.Graph.{target as target_of, path, SameEnd, PathsRe
 ghost use Rattle.word_graph.specs.Standard.{IsStandardGraph};
 ghost use Rattle.word_graph.specs.Walk.{IsFirstMissing};
 ghost use Rattle.coincidence.specs.Closing.{ClosedThere};
-ghost use Rattle.coincidence.specs.Holding.{HoldBefore, IsReach, MeetAt};
+ghost use Rattle.coincidence.specs.Holding.{HoldBefore, HoldFrom, IsReach, MeetAt};
 ghost use Rattle.coincidence.specs.Links.{IsSources};
 ghost use Rattle.coincidence.specs.Marks.{AllMarked, IsFirstUnmarked, KeepsMarks, KeepsNumbers};
 ghost use Rattle.coincidence.specs.Merged.{MergedNodes};
@@ -97,17 +97,18 @@ impl Table {
         self.cosets.edges.target(node, letter)
     }
 
-    /// Whether it is known that the relation of this number holds at the live node: both its sides
-    /// lead from it to one node. `false` tells nothing.
-    pub fn knows(&self, node: usize, relation: usize) -> bool
+    /// The next relation, this one or one behind it, that is not known to hold at the live node:
+    /// of those before it both sides lead from the node to one node. It tells nothing of the
+    /// relation itself, and may be behind the last one.
+    pub fn next_unknown(&self, node: usize, relation: usize) -> usize
         requires { IsLive self.now node }
-        ensures { result ≡ true → (p : Letters × Letters) → MeetAt self.now.graph node
-            (slice_index_or self.now.congruence.presentation.relations relation p) }
+        ensures { HoldFrom self.now.congruence.presentation.relations self.now.graph node relation
+            result }
     {
         if self.failed {
-            return false;
+            return relation;
         }
-        self.cosets.seen.has(node, relation)
+        self.cosets.seen.next_unseen(node, relation)
     }
 
     /// The first in the list of the nodes whose edge of the letter leads to the node. `None`

@@ -1,8 +1,8 @@
 -- Relations that hold at a node, while a table grows.
-use Rattle.std.proofs.Common.{◌≡◌, ℕ, ◌+◌, ◌<◌, ◌⊎◌, List, Bool, true, inl, inr, length, get_or, sym, subst}
+use Rattle.std.proofs.Common.{◌≡◌, ℕ, ◌+◌, ◌<◌, ◌⊎◌, List, Bool, true, inl, inr, length, get_or, sym, subst, arith}
 use Rattle.theory.specs.Word.{Word}
 use Rattle.theory.specs.Graph.{Graph}
-use Rattle.coincidence.specs.Holding.{HoldBefore, MeetAt}
+use Rattle.coincidence.specs.Holding.{HoldBefore, HoldFrom, MeetAt}
 use Rattle.coincidence.specs.Table.{CosetTable}
 use Rattle.coincidence.proofs.HoldLaws.{held_more}
 use Rattle.tc_hlt.specs.Tracing.{IsGrown}
@@ -16,6 +16,9 @@ module _ (D : Word → Word → Type 0) (E : Word → Word → Word → Type 0) 
 
   pub held_kept : (pairs : List (Word × Word)) (i : ℕ) → HoldBefore pairs old.graph node i → HoldBefore pairs new.graph node i
   held_kept pairs i held k d h = meets_kept (get_or pairs k d) (held k d h)
+
+  pub from_kept : (pairs : List (Word × Word)) (i known : ℕ) → HoldFrom pairs old.graph node i known → HoldFrom pairs new.graph node (i + 1) known
+  from_kept pairs i known hold k d at less = meets_kept (get_or pairs k d) (hold k d (omega (arith, at)) less)
 
   -- and one more, if it holds
   pub held_next : (pairs : List (Word × Word)) (i held next : ℕ) (pair : Word × Word) (holds : Bool) → i < length pairs → pair ≡ get_or pairs i pair → (holds ≡ true → MeetAt new.graph node pair)

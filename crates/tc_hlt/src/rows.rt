@@ -3,7 +3,7 @@ ghost use Rattle.std.specs.Prelude.{◌≡◌, ◌⊎◌, ℕ, suc, ◌+◌, ◌
 ghost use Rattle.theory.specs.Word.{Word as Letters, IsOver};
 ghost use Rattle.theory.specs.Graph.{target as target_of, path as path_of};
 ghost use Rattle.theory.specs.Hlt.{IsSide, IsTraced, IsExtension, IsInRow};
-ghost use Rattle.coincidence.specs.Holding.{HoldBefore, MeetAt};
+ghost use Rattle.coincidence.specs.Holding.{HoldBefore, HoldFrom, MeetAt};
 ghost use Rattle.coincidence.specs.Table.{IsTable, IsLive};
 ghost use Rattle.tc_hlt.specs.Tracing.{AreSides, AreSidesAny, IsGrown, IsNext, IsAlong, IsAlongBoth, NoDrawing};
 ghost use Rattle.tc_hlt.specs.Stage.{IsReady, HasLastRow};
@@ -173,18 +173,17 @@ fn trace_both(table: &mut Table, node: usize, first: &Word, second: &Word) -> Re
     }
 }
 
-// As `trace_both`, of the relation of this number, unless it is known to hold at the node.
+// As `trace_both`, of a relation, unless it is known to hold at the node.
 fn trace_relation(
     table: &mut Table,
     node: usize,
     pair: &(Word, Word),
-    number: usize,
+    known: bool,
 ) -> Result<bool, NoMemory>
     requires table { IsTable table.old }
     requires failed { table.old.failed ≡ false }
     requires node { IsLive table.old node }
-    requires number { pair.now
-        ≡ slice_index_or table.old.congruence.presentation.relations number pair.now }
+    requires known { known ≡ true → MeetAt table.old.graph node pair.now }
     requires first { IsOver table.old.congruence.presentation.letters pair.now.0 }
     requires second { IsOver table.old.congruence.presentation.letters pair.now.1 }
     ensures met { IfOk result (λ met. met ≡ true → MeetAt table.new.graph node pair.now) }
@@ -193,11 +192,26 @@ fn trace_relation(
     ensures congruence { table.new.congruence ≡ table.old.congruence }
     ensures table { IsTable table.new }
 {
-    if table.knows(node, number) {
+    if known {
         return Ok(true);
     }
     let met = trace_both(table, node, &pair.0, &pair.1)?;
     Ok(met)
+}
+
+// The next relation, this one or one behind it, that is not known to hold at the node, where it is
+// known of those before another.
+fn unknown_from(table: &Table, node: usize, number: usize, known: usize) -> usize
+    requires node { IsLive table.now node }
+    requires known { HoldFrom table.now.congruence.presentation.relations table.now.graph node number
+        known }
+    ensures { HoldFrom table.now.congruence.presentation.relations table.now.graph node number
+        result }
+{
+    if number < known {
+        return known;
+    }
+    table.next_unknown(node, number)
 }
 
 // How many of so many relations, the first ones, are known to hold, if that of the number does.
@@ -230,9 +244,10 @@ fn trace_sides(table: &mut Table, node: usize, pairs: &Pairs) -> Result<usize, N
     ensures table { IsTable table.new }
 {
     let mut held = 0;
+    let mut known = 0;
     for i in 0..pairs.len() {
-        let pair = pairs.pair(i);
-        let met = trace_relation(table, node, pair, i)?;
+        known = unknown_from(table, node, i, known);
+        let met = trace_relation(table, node, pairs.pair(i), i < known)?;
         held = held_with(held, i, pairs.len(), met);
     }
     Ok(held)
