@@ -8,9 +8,7 @@ use Rattle.theory.specs.Graph.{Graph, target, path, IsCompleteTable}
 use Rattle.theory.specs.TwoSidedTable.{IsTwoSidedTable, AreNodeWords}
 use Rattle.theory.proofs.GraphLaws.{path_letter}
 use Rattle.theory.proofs.TwoSidedLaws.{two_sided_tested}
-use Rattle.theory.proofs.LatticeLaws.{standard_table}
 use Rattle.word_graph.specs.Renumber.{renumber}
-use Rattle.word_graph.specs.Standard.{IsStandardGraph}
 use Rattle.word_graph.specs.Steps.{step_at, walked, IsWalkedTo}
 use Rattle.word_graph.specs.TwoSided.{AreImagesTo, AreImages, KeepsEdges, word_of, AgreesBehind}
 use Rattle.word_graph.specs.declared.walks.Step.{Step}
@@ -154,7 +152,3 @@ module _ (k : ℕ) (g : Graph) (steps : List Step) (places : List (Option ℕ)) 
         at_letters first root.0 root.1 (word_of places is.word node ++ letter ∷ [])
         ∙ (two_sided_tested k g table (word_of places is.word) node_words).0 sides first root.0 node letter next f root.1 h l e
         ∙ sym (at_letters first root.0 root.1 (word_of places is.word next))
-
--- a standard graph is a table
-pub standard_is_table : (k : ℕ) (g : Graph) → IsStandardGraph k g → IsCompleteTable k g
-standard_is_table k g is = subst (IsCompleteTable k) (sym is.is) (standard_table k is.rows is.standard)

@@ -16,16 +16,6 @@ use Rattle.word_graph.proofs.WordLaws.{words_are}
 use Rattle.word_graph.proofs.LevelLaws.{level_same, level_found, level_letter, level_next, level_start, node_placed, words_backwards}
 
 module _ (k : ℕ) (g : Graph) (steps : List Step) (places : List (Option ℕ)) (from to a i : ℕ) (hf : from ≤ i) (hi : i < to) where
-  -- no edge here
-  pub levelled_none : target g (step_at steps i).node a ≡ None → IsLevelledTo k g steps places from to a i → IsLevelledTo k g steps places from to a (i + 1)
-  levelled_none none is =
-      record {
-        word = is.word;
-        walk = level_same k g (walked steps places is.word) from to a i is.walk hf hi (λ m e. let e' : None ≡ Some m = sym none ∙ e in absurd (let bad : ⊥ = cc in bad));
-        shape = is.shape;
-        left = is.left;
-      }
-
   -- an edge to a node that was found before
   pub levelled_known : (next : ℕ) → target g (step_at steps i).node a ≡ Some next → is_some (get_or places next None) ≡ true
       → IsLevelledTo k g steps places from to a i → IsLevelledTo k g steps places from to a (i + 1)
@@ -92,9 +82,6 @@ levelled_start k g nodes letter some shape =
 pub record IsTurnedTo (places : List (Option ℕ)) (words least : List Word) (node : ℕ) : Type 0 where
   pub count : length least ≡ node
   pub each : (n j : ℕ) → n < node → get_or places n None ≡ Some j → get_or least n [] ≡ reverse (get_or words j [])
-
-pub turned_start : (places : List (Option ℕ)) (words : List Word) → IsTurnedTo places words [] 0
-turned_start places words = record { count = refl; each = λ n j h e. absurd (omega (arith, h)) }
 
 pub turned_more : (places : List (Option ℕ)) (words least : List Word) (node place : ℕ) → get_or places node None ≡ Some place → IsTurnedTo places words least node
     → IsTurnedTo places words (least ++ reverse (get_or words place []) ∷ []) (node + 1)

@@ -2,7 +2,7 @@
 use Rattle.std.proofs.Common.{◌≡◌, ℕ, zero, suc, ◌+◌, ◌<◌, ◌≤◌, List, [], ◌∷◌, ◌++◌, length, take, get_or, refl, sym, ◌∙◌, ap, subst, subst₂, arith, ◌⊎◌, inl, inr, Option, Some, None, All, cond, nat_lt, true, false}
 use Rattle.std.proofs.lemmas.Bool.{cases_lt}
 use Rattle.std.proofs.lemmas.List.{get_or_append_left, get_or_push, length_push, take_more, take_all, length-take-le}
-use Rattle.std.proofs.lemmas.List.Elements.{All-push, All-nil}
+use Rattle.std.proofs.lemmas.List.Elements.{All-push}
 use Rattle.theory.specs.Word.{Word}
 use Rattle.theory.specs.Graph.{Graph, path}
 use Rattle.word_graph.specs.Walk.{NoLater, IsLeastWord, AreLeastWords}
@@ -88,14 +88,6 @@ pub record IsListTo (g : Graph) (list : List (ℕ × Word)) (node : ℕ) : Type 
   pub below : (i : ℕ) (d : ℕ × Word) → i < length list → (get_or list i d).0 < node
   pub least : All (λ p. IsLeastWord g p.0 p.1) list
   pub all : (n : ℕ) (v : Word) → n < node → path g 0 v ≡ Some n → (i : ℕ) × (i < length list) × ((d : ℕ × Word) → (get_or list i d).0 ≡ n)
-
-pub list_start : (g : Graph) → IsListTo g [] 0
-list_start g = record {
-  ascending = λ i j d less h. absurd (omega arith);
-  below = λ i d h. absurd (omega arith);
-  least = All-nil (λ (p : ℕ × Word). IsLeastWord g p.0 p.1);
-  all = λ n v h e. absurd (omega arith);
-}
 
 -- a node that is not reached
 pub list_skip : (g : Graph) (list : List (ℕ × Word)) (node : ℕ) → ((v : Word) → path g 0 v ≡ Some node → ⊥) → IsListTo g list node → IsListTo g list (node + 1)
