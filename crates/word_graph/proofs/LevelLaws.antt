@@ -10,7 +10,7 @@ use Rattle.theory.proofs.Words.{nat_Less, shorter_first, letters_first, before_c
 use Rattle.theory.proofs.GraphLaws.{path_append, path_letter}
 use Rattle.theory.proofs.KindLaws.{over_turned}
 use Rattle.word_graph.specs.Walk.{NoLater, IsBefore, Walked, IsFound}
-use Rattle.word_graph.specs.Levels.{IsDone, IsLevelWalk}
+use Rattle.word_graph.specs.Levels.{Frontier, frontier_at, IsDone, IsLevelWalk}
 use Rattle.word_graph.specs.Backwards.{AreAllReached}
 use Rattle.word_graph.proofs.EdgeLaws.{target_in}
 use Rattle.word_graph.proofs.WalkLaws.{some_same, before_next, before_more}
@@ -22,37 +22,37 @@ behind_front u a = reverse-append u (a ∷ [])
 less_front : (u v : Word) (b a : ℕ) → length u ≡ length v → b < a → (b ∷ u) ≺ (a ∷ v)
 less_front u v b a e h = letters_first (b ∷ u) (a ∷ v) (ap suc e) (rw (nat_Less b a h) refl)
 
-module _ (k : ℕ) (g : Graph) (w : Walked) (from to a i : ℕ) (is : IsLevelWalk k g w from to a i) (hf : from ≤ i) (hi : i < to) where
-  split_done : (p b : ℕ) → IsDone from to a (i + 1) p b → IsDone from to a i p b ⊎ ((p ≡ i) × (b ≡ a))
+module _ (k : ℕ) (g : Graph) (w : Walked) (at : Frontier) (is : IsLevelWalk k g w at) (hf : at.from ≤ at.place) (hi : at.place < at.to) where
+  split_done : (p b : ℕ) → IsDone (record at { place = at.place + 1 }) p b → IsDone at p b ⊎ ((p ≡ at.place) × (b ≡ at.letter))
   split_done p b (inl h) = inl (inl h)
-  split_done p b (inr h) = elim (before_next b p a i h.1) [ inl l ↦ inl (inr (h.0, l)) | inr e ↦ inr (e.1, e.0) ]
+  split_done p b (inr h) = elim (before_next b p at.letter at.place h.1) [ inl l ↦ inl (inr (h.0, l)) | inr e ↦ inr (e.1, e.0) ]
 
   -- each word so far comes before that of the next edge
-  all_before : (j : ℕ) → j < w.count → reverse (w.word j) ≺ (a ∷ reverse (w.word i))
-  all_before j hj = go (cases_lt j to)
+  all_before : (j : ℕ) → j < w.count → reverse (w.word j) ≺ (at.letter ∷ reverse (w.word at.place))
+  all_before j hj = go (cases_lt j at.to)
     where
-      go : (j < to) ⊎ (to ≤ j) → reverse (w.word j) ≺ (a ∷ reverse (w.word i))
+      go : (j < at.to) ⊎ (at.to ≤ j) → reverse (w.word j) ≺ (at.letter ∷ reverse (w.word at.place))
       go (inl l) =
-          shorter_first (reverse (w.word j)) (a ∷ reverse (w.word i))
-          (omega (arith, is.before j l, is.level i hf hi, length-reverse (w.word j), length-reverse (w.word i)))
+          shorter_first (reverse (w.word j)) (at.letter ∷ reverse (w.word at.place))
+          (omega (arith, is.before j l, is.level at.place hf hi, length-reverse (w.word j), length-reverse (w.word at.place)))
       go (inr l) =
           let n = is.next j l hj in
           let m = is.made j (omega (arith, l, hi)) hj in
           let front : reverse (w.word j) ≡ w.letter j ∷ reverse (w.word (w.parent j)) = ap reverse m.1 ∙ behind_front (w.word (w.parent j)) (w.letter j) in
-          subst (λ u. u ≺ (a ∷ reverse (w.word i))) (sym front)
-          (at front n.0 n.1)
+          subst (λ u. u ≺ (at.letter ∷ reverse (w.word at.place))) (sym front)
+          (level_before front n.0 n.1)
         where
-          at : reverse (w.word j) ≡ w.letter j ∷ reverse (w.word (w.parent j)) → length (w.word j) ≡ is.depth + 1 → IsBefore (w.letter j) (w.parent j) a i
-              → (w.letter j ∷ reverse (w.word (w.parent j))) ≺ (a ∷ reverse (w.word i))
-          at front long (inl less) =
-              less_front (reverse (w.word (w.parent j))) (reverse (w.word i)) (w.letter j) a
-              (omega (arith, ap length front, long, is.level i hf hi, length-reverse (w.word j), length-reverse (w.word i))) less
-          at front long (inr h) =
-              subst (λ b. (b ∷ reverse (w.word (w.parent j))) ≺ (a ∷ reverse (w.word i))) (sym h.0)
-              (before_cons a (reverse (w.word (w.parent j))) (reverse (w.word i)) (is.ascending (w.parent j) i h.1 (omega (arith, hi, is.within))))
+          level_before : reverse (w.word j) ≡ w.letter j ∷ reverse (w.word (w.parent j)) → length (w.word j) ≡ is.depth + 1 → IsBefore (w.letter j) (w.parent j) at.letter at.place
+              → (w.letter j ∷ reverse (w.word (w.parent j))) ≺ (at.letter ∷ reverse (w.word at.place))
+          level_before front long (inl less) =
+              less_front (reverse (w.word (w.parent j))) (reverse (w.word at.place)) (w.letter j) at.letter
+              (omega (arith, ap length front, long, is.level at.place hf hi, length-reverse (w.word j), length-reverse (w.word at.place))) less
+          level_before front long (inr h) =
+              subst (λ b. (b ∷ reverse (w.word (w.parent j))) ≺ (at.letter ∷ reverse (w.word at.place))) (sym h.0)
+              (before_cons at.letter (reverse (w.word (w.parent j))) (reverse (w.word at.place)) (is.ascending (w.parent j) at.place h.1 (omega (arith, hi, is.within))))
 
   -- no edge here, or one to a node that was found before
-  pub level_same : ((m : ℕ) → target g (w.node i) a ≡ Some m → (j : ℕ) × (w.place m ≡ Some j)) → IsLevelWalk k g w from to a (i + 1)
+  pub level_same : ((m : ℕ) → target g (w.node at.place) at.letter ≡ Some m → (j : ℕ) × (w.place m ≡ Some j)) → IsLevelWalk k g w (record at { place = at.place + 1 })
   level_same known =
       record {
         depth = is.depth;
@@ -65,13 +65,13 @@ module _ (k : ℕ) (g : Graph) (w : Walked) (from to a i : ℕ) (is : IsLevelWal
         made = is.made;
         before = is.before;
         level = is.level;
-        next = λ j h l. let n = is.next j h l in (n.0, before_more (w.letter j) (w.parent j) a i n.1);
+        next = λ j h l. let n = is.next j h l in (n.0, before_more (w.letter j) (w.parent j) at.letter at.place n.1);
         placed = is.placed;
         back = is.back;
         found = λ p b m done e. elim (split_done p b done) [
           | inl h ↦ is.found p b m h e
           | inr h ↦
-              let e' : target g (w.node i) a ≡ Some m = subst₂ (λ x y. target g (w.node x) y ≡ Some m) h.0 h.1 e in
+              let e' : target g (w.node at.place) at.letter ≡ Some m = subst₂ (λ x y. target g (w.node x) y ≡ Some m) h.0 h.1 e in
               let there = known m e' in (
                 there.0,
                 there.1,
@@ -81,7 +81,7 @@ module _ (k : ℕ) (g : Graph) (w : Walked) (from to a i : ℕ) (is : IsLevelWal
       }
 
   -- an edge to a new node
-  pub level_found : (x : Walked) (node : ℕ) → IsFound w x i a node → a < k → target g (w.node i) a ≡ Some node → w.place node ≡ None → IsLevelWalk k g x from to a (i + 1)
+  pub level_found : (x : Walked) (node : ℕ) → IsFound w x at.place at.letter node → at.letter < k → target g (w.node at.place) at.letter ≡ Some node → w.place node ≡ None → IsLevelWalk k g x (record at { place = at.place + 1 })
   level_found x node f ha here fresh =
       record {
         depth = is.depth;
@@ -94,7 +94,7 @@ module _ (k : ℕ) (g : Graph) (w : Walked) (from to a i : ℕ) (is : IsLevelWal
         ];
         over = λ j hj. elim (split j hj) [
           | inl l ↦ subst (λ u. IsOver k u) (sym (f.words j l)) (is.over j l)
-          | inr e ↦ subst (λ z. IsOver k (x.word z)) (sym e) (subst (λ u. IsOver k u) (sym f.word_is) (over_append k (w.word i) (a ∷ []) (is.over i inside) (ha, tt)))
+          | inr e ↦ subst (λ z. IsOver k (x.word z)) (sym e) (subst (λ u. IsOver k u) (sym f.word_is) (over_append k (w.word at.place) (at.letter ∷ []) (is.over at.place inside) (ha, tt)))
         ];
         ascending = λ j l less hl. elim (split l hl) [
           | inl h ↦ subst₂ (λ u v. reverse u ≺ reverse v) (sym (f.words j (omega (arith, less, h)))) (sym (f.words l h)) (is.ascending j l less h)
@@ -111,10 +111,10 @@ module _ (k : ℕ) (g : Graph) (w : Walked) (from to a i : ℕ) (is : IsLevelWal
                 f.words j l ∙ m.1 ∙ subst₂ (λ y z. w.word (w.parent j) ++ w.letter j ∷ [] ≡ y ++ z ∷ []) (sym (f.words (w.parent j) hp) ∙ ap x.word (sym p)) (sym (f.letters j l)) refl,
               )
           | inr e ↦
-              let p : x.parent j ≡ i = ap x.parent e ∙ f.parent_is in
-              let b : x.letter j ≡ a = ap x.letter e ∙ f.letter_is in (
+              let p : x.parent j ≡ at.place = ap x.parent e ∙ f.parent_is in
+              let b : x.letter j ≡ at.letter = ap x.letter e ∙ f.letter_is in (
                 omega (arith, p, e, inside),
-                ap x.word e ∙ f.word_is ∙ subst₂ (λ y z. w.word i ++ a ∷ [] ≡ y ++ z ∷ []) (sym (f.words i inside) ∙ ap x.word (sym p)) (sym b) refl,
+                ap x.word e ∙ f.word_is ∙ subst₂ (λ y z. w.word at.place ++ at.letter ∷ [] ≡ y ++ z ∷ []) (sym (f.words at.place inside) ∙ ap x.word (sym p)) (sym b) refl,
               )
         ];
         before = λ j h. subst (λ u. length u ≤ is.depth) (sym (f.words j (early j h))) (is.before j h);
@@ -122,10 +122,10 @@ module _ (k : ℕ) (g : Graph) (w : Walked) (from to a i : ℕ) (is : IsLevelWal
         next = λ j h l. elim (split j l) [
           | inl old ↦
               let n = is.next j h old in
-              (ap length (f.words j old) ∙ n.0, subst₂ (λ y z. IsBefore y z a (i + 1)) (sym (f.letters j old)) (sym (f.parents j old)) (before_more (w.letter j) (w.parent j) a i n.1))
+              (ap length (f.words j old) ∙ n.0, subst₂ (λ y z. IsBefore y z at.letter (at.place + 1)) (sym (f.letters j old)) (sym (f.parents j old)) (before_more (w.letter j) (w.parent j) at.letter at.place n.1))
           | inr e ↦
-              let p : x.parent j ≡ i = ap x.parent e ∙ f.parent_is in (
-                ap (λ z. length (x.word z)) e ∙ ap length f.word_is ∙ length-append (w.word i) (a ∷ []) ∙ ap (λ n. n + 1) (is.level i hf hi),
+              let p : x.parent j ≡ at.place = ap x.parent e ∙ f.parent_is in (
+                ap (λ z. length (x.word z)) e ∙ ap length f.word_is ∙ length-append (w.word at.place) (at.letter ∷ []) ∙ ap (λ n. n + 1) (is.level at.place hf hi),
                 inr (ap x.letter e ∙ f.letter_is, omega (arith, p)),
               )
         ];
@@ -153,22 +153,22 @@ module _ (k : ℕ) (g : Graph) (w : Walked) (from to a i : ℕ) (is : IsLevelWal
                     subst₂ (λ u v. NoLater (reverse u) (b ∷ reverse v)) (sym (f.words old.0 hj)) (sym (f.words p l)) old.2,
                   )
               | inr h ↦
-                  let e'' : target g (w.node i) a ≡ Some m = subst₂ (λ y z. target g (w.node y) z ≡ Some m) h.0 h.1 e' in
+                  let e'' : target g (w.node at.place) at.letter ≡ Some m = subst₂ (λ y z. target g (w.node y) z ≡ Some m) h.0 h.1 e' in
                   let same : node ≡ m = some_same node m (sym here ∙ e'') in (
                     w.count,
                     ap x.place (sym same) ∙ f.place_is,
-                    inr (last ∙ subst₂ (λ y z. a ∷ reverse (w.word i) ≡ z ∷ reverse y) (ap w.word (sym h.0) ∙ sym (f.words p l)) (sym h.1) refl),
+                    inr (last ∙ subst₂ (λ y z. at.letter ∷ reverse (w.word at.place) ≡ z ∷ reverse y) (ap w.word (sym h.0) ∙ sym (f.words p l)) (sym h.1) refl),
                   )
             ];
       }
     where
-      inside : i < w.count
+      inside : at.place < w.count
       inside = omega (arith, hi, is.within)
 
-      early : (j : ℕ) → j < to → j < w.count
+      early : (j : ℕ) → j < at.to → j < w.count
       early j h = omega (arith, h, is.within)
 
-      done_early : (p b : ℕ) → IsDone from to a (i + 1) p b → p < to
+      done_early : (p b : ℕ) → IsDone (record at { place = at.place + 1 }) p b → p < at.to
       done_early p b (inl h) = omega (arith, h, hf, hi)
       done_early p b (inr h) = h.0
 
@@ -178,14 +178,14 @@ module _ (k : ℕ) (g : Graph) (w : Walked) (from to a i : ℕ) (is : IsLevelWal
       other : (m j : ℕ) → w.place m ≡ Some j → m ≡ node → ⊥
       other m j e same = let e' : None ≡ Some j = sym fresh ∙ ap w.place (sym same) ∙ e in let bad : ⊥ = cc in bad
 
-      there : path g 0 (w.word i ++ a ∷ []) ≡ Some node
-      there = path_append g 0 (w.node i) (w.word i) (a ∷ []) (is.leads i inside) ∙ path_letter g (w.node i) a ∙ here
+      there : path g 0 (w.word at.place ++ at.letter ∷ []) ≡ Some node
+      there = path_append g 0 (w.node at.place) (w.word at.place) (at.letter ∷ []) (is.leads at.place inside) ∙ path_letter g (w.node at.place) at.letter ∙ here
 
-      last : reverse (x.word w.count) ≡ a ∷ reverse (w.word i)
-      last = ap reverse f.word_is ∙ behind_front (w.word i) a
+      last : reverse (x.word w.count) ≡ at.letter ∷ reverse (w.word at.place)
+      last = ap reverse f.word_is ∙ behind_front (w.word at.place) at.letter
 
 -- the letter is done
-pub level_letter : (k : ℕ) (g : Graph) (w : Walked) (from to a : ℕ) → IsLevelWalk k g w from to a to → IsLevelWalk k g w from to (a + 1) from
+pub level_letter : (k : ℕ) (g : Graph) (w : Walked) (from to a : ℕ) → IsLevelWalk k g w (frontier_at from to a to) → IsLevelWalk k g w (frontier_at from to (a + 1) from)
 level_letter k g w from to a is =
     record {
       depth = is.depth;
@@ -204,7 +204,7 @@ level_letter k g w from to a is =
       found = λ p b m done e. is.found p b m (earlier p b done) e;
     }
   where
-    earlier : (p b : ℕ) → IsDone from to (a + 1) from p b → IsDone from to a to p b
+    earlier : (p b : ℕ) → IsDone (frontier_at from to (a + 1) from) p b → IsDone (frontier_at from to a to) p b
     earlier p b (inl h) = inl h
     earlier p b (inr h) = elim h.1 [
       | inl l ↦ elim (cases_lt b a) [ inl less ↦ inr (h.0, inl less) | inr more ↦ inr (h.0, inr (omega (arith, l, more), h.0)) ]
@@ -212,7 +212,7 @@ level_letter k g w from to a is =
     ]
 
 -- the level is done
-pub level_next : (k : ℕ) (g : Graph) (w : Walked) (from to : ℕ) → IsGraph k g → IsLevelWalk k g w from to k from → IsLevelWalk k g w to w.count 0 to
+pub level_next : (k : ℕ) (g : Graph) (w : Walked) (from to : ℕ) → IsGraph k g → IsLevelWalk k g w (frontier_at from to k from) → IsLevelWalk k g w (frontier_at to w.count 0 to)
 level_next k g w from to graph is =
     record {
       depth = is.depth + 1;
@@ -231,13 +231,13 @@ level_next k g w from to graph is =
       found = λ p b m done e. is.found p b m (inr (earlier p b done, inl (target_in k g graph (w.node p) b m e).1)) e;
     }
   where
-    earlier : (p b : ℕ) → IsDone to w.count 0 to p b → p < to
+    earlier : (p b : ℕ) → IsDone (frontier_at to w.count 0 to) p b → p < to
     earlier p b (inl h) = h
     earlier p b (inr h) = elim h.1 [ inl l ↦ absurd (omega (arith, l)) | inr e ↦ e.1 ]
 
 -- before the first edge
 pub level_start : (k : ℕ) (g : Graph) (w : Walked) → w.count ≡ 1 → w.node 0 ≡ 0 → ((j : ℕ) → w.word j ≡ []) → w.place 0 ≡ Some 0
-    → ((m : ℕ) → (m ≡ 0 → ⊥) → w.place m ≡ None) → IsLevelWalk k g w 0 1 0 0
+    → ((m : ℕ) → (m ≡ 0 → ⊥) → w.place m ≡ None) → IsLevelWalk k g w (frontier_at 0 1 0 0)
 level_start k g w one node word place none =
     record {
       depth = 0;
@@ -259,7 +259,7 @@ level_start k g w one node word place none =
       found = λ p b m done e. absurd (elim done [ inl h ↦ omega (arith, h) | inr h ↦ elim h.1 [ inl l ↦ omega (arith, l) | inr l ↦ omega (arith, l.1) ] ]);
     }
 
-module _ (k : ℕ) (g : Graph) (w : Walked) (is : IsLevelWalk k g w w.count w.count 0 w.count) where
+module _ (k : ℕ) (g : Graph) (w : Walked) (is : IsLevelWalk k g w (frontier_at w.count w.count 0 w.count)) where
   -- each node that a word leads to has a place
   word_placed : (u : Word) (n m j : ℕ) → w.place n ≡ Some j → path g n u ≡ Some m → (l : ℕ) × (w.place m ≡ Some l)
   word_placed [] n m j at e = (j, subst (λ z. w.place z ≡ Some j) (some_same n m e) at)

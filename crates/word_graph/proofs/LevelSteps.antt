@@ -7,7 +7,7 @@ use Rattle.theory.specs.Word.{Word}
 use Rattle.theory.specs.Graph.{Graph, target, IsGraph}
 use Rattle.theory.proofs.BackwardsLaws.{backwards_least}
 use Rattle.word_graph.specs.Steps.{step_at, walked, words_of}
-use Rattle.word_graph.specs.Levels.{IsLevelledTo, IsLevelledBefore}
+use Rattle.word_graph.specs.Levels.{Frontier, frontier_at, IsLevelledTo, IsLevelledBefore}
 use Rattle.word_graph.specs.Backwards.{AreAllReached, AreLeastBackwards}
 use Rattle.word_graph.specs.declared.walks.Step.{Step}
 use Rattle.word_graph.proofs.StepLaws.{none_set, word_with, not_some, one_found, root_places, root_placed, no_other_placed, root_left}
@@ -15,51 +15,51 @@ use Rattle.word_graph.proofs.WalkLaws.{some_same}
 use Rattle.word_graph.proofs.WordLaws.{words_are}
 use Rattle.word_graph.proofs.LevelLaws.{level_same, level_found, level_letter, level_next, level_start, node_placed, words_backwards}
 
-module _ (k : ℕ) (g : Graph) (steps : List Step) (places : List (Option ℕ)) (from to a i : ℕ) (hf : from ≤ i) (hi : i < to) where
+module _ (k : ℕ) (g : Graph) (steps : List Step) (places : List (Option ℕ)) (at : Frontier) (hf : at.from ≤ at.place) (hi : at.place < at.to) where
   -- an edge to a node that was found before
-  pub levelled_known : (next : ℕ) → target g (step_at steps i).node a ≡ Some next → is_some (get_or places next None) ≡ true
-      → IsLevelledTo k g steps places from to a i → IsLevelledTo k g steps places from to a (i + 1)
+  pub levelled_known : (next : ℕ) → target g (step_at steps at.place).node at.letter ≡ Some next → is_some (get_or places next None) ≡ true
+      → IsLevelledTo k g steps places at → IsLevelledTo k g steps places (record at { place = at.place + 1 })
   levelled_known next here known is = go (get_or places next None) refl known
     where
-      go : (o : Option ℕ) → get_or places next None ≡ o → is_some o ≡ true → IsLevelledTo k g steps places from to a (i + 1)
+      go : (o : Option ℕ) → get_or places next None ≡ o → is_some o ≡ true → IsLevelledTo k g steps places (record at { place = at.place + 1 })
       go None e h = cc
       go (Some j) e h =
           record {
             word = is.word;
-            walk = level_same k g (walked steps places is.word) from to a i is.walk hf hi
+            walk = level_same k g (walked steps places is.word) at is.walk hf hi
                 (λ m d. (j, subst (λ z. get_or places z None ≡ Some j) (some_same next m (sym here ∙ d)) e));
             shape = is.shape;
             left = is.left;
           }
 
   -- an edge to a new node
-  pub levelled_found : (next : ℕ) → IsGraph k g → a < k → target g (step_at steps i).node a ≡ Some next → is_some (get_or places next None) ≡ false
-      → IsLevelledTo k g steps places from to a i
-      → IsLevelledTo k g (steps ++ record { node = next; parent = i; letter = a } ∷ []) (set places next (Some (length steps))) from to a (i + 1)
+  pub levelled_found : (next : ℕ) → IsGraph k g → at.letter < k → target g (step_at steps at.place).node at.letter ≡ Some next → is_some (get_or places next None) ≡ false
+      → IsLevelledTo k g steps places at
+      → IsLevelledTo k g (steps ++ record { node = next; parent = at.place; letter = at.letter } ∷ []) (set places next (Some (length steps))) (record at { place = at.place + 1 })
   levelled_found next graph ha here fresh is =
       record {
-        word = word_with is.word (length steps) (is.word i ++ a ∷ []);
-        walk = level_found k g (walked steps places is.word) from to a i is.walk hf hi
-            (walked (steps ++ record { node = next; parent = i; letter = a } ∷ []) (set places next (Some (length steps))) (word_with is.word (length steps) (is.word i ++ a ∷ [])))
-            next (one_found steps places is.word i a next inside) ha here none;
+        word = word_with is.word (length steps) (is.word at.place ++ at.letter ∷ []);
+        walk = level_found k g (walked steps places is.word) at is.walk hf hi
+            (walked (steps ++ record { node = next; parent = at.place; letter = at.letter } ∷ []) (set places next (Some (length steps))) (word_with is.word (length steps) (is.word at.place ++ at.letter ∷ [])))
+            next (one_found steps places is.word at.place at.letter next inside) ha here none;
         shape = length-set places next (Some (length steps)) ∙ is.shape;
-        left = omega (arith, none_set places next (length steps) inside none, length_push steps (record { node = next; parent = i; letter = a }), is.left);
+        left = omega (arith, none_set places next (length steps) inside none, length_push steps (record { node = next; parent = at.place; letter = at.letter }), is.left);
       }
     where
       inside : next < length places
-      inside = omega (arith, graph.nodes (step_at steps i).node a next here, is.shape)
+      inside = omega (arith, graph.nodes (step_at steps at.place).node at.letter next here, is.shape)
 
       none : get_or places next None ≡ None
       none = not_some (get_or places next None) fresh
 
 -- the letter is done
-pub levelled_letter : (k : ℕ) (g : Graph) (steps : List Step) (places : List (Option ℕ)) (from to a : ℕ) → IsLevelledTo k g steps places from to a to
-    → IsLevelledTo k g steps places from to (a + 1) from
+pub levelled_letter : (k : ℕ) (g : Graph) (steps : List Step) (places : List (Option ℕ)) (from to a : ℕ)
+    → IsLevelledTo k g steps places (frontier_at from to a to) → IsLevelledTo k g steps places (frontier_at from to (a + 1) from)
 levelled_letter k g steps places from to a is =
     record { word = is.word; walk = level_letter k g (walked steps places is.word) from to a is.walk; shape = is.shape; left = is.left }
 
 -- the level is done
-pub levelled_next : (k : ℕ) (g : Graph) (steps : List Step) (places : List (Option ℕ)) (from to : ℕ) → IsGraph k g → IsLevelledTo k g steps places from to k from
+pub levelled_next : (k : ℕ) (g : Graph) (steps : List Step) (places : List (Option ℕ)) (from to : ℕ) → IsGraph k g → IsLevelledTo k g steps places (frontier_at from to k from)
     → IsLevelledBefore k g steps places to
 levelled_next k g steps places from to graph is =
     record { word = is.word; walk = level_next k g (walked steps places is.word) from to graph is.walk; shape = is.shape; left = is.left }

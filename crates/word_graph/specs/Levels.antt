@@ -8,40 +8,52 @@ use Rattle.word_graph.specs.Gaps.{count_none}
 use Rattle.word_graph.specs.Steps.{walked}
 use Rattle.word_graph.specs.declared.walks.Step.{Step}
 
--- the edge by the letter b from the place p is done: p stands before the level, or in it, and then
--- b before the letter a, or p before the place i at the same letter
-abbrev pub IsDone : ℕ → ℕ → ℕ → ℕ → ℕ → ℕ → Type 0
-IsDone from to a i p b = (p < from) ⊎ ((p < to) × IsBefore b p a i)
+-- how far a walk has come in a level, whose places begin at `from` and end before `to`: edges by
+-- letters before `letter` are done, and those by `letter` from places before `place`
+pub record Frontier : Type 0 where
+  pub from : ℕ
+  pub to : ℕ
+  pub letter : ℕ
+  pub place : ℕ
 
--- the places of a level begin at `from` and end before `to`; all is found that edges lead to from
--- places before it, and from its own by letters before a, and by a from places before i
-pub record IsLevelWalk (k : ℕ) (g : Graph) (w : Walked) (from to a i : ℕ) : Type 0 where
+-- in the level from one place to another, at a letter and a place
+abbrev pub frontier_at : ℕ → ℕ → ℕ → ℕ → Frontier
+frontier_at from to a i = record { from = from; to = to; letter = a; place = i }
+
+-- the edge by the letter b from the place p is done: p stands before the level, or in it, and then
+-- b before the next letter, or p before the next place at the same letter
+abbrev pub IsDone : Frontier → ℕ → ℕ → Type 0
+IsDone at p b = (p < at.from) ⊎ ((p < at.to) × IsBefore b p at.letter at.place)
+
+-- all is found that edges lead to from places before the level, and those of its own that are done
+pub record IsLevelWalk (k : ℕ) (g : Graph) (w : Walked) (at : Frontier) : Type 0 where
   pub depth : ℕ
   pub root : w.word 0 ≡ []
   pub root_place : w.place 0 ≡ Some 0
-  pub within : to ≤ w.count
+  pub within : at.to ≤ w.count
   pub leads : (j : ℕ) → j < w.count → path g 0 (w.word j) ≡ Some (w.node j)
   pub over : (j : ℕ) → j < w.count → IsOver k (w.word j)
   pub ascending : (j l : ℕ) → j < l → l < w.count → reverse (w.word j) ≺ reverse (w.word l)
   pub made : (j : ℕ) → 0 < j → j < w.count
       → (w.parent j < j) × (w.word j ≡ w.word (w.parent j) ++ w.letter j ∷ [])
-  pub before : (j : ℕ) → j < to → length (w.word j) ≤ depth
-  pub level : (j : ℕ) → from ≤ j → j < to → length (w.word j) ≡ depth
-  pub next : (j : ℕ) → to ≤ j → j < w.count
-      → (length (w.word j) ≡ depth + 1) × IsBefore (w.letter j) (w.parent j) a i
+  pub before : (j : ℕ) → j < at.to → length (w.word j) ≤ depth
+  pub level : (j : ℕ) → at.from ≤ j → j < at.to → length (w.word j) ≡ depth
+  pub next : (j : ℕ) → at.to ≤ j → j < w.count
+      → (length (w.word j) ≡ depth + 1) × IsBefore (w.letter j) (w.parent j) at.letter at.place
   pub placed : (m j : ℕ) → w.place m ≡ Some j → (j < w.count) × (w.node j ≡ m)
   pub back : (j : ℕ) → j < w.count → w.place (w.node j) ≡ Some j
-  pub found : (p b m : ℕ) → IsDone from to a i p b → target g (w.node p) b ≡ Some m
+  pub found : (p b m : ℕ) → IsDone at p b → target g (w.node p) b ≡ Some m
       → (j : ℕ) × (w.place m ≡ Some j) × NoLater (reverse (w.word j)) (b ∷ reverse (w.word p))
 
 -- steps and places are such a walk, and each step took one place
 pub record IsLevelledTo (k : ℕ) (g : Graph) (steps : List Step) (places : List (Option ℕ))
-    (from to a i : ℕ) : Type 0 where
+    (at : Frontier) : Type 0 where
   pub word : ℕ → Word
-  pub walk : IsLevelWalk k g (walked steps places word) from to a i
+  pub walk : IsLevelWalk k g (walked steps places word) at
   pub shape : length places ≡ length g
   pub left : count_none places + length steps ≡ length g
 
 -- a level begins, of all places from this on
 abbrev pub IsLevelledBefore : ℕ → Graph → List Step → List (Option ℕ) → ℕ → Type 0
-IsLevelledBefore k g steps places from = IsLevelledTo k g steps places from (length steps) 0 from
+IsLevelledBefore k g steps places from =
+    IsLevelledTo k g steps places (frontier_at from (length steps) 0 from)

@@ -1,7 +1,7 @@
 // Walks over the nodes level by level, in the order of words that are read backwards.
 ghost use Rattle.std.specs.Prelude.{◌≡◌, ℕ, ◌+◌, ◌<◌, ◌≤◌, length, IfOk, OnOk};
 ghost use Rattle.theory.specs.Graph.{IsGraph};
-ghost use Rattle.word_graph.specs.Levels.{IsLevelledTo, IsLevelledBefore};
+ghost use Rattle.word_graph.specs.Levels.{frontier_at, IsLevelledTo, IsLevelledBefore};
 ghost use Rattle.word_graph.specs.Backwards.{AreAllReached, AreLeastBackwards};
 
 use crate::graphs::WordGraph;
@@ -24,9 +24,9 @@ impl Walk {
         requires places { length self.old.places.items ≡ length graph.now }
         ensures walk { OnOk result ((k : ℕ) → IsGraph k graph.now → letter < k
             → IsLevelledTo k graph.now self.old.steps.items self.old.places.items
-            from to letter from
+            (frontier_at from to letter from)
             → IsLevelledTo k graph.now self.new.steps.items self.new.places.items
-            from to (letter + 1) from) }
+            (frontier_at from to (letter + 1) from)) }
         ensures steps { length self.old.steps.items ≤ length self.new.steps.items }
         ensures places { length self.new.places.items ≡ length self.old.places.items }
     {

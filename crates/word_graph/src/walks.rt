@@ -4,7 +4,7 @@ ghost use Rattle.theory.specs.Facts.{AllDefined};
 ghost use Rattle.theory.specs.Graph.{Graph, IsGraph, SameEnd};
 ghost use Rattle.word_graph.specs.Walk.{IsFirstMissing, AreLeastWords};
 ghost use Rattle.word_graph.specs.Steps.{IsWalkedTo, next_word, words_of};
-ghost use Rattle.word_graph.specs.Levels.{IsLevelledTo, IsLevelledBefore};
+ghost use Rattle.word_graph.specs.Levels.{frontier_at, IsLevelledTo, IsLevelledBefore};
 
 use crate::graphs::WordGraph;
 use ports::NoMemory;
@@ -90,9 +90,9 @@ impl Walk {
         ensures levels { OnOk result ((k from to : ℕ) → IsGraph k graph.now → letter < k
             → from ≤ place → place < to
             → IsLevelledTo k graph.now self.old.steps.items self.old.places.items
-            from to letter place
+            (frontier_at from to letter place)
             → IsLevelledTo k graph.now self.new.steps.items self.new.places.items
-            from to letter (place + 1)) }
+            (frontier_at from to letter (place + 1))) }
         ensures steps { length self.old.steps.items ≤ length self.new.steps.items }
         ensures places { length self.new.places.items ≡ length self.old.places.items }
     {
