@@ -10,7 +10,8 @@ use cells::{Entry, NUMBERS_AT_MOST};
 use ports::NoMemory;
 use std::cmp::Ordering;
 
-// The place of the node that an edge leads to.
+/// The place of the node that an edge leads to. `None` where there is no edge, where the node has no
+/// place, and past the end of `places`.
 pub fn renumber(places: &[Option<usize>], target: Option<usize>) -> Option<usize>
     ensures { result ≡ renumber places.now target }
 {
@@ -22,7 +23,10 @@ pub fn renumber(places: &[Option<usize>], target: Option<usize>) -> Option<usize
     }
 }
 
-// Adds a row with the places of nodes for nodes. Refused only where memory is wanting.
+/// Adds a row at the end of `entries`, of any length, with the place of each node in the node's
+/// stead. Each place must be below [`NUMBERS_AT_MOST`], since an entry has four bytes.
+///
+/// Refused only where memory is wanting, and then the front of the row may have been added.
 pub fn push_renumbered(
     entries: &mut Vec<Entry>,
     row: &[Entry],
@@ -39,7 +43,10 @@ pub fn push_renumbered(
     Ok(())
 }
 
-// Adds the entries of edges to these nodes. Refused only where memory is wanting.
+/// Adds an edge to each of these nodes at the end of `entries`, in order. Each node must be below
+/// [`NUMBERS_AT_MOST`], since an entry has four bytes.
+///
+/// Refused only where memory is wanting, and then the first of them may have been added.
 pub fn push_edges(entries: &mut Vec<Entry>, targets: &[usize]) -> Result<(), NoMemory>
     requires { All (λ target. target < NUMBERS_AT_MOST) targets.now }
     ensures { OnOk result (entries.new.items ≡ entries.old.items ++ map Some targets.now) }
@@ -50,7 +57,10 @@ pub fn push_edges(entries: &mut Vec<Entry>, targets: &[usize]) -> Result<(), NoM
     Ok(())
 }
 
-// Adds the nodes that edges lead to. Refused only where memory is wanting.
+/// Adds the nodes that edges lead to at the end of `targets`, in order, and nothing for an entry
+/// without an edge: at most as many nodes as there are entries.
+///
+/// Refused only where memory is wanting, and then the first of them may have been added.
 pub fn push_targets(targets: &mut Vec<usize>, entries: &[Entry]) -> Result<(), NoMemory>
     ensures { OnOk result (targets.new.items ≡ targets.old.items
         ++ flat_map option_to_list entries.now) }
@@ -63,7 +73,8 @@ pub fn push_targets(targets: &mut Vec<usize>, entries: &[Entry]) -> Result<(), N
     Ok(())
 }
 
-// How the targets compare in the order of dictionaries, where each entry is an edge in both lists.
+/// How the targets of two lists, of any lengths, compare in the order of dictionaries: the first
+/// that differ decide, else the lengths. No clause says so where an entry is no edge.
 pub fn compare(entries: &[Entry], others: &[Entry]) -> Ordering
     ensures { (s t : List ℕ) → entries.now ≡ map Some s → others.now ≡ map Some t
         → result ≡ slice_cmp nat_cmp s t }
