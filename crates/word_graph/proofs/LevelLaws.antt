@@ -1,18 +1,18 @@
 -- Walks by levels go on by one edge, and what a whole walk has found.
 use Rattle.std.proofs.Common.{◌≡◌, ℕ, suc, ◌+◌, ◌<◌, ◌≤◌, [], ◌∷◌, ◌++◌, length, refl, sym, ◌∙◌, ap, subst, subst₂, arith, ◌⊎◌, inl, inr, Option, Some, None, option_and_then, reverse, length-append}
-use Rattle.std.proofs.lemmas.Bool.{cases_lt, cases_eq}
+use Rattle.std.proofs.lemmas.Bool.{cases_lt}
 use Rattle.std.proofs.lemmas.List.{reverse-append, reverse-reverse, length-reverse}
 use Rattle.theory.specs.Word.{Word, IsOver}
 use Rattle.theory.specs.ShortLex.{◌≺◌}
 use Rattle.theory.specs.Graph.{Graph, target, path, IsGraph}
 use Rattle.theory.specs.Backwards.{AreWordsBackwards}
-use Rattle.theory.proofs.Words.{nat_Less, shorter_first, letters_first, before_cons, over_append}
-use Rattle.theory.proofs.GraphLaws.{path_append, path_letter}
+use Rattle.theory.proofs.Words.{nat_Less, shorter_first, letters_first, before_cons}
 use Rattle.theory.proofs.KindLaws.{over_turned}
 use Rattle.word_graph.specs.Walk.{NoLater, IsBefore, Walked, IsFound}
 use Rattle.word_graph.specs.Levels.{Frontier, frontier_at, IsDone, IsLevelWalk}
 use Rattle.word_graph.specs.Backwards.{AreAllReached}
 use Rattle.word_graph.proofs.EdgeLaws.{target_in}
+use Rattle.word_graph.proofs.TreeLaws.{tree_start, split, tree_found, ascending_found, edge_found}
 use Rattle.word_graph.proofs.WalkLaws.{some_same, before_next, before_more}
 
 -- a letter behind stands in front when it is read backwards
@@ -28,8 +28,8 @@ module _ (k : ℕ) (g : Graph) (w : Walked) (at : Frontier) (is : IsLevelWalk k 
   split_done p b (inr h) = elim (before_next b p at.letter at.place h.1) [ inl l ↦ inl (inr (h.0, l)) | inr e ↦ inr (e.1, e.0) ]
 
   -- each word so far comes before that of the next edge
-  all_before : (j : ℕ) → j < w.count → reverse (w.word j) ≺ (at.letter ∷ reverse (w.word at.place))
-  all_before j hj = go (cases_lt j at.to)
+  all_before : (j : ℕ) → j < w.count → reverse (w.word j) ≺ reverse (w.word at.place ++ at.letter ∷ [])
+  all_before j hj = subst (λ u. reverse (w.word j) ≺ u) (sym (behind_front (w.word at.place) at.letter)) (go (cases_lt j at.to))
     where
       go : (j < at.to) ⊎ (at.to ≤ j) → reverse (w.word j) ≺ (at.letter ∷ reverse (w.word at.place))
       go (inl l) =
@@ -37,10 +37,9 @@ module _ (k : ℕ) (g : Graph) (w : Walked) (at : Frontier) (is : IsLevelWalk k 
           (omega (arith, is.before j l, is.level at.place hf hi, length-reverse (w.word j), length-reverse (w.word at.place)))
       go (inr l) =
           let n = is.next j l hj in
-          let m = is.made j (omega (arith, l, hi)) hj in
-          let front : reverse (w.word j) ≡ w.letter j ∷ reverse (w.word (w.parent j)) = ap reverse m.1 ∙ behind_front (w.word (w.parent j)) (w.letter j) in
-          subst (λ u. u ≺ (at.letter ∷ reverse (w.word at.place))) (sym front)
-          (level_before front n.0 n.1)
+          let m = is.tree.made j (omega (arith, l, hi)) hj in
+          let front : reverse (w.word j) ≡ w.letter j ∷ reverse (w.word (w.parent j)) = ap reverse m.2 ∙ behind_front (w.word (w.parent j)) (w.letter j) in
+          subst (λ u. u ≺ (at.letter ∷ reverse (w.word at.place))) (sym front) (level_before front n.0 n.1)
         where
           level_before : reverse (w.word j) ≡ w.letter j ∷ reverse (w.word (w.parent j)) → length (w.word j) ≡ is.depth + 1 → IsBefore (w.letter j) (w.parent j) at.letter at.place
               → (w.letter j ∷ reverse (w.word (w.parent j))) ≺ (at.letter ∷ reverse (w.word at.place))
@@ -56,27 +55,18 @@ module _ (k : ℕ) (g : Graph) (w : Walked) (at : Frontier) (is : IsLevelWalk k 
   level_same known =
       record {
         depth = is.depth;
-        root = is.root;
-        root_place = is.root_place;
         within = is.within;
-        leads = is.leads;
-        over = is.over;
-        ascending = is.ascending;
-        made = is.made;
         before = is.before;
         level = is.level;
         next = λ j h l. let n = is.next j h l in (n.0, before_more (w.letter j) (w.parent j) at.letter at.place n.1);
-        placed = is.placed;
-        back = is.back;
+        tree = is.tree;
+        ascending = is.ascending;
         found = λ p b m done e. elim (split_done p b done) [
           | inl h ↦ is.found p b m h e
           | inr h ↦
-              let e' : target g (w.node at.place) at.letter ≡ Some m = subst₂ (λ x y. target g (w.node x) y ≡ Some m) h.0 h.1 e in
-              let there = known m e' in (
-                there.0,
-                there.1,
-                subst₂ (λ x y. NoLater (reverse (w.word there.0)) (y ∷ reverse (w.word x))) (sym h.0) (sym h.1) (inl (all_before there.0 (is.placed m there.0 there.1).0)),
-              )
+              let there = known m (subst₂ (λ x y. target g (w.node x) y ≡ Some m) h.0 h.1 e) in
+              let late : NoLater (reverse (w.word there.0)) (reverse (w.word at.place ++ at.letter ∷ [])) = inl (all_before there.0 (is.tree.placed m there.0 there.1).0) in
+              (there.0, there.1, subst₂ (λ x y. NoLater (reverse (w.word there.0)) (reverse (w.word x ++ y ∷ []))) (sym h.0) (sym h.1) late)
         ];
       }
 
@@ -85,41 +75,10 @@ module _ (k : ℕ) (g : Graph) (w : Walked) (at : Frontier) (is : IsLevelWalk k 
   level_found x node f ha here fresh =
       record {
         depth = is.depth;
-        root = f.words 0 (is.placed 0 0 is.root_place).0 ∙ is.root;
-        root_place = f.places 0 (other 0 0 is.root_place) ∙ is.root_place;
         within = omega (arith, f.count, is.within);
-        leads = λ j hj. elim (split j hj) [
-          | inl l ↦ subst₂ (λ u n. path g 0 u ≡ Some n) (sym (f.words j l)) (sym (f.nodes j l)) (is.leads j l)
-          | inr e ↦ subst (λ z. path g 0 (x.word z) ≡ Some (x.node z)) (sym e) (subst₂ (λ u n. path g 0 u ≡ Some n) (sym f.word_is) (sym f.node_is) there)
-        ];
-        over = λ j hj. elim (split j hj) [
-          | inl l ↦ subst (λ u. IsOver k u) (sym (f.words j l)) (is.over j l)
-          | inr e ↦ subst (λ z. IsOver k (x.word z)) (sym e) (subst (λ u. IsOver k u) (sym f.word_is) (over_append k (w.word at.place) (at.letter ∷ []) (is.over at.place inside) (ha, tt)))
-        ];
-        ascending = λ j l less hl. elim (split l hl) [
-          | inl h ↦ subst₂ (λ u v. reverse u ≺ reverse v) (sym (f.words j (omega (arith, less, h)))) (sym (f.words l h)) (is.ascending j l less h)
-          | inr e ↦
-              let hj : j < w.count = omega (arith, less, e) in
-              subst (λ z. reverse (x.word j) ≺ reverse (x.word z)) (sym e) (subst₂ (λ u v. reverse u ≺ v) (sym (f.words j hj)) (sym last) (all_before j hj))
-        ];
-        made = λ j some hj. elim (split j hj) [
-          | inl l ↦
-              let m = is.made j some l in
-              let p : x.parent j ≡ w.parent j = f.parents j l in
-              let hp : w.parent j < w.count = omega (arith, m.0, l) in (
-                omega (arith, p, m.0),
-                f.words j l ∙ m.1 ∙ subst₂ (λ y z. w.word (w.parent j) ++ w.letter j ∷ [] ≡ y ++ z ∷ []) (sym (f.words (w.parent j) hp) ∙ ap x.word (sym p)) (sym (f.letters j l)) refl,
-              )
-          | inr e ↦
-              let p : x.parent j ≡ at.place = ap x.parent e ∙ f.parent_is in
-              let b : x.letter j ≡ at.letter = ap x.letter e ∙ f.letter_is in (
-                omega (arith, p, e, inside),
-                ap x.word e ∙ f.word_is ∙ subst₂ (λ y z. w.word at.place ++ at.letter ∷ [] ≡ y ++ z ∷ []) (sym (f.words at.place inside) ∙ ap x.word (sym p)) (sym b) refl,
-              )
-        ];
         before = λ j h. subst (λ u. length u ≤ is.depth) (sym (f.words j (early j h))) (is.before j h);
         level = λ j h l. ap length (f.words j (early j l)) ∙ is.level j h l;
-        next = λ j h l. elim (split j l) [
+        next = λ j h l. elim (split k g w x at.place at.letter node is.tree f inside here fresh j l) [
           | inl old ↦
               let n = is.next j h old in
               (ap length (f.words j old) ∙ n.0, subst₂ (λ y z. IsBefore y z at.letter (at.place + 1)) (sym (f.letters j old)) (sym (f.parents j old)) (before_more (w.letter j) (w.parent j) at.letter at.place n.1))
@@ -129,37 +88,9 @@ module _ (k : ℕ) (g : Graph) (w : Walked) (at : Frontier) (is : IsLevelWalk k 
                 inr (ap x.letter e ∙ f.letter_is, omega (arith, p)),
               )
         ];
-        placed = λ m j e. elim (cases_eq m node) [
-          | inl same ↦
-              let e' : j ≡ w.count = some_same j w.count (sym e ∙ ap x.place same ∙ f.place_is) in
-              (omega (arith, e', f.count), ap x.node e' ∙ f.node_is ∙ sym same)
-          | inr not ↦
-              let old = is.placed m j (sym (f.places m not) ∙ e) in
-              (omega (arith, old.0, f.count), f.nodes j old.0 ∙ old.1)
-        ];
-        back = λ j hj. elim (split j hj) [
-          | inl l ↦ ap x.place (f.nodes j l) ∙ f.places (w.node j) (other (w.node j) j (is.back j l)) ∙ is.back j l
-          | inr e ↦ subst (λ z. x.place (x.node z) ≡ Some z) (sym e) (ap x.place f.node_is ∙ f.place_is)
-        ];
-        found = λ p b m done e.
-            let l : p < w.count = early p (done_early p b done) in
-            let e' : target g (w.node p) b ≡ Some m = subst (λ z. target g z b ≡ Some m) (f.nodes p l) e in
-            elim (split_done p b done) [
-              | inl h ↦
-                  let old = is.found p b m h e' in
-                  let hj : old.0 < w.count = (is.placed m old.0 old.1).0 in (
-                    old.0,
-                    f.places m (other m old.0 old.1) ∙ old.1,
-                    subst₂ (λ u v. NoLater (reverse u) (b ∷ reverse v)) (sym (f.words old.0 hj)) (sym (f.words p l)) old.2,
-                  )
-              | inr h ↦
-                  let e'' : target g (w.node at.place) at.letter ≡ Some m = subst₂ (λ y z. target g (w.node y) z ≡ Some m) h.0 h.1 e' in
-                  let same : node ≡ m = some_same node m (sym here ∙ e'') in (
-                    w.count,
-                    ap x.place (sym same) ∙ f.place_is,
-                    inr (last ∙ subst₂ (λ y z. at.letter ∷ reverse (w.word at.place) ≡ z ∷ reverse y) (ap w.word (sym h.0) ∙ sym (f.words p l)) (sym h.1) refl),
-                  )
-            ];
+        tree = tree_found k g w x at.place at.letter node is.tree f inside here fresh ha;
+        ascending = ascending_found k g w x at.place at.letter node is.tree f inside here fresh reverse is.ascending all_before;
+        found = λ p b m done e. edge_found k g w x at.place at.letter node is.tree f inside here fresh reverse (IsDone at) is.found p b m (early p (done_early p b done)) (split_done p b done) e;
       }
     where
       inside : at.place < w.count
@@ -172,35 +103,17 @@ module _ (k : ℕ) (g : Graph) (w : Walked) (at : Frontier) (is : IsLevelWalk k 
       done_early p b (inl h) = omega (arith, h, hf, hi)
       done_early p b (inr h) = h.0
 
-      split : (j : ℕ) → j < x.count → (j < w.count) ⊎ (j ≡ w.count)
-      split j hj = elim (cases_lt j w.count) [ inl l ↦ inl l | inr l ↦ inr (omega (arith, l, hj, f.count)) ]
-
-      other : (m j : ℕ) → w.place m ≡ Some j → m ≡ node → ⊥
-      other m j e same = let e' : None ≡ Some j = sym fresh ∙ ap w.place (sym same) ∙ e in let bad : ⊥ = cc in bad
-
-      there : path g 0 (w.word at.place ++ at.letter ∷ []) ≡ Some node
-      there = path_append g 0 (w.node at.place) (w.word at.place) (at.letter ∷ []) (is.leads at.place inside) ∙ path_letter g (w.node at.place) at.letter ∙ here
-
-      last : reverse (x.word w.count) ≡ at.letter ∷ reverse (w.word at.place)
-      last = ap reverse f.word_is ∙ behind_front (w.word at.place) at.letter
-
 -- the letter is done
 pub level_letter : (k : ℕ) (g : Graph) (w : Walked) (from to a : ℕ) → IsLevelWalk k g w (frontier_at from to a to) → IsLevelWalk k g w (frontier_at from to (a + 1) from)
 level_letter k g w from to a is =
     record {
       depth = is.depth;
-      root = is.root;
-      root_place = is.root_place;
       within = is.within;
-      leads = is.leads;
-      over = is.over;
-      ascending = is.ascending;
-      made = is.made;
       before = is.before;
       level = is.level;
       next = λ j h l. let n = is.next j h l in (n.0, inl (elim n.1 [ inl less ↦ omega (arith, less) | inr same ↦ omega (arith, same.0) ]));
-      placed = is.placed;
-      back = is.back;
+      tree = is.tree;
+      ascending = is.ascending;
       found = λ p b m done e. is.found p b m (earlier p b done) e;
     }
   where
@@ -216,18 +129,12 @@ pub level_next : (k : ℕ) (g : Graph) (w : Walked) (from to : ℕ) → IsGraph 
 level_next k g w from to graph is =
     record {
       depth = is.depth + 1;
-      root = is.root;
-      root_place = is.root_place;
       within = omega arith;
-      leads = is.leads;
-      over = is.over;
-      ascending = is.ascending;
-      made = is.made;
       before = λ j h. elim (cases_lt j to) [ inl l ↦ omega (arith, is.before j l) | inr l ↦ omega (arith, (is.next j l h).0) ];
       level = λ j h l. (is.next j h l).0;
       next = λ j h l. absurd (omega (arith, h, l));
-      placed = is.placed;
-      back = is.back;
+      tree = is.tree;
+      ascending = is.ascending;
       found = λ p b m done e. is.found p b m (inr (earlier p b done, inl (target_in k g graph (w.node p) b m e).1)) e;
     }
   where
@@ -241,21 +148,12 @@ pub level_start : (k : ℕ) (g : Graph) (w : Walked) → w.count ≡ 1 → w.nod
 level_start k g w one node word place none =
     record {
       depth = 0;
-      root = word 0;
-      root_place = place;
       within = omega (arith, one);
-      leads = λ j h. let e : j ≡ 0 = omega (arith, one, h) in ap (path g 0) (word j) ∙ ap Some (sym node ∙ ap w.node (sym e));
-      over = λ j h. subst (λ u. IsOver k u) (sym (word j)) tt;
-      ascending = λ j l less h. absurd (omega (arith, one, less, h));
-      made = λ j some h. absurd (omega (arith, one, some, h));
       before = λ j h. omega (arith, ap length (word j));
       level = λ j h l. ap length (word j);
       next = λ j h l. absurd (omega (arith, one, h, l));
-      placed = λ m j e. elim (cases_eq m 0) [
-        | inl z ↦ let e' : j ≡ 0 = some_same j 0 (sym e ∙ ap w.place z ∙ place) in (omega (arith, one, e'), ap w.node e' ∙ node ∙ sym z)
-        | inr not ↦ let e' : None ≡ Some j = sym (none m not) ∙ e in absurd (let bad : ⊥ = cc in bad)
-      ];
-      back = λ j h. let e : j ≡ 0 = omega (arith, one, h) in subst (λ z. w.place (w.node z) ≡ Some z) (sym e) (ap w.place node ∙ place);
+      tree = tree_start k g w one node (word 0) place none;
+      ascending = λ j l less h. absurd (omega (arith, one, less, h));
       found = λ p b m done e. absurd (elim done [ inl h ↦ omega (arith, h) | inr h ↦ elim h.1 [ inl l ↦ omega (arith, l) | inr l ↦ omega (arith, l.1) ] ]);
     }
 
@@ -269,30 +167,30 @@ module _ (k : ℕ) (g : Graph) (w : Walked) (is : IsLevelWalk k g w (frontier_at
           → option_and_then (λ next. path g next u) t ≡ Some m → (l : ℕ) × (w.place m ≡ Some l)
       go None h further d = cc
       go (Some t) h further d =
-          let p = is.placed n j at in
+          let p = is.tree.placed n j at in
           let f = is.found j b t (inl p.0) (ap (λ y. target g y b) p.1 ∙ h) in
           further t f.0 f.1 d
 
   module _ (all : AreAllReached g) where
     pub node_placed : (node : ℕ) → node < length g → (j : ℕ) × (w.place node ≡ Some j)
-    node_placed node h = let r = all node h in word_placed r.0 0 node 0 is.root_place r.1
+    node_placed node h = let r = all node h in word_placed r.0 0 node 0 is.tree.root_place r.1
 
     -- no edge leads to a node with a greater word
     pub words_backwards : (word : ℕ → Word) → IsGraph k g → ((node j : ℕ) → node < length g → w.place node ≡ Some j → word node ≡ reverse (w.word j))
         → AreWordsBackwards k g word
     words_backwards word graph same =
         record {
-          root = same 0 0 graph.rooted is.root_place ∙ ap reverse is.root;
+          root = same 0 0 graph.rooted is.tree.root_place ∙ ap reverse is.tree.root;
           over = λ node h.
               let at = node_placed node h in
-              subst (λ u. IsOver k u) (sym (same node at.0 h at.1)) (over_turned k (w.word at.0) (is.over at.0 (is.placed node at.0 at.1).0));
+              subst (λ u. IsOver k u) (sym (same node at.0 h at.1)) (over_turned k (w.word at.0) (is.tree.over at.0 (is.tree.placed node at.0 at.1).0));
           leads = λ node h.
               let at = node_placed node h in
-              let p = is.placed node at.0 at.1 in
-              ap (λ u. path g 0 (reverse u)) (same node at.0 h at.1) ∙ ap (path g 0) (reverse-reverse (w.word at.0)) ∙ is.leads at.0 p.0 ∙ ap Some p.1;
+              let p = is.tree.placed node at.0 at.1 in
+              ap (λ u. path g 0 (reverse u)) (same node at.0 h at.1) ∙ ap (path g 0) (reverse-reverse (w.word at.0)) ∙ is.tree.leads at.0 p.0 ∙ ap Some p.1;
           edges = λ node letter next h l e.
               let at = node_placed node h in
-              let p = is.placed node at.0 at.1 in
+              let p = is.tree.placed node at.0 at.1 in
               let f = is.found at.0 letter next (inl p.0) (ap (λ y. target g y letter) p.1 ∙ e) in
-              subst₂ (λ u v. NoLater u (letter ∷ v)) (sym (same next f.0 (graph.nodes node letter next e) f.1)) (sym (same node at.0 h at.1)) f.2;
+              subst₂ (λ u v. NoLater u (letter ∷ v)) (sym (same next f.0 (graph.nodes node letter next e) f.1)) (sym (same node at.0 h at.1)) (subst (NoLater (reverse (w.word f.0))) (behind_front (w.word at.0) letter) f.2);
         }

@@ -103,7 +103,7 @@ module _ (k : ℕ) (g : Graph) (steps : List Step) (places : List (Option ℕ)) 
   place_there all node h = node_placed k g (walked steps places is.word) is.walk all node h
 
   pub place_inside : (node j : ℕ) → get_or places node None ≡ Some j → j < length steps
-  place_inside node j e = (is.walk.placed node j e).0
+  place_inside node j e = (is.walk.tree.placed node j e).0
 
 -- the words of all nodes, read backwards, are the least
 pub turned_least : (g : Graph) (steps : List Step) (places : List (Option ℕ)) (least : List Word) → AreAllReached g
@@ -114,5 +114,5 @@ turned_least g steps places least all levelled turned =
       least = λ k graph.
           let is = levelled k graph in
           backwards_least k g (λ n. get_or least n []) graph
-          (words_backwards k g (walked steps places is.word) is.walk all (λ n. get_or least n []) graph (λ n j h e. turned.each n j h e ∙ ap reverse (words_are steps is.word is.walk.root is.walk.made j (is.walk.placed n j e).0)));
+          (words_backwards k g (walked steps places is.word) is.walk all (λ n. get_or least n []) graph (λ n j h e. turned.each n j h e ∙ ap reverse (words_are k g steps places is.word is.walk.tree j (is.walk.tree.placed n j e).0)));
     }

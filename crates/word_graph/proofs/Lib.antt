@@ -2,6 +2,7 @@ pub mod Paths
 pub mod EdgeLaws
 pub mod EntryLaws
 pub mod OrderLaws
+pub mod TreeLaws
 pub mod WalkLaws
 pub mod StepLaws
 pub mod RenumberLaws

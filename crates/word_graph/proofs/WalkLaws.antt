@@ -1,14 +1,15 @@
 -- Walks go on by one edge, and what a whole walk has found.
 use Rattle.std.proofs.Common.{◌≡◌, ℕ, zero, suc, ◌+◌, ◌<◌, ◌≤◌, [], ◌∷◌, ◌++◌, refl, sym, ◌∙◌, ap, subst, subst₂, arith, ◌⊎◌, inl, inr, Option, Some, None, option_and_then, append_assoc, append-nil}
-use Rattle.std.proofs.lemmas.Bool.{cases_lt, cases_eq, cases_order}
+use Rattle.std.proofs.lemmas.Bool.{cases_lt, cases_order}
 use Rattle.theory.specs.Word.{Word, IsOver}
 use Rattle.theory.specs.ShortLex.{◌≺◌}
 use Rattle.theory.specs.Facts.{AllDefined}
 use Rattle.theory.specs.Graph.{Graph, target, path, SameEnd, IsGraph}
 use Rattle.theory.proofs.Words.{before_irrefl, before_trans, over_append}
 use Rattle.theory.proofs.GraphLaws.{path_append, path_letter}
-use Rattle.word_graph.specs.Walk.{NoLater, IsBefore, Walked, IsWalkTo, IsWalk, IsFound, IsFirstMissing}
+use Rattle.word_graph.specs.Walk.{NoLater, IsBefore, Walked, IsWalkTo, IsWalk, IsFound, IsTree, IsFirstMissing}
 use Rattle.word_graph.proofs.EdgeLaws.{target_in}
+use Rattle.word_graph.proofs.TreeLaws.{tree_start, split, tree_found, ascending_found, edge_found}
 use Rattle.word_graph.proofs.OrderLaws.{before_behind, letter_before, empty_first, no_later_before, no_later_trans, no_later_behind, front_no_later}
 
 pub some_same : (n m : ℕ) → Some n ≡ Some m → n ≡ m
@@ -26,6 +27,36 @@ before_next p b i a (inr h) = go (cases_lt b a)
 pub before_more : (p b i a : ℕ) → IsBefore p b i a → IsBefore p b i (a + 1)
 before_more p b i a (inl h) = inl h
 before_more p b i a (inr h) = inr (h.0, omega (arith, h.1))
+
+-- what a walk has found is a tree
+pub walk_tree : (k : ℕ) (g : Graph) (w : Walked) (i a : ℕ) → IsWalkTo k g w i a → IsTree k g w
+walk_tree k g w i a is = record {
+  root = is.root;
+  root_place = is.root_place;
+  leads = is.leads;
+  over = is.over;
+  made = λ j some less. let m = is.made j some less in (m.1, m.2, m.3);
+  placed = is.placed;
+  back = is.back;
+}
+
+-- and such a tree, whose words ascend, is a walk
+walk_of : (k : ℕ) (g : Graph) (w : Walked) (i a : ℕ) → 0 < w.count → IsTree k g w → ((j l : ℕ) → j < l → l < w.count → w.word j ≺ w.word l)
+    → ((j : ℕ) → 0 < j → j < w.count → IsBefore (w.parent j) (w.letter j) i a)
+    → ((p b m : ℕ) → p < w.count → IsBefore p b i a → target g (w.node p) b ≡ Some m → (j : ℕ) × (w.place m ≡ Some j) × NoLater (w.word j) (w.word p ++ b ∷ []))
+    → IsWalkTo k g w i a
+walk_of k g w i a some tree ascending early found = record {
+  some = some;
+  root = tree.root;
+  root_place = tree.root_place;
+  leads = tree.leads;
+  over = tree.over;
+  ascending = ascending;
+  made = λ j h less. let m = tree.made j h less in (early j h less, m.0, m.1, m.2);
+  placed = tree.placed;
+  back = tree.back;
+  found = found;
+}
 
 module _ (k : ℕ) (g : Graph) (w : Walked) (i a : ℕ) (is : IsWalkTo k g w i a) where
   -- words of earlier edges come before
@@ -55,158 +86,59 @@ module _ (k : ℕ) (g : Graph) (w : Walked) (i a : ℕ) (is : IsWalkTo k g w i a
       let m = is.made (suc j) (omega arith) hj in
       subst (λ z. z ≺ (w.word i ++ a ∷ [])) (sym (m.3)) (edge_before (w.parent (suc j)) (w.letter (suc j)) i a (omega (arith, m.1, hj)) hi m.0)
 
-  made_more : (j : ℕ) → 0 < j → j < w.count → IsBefore (w.parent j) (w.letter j) i (a + 1) × (w.parent j < j) × (w.letter j < k) × (w.word j ≡ w.word (w.parent j) ++ w.letter j ∷ [])
-  made_more j some less = let m = is.made j some less in (before_more (w.parent j) (w.letter j) i a m.0, m.1, m.2, m.3)
+  early_more : (j : ℕ) → 0 < j → j < w.count → IsBefore (w.parent j) (w.letter j) i (a + 1)
+  early_more j some less = before_more (w.parent j) (w.letter j) i a (is.made j some less).0
 
-  -- no edge here
+  -- no edge here, or one to a node that was found before
+  walk_same : i < w.count → ((m : ℕ) → target g (w.node i) a ≡ Some m → (j : ℕ) × (w.place m ≡ Some j)) → IsWalkTo k g w i (a + 1)
+  walk_same hi known =
+      walk_of k g w i (a + 1) is.some (walk_tree k g w i a is) is.ascending early_more
+      (λ p b m hp before e. elim (before_next p b i a before) [
+        | inl h ↦ is.found p b m hp h e
+        | inr h ↦
+            let there = known m (subst₂ (λ x y. target g (w.node x) y ≡ Some m) h.0 h.1 e) in
+            let late : NoLater (w.word there.0) (w.word i ++ a ∷ []) = inl (word_before there.0 (is.placed m there.0 there.1).0 hi) in
+            (there.0, there.1, subst₂ (λ x y. NoLater (w.word there.0) (w.word x ++ y ∷ [])) (sym h.0) (sym h.1) late)
+      ])
+
   pub walk_none : i < w.count → target g (w.node i) a ≡ None → IsWalkTo k g w i (a + 1)
-  walk_none hi none =
-      record {
-        some = is.some;
-        root = is.root;
-        root_place = is.root_place;
-        leads = is.leads;
-        over = is.over;
-        ascending = is.ascending;
-        made = made_more;
-        placed = is.placed;
-        back = is.back;
-        found = λ p b m hp before e. elim (before_next p b i a before) [
-          | inl h ↦ is.found p b m hp h e
-          | inr h ↦
-              let e' : target g (w.node i) a ≡ Some m = subst₂ (λ x y. target g (w.node x) y ≡ Some m) h.0 h.1 e in
-              let e'' : None ≡ Some m = sym none ∙ e' in
-              absurd (let bad : ⊥ = cc in bad)
-        ];
-      }
+  walk_none hi none = walk_same hi (λ m e. let e' : None ≡ Some m = sym none ∙ e in absurd (let bad : ⊥ = cc in bad))
 
-  -- an edge to a node that was found before
   pub walk_known : (next j : ℕ) → i < w.count → target g (w.node i) a ≡ Some next → w.place next ≡ Some j → IsWalkTo k g w i (a + 1)
-  walk_known next j hi here known =
-      record {
-        some = is.some;
-        root = is.root;
-        root_place = is.root_place;
-        leads = is.leads;
-        over = is.over;
-        ascending = is.ascending;
-        made = made_more;
-        placed = is.placed;
-        back = is.back;
-        found = λ p b m hp before e. elim (before_next p b i a before) [
-          | inl h ↦ is.found p b m hp h e
-          | inr h ↦
-              let e' : target g (w.node i) a ≡ Some m = subst₂ (λ x y. target g (w.node x) y ≡ Some m) h.0 h.1 e in
-              let same : next ≡ m = some_same next m (sym here ∙ e') in
-              let late : NoLater (w.word j) (w.word i ++ a ∷ []) = inl (word_before j (is.placed next j known).0 hi) in
-              (j, subst (λ z. w.place z ≡ Some j) same known, subst₂ (λ x y. NoLater (w.word j) (w.word x ++ y ∷ [])) (sym h.0) (sym h.1) late)
-        ];
-      }
+  walk_known next j hi here known = walk_same hi (λ m e. (j, subst (λ z. w.place z ≡ Some j) (some_same next m (sym here ∙ e)) known))
 
   -- an edge to a new node
   pub walk_found : (x : Walked) (next : ℕ) → IsFound w x i a next → i < w.count → a < k → target g (w.node i) a ≡ Some next → w.place next ≡ None → IsWalkTo k g x i (a + 1)
   walk_found x next f hi ha here fresh =
-      record {
-        some = omega (arith, f.count);
-        root = f.words 0 is.some ∙ is.root;
-        root_place = f.places 0 (other 0 0 is.root_place) ∙ is.root_place;
-        leads = λ j hj. elim (split j hj) [
-          | inl l ↦ subst₂ (λ u n. path g 0 u ≡ Some n) (sym (f.words j l)) (sym (f.nodes j l)) (is.leads j l)
-          | inr e ↦ subst (λ z. path g 0 (x.word z) ≡ Some (x.node z)) (sym e) (subst₂ (λ u n. path g 0 u ≡ Some n) (sym f.word_is) (sym f.node_is) there)
-        ];
-        over = λ j hj. elim (split j hj) [
-          | inl l ↦ subst (λ u. IsOver k u) (sym (f.words j l)) (is.over j l)
-          | inr e ↦ subst (λ z. IsOver k (x.word z)) (sym e) (subst (λ u. IsOver k u) (sym f.word_is) (over_append k (w.word i) (a ∷ []) (is.over i hi) (ha, tt)))
-        ];
-        ascending = λ j l less hl. elim (split l hl) [
-          | inl h ↦ subst₂ (λ u v. u ≺ v) (sym (f.words j (omega (arith, less, h)))) (sym (f.words l h)) (is.ascending j l less h)
-          | inr e ↦
-              let hj : j < w.count = omega (arith, less, e) in
-              subst (λ z. x.word j ≺ x.word z) (sym e) (subst₂ (λ u v. u ≺ v) (sym (f.words j hj)) (sym f.word_is) (word_before j hj hi))
-        ];
-        made = λ j some hj. elim (split j hj) [
-          | inl l ↦
-              let m = made_more j some l in
-              let p : x.parent j ≡ w.parent j = f.parents j l in
-              let b : x.letter j ≡ w.letter j = f.letters j l in
-              let hp : w.parent j < w.count = omega (arith, m.1, l) in (
-                subst₂ (λ y z. IsBefore y z i (a + 1)) (sym p) (sym b) m.0,
-                omega (arith, p, m.1),
-                omega (arith, b, m.2),
-                f.words j l ∙ m.3 ∙ subst₂ (λ y z. w.word (w.parent j) ++ w.letter j ∷ [] ≡ y ++ z ∷ []) (sym (f.words (w.parent j) hp) ∙ ap x.word (sym p)) (sym b) refl,
-              )
-          | inr e ↦
-              let p : x.parent j ≡ i = ap x.parent e ∙ f.parent_is in
-              let b : x.letter j ≡ a = ap x.letter e ∙ f.letter_is in (
-                inr (p, omega (arith, b)),
-                omega (arith, p, e, hi),
-                omega (arith, b, ha),
-                ap x.word e ∙ f.word_is ∙ subst₂ (λ y z. w.word i ++ a ∷ [] ≡ y ++ z ∷ []) (sym (f.words i hi) ∙ ap x.word (sym p)) (sym b) refl,
-              )
-        ];
-        placed = λ m j e. elim (cases_eq m next) [
-          | inl same ↦
-              let e' : j ≡ w.count = some_same j w.count (sym e ∙ ap x.place same ∙ f.place_is) in
-              (omega (arith, e', f.count), ap x.node e' ∙ f.node_is ∙ sym same)
-          | inr not ↦
-              let old = is.placed m j (sym (f.places m not) ∙ e) in
-              (omega (arith, old.0, f.count), f.nodes j old.0 ∙ old.1)
-        ];
-        back = λ j hj. elim (split j hj) [
-          | inl l ↦ ap x.place (f.nodes j l) ∙ f.places (w.node j) (other (w.node j) j (is.back j l)) ∙ is.back j l
-          | inr e ↦ subst (λ z. x.place (x.node z) ≡ Some z) (sym e) (ap x.place f.node_is ∙ f.place_is)
-        ];
-        found = λ p b m hp before e. elim (split p hp) [
-          | inr new ↦ absurd (beyond p b (omega (arith, new, hi)) before)
-          | inl l ↦
-              let e' : target g (w.node p) b ≡ Some m = subst (λ z. target g z b ≡ Some m) (f.nodes p l) e in
-              elim (before_next p b i a before) [
-                | inl h ↦
-                    let old = is.found p b m l h e' in
-                    let hj : old.0 < w.count = (is.placed m old.0 old.1).0 in (
-                      old.0,
-                      f.places m (other m old.0 old.1) ∙ old.1,
-                      subst₂ (λ u v. NoLater u (v ++ b ∷ [])) (sym (f.words old.0 hj)) (sym (f.words p l)) old.2,
-                    )
-                | inr h ↦
-                    let e'' : target g (w.node i) a ≡ Some m = subst₂ (λ y z. target g (w.node y) z ≡ Some m) h.0 h.1 e' in
-                    let same : next ≡ m = some_same next m (sym here ∙ e'') in (
-                      w.count,
-                      ap x.place (sym same) ∙ f.place_is,
-                      inr (f.word_is ∙ subst₂ (λ y z. w.word i ++ a ∷ [] ≡ y ++ z ∷ []) (ap w.word (sym h.0) ∙ sym (f.words p l)) (sym h.1) refl),
-                    )
-              ]
-        ];
-      }
+      walk_of k g x i (a + 1) (omega (arith, f.count)) (tree_found k g w x i a next tree f hi here fresh ha)
+      (ascending_found k g w x i a next tree f hi here fresh (λ u. u) is.ascending (λ j hj. word_before j hj hi))
+      (λ j some hj. elim (cases j hj) [
+        | inl l ↦ subst₂ (λ y z. IsBefore y z i (a + 1)) (sym (f.parents j l)) (sym (f.letters j l)) (early_more j some l)
+        | inr e ↦ inr (ap x.parent e ∙ f.parent_is, omega (arith, ap x.letter e ∙ f.letter_is))
+      ])
+      (λ p b m hp before e. elim (cases p hp) [
+        | inr new ↦ absurd (beyond p b (omega (arith, new, hi)) before)
+        | inl l ↦
+            edge_found k g w x i a next tree f hi here fresh (λ u. u) (λ p b. (p < w.count) × IsBefore p b i a) (λ p b m d e. is.found p b m d.0 d.1 e) p b m l
+            (elim (before_next p b i a before) [ inl h ↦ inl (l, h) | inr h ↦ inr h ]) e
+      ])
     where
-      split : (j : ℕ) → j < x.count → (j < w.count) ⊎ (j ≡ w.count)
-      split j hj = elim (cases_lt j w.count) [ inl l ↦ inl l | inr l ↦ inr (omega (arith, l, hj, f.count)) ]
+      tree : IsTree k g w
+      tree = walk_tree k g w i a is
 
-      other : (m j : ℕ) → w.place m ≡ Some j → m ≡ next → ⊥
-      other m j e same = let e' : None ≡ Some j = sym fresh ∙ ap w.place (sym same) ∙ e in let bad : ⊥ = cc in bad
+      cases : (j : ℕ) → j < x.count → (j < w.count) ⊎ (j ≡ w.count)
+      cases = split k g w x i a next tree f hi here fresh
 
       beyond : (p b : ℕ) → i < p → IsBefore p b i (a + 1) → ⊥
       beyond p b h (inl l) = omega (arith, h, l)
       beyond p b h (inr l) = omega (arith, h, l.0)
 
-      there : path g 0 (w.word i ++ a ∷ []) ≡ Some next
-      there = path_append g 0 (w.node i) (w.word i) (a ∷ []) (is.leads i hi) ∙ path_letter g (w.node i) a ∙ here
-
 -- the row ends
 pub walk_row : (k : ℕ) (g : Graph) (w : Walked) (i : ℕ) → IsGraph k g → IsWalkTo k g w i k → IsWalkTo k g w (i + 1) 0
 walk_row k g w i graph is =
-    record {
-      some = is.some;
-      root = is.root;
-      root_place = is.root_place;
-      leads = is.leads;
-      over = is.over;
-      ascending = is.ascending;
-      made = λ j some less. let m = is.made j some less in (inl (elim m.0 [ inl h ↦ omega (arith, h) | inr h ↦ omega (arith, h.0) ]), m.1, m.2, m.3);
-      placed = is.placed;
-      back = is.back;
-      found = λ p b m hp before e. is.found p b m hp (row p b m before e) e;
-    }
+    walk_of k g w (i + 1) 0 is.some (walk_tree k g w i k is) is.ascending
+    (λ j some less. inl (elim (is.made j some less).0 [ inl h ↦ omega (arith, h) | inr h ↦ omega (arith, h.0) ]))
+    (λ p b m hp before e. is.found p b m hp (row p b m before e) e)
   where
     row : (p b m : ℕ) → IsBefore p b (i + 1) 0 → target g (w.node p) b ≡ Some m → IsBefore p b i k
     row p b m (inr h) e = absurd (omega (arith, h.1))
@@ -219,21 +151,9 @@ walk_row k g w i graph is =
 -- before the first edge
 pub walk_start : (k : ℕ) (g : Graph) (w : Walked) → w.count ≡ 1 → w.node 0 ≡ 0 → w.word 0 ≡ [] → w.place 0 ≡ Some 0 → ((m : ℕ) → (m ≡ 0 → ⊥) → w.place m ≡ None) → IsWalkTo k g w 0 0
 walk_start k g w one node word place none =
-    record {
-      some = omega (arith, one);
-      root = word;
-      root_place = place;
-      leads = λ j h. let e : j ≡ 0 = omega (arith, one, h) in subst (λ z. path g 0 (w.word z) ≡ Some (w.node z)) (sym e) (ap (λ z. path g 0 z) word ∙ ap (λ z. Some z) (sym node));
-      over = λ j h. let e : j ≡ 0 = omega (arith, one, h) in subst (λ z. IsOver k (w.word z)) (sym e) (subst (λ z. IsOver k z) (sym word) tt);
-      ascending = λ j l less h. absurd (omega (arith, one, less, h));
-      made = λ j some h. absurd (omega (arith, one, some, h));
-      placed = λ m j e. elim (cases_eq m 0) [
-        | inl z ↦ let e' : j ≡ 0 = some_same j 0 (sym e ∙ ap w.place z ∙ place) in (omega (arith, one, e'), ap w.node e' ∙ node ∙ sym z)
-        | inr not ↦ let e' : None ≡ Some j = sym (none m not) ∙ e in absurd (let bad : ⊥ = cc in bad)
-      ];
-      back = λ j h. let e : j ≡ 0 = omega (arith, one, h) in subst (λ z. w.place (w.node z) ≡ Some z) (sym e) (ap w.place node ∙ place);
-      found = λ p b m h before e. elim before [ inl l ↦ absurd (omega (arith, l)) | inr l ↦ absurd (omega (arith, l.1)) ];
-    }
+    walk_of k g w 0 0 (omega (arith, one)) (tree_start k g w one node word place none)
+    (λ j l less h. absurd (omega (arith, one, less, h))) (λ j some h. absurd (omega (arith, one, some, h)))
+    (λ p b m h before e. elim before [ inl l ↦ absurd (omega (arith, l)) | inr l ↦ absurd (omega (arith, l.1)) ])
 
 module _ (k : ℕ) (g : Graph) (w : Walked) (is : IsWalk k g w) where
   -- each node that a word leads to has a place, whose word is no later

@@ -5,10 +5,10 @@ use Rattle.std.proofs.lemmas.List.{get_or_append_left, get_or_push, length_push,
 use Rattle.std.proofs.lemmas.List.Elements.{All-push}
 use Rattle.theory.specs.Word.{Word}
 use Rattle.theory.specs.Graph.{Graph, path}
-use Rattle.word_graph.specs.Walk.{NoLater, IsLeastWord, AreLeastWords}
+use Rattle.word_graph.specs.Walk.{NoLater, IsTree, IsLeastWord, AreLeastWords}
 use Rattle.word_graph.specs.Steps.{step_at, walked, IsWalkedTo, next_word, words_behind, words_of}
 use Rattle.word_graph.specs.declared.walks.Step.{Step}
-use Rattle.word_graph.proofs.WalkLaws.{some_same, word_place}
+use Rattle.word_graph.proofs.WalkLaws.{some_same, walk_tree, word_place}
 
 pub less_true : (m n : ℕ) → m < n → nat_lt m n ≡ true
 less_true m n h = grind (arith, h)
@@ -28,18 +28,17 @@ words_length words (s ∷ ss) = words_length (words ++ next_word words s ∷ [])
 pub words_size : (ss : List Step) → length (words_of ss) ≡ length ss
 words_size ss = words_length [] ss ∙ omega arith
 
-module _ (steps : List Step) (word : ℕ → Word) (root : word 0 ≡ [])
-    (made : (j : ℕ) → 0 < j → j < length steps → ((step_at steps j).parent < j) × (word j ≡ word (step_at steps j).parent ++ (step_at steps j).letter ∷ [])) where
+module _ (k : ℕ) (g : Graph) (steps : List Step) (places : List (Option ℕ)) (word : ℕ → Word) (tree : IsTree k g (walked steps places word)) where
   new_word : (i : ℕ) → i < length steps → ((j : ℕ) → j < i → get_or (words_of (take i steps)) j [] ≡ word j)
       → next_word (words_of (take i steps)) (step_at steps i) ≡ word i
   new_word zero h old =
-      ap (λ b. cond b (get_or [] (step_at steps 0).parent [] ++ (step_at steps 0).letter ∷ []) []) (none_less (step_at steps 0).parent) ∙ sym root
+      ap (λ b. cond b (get_or [] (step_at steps 0).parent [] ++ (step_at steps 0).letter ∷ []) []) (none_less (step_at steps 0).parent) ∙ sym tree.root
   new_word (suc i) h old =
-      let m = made (suc i) (omega arith) h in
+      let m = tree.made (suc i) (omega arith) h in
       let size : length (words_of (take (suc i) steps)) ≡ suc i = words_size (take (suc i) steps) ∙ length-take-le (suc i) steps (omega arith) in
       ap (λ b. cond b (get_or (words_of (take (suc i) steps)) (step_at steps (suc i)).parent [] ++ (step_at steps (suc i)).letter ∷ []) [])
       (less_true (step_at steps (suc i)).parent (length (words_of (take (suc i) steps))) (omega (arith, size, m.0)))
-      ∙ ap (λ w. w ++ (step_at steps (suc i)).letter ∷ []) (old (step_at steps (suc i)).parent m.0) ∙ sym m.1
+      ∙ ap (λ w. w ++ (step_at steps (suc i)).letter ∷ []) (old (step_at steps (suc i)).parent m.0) ∙ sym m.2
 
   words_to : (i : ℕ) → i ≤ length steps → (j : ℕ) → j < i → get_or (words_of (take i steps)) j [] ≡ word j
   words_to zero h j less = absurd (omega arith)
@@ -67,7 +66,7 @@ module _ (k : ℕ) (g : Graph) (steps : List Step) (places : List (Option ℕ)) 
   place_least node j at =
       let placed = is.walk.placed node j at in (
         placed.0,
-        subst (λ w. IsLeastWord g node w) (sym (words_are steps is.word is.walk.root (λ j some h. let m = is.walk.made j some h in (m.1, m.3)) j placed.0)) (record {
+        subst (λ w. IsLeastWord g node w) (sym (words_are k g steps places is.word (walk_tree k g (walked steps places is.word) (length steps) 0 is.walk) j placed.0)) (record {
           leads = is.walk.leads j placed.0 ∙ ap (λ z. Some z) placed.1;
           least = λ v e.
               let f = word_place k g (walked steps places is.word) is.walk v [] 0 node 0 is.walk.root_place (inr is.walk.root) e in

@@ -1,9 +1,9 @@
 -- Walks over the nodes of a graph level by level, in the order of words that are read backwards.
 use Rattle.std.specs.Prelude.{◌≡◌, ℕ, ◌+◌, ◌<◌, ◌≤◌, List, [], ◌∷◌, ◌++◌, ◌⊎◌, length, reverse, Option, Some}
-use Rattle.theory.specs.Word.{Word, IsOver}
+use Rattle.theory.specs.Word.{Word}
 use Rattle.theory.specs.ShortLex.{◌≺◌}
-use Rattle.theory.specs.Graph.{Graph, target, path}
-use Rattle.word_graph.specs.Walk.{NoLater, IsBefore, Walked}
+use Rattle.theory.specs.Graph.{Graph, target}
+use Rattle.word_graph.specs.Walk.{NoLater, IsBefore, Walked, IsTree}
 use Rattle.word_graph.specs.Gaps.{count_none}
 use Rattle.word_graph.specs.Steps.{walked}
 use Rattle.word_graph.specs.declared.walks.Step.{Step}
@@ -28,22 +28,16 @@ IsDone at p b = (p < at.from) ⊎ ((p < at.to) × IsBefore b p at.letter at.plac
 -- all is found that edges lead to from places before the level, and those of its own that are done
 pub record IsLevelWalk (k : ℕ) (g : Graph) (w : Walked) (at : Frontier) : Type 0 where
   pub depth : ℕ
-  pub root : w.word 0 ≡ []
-  pub root_place : w.place 0 ≡ Some 0
   pub within : at.to ≤ w.count
-  pub leads : (j : ℕ) → j < w.count → path g 0 (w.word j) ≡ Some (w.node j)
-  pub over : (j : ℕ) → j < w.count → IsOver k (w.word j)
-  pub ascending : (j l : ℕ) → j < l → l < w.count → reverse (w.word j) ≺ reverse (w.word l)
-  pub made : (j : ℕ) → 0 < j → j < w.count
-      → (w.parent j < j) × (w.word j ≡ w.word (w.parent j) ++ w.letter j ∷ [])
   pub before : (j : ℕ) → j < at.to → length (w.word j) ≤ depth
   pub level : (j : ℕ) → at.from ≤ j → j < at.to → length (w.word j) ≡ depth
   pub next : (j : ℕ) → at.to ≤ j → j < w.count
       → (length (w.word j) ≡ depth + 1) × IsBefore (w.letter j) (w.parent j) at.letter at.place
-  pub placed : (m j : ℕ) → w.place m ≡ Some j → (j < w.count) × (w.node j ≡ m)
-  pub back : (j : ℕ) → j < w.count → w.place (w.node j) ≡ Some j
+  pub tree : IsTree k g w
+  pub ascending : (j l : ℕ) → j < l → l < w.count → reverse (w.word j) ≺ reverse (w.word l)
   pub found : (p b m : ℕ) → IsDone at p b → target g (w.node p) b ≡ Some m
-      → (j : ℕ) × (w.place m ≡ Some j) × NoLater (reverse (w.word j)) (b ∷ reverse (w.word p))
+      → (j : ℕ) × (w.place m ≡ Some j)
+      × NoLater (reverse (w.word j)) (reverse (w.word p ++ b ∷ []))
 
 -- steps and places are such a walk, and each step took one place
 pub record IsLevelledTo (k : ℕ) (g : Graph) (steps : List Step) (places : List (Option ℕ))

@@ -24,6 +24,18 @@ pub record Walked : Type 0 where
   pub word : ℕ → Word
   pub place : ℕ → Option ℕ
 
+-- the places are a tree: the first is the root, each other goes on from one before by a letter, and
+-- its word leads to its node, whose place it is
+pub record IsTree (k : ℕ) (g : Graph) (w : Walked) : Type 0 where
+  pub root : w.word 0 ≡ []
+  pub root_place : w.place 0 ≡ Some 0
+  pub leads : (j : ℕ) → j < w.count → path g 0 (w.word j) ≡ Some (w.node j)
+  pub over : (j : ℕ) → j < w.count → IsOver k (w.word j)
+  pub made : (j : ℕ) → 0 < j → j < w.count
+      → (w.parent j < j) × (w.letter j < k) × (w.word j ≡ w.word (w.parent j) ++ w.letter j ∷ [])
+  pub placed : (m j : ℕ) → w.place m ≡ Some j → (j < w.count) × (w.node j ≡ m)
+  pub back : (j : ℕ) → j < w.count → w.place (w.node j) ≡ Some j
+
 -- all is found that edges lead to from the rows of places before i, and in the row of i by letters
 -- before a
 pub record IsWalkTo (k : ℕ) (g : Graph) (w : Walked) (i a : ℕ) : Type 0 where
