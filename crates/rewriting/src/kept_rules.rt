@@ -1,5 +1,5 @@
 // Rules that change, and that are found by a table.
-ghost use Rattle.std.specs.Prelude.{◌≡◌, ℕ, ◌<◌, ◌≤◌, false, [], ◌∷◌, ◌++◌, length, not, slice_index_or, slice_set, IfOk};
+ghost use Rattle.std.specs.Prelude.{◌≡◌, ℕ, ◌<◌, ◌≤◌, false, [], ◌∷◌, ◌++◌, length, not, slice_index_or, slice_set, IfOk, OnOk, OnErr};
 ghost use Rattle.std.specs.List.{filter};
 ghost use Rattle.theory.specs.ShortLex.{◌≺◌};
 ghost use Rattle.theory.specs.Completion.{IsReduced, Listed, Reduces};
@@ -16,13 +16,6 @@ use ports::NoMemory;
 use std::alloc::Global;
 use std::marker::Model;
 use words::Word;
-
-// With more newer rules than this the table is made anew. More of them slow each rule that is
-// added; fewer cost more tables.
-const NEWER_AT_MOST: usize = 32;
-
-// A table with many states is dear: so many of them are worth one newer rule more.
-const STATES_FOR_ONE_MORE: usize = 32;
 
 /// A list of rewriting rules that changes often. Words are reduced by the
 /// [`IndexAutomaton`](crate::IndexAutomaton) of the rules that were there some time ago, and the
@@ -112,33 +105,22 @@ impl KeptRules {
 
     /// Takes out the rules in whose left sides that of a new rule stands, and puts the new rule at
     /// the end. Its left side is greater than its right side. What was taken out is given back, in
-    /// order. Refused only where memory is wanting.
-    pub fn add(self, left: Word, right: Word) -> Result<(KeptRules, Vec<(Word, Word)>), NoMemory>
+    /// order. Refused only where memory is wanting, and then no rule is left.
+    pub fn add(&mut self, left: Word, right: Word) -> Result<Vec<(Word, Word)>, NoMemory>
         requires { right ≺ left }
-        ensures kept { IfOk result (λ r.
-            r.0 ≡ filter (λ q. not (stands_in left q.0)) self ++ (left, right) ∷ []) }
-        ensures gone { IfOk result (λ r. r.1.items ≡ filter (λ q. stands_in left q.0) self) }
+        ensures kept { OnOk result
+            (self.new ≡ filter (λ q. not (stands_in left q.0)) self.old ++ (left, right) ∷ []) }
+        ensures gone { IfOk result (λ gone.
+            gone.items ≡ filter (λ q. stands_in left q.0) self.old) }
+        ensures none { OnErr result (self.new ≡ []) }
     {
-        let KeptRules { rules, mut lookup } = self;
-        let (rules, gone) = lookup.put(rules, left, right)?;
-        let mut kept = KeptRules { rules, lookup };
-        kept.renew()?;
-        Ok((kept, gone))
-    }
-
-    // How many rules may be newer before the table is made anew.
-    fn newer_at_most(&self) -> usize {
-        NEWER_AT_MOST + self.lookup.states() / STATES_FOR_ONE_MORE
-    }
-
-    // Makes the table anew if many rules are newer.
-    fn renew(&mut self) -> Result<(), NoMemory>
-        ensures { self.new ≡ self.old }
-    {
-        if self.newer_at_most() < self.rules.len() - self.lookup.first {
-            self.rebuild()?;
+        match self.lookup.put(&mut self.rules, left, right) {
+            Ok(gone) => Ok(gone),
+            Err(NoMemory) => {
+                *self = KeptRules::new(self.rules.alloc);
+                Err(NoMemory)
+            }
         }
-        Ok(())
     }
 
     /// A word to which the rules lead from the word, and to which none applies. Refused only where

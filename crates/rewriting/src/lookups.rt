@@ -22,7 +22,15 @@ use crate::rule_lists::Rules;
 use crate::traces::{Applied, follow};
 use ports::NoMemory;
 use std::alloc::Global;
+use std::mem;
 use words::{Letter, Word};
+
+// With more newer rules than this the table is made anew. More of them slow each rule that is
+// added; fewer cost more tables.
+const NEWER_AT_MOST: usize = 32;
+
+// A table with many states is dear: so many of them are worth one newer rule more.
+const STATES_FOR_ONE_MORE: usize = 32;
 
 /// The table of the rules that were there when it was made, the place where each of these stands
 /// now, if it is still there, the place of the first newer rule, behind which all are newer, and
@@ -84,8 +92,8 @@ impl Lookup {
         })
     }
 
-    /// How many states the table has.
-    pub fn states(&self) -> usize
+    // How many states the table has.
+    fn states(&self) -> usize
         ensures { result ≡ length (moves_of self.now).prefixes }
     {
         match &self.table {
@@ -124,51 +132,53 @@ impl Lookup {
         Ok(())
     }
 
-    // The same, where some rule may be taken out.
-    fn take_out(
-        &mut self,
-        rules: Rules,
-        left: Word,
-        right: Word,
-    ) -> Result<(Rules, Vec<(Word, Word)>), NoMemory>
-        requires lookup { IsLookup rules self.old }
-        requires falls { right ≺ left }
-        ensures lookup { IfOk result (λ r. IsLookup r.0 self.new) }
-        ensures kept { IfOk result (λ r.
-            r.0 ≡ filter (λ q. not (stands_in left q.0)) rules ++ (left, right) ∷ []) }
-        ensures gone { IfOk result (λ r. r.1.items ≡ filter (λ q. stands_in left q.0) rules) }
+    // How many rules may be newer before the table is made anew.
+    fn newer_at_most(&self) -> usize {
+        NEWER_AT_MOST + self.states() / STATES_FOR_ONE_MORE
+    }
+
+    // Makes the table anew if many rules are newer.
+    fn renew(&mut self, rules: &Rules) -> Result<(), NoMemory>
+        requires { IsLookup rules.now self.old }
+        ensures { OnOk result (IsLookup rules.now self.new) }
     {
-        let alloc = rules.alloc;
-        let parts = part(alloc, rules.into_vec(), &left, self.first)?;
-        let mut rules = Rules::from_vec(alloc, parts.kept);
-        rules.push(left, right)?;
-        self.place_anew(&rules, parts.moved.as_slice(), parts.first)?;
-        Ok((rules, parts.gone))
+        if self.newer_at_most() < rules.len() - self.first {
+            *self = Lookup::of(rules)?;
+        }
+        Ok(())
     }
 
     /// Takes out the rules in whose left sides that of a new rule stands, and puts the new rule at
-    /// the end. What was taken out is given back, in order. Refused only where memory is wanting.
+    /// the end. What was taken out is given back, in order. Refused only where memory is wanting,
+    /// and then rules and lookup are to be given up.
     pub fn put(
         &mut self,
-        rules: Rules,
+        rules: &mut Rules,
         left: Word,
         right: Word,
-    ) -> Result<(Rules, Vec<(Word, Word)>), NoMemory>
-        requires lookup { IsLookup rules self.old }
+    ) -> Result<Vec<(Word, Word)>, NoMemory>
+        requires lookup { IsLookup rules.old self.old }
         requires falls { right ≺ left }
-        ensures lookup { IfOk result (λ r. IsLookup r.0 self.new) }
-        ensures kept { IfOk result (λ r.
-            r.0 ≡ filter (λ q. not (stands_in left q.0)) rules ++ (left, right) ∷ []) }
-        ensures gone { IfOk result (λ r. r.1.items ≡ filter (λ q. stands_in left q.0) rules) }
+        ensures lookup { OnOk result (IsLookup rules.new self.new) }
+        ensures kept { OnOk result
+            (rules.new ≡ filter (λ q. not (stands_in left q.0)) rules.old ++ (left, right) ∷ []) }
+        ensures gone { IfOk result (λ gone.
+            gone.items ≡ filter (λ q. stands_in left q.0) rules.old) }
     {
-        if rules.has_in_left(&left) {
-            return self.take_out(rules, left, right);
-        }
         let alloc = rules.alloc;
-        let mut rules = rules;
+        if !rules.has_in_left(&left) {
+            rules.push(left, right)?;
+            self.put_last(rules)?;
+            self.renew(rules)?;
+            return Ok(Vec::new(alloc));
+        }
+        let old = mem::replace(rules, Rules::new(alloc));
+        let parts = part(alloc, old.into_vec(), &left, self.first)?;
+        *rules = Rules::from_vec(alloc, parts.kept);
         rules.push(left, right)?;
-        self.put_last(&rules)?;
-        Ok((rules, Vec::new(alloc)))
+        self.place_anew(rules, parts.moved.as_slice(), parts.first)?;
+        self.renew(rules)?;
+        Ok(parts.gone)
     }
 
     // Whether the left side of the newer rule of a number, from 0, stands at the end of the letters
