@@ -123,18 +123,8 @@ impl KeptRules {
         }
     }
 
-    /// A word to which the rules lead from the word, and to which none applies. Refused only where
-    /// memory is wanting.
-    pub fn reduce(&self, word: &Word) -> Result<Word, NoMemory>
-        ensures reached { IfOk result (λ w. Reduces (Listed self.now) word.now w) }
-        ensures reduced { IfOk result (λ w. IsReduced (Listed self.now) w) }
-    {
-        let mut room = Reduction::new(self.rules.alloc);
-        self.reduce_in(&mut room, word)
-    }
-
-    /// The same in room that is kept from one word to the next. Refused only where memory is
-    /// wanting.
+    /// A word to which the rules lead from the word, and to which none applies, made in room that
+    /// is kept from one word to the next. Refused only where memory is wanting.
     pub fn reduce_in(&self, room: &mut Reduction, word: &Word) -> Result<Word, NoMemory>
         ensures reached { IfOk result (λ w. Reduces (Listed self.now) word.now w) }
         ensures reduced { IfOk result (λ w. IsReduced (Listed self.now) w) }
