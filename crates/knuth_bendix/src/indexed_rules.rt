@@ -1,5 +1,5 @@
 // Rules that change, with an index of their sides.
-ghost use Rattle.std.specs.Prelude.{◌≡◌, ℕ, ◌<◌, ◌≤◌, true, false, [], ◌∷◌, ◌++◌, List, length, not, reverse, slice_index_or, slice_set, IfOk, OnOk, IsTrue, ◌↔◌};
+ghost use Rattle.std.specs.Prelude.{◌≡◌, ℕ, ◌<◌, ◌≤◌, true, false, [], ◌∷◌, ◌++◌, List, length, not, reverse, slice_index_or, slice_set, IfOk, OnOk, OnErr, IsTrue, ◌↔◌};
 ghost use Rattle.std.specs.Int.Bits.{bit_or};
 ghost use Rattle.std.specs.List.{filter};
 ghost use Rattle.theory.specs.Word.{IsFactor, Word as Letters};
@@ -80,18 +80,19 @@ impl Index {
         Ok(index)
     }
 
-    // The index of the rules, of which it is given whether the last one alone is new.
-    fn after(self, alloc: Global, rules: &KeptRules, one_more: bool) -> Result<Index, NoMemory>
+    // Brings the index up to date, of which it is given whether the last rule alone is new.
+    fn renew(&mut self, alloc: Global, rules: &KeptRules, one_more: bool) -> Result<(), NoMemory>
         requires { one_more ≡ true → (others : List (Letters × Letters))
-            × (last : Letters × Letters) × (rules.now ≡ others ++ last ∷ []) × IsIndexOf others self }
-        ensures { IfOk result (IsIndexOf rules.now) }
+            × (last : Letters × Letters) × (rules.now ≡ others ++ last ∷ [])
+            × IsIndexOf others self.old }
+        ensures { OnOk result (IsIndexOf rules.now self.new) }
     {
-        if !one_more {
-            return Index::of(alloc, rules);
+        if one_more {
+            self.push(rules.rule(rules.len() - 1))?;
+        } else {
+            *self = Index::of(alloc, rules)?;
         }
-        let mut index = self;
-        index.push(rules.rule(rules.len() - 1))?;
-        Ok(index)
+        Ok(())
     }
 
     // Gives the rule at a place another right side.
@@ -246,16 +247,22 @@ impl IndexedRules {
 
     /// Takes out the rules in whose left sides that of a new rule stands, and puts the new rule at
     /// the end. Its left side is greater than its right side. What was taken out is given back, in
-    /// order. Refused only where memory is wanting.
-    pub fn add(self, left: Word, right: Word) -> Result<(IndexedRules, Vec<(Word, Word)>), NoMemory>
+    /// order. Refused only where memory is wanting, and then no rule is left.
+    pub fn add(&mut self, left: Word, right: Word) -> Result<Vec<(Word, Word)>, NoMemory>
         requires { right ≺ left }
-        ensures kept { IfOk result (λ r.
-            r.0 ≡ filter (λ q. not (stands_in left q.0)) self ++ (left, right) ∷ []) }
-        ensures gone { IfOk result (λ r. r.1.items ≡ filter (λ q. stands_in left q.0) self) }
+        ensures kept { OnOk result
+            (self.new ≡ filter (λ q. not (stands_in left q.0)) self.old ++ (left, right) ∷ []) }
+        ensures gone { IfOk result (λ gone.
+            gone.items ≡ filter (λ q. stands_in left q.0) self.old) }
+        ensures none { OnErr result (self.new ≡ []) }
     {
-        let IndexedRules { alloc, kept, index } = self;
-        let (kept, gone) = kept.add(left, right)?;
-        let index = index.after(alloc, &kept, gone.is_empty())?;
-        Ok((IndexedRules { alloc, kept, index }, gone))
+        if let Ok(gone) = self.kept.add(left, right) {
+            let one_more = gone.is_empty();
+            if let Ok(()) = self.index.renew(self.alloc, &self.kept, one_more) {
+                return Ok(gone);
+            }
+        }
+        *self = IndexedRules::new(self.alloc);
+        Err(NoMemory)
     }
 }

@@ -1,7 +1,5 @@
 // Adding a rule, and what it changes in the rules that are there.
-ghost use Rattle.std.specs.Prelude.{◌≡◌, ℕ, ◌<◌, ◌∷◌, ◌++◌, [], length, not, IfOk, IsTrue, OnOk, ◌↔◌};
-ghost use Rattle.std.specs.List.{filter};
-ghost use Rattle.rewriting.specs.Rules.{stands_in};
+ghost use Rattle.std.specs.Prelude.{◌≡◌, ℕ, ◌<◌, [], length, IfOk, IsTrue, OnOk, ◌↔◌};
 ghost use Rattle.theory.specs.ShortLex.{◌≺◌};
 ghost use Rattle.theory.specs.Word.{IsFactor, Word as Letters};
 ghost use Rattle.knuth_bendix.specs.Changes.{AddsRule, IsDone, Joins, Rewrites};
@@ -19,7 +17,6 @@ use ports::NoMemory;
 use rewriting::has_factor;
 use std::alloc::Global;
 use std::cmp::Ordering;
-use std::mem;
 use words::{Word, shortlex};
 
 // The reduced right side of a rule. The rule that has it is logged.
@@ -125,26 +122,6 @@ fn rewrite_rights(
     Ok(())
 }
 
-// Takes out the rules in whose left sides that of a new rule stands, and puts the new rule at the
-// end. What was taken out is given back, in order.
-fn put_rule(
-    alloc: Global,
-    rules: &mut IndexedRules,
-    left: Word,
-    right: Word,
-) -> Result<Vec<(Word, Word)>, NoMemory>
-    requires { right ≺ left }
-    ensures kept { OnOk result
-        (rules.new ≡ filter (λ q. not (stands_in left q.0)) rules.old ++ (left, right) ∷ []) }
-    ensures gone { IfOk result (λ gone.
-        gone.items ≡ filter (λ q. stands_in left q.0) rules.old) }
-{
-    let old = mem::replace(rules, IndexedRules::new(alloc));
-    let (new, gone) = old.add(left, right)?;
-    *rules = new;
-    Ok(gone)
-}
-
 // Adds the rule that leads from the one word to the other. Rules in which its left side stands
 // become equations, and so do the words to which its overlaps within the length lead where no rules
 // join them.
@@ -163,7 +140,7 @@ fn add_rule(
     ensures logged { OnOk result
         (KeepsLog pending.old.log pending.new.log rules.new pending.new.equations) }
 {
-    let gone = put_rule(pending.alloc, rules, left, right)?;
+    let gone = rules.add(left, right)?;
     pending.equations.extend(gone)?;
     let newest = rules.len() - 1;
     rewrite_rights(pending.alloc, rules, newest, &mut pending.log)?;

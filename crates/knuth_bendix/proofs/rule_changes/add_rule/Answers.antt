@@ -15,7 +15,7 @@ returns-clause-adds c =
     let kept : List (Word × Word) = filter (λ r. not (stands_in c.args.left r.0)) c.args.rules.now in
     let newest : c.len-newest.result - 1 ≡ length kept =
     omega (arith, c.len-newest.ensures.len, ap length c.in_ok-gone.ensures.kept, length-append kept ((c.args.left, c.args.right) ∷ [])) in
-    adds_rule c.args.length c.args.left c.args.right c.args.rules.now kept c.put_rule.new.rules c.rewrite_rights.new.rules
+    adds_rule c.args.length c.args.left c.args.right c.args.rules.now kept c.add.new.self c.rewrite_rights.new.rules
     c.args.pending.now.equations c.extend.new.self c.join_all.new.self.equations (c.len-newest.result - 1)
     (record { kept_is = refl; moved = subst (λ (es : List (Word × Word)). IsPermutation (c.args.pending.now.equations ++ es) c.extend.new.self) c.in_ok-gone.ensures.gone c.in_ok-extend.ensures }) newest
     c.in_ok-gone.ensures.kept c.in_ok-rewrite_rights.ensures.rewrites c.in_ok-rewrite_rights.ensures.done c.in_ok-join_all.ensures.gains
