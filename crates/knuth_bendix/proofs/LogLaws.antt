@@ -1,11 +1,16 @@
 -- What a completion logs, step by step.
-use Rattle.std.proofs.Common.{◌≡◌, ℕ, zero, suc, min, ◌+◌, ◌-◌, ◌<◌, ◌≤◌, Bool, true, false, List, [], ◌∷◌, ◌++◌, map, reverse, take, drop, length, get_or, set, refl, sym, ◌∙◌, ap, subst, subst₂, arith, append_assoc, Equal, Option, None, Some, option_map, slice_get, is_some, IsTrue, MatchOption, length-take, take-append-drop}
+use Rattle.std.proofs.Common.{◌≡◌, ℕ, zero, suc, min, ◌+◌, ◌-◌, ◌<◌, ◌≤◌, Bool, true, false, cond, ◌==◌, inl, inr, List, [], ◌∷◌, ◌++◌, map, reverse, take, drop, length, get_or, set, refl, sym, ◌∙◌, ap, ap₂, subst, subst₂, arith, append_assoc, Equal, Option, None, Some, option_map, slice_get, is_some, IsTrue, MatchOption, length-take, take-append-drop}
+use Rattle.std.specs.Bool.{Decides}
+use Rattle.std.specs.Cmp.{unsigned_Decides}
+use Rattle.std.specs.Cmp.Lexicographic.{pointwise, pointwise_decides}
 use Rattle.std.specs.List.{Contains}
 use Rattle.std.specs.List.Sorted.{IsPermutation}
 use Rattle.std.proofs.lemmas.List.{append-nil, get_or_default, map-append}
 use Rattle.std.proofs.lemmas.List.Elements.{All-head, All-nil, All-set, All-tail, All-weaker, Contains-append_left, Contains-append_right, Contains-get_or, Contains-push}
 use Rattle.std.proofs.lemmas.List.Sorted.{All-permutation}
-use Rattle.std.proofs.lemmas.Option.{get_or_from_slice_get, slice_get_within}
+use Rattle.std.proofs.lemmas.Bool.{cases_Bool, cases_lt}
+use Rattle.std.proofs.lemmas.Bool.Decides.{Decides-and}
+use Rattle.std.proofs.lemmas.Option.{get_or_from_slice_get, same_Some, slice_get_within}
 use Rattle.theory.specs.Word.{Word}
 use Rattle.theory.specs.Congruence.{Presentation}
 use Rattle.theory.specs.PlacedStep.{Gives, AllGive, LeadTo, last_word, read_sides}
@@ -19,7 +24,7 @@ use Rattle.chains.specs.declared.steps.ChainStep.{ChainStep}
 use Rattle.rewriting.specs.Traces.{LeadBy, as_relations, step_of}
 use Rattle.rewriting.specs.declared.traces.Applied.{Applied}
 use Rattle.knuth_bendix.specs.declared.logs.Facts.{Facts}
-use Rattle.knuth_bendix.specs.Logs.{AreFor, AreLogged, Grows, IsFor, IsLogOf, IsLogged, KeepsLog, LogsHeld, LogsRule, Shows}
+use Rattle.knuth_bendix.specs.Logs.{AreFor, AreLogged, AreNumbersOf, Grows, IsFor, IsLogOf, IsLogged, KeepsLog, LogsHeld, LogsRule, Shows, same_words}
 use Rattle.knuth_bendix.specs.Overlaps.{critical_pair, overlaps_by, rule_at}
 use Rattle.knuth_bendix.specs.Runs.{AreShortRelations}
 
@@ -291,3 +296,27 @@ keeps_none log rules equations held = record { grows = grows_none log; held = he
 
 pub keeps_after : (a b c : Option Derived) (rules equations : List (Word × Word)) → Grows a b → KeepsLog b c rules equations → KeepsLog a c rules equations
 keeps_after a b c rules equations grows keeps = record { grows = grows_after a b c grows keeps.grows; held = keeps.held }
+
+-- one relation more has a number
+pub numbers_step : (relations : List (Word × Word)) (count : ℕ) (old new : Word × Word → Option ℕ) (pair : Word × Word) → AreNumbersOf relations count old → slice_get relations count ≡ Some pair
+    → ((q : Word × Word) → new q ≡ cond (same_words pair q) (Some count) (old q)) → AreNumbersOf relations (count + 1) new
+numbers_step relations count old new pair is at put q = elim (cases_Bool (same_words pair q)) [
+  | inl t ↦ rw (put q, t) (at ∙ ap Some (ap₂ (λ (u v : Word). (u, v)) (same.0 t).0 (same.0 t).1))
+  | inr f ↦ rw (put q, f) (go (old q) (is q) f)
+]
+  where
+    same : Decides (same_words pair q) ((pair.0 ≡ q.0) × (pair.1 ≡ q.1))
+    same = Decides-and (pointwise ◌==◌ pair.0 q.0) (pointwise ◌==◌ pair.1 q.1) (pointwise_decides unsigned_Decides pair.0 q.0) (pointwise_decides unsigned_Decides pair.1 q.1)
+
+    go : (o : Option ℕ) → MatchOption o ((place : ℕ) → place < count → slice_get relations place ≡ Some q → ⊥) (λ n. slice_get relations n ≡ Some q) → same_words pair q ≡ false
+        → MatchOption o ((place : ℕ) → place < count + 1 → slice_get relations place ≡ Some q → ⊥) (λ n. slice_get relations n ≡ Some q)
+    go (Some n) h f = h
+    go None h f = λ place within e. elim (cases_lt place count) [
+      | inl l ↦ h place l e
+      | inr l ↦
+          let last : place ≡ count = omega (arith, l, within) in
+          let it = same_Some pair q (sym at ∙ ap (slice_get relations) (sym last) ∙ e) in
+          let bad : true ≡ false = sym (same.1 (ap (λ (p : Word × Word). p.0) it, ap (λ (p : Word × Word). p.1) it)) ∙ f in
+          let no : ⊥ = cc in
+          absurd no
+    ]

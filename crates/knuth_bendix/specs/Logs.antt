@@ -1,5 +1,6 @@
 -- What a completion logs: facts that follow from the relations, or nothing.
-use Rattle.std.specs.Prelude.{◌≡◌, true, List, [], ◌∷◌, ◌++◌, Option, None, Some, slice_get, All, Contains}
+use Rattle.std.specs.Prelude.{◌≡◌, ℕ, ◌<◌, Bool, true, ◌&&◌, ◌==◌, List, [], ◌∷◌, ◌++◌, Option, None, Some, slice_get, All, Contains, MatchOption}
+use Rattle.std.specs.Cmp.Lexicographic.{pointwise}
 use Rattle.theory.specs.Word.{Word}
 use Rattle.theory.specs.Congruence.{Presentation}
 use Rattle.theory.specs.PlacedStep.{LeadTo}
@@ -9,6 +10,16 @@ use Rattle.chains.specs.Derivations.{Derived, all_of}
 use Rattle.chains.specs.declared.derivations.Fact.{Fact}
 use Rattle.chains.specs.declared.steps.ChainStep.{ChainStep}
 use Rattle.rewriting.specs.declared.traces.Applied.{Applied}
+
+-- whether both words of two pairs are equal
+abbrev pub same_words : Word × Word → Word × Word → Bool
+same_words p q = pointwise ◌==◌ p.0 q.0 && pointwise ◌==◌ p.1 q.1
+
+-- the number of a pair of words is that of a relation; the first relations, so many, have numbers
+abbrev pub AreNumbersOf : List (Word × Word) → ℕ → (Word × Word → Option ℕ) → Type 0
+AreNumbersOf relations count numbers = (pair : Word × Word) → MatchOption (numbers pair)
+    ((place : ℕ) → place < count → slice_get relations place ≡ Some pair → ⊥)
+    (λ number. slice_get relations number ≡ Some pair)
 
 -- steps over what is logged lead from u to v, if something is
 abbrev pub Shows : Option Derived → Word → List ChainStep → Word → Type 0

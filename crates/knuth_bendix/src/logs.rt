@@ -1,4 +1,5 @@
 // How the rules and equations of a completion follow from the relations.
+ghost use Rattle.std.specs.HashMap.{get};
 ghost use Rattle.std.specs.Prelude.{◌≡◌, ◌<◌, ◌≤◌, [], None, Some, is_some, length, slice_get, Contains, IfOk, OnOk, IsTrue};
 ghost use Rattle.theory.specs.Word.{Word as Letters};
 ghost use Rattle.theory.specs.PlacedStep.{LeadTo, read_sides};
@@ -6,7 +7,7 @@ ghost use Rattle.theory.specs.Completion.{IsReduced, Listed, Reduces};
 ghost use Rattle.rewriting.specs.Traces.{LeadBy};
 ghost use Rattle.chains.specs.Chains.{IsStraight, steps_of};
 ghost use Rattle.chains.specs.Derivations.{Derived, all_of};
-ghost use Rattle.knuth_bendix.specs.Logs.{AreLogged, Grows, IsFor, IsLogged, Shows};
+ghost use Rattle.knuth_bendix.specs.Logs.{AreLogged, AreNumbersOf, Grows, IsFor, IsLogged, Shows, same_words};
 ghost use Rattle.knuth_bendix.specs.Overlaps.{critical_pair, overlaps_by};
 
 use crate::indexed_rules::IndexedRules;
@@ -44,8 +45,11 @@ fn push_fact(
     Ok(())
 }
 
-// The number of each relation, by its words.
-fn numbers_of(alloc: Global, relations: &Pairs) -> Result<HashMap<(Word, Word), usize>, NoMemory> {
+// A number of each relation, by its words.
+fn numbers_of(alloc: Global, relations: &Pairs) -> Result<HashMap<(Word, Word), usize>, NoMemory>
+    ensures { IfOk result (λ numbers.
+        AreNumbersOf relations.now (length relations.now) (get same_words numbers)) }
+{
     let mut numbers = HashMap::new(alloc);
     for number in 0..relations.len() {
         let pair = relations.pair(number);
@@ -55,7 +59,8 @@ fn numbers_of(alloc: Global, relations: &Pairs) -> Result<HashMap<(Word, Word), 
     Ok(numbers)
 }
 
-// Facts, and the number under which the fact of two words is likely to be found.
+// Facts, and numbers under which those of two words are likely to be found: only a hint, since each
+// is checked where it is read.
 #[derive(Drop)]
 struct Facts {
     derivations: Derivations,
