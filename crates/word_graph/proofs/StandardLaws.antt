@@ -1,5 +1,5 @@
 -- The part that a walk reaches, as the code makes it.
-use Rattle.std.proofs.Common.{◌≡◌, ℕ, suc, ◌*◌, ◌<◌, ◌≤◌, List, [], ◌∷◌, length, map, refl, sym, ◌∙◌, ap, subst, arith, inl, inr, Option, Some, None, option_and_then, get_or, All}
+use Rattle.std.proofs.Common.{◌≡◌, ℕ, suc, ◌*◌, ◌<◌, List, [], ◌∷◌, length, map, refl, sym, ◌∙◌, ap, subst, arith, inl, inr, Option, Some, None, option_and_then, get_or, All}
 use Rattle.std.specs.Option.{unwrap_or}
 use Rattle.std.proofs.lemmas.Bool.{cases_lt}
 use Rattle.std.proofs.lemmas.List.{length-map, get_or-map, get_or_past}
@@ -74,13 +74,10 @@ module _ (k : ℕ) (g : Graph) (steps : List Step) (places : List (Option ℕ)) 
     nodes = renumbered_nodes k g (walked steps places is.word) (renumbered steps places g) is.walk renumbering;
   }
 
-  -- places are those of steps, of which there are no more than nodes
+  -- places are those of steps
   pub renumbered_few : (target : Option ℕ) (p : ℕ) → renumber places target ≡ Some p → p < length steps
   renumbered_few None p e = cc
   renumbered_few (Some m) p e = (is.walk.placed m p e).0
-
-  pub steps_few : length steps ≤ length g
-  steps_few = omega (arith, is.left)
 
   -- the rows, one behind another
   pub renumbered_long : length (flat (renumbered steps places g)) ≡ length steps * k

@@ -2,7 +2,7 @@
 use Rattle.std.proofs.Common.{◌≡◌, ℕ, zero, suc, ◌+◌, ◌*◌, ◌<◌, List, [], ◌∷◌, ◌++◌, length, map, take, drop, get_or, All, Option, Some, refl, sym, ◌∙◌, ap, arith, nat_cmp, Ordering, Less, Equal, Greater, ap₂, subst₂, min, true, false, not, ◌==◌}
 use Rattle.std.specs.Ordering.{ordering_then, ordering_index}
 use Rattle.std.specs.Cmp.Lexicographic.{slice_cmp}
-use Rattle.std.specs.Option.{option_to_list}
+use Rattle.std.specs.Option.{option_to_list, option_cmp}
 use Rattle.std.specs.List.{flat_map}
 use Rattle.std.proofs.lemmas.List.{length-map, map-append, take-map, drop-map, get_or-map, length-drop, length-take-le, take-append-drop, drop_more, nil_from_length}
 use Rattle.std.proofs.lemmas.List.Elements.{All-cons, All-map}
@@ -14,7 +14,7 @@ use Rattle.cells.specs.Rows.{flat, rows_of}
 use Rattle.word_graph.specs.Table.{HasWidth, targets_of, cut}
 
 -- two lists from a place on
-pub first_decides : (s t : List ℕ) (i : ℕ) → i < length s → i < length t
+first_decides : (s t : List ℕ) (i : ℕ) → i < length s → i < length t
     → slice_cmp nat_cmp (drop i s) (drop i t) ≡ ordering_then (nat_cmp (get_or s i 0) (get_or t i 0)) (slice_cmp nat_cmp (drop (i + 1) s) (drop (i + 1) t))
 first_decides s t i hs ht = rw (drop_more s i 0 hs, drop_more t i 0 ht) refl
 
@@ -39,10 +39,19 @@ lengths_decide (x ∷ s) (y ∷ t) (suc i) e = lengths_decide s t i (omega (arit
     one_more m n = grind arith
 
 -- what stands at a place of a list of edges
-pub edge_at : (xs : List (Option ℕ)) (s : List ℕ) (i : ℕ) (x : Option ℕ) → xs ≡ map Some s → i < length xs → x ≡ get_or xs i x → x ≡ Some (get_or s i 0)
+edge_at : (xs : List (Option ℕ)) (s : List ℕ) (i : ℕ) (x : Option ℕ) → xs ≡ map Some s → i < length xs → x ≡ get_or xs i x → x ≡ Some (get_or s i 0)
 edge_at xs s i x e h at =
     let within : i < length s = omega (arith, h, ap length e, length-map s Some) in
     at ∙ ap (λ (z : List (Option ℕ)). get_or z i x) e ∙ get_or-map Some s i 0 x within
+
+-- two lists of edges from a place on
+pub edges_decide : (xs ys : List (Option ℕ)) (s t : List ℕ) (i : ℕ) (x y : Option ℕ) (o : Ordering) → xs ≡ map Some s → ys ≡ map Some t → i < length xs → i < length ys
+    → x ≡ get_or xs i x → y ≡ get_or ys i y → o ≡ option_cmp nat_cmp x y
+    → slice_cmp nat_cmp (drop i s) (drop i t) ≡ ordering_then o (slice_cmp nat_cmp (drop (i + 1) s) (drop (i + 1) t))
+edges_decide xs ys s t i x y o hs ht in_one in_other at at' order =
+    first_decides s t i (omega (arith, in_one, ap length hs, length-map s Some)) (omega (arith, in_other, ap length ht, length-map t Some))
+    ∙ ap (λ z. ordering_then z (slice_cmp nat_cmp (drop (i + 1) s) (drop (i + 1) t)))
+    (sym (order ∙ ap₂ (option_cmp nat_cmp) (edge_at xs s i x hs in_one at) (edge_at ys t i y ht in_other at')))
 
 -- the cut rows
 pub cut_long : (k n : ℕ) (es : List ℕ) → length (cut k n es) ≡ n
