@@ -1,9 +1,8 @@
 -- Newer rules by the last letters of their left sides.
 use Rattle.std.proofs.Common.{◌≡◌, ◌≢◌, ℕ, ◌+◌, ◌-◌, ◌*◌, ◌%◌, ◌<◌, ◌≤◌, List, [], ◌∷◌, ◌++◌, ◌⊎◌, length, take, drop, set, get_or, lit<, refl, sym, ◌∙◌, ap, subst, subst₂, arith, inl, inr, Option, Some, None, length-append}
-use Rattle.std.proofs.Math.ListN.{replicate}
 use Rattle.std.proofs.Math.Seq.{drop-append-add}
 use Rattle.std.proofs.lemmas.Bool.{cases_eq, cases_lt}
-use Rattle.std.proofs.lemmas.List.{drop-append-le, take_rest, get_or_read, get_or-replicate, get_or_append_left, get_or_push, get_or-set_same, get_or-set_other}
+use Rattle.std.proofs.lemmas.List.{drop-append-le, take_rest, get_or_read, get_or_append_left, get_or_push, get_or-set_same, get_or-set_other}
 use Rattle.theory.specs.Word.{Word}
 use Rattle.rewriting.specs.States.{EndsAt}
 use Rattle.rewriting.specs.Tries.{left_at}
@@ -54,10 +53,6 @@ newer_start rules first newer empty none = record {
   latest = λ key h. subst (λ o. IsLatest (newer_key rules first newer.depth) 0 key o) (sym (none key h)) (λ n within e. omega (arith, within));
   before = λ number within. absurd (omega (arith, within));
 }
-
-pub newer_noughts : (rules : List (Word × Word)) (first : ℕ) (newer : Newer) → newer.before.items ≡ [] → newer.latest.items ≡ replicate 256 None → AreNewerTo rules first 0 newer
-newer_noughts rules first newer empty noughts =
-    newer_start rules first newer empty (λ key h. ap (λ (os : List (Option ℕ)). get_or os key None) noughts ∙ get_or-replicate 256 key None None h)
 
 -- no rule at all
 pub no_newer : (rules : List (Word × Word)) (first : ℕ) (newer : Newer) → first ≡ length rules → 0 < newer.depth → newer.before.items ≡ [] → newer.latest.items ≡ []
