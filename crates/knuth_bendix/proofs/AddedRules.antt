@@ -151,12 +151,6 @@ module _ (p : Presentation) (L : ℕ) (rules equations new_rules new_equations :
     | inr e ↦ subst₂ (λ a b. Within p L a b) e.0 e.1 sides_within
   ]
 
-  pushed_falls : (f g : Word) → Listed pushed f g → g ≺ f
-  pushed_falls f g m = elim (pushed_cases f g m) [
-    | inl k ↦ sound.falls f g k.0
-    | inr e ↦ subst₂ (λ (a b : Word). b ≺ a) e.0 e.1 less
-  ]
-
   new_falls : (f g : Word) → Listed new_rules f g → g ≺ f
   new_falls = falls_still pushed new_rules adds.rewrites
 

@@ -126,9 +126,6 @@ pub log_is : (log : Option Derived) (held : Option Facts) (facts : Facts) → op
 log_is log held facts view is = sym view ∙ ap (λ (o : Option Facts). option_map (λ (f : Facts). f.derivations) o) is
 
 -- what is shown, where something is logged or nothing
-pub shows_nothing : (log : Option Derived) (u : Word) (steps : List ChainStep) (v : Word) → log ≡ None → Shows log u steps v
-shows_nothing log u steps v is = subst (λ (o : Option Derived). Shows o u steps v) (sym is) tt
-
 pub shows_facts : (log : Option Derived) (d : Derived) (u : Word) (steps : List ChainStep) (v : Word) → log ≡ Some d → LeadTo (all_of d) u (steps_of steps) v
     → Shows log u steps v
 shows_facts log d u steps v is leads = subst (λ (o : Option Derived). Shows o u steps v) (sym is) leads

@@ -1,18 +1,17 @@
 -- Marks of words, and what they tell of overlaps and factors.
-use Rattle.std.proofs.Common.{◌≡◌, ℕ, zero, suc, add-one, ◌+◌, ◌-◌, ◌*◌, ◌%◌, ◌<◌, ◌≤◌, Bool, List, [], ◌∷◌, ◌++◌, length, take, drop, get_or, set, reverse, refl, sym, ◌∙◌, ap, ap₂, subst, arith, inl, inr, not, length-append, length-drop}
+use Rattle.std.proofs.Common.{◌≡◌, ℕ, zero, suc, ◌+◌, ◌-◌, ◌*◌, ◌%◌, ◌<◌, ◌≤◌, Bool, List, [], ◌∷◌, ◌++◌, length, take, drop, get_or, set, reverse, refl, sym, ◌∙◌, ap, ap₂, subst, arith, inl, inr, not, length-append, length-drop}
 use Rattle.std.specs.List.{filter}
 use Rattle.std.specs.Int.{bit_at}
 use Rattle.std.specs.Int.Bits.{bit_or}
-use Rattle.std.proofs.lemmas.Bool.{cases_lt, cases_eq, cases_Bool}
+use Rattle.std.proofs.lemmas.Bool.{cases_Bool}
 use Rattle.std.proofs.lemmas.Nat.Bits.{bit_at-zero, bit_at_or, same_from_bits}
-use Rattle.std.proofs.lemmas.List.{get_or-take, get_or-drop, get_or-set_same, get_or-set_other, get_or-append-add, get_or_append_left, length-reverse, reverse-append, take-append-drop, take_at, drop_at, map-append, map-set, get_or-map}
+use Rattle.std.proofs.lemmas.List.{get_or-take, get_or-drop, get_or-append-add, get_or_append_left, length-reverse, reverse-append, take-append-drop, take_at, drop_at, map-set}
 use Rattle.std.proofs.Math.Seq.{map-set_same}
 use Rattle.theory.specs.Word.{Word, IsFactor}
 use Rattle.knuth_bendix.specs.declared.lengths.Lengths.{Lengths}
-use Rattle.knuth_bendix.specs.declared.marks.Marks.{Marks}
 use Rattle.knuth_bendix.specs.declared.indexed_rules.Index.{Index}
 use Rattle.knuth_bendix.specs.Overlaps.{HasLength, IsOverlap, overlaps_by, rule_at}
-use Rattle.knuth_bendix.specs.Marks.{BoundsOne, BoundsShares, IsIndexOf, bit, bits_up_to, key, key_of, marks_of, sign}
+use Rattle.knuth_bendix.specs.Marks.{BoundsOne, IsIndexOf, bit, bits_up_to, key, marks_of, sign}
 
 -- the first letters backwards are the last ones of the word backwards, and the other way round
 reverse-take : (n : ℕ) (f : Word) → n ≤ length f → drop (length f - n) (reverse f) ≡ reverse (take n f)
@@ -54,25 +53,9 @@ shared_letter f g shared k less o =
     sym (get_or-take shared g k 0 less) ∙ ap (λ (w : Word). get_or w k 0) (sym o) ∙ get_or-drop (length f - shared) f k 0
 
 -- the key of a word that shares two letters and more
-shared_key : (f g : Word) (shared : ℕ) → 2 ≤ shared → overlaps_by f g shared
-    → key g ≡ key_of (get_or f (length f - shared) 0) (get_or f (length f - shared + 1) 0)
-shared_key f g shared some o =
-    let at_zero : length f - shared + 0 ≡ length f - shared = omega arith in
-    ap₂ key_of (shared_letter f g shared 0 (omega (arith, some)) o ∙ ap (λ (n : ℕ). get_or f n 0) at_zero) (shared_letter f g shared 1 (omega (arith, some)) o)
-
 -- the keys of a row, so many, are listed
 abbrev pub IsFilled : ℕ → ℕ → List ℕ → Type 0
 IsFilled row count most = (k : ℕ) → k < count → get_or most (row + k) 0 ≡ 1
-
-pub filled_none : (row : ℕ) (most : List ℕ) → IsFilled row 0 most
-filled_none row most = λ k less. absurd (omega (arith, less))
-
-pub filled_more : (row count : ℕ) (most : List ℕ) → row + count < length most → IsFilled row count most → IsFilled row (count + 1) (set most (row + count) 1)
-filled_more row count most within to = λ k less. elim (cases_eq k count) [
-  | inl here ↦ ap (λ (n : ℕ). get_or (set most (row + count) 1) (row + n) 0) here ∙ get_or-set_same most (row + count) 1 0 within
-  | inr there ↦
-      get_or-set_other most (row + count) (row + k) 1 0 (λ e. there (omega (arith, e))) ∙ to k (omega (arith, less, there))
-]
 
 pub filled_all : (f : Word) (row count : ℕ) (most : List ℕ) → row ≡ get_or f (length f - 1) 0 % 32 * 8 → 8 ≤ count → IsFilled row count most → BoundsOne f most
 filled_all f row count most e all to = λ g some long o.
@@ -83,46 +66,12 @@ filled_all f row count most e all to = λ g some long o.
     let one : get_or most (key g) 0 ≡ 1 = ap (λ (n : ℕ). get_or most n 0) here ∙ to (get_or g 1 0 % 8) (omega (arith, all)) in
     omega (arith, one)
 
-pub empty_bounds : (f : Word) (most : List ℕ) → f ≡ [] → BoundsOne f most
-empty_bounds f most e = λ g some long o. absurd (omega (arith, some, ap length e))
-
 -- what is shared has no more letters than are listed, where it has fewer than so many
 abbrev pub BoundsFewer : Word → List ℕ → ℕ → Type 0
 BoundsFewer f most count = (g : Word) (shared : ℕ) → 0 < shared → shared < count → shared < length f → shared < length g
     → overlaps_by f g shared → shared ≤ get_or most (key g) 0
 
-pub fewer_one : (f : Word) (most : List ℕ) → BoundsOne f most → BoundsFewer f most 2
-fewer_one f most to = λ g shared some less first second o.
-    let one : shared ≡ 1 = omega (arith, some, less) in
-    let there : 0 < get_or most (key g) 0 = to g (omega (arith, some, first)) (omega (arith, one, second)) (subst (λ (n : ℕ). overlaps_by f g n) one o) in
-    omega (arith, one, there)
-
-pub fewer_more : (f : Word) (most : List ℕ) (shared place : ℕ) → 2 ≤ shared → shared < length f → place < length most
-    → place ≡ key_of (get_or f (length f - shared) 0) (get_or f (length f - shared + 1) 0)
-    → BoundsFewer f most shared → BoundsFewer f (set most place shared) (shared + 1)
-fewer_more f most count place some inside within e to = λ g shared full less first second o. elim (cases_eq (key g) place) [
-  | inl here ↦
-      let read : get_or (set most place count) (key g) 0 ≡ count =
-      ap (λ (n : ℕ). get_or (set most place count) n 0) here ∙ get_or-set_same most place count 0 within in
-      omega (arith, read, less)
-  | inr there ↦
-      let read : get_or (set most place count) (key g) 0 ≡ get_or most (key g) 0 = get_or-set_other most place (key g) count 0 there in
-      let fewer : shared < count = elim (cases_lt shared count) [
-        | inl before ↦ before
-        | inr past ↦
-            let same : shared ≡ count = omega (arith, past, less) in
-            absurd (there (shared_key f g count some (subst (λ (n : ℕ). overlaps_by f g n) same o) ∙ sym e))
-      ] in
-      subst (λ (n : ℕ). shared ≤ n) (sym read) (to g shared full fewer first second o)
-]
-
-pub fewer_all : (f : Word) (most : List ℕ) (count : ℕ) → length f ≤ count → BoundsFewer f most count → BoundsShares f most
-fewer_all f most count all to = λ g shared some first second o. to g shared some (omega (arith, all, first)) first second o
-
 -- the bits of the first letters, one more of them
-pub bits_more : (f : Word) (n : ℕ) → bits_up_to f (n + 1) ≡ bit_or (bits_up_to f n) (bit (get_or f n 0) (get_or f (n + 1) 0))
-bits_more f n = rw add-one refl
-
 -- bits of more letters are no fewer
 bits_grow : (f : Word) (m k i : ℕ) → bit_at (bits_up_to f m) i ≤ bit_at (bits_up_to f (m + k)) i
 bits_grow f m zero i = let same : m + zero ≡ m = omega arith in subst (λ (n : ℕ). bit_at (bits_up_to f m) i ≤ bit_at (bits_up_to f n) i) (sym same) (omega arith)
@@ -168,14 +117,6 @@ pub sign_taken_up : (f u : Word) → IsFactor f u → bit_or (sign u) (sign f) �
 sign_taken_up f u h = same_from_bits (bit_or (sign u) (sign f)) (sign u) (λ i. omega (arith, sign_within f u i h, bit_at_or (sign u) (sign f) i))
 
 -- the index of no rule, of one more, and of one with another right side
-pub index_more : (rules : List (Word × Word)) (index new : Index) (rule : Word × Word) → IsIndexOf rules index
-    → new.lefts.items ≡ index.lefts.items ++ marks_of rule.0 ∷ [] → new.rights.items ≡ index.rights.items ++ sign rule.1 ∷ []
-    → IsIndexOf (rules ++ rule ∷ []) new
-index_more rules index new rule is lefts rights = record {
-  lefts = lefts ∙ ap (λ ms. ms ++ marks_of rule.0 ∷ []) is.lefts ∙ sym (map-append (λ r. marks_of r.0) rules (rule ∷ []));
-  rights = rights ∙ ap (λ ns. ns ++ sign rule.1 ∷ []) is.rights ∙ sym (map-append (λ r. sign r.1) rules (rule ∷ []));
-}
-
 pub index_set : (rules : List (Word × Word)) (index new : Index) (place : ℕ) (right : Word) → IsIndexOf rules index
     → new.lefts.items ≡ index.lefts.items → new.rights.items ≡ set index.rights.items place (sign right)
     → IsIndexOf (set rules place ((rule_at rules place).0, right)) new
@@ -185,16 +126,6 @@ index_set rules index new place right is lefts rights = record {
 }
 
 -- what is read in the index
-pub marks_read : (rules : List (Word × Word)) (index : Index) (place : ℕ) (marks : Marks) → IsIndexOf rules index → place < length rules
-    → marks ≡ get_or index.lefts.items place marks → marks ≡ marks_of (rule_at rules place).0
-marks_read rules index place marks is within read =
-    read ∙ ap (λ ms. get_or ms place marks) is.lefts ∙ get_or-map (λ r. marks_of r.0) rules place ([], []) marks within
-
-pub sign_read : (rules : List (Word × Word)) (index : Index) (place : ℕ) (s : ℕ) → IsIndexOf rules index → place < length rules
-    → s ≡ get_or index.rights.items place s → s ≡ sign (rule_at rules place).1
-sign_read rules index place s is within read =
-    read ∙ ap (λ ns. get_or ns place s) is.rights ∙ get_or-map (λ r. sign r.1) rules place ([], []) s within
-
 -- where nothing is filtered out, all is left
 pub none_gone : (p : Word × Word → Bool) (rules : List (Word × Word)) → filter p rules ≡ [] → filter (λ r. not (p r)) rules ≡ rules
 none_gone p [] e = refl
