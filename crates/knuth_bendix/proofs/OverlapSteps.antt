@@ -14,7 +14,8 @@ use Rattle.theory.specs.Completion.{Listed}
 use Rattle.theory.proofs.Counting.{contains_from_in, in_from_contains}
 use Rattle.theory.proofs.WithinDecides.{word_decides}
 use Rattle.knuth_bendix.specs.declared.lengths.Lengths.{Lengths}
-use Rattle.knuth_bendix.specs.Overlaps.{AreJoined, AreShort, Gains, HasLength, IsJoinedBy, IsOverlap, IsSplit, ReducesTo, critical_pair, overlaps_by, rule_at}
+use Rattle.knuth_bendix.specs.declared.overlaps.Sharing.{Sharing}
+use Rattle.knuth_bendix.specs.Overlaps.{AreJoined, AreShort, Gains, HasLength, IsJoinedBy, IsOverlap, IsSplit, ReducesTo, critical_at, critical_pair, overlaps_by, rule_at}
 
 -- a test whether the last letters of a word are the first of another
 pub overlap_tested : (f g f' g' : Word) (shared n : ℕ) (r : Bool) → f' ≡ f → g' ≡ g → n ≡ length f
@@ -84,17 +85,17 @@ all_joined_more lengths rules a b p q older j shared o =
     joined_more rules a b (critical_pair p q shared).0 (critical_pair p q shared).1 older (j shared o)
 
 -- they come of the overlap where they differ
-pub split_at : (lengths : Lengths) (rules : List (Word × Word)) (first second shared : ℕ) (left right : Word)
-    → first < length rules → second < length rules → IsOverlap lengths (rule_at rules first) (rule_at rules second) shared
-    → ReducesTo rules first second shared left right → (left ≡ right → ⊥) → IsSplit lengths rules left right
-split_at lengths rules first second shared left right f s o to differ =
+pub split_at : (lengths : Lengths) (rules : List (Word × Word)) (at : Sharing) (left right : Word)
+    → at.first < length rules → at.second < length rules → IsOverlap lengths (rule_at rules at.first) (rule_at rules at.second) at.shared
+    → ReducesTo rules at left right → (left ≡ right → ⊥) → IsSplit lengths rules left right
+split_at lengths rules at left right f s o to differ =
     record {
-      first = first;
-      second = second;
+      first = at.first;
+      second = at.second;
       first_within = f;
       second_within = s;
       apart = record {
-        shared = shared;
+        shared = at.shared;
         overlap = o;
         down_left = to.down_left;
         down_right = to.down_right;
@@ -104,10 +105,10 @@ split_at lengths rules first second shared left right f s o to differ =
       };
     }
 
-pub joined_by_one : (rules equations new : List (Word × Word)) (first second shared : ℕ) (left right : Word)
-    → ReducesTo rules first second shared left right → IsPermutation (equations ++ (left, right) ∷ []) new
-    → IsJoinedBy rules new (critical_pair (rule_at rules first) (rule_at rules second) shared).0 (critical_pair (rule_at rules first) (rule_at rules second) shared).1
-joined_by_one rules equations new first second shared left right to moved =
+pub joined_by_one : (rules equations new : List (Word × Word)) (at : Sharing) (left right : Word)
+    → ReducesTo rules at left right → IsPermutation (equations ++ (left, right) ∷ []) new
+    → IsJoinedBy rules new (critical_at rules at).0 (critical_at rules at).1
+joined_by_one rules equations new at left right to moved =
     record {
       left = left;
       right = right;
@@ -116,10 +117,10 @@ joined_by_one rules equations new first second shared left right to moved =
       met = inr (Contains-permutation (equations ++ (left, right) ∷ []) new (left, right) moved (Contains-push equations (left, right)));
     }
 
-pub joined_at_once : (rules equations : List (Word × Word)) (first second shared : ℕ) (left right : Word)
-    → ReducesTo rules first second shared left right → left ≡ right
-    → IsJoinedBy rules equations (critical_pair (rule_at rules first) (rule_at rules second) shared).0 (critical_pair (rule_at rules first) (rule_at rules second) shared).1
-joined_at_once rules equations first second shared left right to e =
+pub joined_at_once : (rules equations : List (Word × Word)) (at : Sharing) (left right : Word)
+    → ReducesTo rules at left right → left ≡ right
+    → IsJoinedBy rules equations (critical_at rules at).0 (critical_at rules at).1
+joined_at_once rules equations at left right to e =
     record { left = left; right = right; down_left = to.down_left; down_right = to.down_right; met = inl e }
 
 -- a test whether two words differ
@@ -145,47 +146,44 @@ pub record Pushes (old new : List (Word × Word)) (left right : Word) : Type 0 w
   pub same : left ≡ right → new ≡ old
   pub different : (left ≡ right → ⊥) → IsPermutation (old ++ (left, right) ∷ []) new
 
-pub overlap_gains : (rules old new : List (Word × Word)) (first second shared : ℕ) (left right : Word)
-    → first < length rules → second < length rules → ReducesTo rules first second shared left right → Pushes old new left right
-    → (lengths : Lengths) → IsOverlap lengths (rule_at rules first) (rule_at rules second) shared → Gains lengths rules old new 1
-overlap_gains rules old new first second shared left right f s to h lengths o = elim (word_decides left right) [
+pub overlap_gains : (rules old new : List (Word × Word)) (at : Sharing) (left right : Word)
+    → at.first < length rules → at.second < length rules → ReducesTo rules at left right → Pushes old new left right
+    → (lengths : Lengths) → IsOverlap lengths (rule_at rules at.first) (rule_at rules at.second) at.shared → Gains lengths rules old new 1
+overlap_gains rules old new at left right f s to h lengths o = elim (word_decides left right) [
   | inl e ↦ subst (λ (es : List (Word × Word)). Gains lengths rules old es 1) (sym (h.same e)) (gains_none lengths rules old 1)
   | inr n ↦
-      gains_one lengths rules old new left right (split_at lengths rules first second shared left right f s o to n) (h.different n)
+      gains_one lengths rules old new left right (split_at lengths rules at left right f s o to n) (h.different n)
 ]
 
-pub overlap_joined : (rules old new : List (Word × Word)) (first second shared : ℕ) (left right : Word)
-    → ReducesTo rules first second shared left right → Pushes old new left right
-    → IsJoinedBy rules new (critical_pair (rule_at rules first) (rule_at rules second) shared).0 (critical_pair (rule_at rules first) (rule_at rules second) shared).1
-overlap_joined rules old new first second shared left right to h = elim (word_decides left right) [
-  | inl e ↦ joined_at_once rules new first second shared left right to e
-  | inr n ↦ joined_by_one rules old new first second shared left right to (h.different n)
+pub overlap_joined : (rules old new : List (Word × Word)) (at : Sharing) (left right : Word)
+    → ReducesTo rules at left right → Pushes old new left right
+    → IsJoinedBy rules new (critical_at rules at).0 (critical_at rules at).1
+overlap_joined rules old new at left right to h = elim (word_decides left right) [
+  | inl e ↦ joined_at_once rules new at left right to e
+  | inr n ↦ joined_by_one rules old new at left right to (h.different n)
 ]
 
 -- the overlaps of two rules that share fewer letters are joined
-pub record IsJoinedTo (lengths : Lengths) (rules old new : List (Word × Word)) (first second bound : ℕ) : Type 0 where
-  pub gains : Gains lengths rules old new (bound - 1)
-  pub joined : (shared : ℕ) → shared < bound → IsOverlap lengths (rule_at rules first) (rule_at rules second) shared
-      → IsJoinedBy rules new (critical_pair (rule_at rules first) (rule_at rules second) shared).0 (critical_pair (rule_at rules first) (rule_at rules second) shared).1
+pub record IsJoinedTo (lengths : Lengths) (rules old new : List (Word × Word)) (end : Sharing) : Type 0 where
+  pub gains : Gains lengths rules old new (end.shared - 1)
+  pub joined : (shared : ℕ) → shared < end.shared → IsOverlap lengths (rule_at rules end.first) (rule_at rules end.second) shared
+      → IsJoinedBy rules new (critical_at rules (record end { shared = shared })).0 (critical_at rules (record end { shared = shared })).1
 
-pub joined_step : (lengths : Lengths) (rules old new newer : List (Word × Word)) (first second shared : ℕ) → 0 < shared
-    → IsJoinedTo lengths rules old new first second shared
-    → Gains lengths rules new newer 1
-    → (IsOverlap lengths (rule_at rules first) (rule_at rules second) shared → IsJoinedBy rules newer (critical_pair (rule_at rules first) (rule_at rules second) shared).0 (critical_pair (rule_at rules first) (rule_at rules second) shared).1)
-    → IsJoinedTo lengths rules old newer first second (shared + 1)
-joined_step lengths rules old new newer first second shared some to gains joins =
+pub joined_step : (lengths : Lengths) (rules old new newer : List (Word × Word)) (at : Sharing) → 0 < at.shared → IsJoinedTo lengths rules old new at → Gains lengths rules new newer 1
+    → (IsOverlap lengths (rule_at rules at.first) (rule_at rules at.second) at.shared → IsJoinedBy rules newer (critical_at rules at).0 (critical_at rules at).1)
+    → IsJoinedTo lengths rules old newer (record at { shared = at.shared + 1 })
+joined_step lengths rules old new newer at some to gains joins =
     record {
       gains =
-          gains_more lengths rules old newer (shared - 1 + 1) (shared + 1 - 1) (omega arith)
-          (gains_trans lengths rules old new newer (shared - 1) 1 to.gains gains);
-      joined = λ k less o. elim (cases_lt k shared) [
+          gains_more lengths rules old newer (at.shared - 1 + 1) (at.shared + 1 - 1) (omega arith)
+          (gains_trans lengths rules old new newer (at.shared - 1) 1 to.gains gains);
+      joined = λ k less o. elim (cases_lt k at.shared) [
         | inl before ↦
-            joined_more rules new newer (critical_pair (rule_at rules first) (rule_at rules second) k).0 (critical_pair (rule_at rules first) (rule_at rules second) k).1
-            gains.older (to.joined k before o)
+            joined_more rules new newer (critical_at rules (record at { shared = k })).0 (critical_at rules (record at { shared = k })).1 gains.older (to.joined k before o)
         | inr here ↦
-            let same : shared ≡ k = omega arith in
-            subst (λ (n : ℕ). IsJoinedBy rules newer (critical_pair (rule_at rules first) (rule_at rules second) n).0 (critical_pair (rule_at rules first) (rule_at rules second) n).1)
-            same (joins (subst (λ (n : ℕ). IsOverlap lengths (rule_at rules first) (rule_at rules second) n) (sym same) o))
+            let same : at.shared ≡ k = omega arith in
+            subst (λ (n : ℕ). IsJoinedBy rules newer (critical_at rules (record at { shared = n })).0 (critical_at rules (record at { shared = n })).1)
+            same (joins (subst (λ (n : ℕ). IsOverlap lengths (rule_at rules at.first) (rule_at rules at.second) n) (sym same) o))
       ];
     }
 
@@ -203,7 +201,7 @@ shared_read lengths rules first second from end m n em en within =
 
 -- fewer letters are not shared in words of these lengths
 pub joined_start : (lengths : Lengths) (rules old : List (Word × Word)) (first second from end : ℕ) → IsShared lengths rules first second from end
-    → IsJoinedTo lengths rules old old first second from
+    → IsJoinedTo lengths rules old old (record { first = first; second = second; shared = from })
 joined_start lengths rules old first second from end within = record {
   gains = gains_none lengths rules old (from - 1);
   joined = λ shared less o.
@@ -213,32 +211,31 @@ joined_start lengths rules old first second from end within = record {
 
 -- nor are more
 pub joined_end : (lengths : Lengths) (rules old new : List (Word × Word)) (first second from end shared : ℕ) → IsShared lengths rules first second from end → end ≤ shared
-    → IsJoinedTo lengths rules old new first second shared → AreJoined lengths rules new (rule_at rules first) (rule_at rules second)
+    → IsJoinedTo lengths rules old new (record { first = first; second = second; shared = shared }) → AreJoined lengths rules new (rule_at rules first) (rule_at rules second)
 joined_end lengths rules old new first second from end shared within past to = λ n o.
     to.joined n (let there = (within n o.some o.first o.second).0 o.within in omega (arith, there.1, past)) o
 
 -- a loop's step at so many shared letters, whether they are an overlap or not
-module _ (lengths : Lengths) (rules old new : List (Word × Word)) (first second shared : ℕ) (p q : Word × Word) (tested : Bool) (ep : p ≡ rule_at rules first)
-    (eq : q ≡ rule_at rules second) (is : IsTrue tested ↔ overlaps_by p.0 q.0 shared) (some : 0 < shared) (to : IsJoinedTo lengths rules old new first second shared) where
-  pub joined_there : (newer : List (Word × Word)) (from end : ℕ) → IsShared lengths rules first second from end → from ≤ shared → shared < end
-      → shared < length (rule_at rules first).0 → shared < length (rule_at rules second).0 → tested ≡ true
-      → ((lengths : Lengths) → IsOverlap lengths (rule_at rules first) (rule_at rules second) shared → Gains lengths rules new newer 1)
-      → IsJoinedBy rules newer (critical_pair (rule_at rules first) (rule_at rules second) shared).0 (critical_pair (rule_at rules first) (rule_at rules second) shared).1
-      → IsJoinedTo lengths rules old newer first second (shared + 1)
+module _ (lengths : Lengths) (rules old new : List (Word × Word)) (at : Sharing) (p q : Word × Word) (tested : Bool) (ep : p ≡ rule_at rules at.first)
+    (eq : q ≡ rule_at rules at.second) (is : IsTrue tested ↔ overlaps_by p.0 q.0 at.shared) (some : 0 < at.shared) (to : IsJoinedTo lengths rules old new at) where
+  pub joined_there : (newer : List (Word × Word)) (from end : ℕ) → IsShared lengths rules at.first at.second from end → from ≤ at.shared → at.shared < end
+      → at.shared < length (rule_at rules at.first).0 → at.shared < length (rule_at rules at.second).0 → tested ≡ true
+      → ((lengths : Lengths) → IsOverlap lengths (rule_at rules at.first) (rule_at rules at.second) at.shared → Gains lengths rules new newer 1)
+      → IsJoinedBy rules newer (critical_at rules at).0 (critical_at rules at).1 → IsJoinedTo lengths rules old newer (record at { shared = at.shared + 1 })
   joined_there newer from end within low high f s met gains joined =
-      let o : IsOverlap lengths (rule_at rules first) (rule_at rules second) shared = record {
+      let o : IsOverlap lengths (rule_at rules at.first) (rule_at rules at.second) at.shared = record {
         some = some;
         first = f;
         second = s;
-        overlaps = subst₂ (λ (p q : Word × Word). overlaps_by p.0 q.0 shared) ep eq (is.0 met);
-        within = (within shared some f s).1 (low, high);
+        overlaps = subst₂ (λ (p q : Word × Word). overlaps_by p.0 q.0 at.shared) ep eq (is.0 met);
+        within = (within at.shared some f s).1 (low, high);
       } in
-      joined_step lengths rules old new newer first second shared some to (gains lengths o) (λ _. joined)
+      joined_step lengths rules old new newer at some to (gains lengths o) (λ _. joined)
 
-  pub joined_elsewhere : tested ≡ false → IsJoinedTo lengths rules old new first second (shared + 1)
+  pub joined_elsewhere : tested ≡ false → IsJoinedTo lengths rules old new (record at { shared = at.shared + 1 })
   joined_elsewhere unmet =
-      joined_step lengths rules old new new first second shared some to (gains_none lengths rules new 1)
-      (λ o. let met : tested ≡ true = is.1 (subst₂ (λ (p q : Word × Word). overlaps_by p.0 q.0 shared) (sym ep) (sym eq) o.overlaps) in let bad : ⊥ = cc in absurd bad)
+      joined_step lengths rules old new new at some to (gains_none lengths rules new 1)
+      (λ o. let met : tested ≡ true = is.1 (subst₂ (λ (p q : Word × Word). overlaps_by p.0 q.0 at.shared) (sym ep) (sym eq) o.overlaps) in let bad : ⊥ = cc in absurd bad)
 
 -- the overlaps of a rule with the first ones, on both sides, are joined
 pub record IsJoinedWith (lengths : Lengths) (rules old new : List (Word × Word)) (newest count : ℕ) : Type 0 where

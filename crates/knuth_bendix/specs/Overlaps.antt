@@ -5,6 +5,7 @@ use Rattle.theory.specs.Word.{Word}
 use Rattle.theory.specs.Completion.{IsReduced, Listed, Reduces}
 use Rattle.knuth_bendix.specs.declared.lengths.Lengths.{Lengths}
 use Rattle.knuth_bendix.specs.declared.lengths.Lengths.TheVariants.{UpTo, Beyond}
+use Rattle.knuth_bendix.specs.declared.overlaps.Sharing.{Sharing}
 
 -- the rule at a place
 abbrev pub rule_at : List (Word × Word) → ℕ → Word × Word
@@ -21,6 +22,10 @@ overlaps_by f g shared = drop (length f - shared) f ≡ take shared g
 -- the words to which two rules lead from the word in which their left sides share so many letters
 abbrev pub critical_pair : Word × Word → Word × Word → ℕ → Word × Word
 critical_pair p q shared = (p.1 ++ drop shared q.0, take (length p.0 - shared) p.0 ++ q.1)
+
+-- the same of the rules at two places
+abbrev pub critical_at : List (Word × Word) → Sharing → Word × Word
+critical_at rules at = critical_pair (rule_at rules at.first) (rule_at rules at.second) at.shared
 
 -- a word of n letters is one of these
 abbrev pub HasLength : Lengths → ℕ → Type 0
@@ -60,13 +65,11 @@ pub record IsApart (lengths : Lengths) (rules : List (Word × Word)) (p q : Word
   pub end_right : IsReduced (Listed rules) v
   pub differ : u ≢ v
 
--- the overlap of the rules at two places leads to the reduced words left and right
-pub record ReducesTo (rules : List (Word × Word)) (first second shared : ℕ)
+-- the overlap of two rules, by their places, leads to the reduced words left and right
+pub record ReducesTo (rules : List (Word × Word)) (overlap : Sharing)
     (left right : Word) : Type 0 where
-  pub down_left : Reduces (Listed rules)
-      (critical_pair (rule_at rules first) (rule_at rules second) shared).0 left
-  pub down_right : Reduces (Listed rules)
-      (critical_pair (rule_at rules first) (rule_at rules second) shared).1 right
+  pub down_left : Reduces (Listed rules) (critical_at rules overlap).0 left
+  pub down_right : Reduces (Listed rules) (critical_at rules overlap).1 right
   pub end_left : IsReduced (Listed rules) left
   pub end_right : IsReduced (Listed rules) right
 

@@ -1,7 +1,7 @@
 // Overlaps of left sides, and the pairs of words to which they lead.
 ghost use Rattle.std.specs.Prelude.{◌≡◌, ℕ, ◌+◌, ◌-◌, ◌*◌, ◌<◌, ◌≤◌, false, [], ◌∷◌, ◌++◌, length, IfOk, OnOk, IsTrue, ◌↔◌, reverse};
 ghost use Rattle.std.specs.List.Sorted.{IsPermutation};
-ghost use Rattle.knuth_bendix.specs.Overlaps.{AreJoined, AreShort, Gains, HasLength, IsJoinedBy, IsOverlap, ReducesTo, critical_pair, overlaps_by, rule_at};
+ghost use Rattle.knuth_bendix.specs.Overlaps.{AreJoined, AreShort, Gains, HasLength, IsJoinedBy, IsOverlap, ReducesTo, critical_at, critical_pair, overlaps_by, rule_at};
 ghost use Rattle.knuth_bendix.specs.Logs.{AreLogged, Grows, KeepsLog, LogsHeld, Shows};
 ghost use Rattle.knuth_bendix.specs.Marks.{AreSharesOf};
 ghost use Rattle.knuth_bendix.specs.Joining.{JoinsRules};
@@ -143,8 +143,7 @@ fn reduced_pair(
     requires overlaps { overlaps_by (rule_at rules.now overlap.first).0
         (rule_at rules.now overlap.second).0 overlap.shared }
     requires logged { AreLogged log.now rules.now }
-    ensures reduces { IfOk result (λ r.
-        ReducesTo rules.now overlap.first overlap.second overlap.shared r.0 r.1) }
+    ensures reduces { IfOk result (λ r. ReducesTo rules.now overlap r.0 r.1) }
     ensures shown { IfOk result (λ r. Shows log.now r.0 r.2.items r.1) }
 {
     let first = rules.rule(overlap.first);
@@ -216,10 +215,7 @@ impl Pending {
             (rule_at rules.now overlap.second) overlap.shared
             → Gains lengths rules.now self.old.equations self.new.equations 1) }
         ensures joined { OnOk result (IsJoinedBy rules.now self.new.equations
-            (critical_pair (rule_at rules.now overlap.first) (rule_at rules.now overlap.second)
-            overlap.shared).0
-            (critical_pair (rule_at rules.now overlap.first) (rule_at rules.now overlap.second)
-            overlap.shared).1) }
+            (critical_at rules.now overlap).0 (critical_at rules.now overlap).1) }
         ensures logged { OnOk result
             (KeepsLog self.old.log self.new.log rules.now self.new.equations) }
     {

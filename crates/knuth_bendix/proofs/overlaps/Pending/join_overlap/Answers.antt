@@ -4,13 +4,13 @@ use Rattle.knuth_bendix.proofs.overlaps.Pending.join_overlap.Goals as goal
 
 pub returns-clause-gains : goal.returns-clause-gains
 returns-clause-gains c =
-    overlap_gains c.args.rules.now c.args.self.now.equations c.push_different.new.self.equations c.args.overlap.first c.args.overlap.second c.args.overlap.shared c.in_ok-left.left c.in_ok-left.right
+    overlap_gains c.args.rules.now c.args.self.now.equations c.push_different.new.self.equations c.args.overlap c.in_ok-left.left c.in_ok-left.right
     c.requires.first c.requires.second c.in_ok-left.ensures.reduces
     (record { same = c.in_ok-push_different.ensures.same; different = c.in_ok-push_different.ensures.different })
 
 pub returns-clause-joined : goal.returns-clause-joined
 returns-clause-joined c =
-    overlap_joined c.args.rules.now c.args.self.now.equations c.push_different.new.self.equations c.args.overlap.first c.args.overlap.second c.args.overlap.shared c.in_ok-left.left c.in_ok-left.right
+    overlap_joined c.args.rules.now c.args.self.now.equations c.push_different.new.self.equations c.args.overlap c.in_ok-left.left c.in_ok-left.right
     c.in_ok-left.ensures.reduces
     (record { same = c.in_ok-push_different.ensures.same; different = c.in_ok-push_different.ensures.different })
 

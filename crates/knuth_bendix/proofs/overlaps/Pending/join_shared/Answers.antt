@@ -28,7 +28,7 @@ loop-shared-init c =
 
 pub loop-shared-preserved : goal.loop-shared-preserved
 loop-shared-preserved c =
-    let Joined : Pending → Type 0 = λ s. IsJoinedTo c.args.lengths c.args.rules.now c.args.self.now.equations s.equations c.args.first c.args.second (c.loop-shared.shared + 1) in
+    let Joined : Pending → Type 0 = λ s. IsJoinedTo c.args.lengths c.args.rules.now c.args.self.now.equations s.equations (record { first = c.args.first; second = c.args.second; shared = c.loop-shared.shared + 1 }) in
     let m = left_size c.args.rules.now c.args.first c.len.result c.rule.result.now c.requires.first c.rule.ensures.rule c.len.ensures in
     let n = left_size c.args.rules.now c.args.second c.len-2.result c.rule-2.result.now c.requires.second c.rule-2.ensures.rule c.len-2.ensures in
     let within = shared_read c.args.lengths c.args.rules.now c.args.first c.args.second c.shared_by-fewest.result.0 c.shared_by-fewest.result.1 c.len.result c.len-2.result
@@ -48,14 +48,14 @@ loop-shared-preserved c =
       joined = elim c.if-overlap.branch [
         | then-overlap+in_ok-join_overlap w ↦
             subst Joined (sym w.self-is)
-            (joined_there c.args.lengths c.args.rules.now c.args.self.now.equations c.loop-shared.self.equations c.args.first c.args.second c.loop-shared.shared
+            (joined_there c.args.lengths c.args.rules.now c.args.self.now.equations c.loop-shared.self.equations (record { first = c.args.first; second = c.args.second; shared = c.loop-shared.shared })
             c.rule-in-loop-shared.result.now c.rule-in-loop-shared-2.result.now c.overlap.result first second c.overlap.ensures some c.loop-shared.invariant.joined
             w.join_overlap.new.self.equations c.shared_by-fewest.result.0 c.shared_by-fewest.result.1 within c.loop-shared.auto.shared c.loop-shared-test.true
             (omega (arith, m, c.loop-shared-test.true, c.shared_by-fewest.ensures.first)) (omega (arith, n, c.loop-shared-test.true, c.shared_by-fewest.ensures.second))
             w.if-overlap.true w.in_ok-join_overlap.ensures.gains w.in_ok-join_overlap.ensures.joined)
         | else-overlap w ↦
             subst Joined (sym w.self-is)
-            (joined_elsewhere c.args.lengths c.args.rules.now c.args.self.now.equations c.loop-shared.self.equations c.args.first c.args.second c.loop-shared.shared
+            (joined_elsewhere c.args.lengths c.args.rules.now c.args.self.now.equations c.loop-shared.self.equations (record { first = c.args.first; second = c.args.second; shared = c.loop-shared.shared })
             c.rule-in-loop-shared.result.now c.rule-in-loop-shared-2.result.now c.overlap.result first second c.overlap.ensures some c.loop-shared.invariant.joined
             w.if-overlap.false)
       ];
