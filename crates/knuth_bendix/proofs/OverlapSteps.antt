@@ -14,7 +14,7 @@ use Rattle.theory.specs.Completion.{Listed}
 use Rattle.theory.proofs.Counting.{contains_from_in, in_from_contains}
 use Rattle.theory.proofs.WithinDecides.{word_decides}
 use Rattle.knuth_bendix.specs.declared.lengths.Lengths.{Lengths}
-use Rattle.knuth_bendix.specs.declared.overlaps.Sharing.{Sharing}
+use Rattle.knuth_bendix.specs.declared.indexed_rules.Sharing.{Sharing}
 use Rattle.knuth_bendix.specs.Overlaps.{AreJoined, AreShort, Gains, HasLength, IsJoinedBy, IsOverlap, IsSplit, ReducesTo, critical_at, critical_pair, overlaps_by, rule_at}
 
 -- a test whether the last letters of a word are the first of another

@@ -5,7 +5,7 @@ use Rattle.theory.specs.Word.{Word}
 use Rattle.theory.specs.Completion.{IsReduced, Listed, Reduces}
 use Rattle.knuth_bendix.specs.declared.lengths.Lengths.{Lengths}
 use Rattle.knuth_bendix.specs.declared.lengths.Lengths.TheVariants.{UpTo, Beyond}
-use Rattle.knuth_bendix.specs.declared.overlaps.Sharing.{Sharing}
+use Rattle.knuth_bendix.specs.declared.indexed_rules.Sharing.{Sharing}
 
 -- the rule at a place
 abbrev pub rule_at : List (Word × Word) → ℕ → Word × Word

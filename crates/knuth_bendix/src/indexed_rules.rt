@@ -36,6 +36,15 @@ pub struct IndexedRules {
     index: Index,
 }
 
+/// Two rules by their places, and how many letters the end of the left side of the first and the
+/// beginning of that of the second share.
+#[derive(Clone, Copy)]
+pub struct Sharing {
+    pub first: usize,
+    pub second: usize,
+    pub shared: usize,
+}
+
 impl Model for IndexedRules {
     ghost use Rattle.std.specs.Prelude.{List};
     ghost use Rattle.theory.specs.Word.{Word as Letters};

@@ -8,9 +8,9 @@ ghost use Rattle.rewriting.specs.Traces.{LeadBy};
 ghost use Rattle.chains.specs.Chains.{IsStraight, steps_of};
 ghost use Rattle.chains.specs.Derivations.{Derived, all_of};
 ghost use Rattle.knuth_bendix.specs.Logs.{AreLogged, AreNumbersOf, Grows, IsFor, IsLogged, Shows, same_words};
-ghost use Rattle.knuth_bendix.specs.Overlaps.{critical_pair, overlaps_by};
+ghost use Rattle.knuth_bendix.specs.Overlaps.{critical_at, overlaps_by, rule_at};
 
-use crate::indexed_rules::IndexedRules;
+use crate::indexed_rules::{IndexedRules, Sharing};
 use chains::{ChainStep, Derivations, Fact, around, turn_back};
 use ports::NoMemory;
 use presentation::{Pairs, Presentation};
@@ -293,32 +293,35 @@ impl Log {
     pub fn over(
         &self,
         alloc: Global,
-        first: &(Word, Word),
-        second: &(Word, Word),
-        shared: usize,
+        rules: &IndexedRules,
+        overlap: Sharing,
         back: &[ChainStep],
         on: &[ChainStep],
     ) -> Result<Vec<ChainStep>, NoMemory>
-        requires first { shared ≤ length first.now.0 }
-        requires second { shared ≤ length second.now.0 }
-        requires overlaps { overlaps_by first.now.0 second.now.0 shared }
-        requires first_logged { IsLogged self.now first.now }
-        requires second_logged { IsLogged self.now second.now }
+        requires first { overlap.first < length rules.now }
+        requires second { overlap.second < length rules.now }
+        requires shared_first { overlap.shared ≤ length (rule_at rules.now overlap.first).0 }
+        requires shared_second { overlap.shared ≤ length (rule_at rules.now overlap.second).0 }
+        requires overlaps { overlaps_by (rule_at rules.now overlap.first).0
+            (rule_at rules.now overlap.second).0 overlap.shared }
+        requires logged { AreLogged self.now rules.now }
         ensures { IfOk result (λ steps. (left right : Letters)
-            → Shows self.now (critical_pair first.now second.now shared).0 back.now left
-            → Shows self.now (critical_pair first.now second.now shared).1 on.now right
+            → Shows self.now (critical_at rules.now overlap).0 back.now left
+            → Shows self.now (critical_at rules.now overlap).1 on.now right
             → Shows self.now left steps.items right) }
     {
         let Some(facts) = &self.facts else {
             return Ok(Vec::new(alloc));
         };
+        let first = rules.rule(overlap.first);
+        let second = rules.rule(overlap.second);
         let up = ChainStep {
             place: 0,
             relation: facts.number_of(first),
             forward: false,
         };
         let down = ChainStep {
-            place: first.0.len() - shared,
+            place: first.0.len() - overlap.shared,
             relation: facts.number_of(second),
             forward: true,
         };

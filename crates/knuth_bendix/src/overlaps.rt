@@ -7,7 +7,7 @@ ghost use Rattle.knuth_bendix.specs.Marks.{AreSharesOf};
 ghost use Rattle.knuth_bendix.specs.Joining.{JoinsRules};
 
 use crate::equations::Equations;
-use crate::indexed_rules::IndexedRules;
+use crate::indexed_rules::{IndexedRules, Sharing};
 use crate::lengths::Lengths;
 use crate::logs::Log;
 use crate::shares::Shares;
@@ -70,15 +70,6 @@ impl Room {
             reduction: Reduction::new(alloc),
         }
     }
-}
-
-// Two rules by their places, and how many letters the end of the left side of the first and the
-// beginning of that of the second share.
-#[derive(Clone, Copy)]
-struct Sharing {
-    first: usize,
-    second: usize,
-    shared: usize,
 }
 
 /// Equations that wait, the log of how these and the rules follow, and room for the words of an
@@ -151,14 +142,7 @@ fn reduced_pair(
     put_critical_pair(room, first, second, overlap.shared)?;
     let (left, back) = log.reduce_in(alloc, rules, &mut room.reduction, &room.left)?;
     let (right, on) = log.reduce_in(alloc, rules, &mut room.reduction, &room.right)?;
-    let steps = log.over(
-        alloc,
-        first,
-        second,
-        overlap.shared,
-        back.as_slice(),
-        on.as_slice(),
-    )?;
+    let steps = log.over(alloc, rules, overlap, back.as_slice(), on.as_slice())?;
     Ok((left, right, steps))
 }
 
