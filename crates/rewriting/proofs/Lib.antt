@@ -4,7 +4,6 @@ pub mod LetterLaws
 pub mod StateLaws
 pub mod StateLists
 pub mod TrieLaws
-pub mod LevelLaws
 pub mod LinkLaws
 pub mod TableLaws
 pub mod ReductionLaws

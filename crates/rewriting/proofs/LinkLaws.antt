@@ -11,7 +11,7 @@ use Rattle.theory.proofs.Words.{over_right}
 use Rattle.theory.proofs.FactsLaws.{last_letter}
 use Rattle.rewriting.specs.Rules.{AreFalling}
 use Rattle.rewriting.specs.States.{IsLongest}
-use Rattle.rewriting.specs.Tries.{left_at, longer, Filling, IsChild, IsFilled, IsLeft, IsGrown, IsOrder, IsEnd, Reads, IsDone, IsLinkedTo, IsBehind, Tree, linked, state_at}
+use Rattle.rewriting.specs.Tries.{left_at, longer, Filling, IsChild, IsFilled, IsLeft, IsRuleTree, IsEnd, Reads, ComesBefore, IsLinkedTo, IsBehind, Tree, linked, state_at}
 use Rattle.rewriting.proofs.Standing.{listed_at}
 use Rattle.rewriting.proofs.StateLists.{contains_at, item_at}
 use Rattle.rewriting.proofs.StateLaws.{empty_reduced, end_kept, end_reduces, ends_more, longest_more, empty_longest}
@@ -31,8 +31,8 @@ pub first_few : (most : ℕ) (first second : Option ℕ) → ForSome first (λ n
 first_few most None second f s = s
 first_few most (Some number) second f s = f
 
-module _ {rules : List (Word × Word)} (falling : AreFalling rules) {t : Tree} (is : IsGrown rules (length rules) t)
-    (over : (n : ℕ) → IsOver t.letters (get_or t.states n [])) {order : List ℕ} (ordered : IsOrder t.states order) where
+module _ {rules : List (Word × Word)} (falling : AreFalling rules) {t : Tree} (is : IsRuleTree rules t)
+    (over : (n : ℕ) → IsOver t.letters (get_or t.states n [])) where
   -- a child is the state that it makes
   child_is : (m a n : ℕ) → m < length t.states → a < t.letters → n < length t.states → longer t.states m a ≡ get_or t.states n [] → target t.children m a ≡ Some n
   child_is m a n hm ha hn word = go (target t.children m a) refl (is.trie.child m a hm ha)
@@ -42,24 +42,14 @@ module _ {rules : List (Word × Word)} (falling : AreFalling rules) {t : Tree} (
       go (Some x) e c = e ∙ ap (λ z. Some z) (is.trie.distinct x n c.0 hn (c.1 ∙ word))
 
   -- a shorter state comes earlier
-  earlier : (place n : ℕ) → place < length order → n < length t.states → length (get_or t.states n []) < length (get_or t.states (get_or order place 0) [])
-      → (j : ℕ) × (j < place) × (j < length order) × (get_or order j 0 ≡ n)
-  earlier place n inside h less =
-      let has = ordered.each n h in
-      let at : get_or order has.0 0 ≡ n = item_at order n 0 has in
-      elim (cases_lt has.0 place) [
-        | inl l ↦ (has.0, l, has.1, at)
-        | inr m ↦ absurd (let up = ordered.rises place has.0 m has.1 in omega (arith, up, less, ap (λ z. length (get_or t.states z [])) at))
-      ]
+  earlier : (node n : ℕ) → n < length t.states → node < length t.states → length (get_or t.states n []) < length (get_or t.states node []) → n < node
+  earlier node n h inside less = elim (cases_lt n node) [
+    | inl l ↦ l
+    | inr m ↦ absurd (let up = is.rises node n m h in omega (arith, up, less))
+  ]
 
-  module _ {place letter : ℕ} (inside : place < length order) (below : letter < t.letters) {f : Filling}
-      (before : IsLinkedTo rules t order place letter f) where
-    abbrev node : ℕ
-    node = get_or order place 0
-
-    node_in : node < length t.states
-    node_in = ordered.within place inside
-
+  module _ {node letter : ℕ} (node_in : node < length t.states) (below : letter < t.letters) {f : Filling}
+      (before : IsLinkedTo rules t node letter f) where
     abbrev word : Word
     word = longer t.states node letter
 
@@ -79,7 +69,7 @@ module _ {rules : List (Word × Word)} (falling : AreFalling rules) {t : Tree} (
           let parent : get_or t.states there.0 [] ≡ l.0 = item_at t.states l.0 [] there in
           let b : l.1 < t.letters = (over_right t.letters l.0 (l.1 ∷ []) (subst (λ u. IsOver t.letters u) l.2 (over node))).0 in
           before.link there.0 l.1 node there.1 b
-          (inl (earlier place there.0 inside there.1 (omega (arith, ap length parent, ap length l.2, length-append l.0 (l.1 ∷ [])))))
+          (inl (earlier node there.0 there.1 node_in (omega (arith, ap length parent, ap length l.2, length-append l.0 (l.1 ∷ [])))))
           (child_is there.0 l.1 node there.1 b node_in (ap (λ u. u ++ l.1 ∷ []) parent ∙ sym l.2))
     ]
 
@@ -99,7 +89,7 @@ module _ {rules : List (Word × Word)} (falling : AreFalling rules) {t : Tree} (
         let link = link_is some in
         let shorter : length (get_or t.states (get_or f.links node 0) []) < length (get_or t.states node []) =
         omega (arith, some, ap length link.is, length-append link.before (get_or t.states (get_or f.links node 0) []), length-drop 1 (get_or t.states node [])) in
-        let read = before.reads (get_or f.links node 0) letter link.within below (inl (earlier place (get_or f.links node 0) inside link.within shorter)) in
+        let read = before.reads (get_or f.links node 0) letter link.within below (inl (earlier node (get_or f.links node 0) link.within node_in shorter)) in
         subst (λ u. Reads rules t.states u (state_at f.targets (get_or f.links node 0) letter) (target f.ends (get_or f.links node 0) letter))
         (sym (drop_longer (get_or t.states node []) letter some))
         (record {
@@ -150,7 +140,7 @@ module _ {rules : List (Word × Word)} (falling : AreFalling rules) {t : Tree} (
         where
           not_left : (l w : Word) → Contains rules (l, w) → word ≡ l → ⊥
           not_left l w listed same =
-              let m = is.marked listed.0 listed.1 listed.1 in
+              let m = is.marked listed.0 listed.1 in
               let at : left_at rules listed.0 ≡ l = ap (λ (p : Word × Word). p.0) (listed_at rules l w listed) in
               let both = longer_one rules t is.trie node m.node letter m.letter node_in m.node_within (same ∙ sym at ∙ m.is) in
               let some : None ≡ Some m.number = sym e ∙ ap₂ (λ (x y : ℕ). target t.lefts x y) both.0 both.1 ∙ m.marked in
@@ -165,14 +155,14 @@ module _ {rules : List (Word × Word)} (falling : AreFalling rules) {t : Tree} (
           go (Some number) end = record { within = end.within; before = whole.0 ∷ end.before; is = whole.1 ∙ ap (λ x. whole.0 ∷ x) end.is }
 
     -- what comes before the next letter
-    done_next : (n a : ℕ) → IsDone order place (letter + 1) n a → IsDone order place letter n a ⊎ ((n ≡ node) × (a ≡ letter))
+    done_next : (n a : ℕ) → ComesBefore node (letter + 1) n a → ComesBefore node letter n a ⊎ ((n ≡ node) × (a ≡ letter))
     done_next n a (inl h) = inl (inl h)
     done_next n a (inr h) = elim (cases_eq a letter) [
-      | inl e ↦ inr (sym h.1, e)
-      | inr d ↦ inl (inr (h.0, h.1, omega (arith, h.2, d)))
+      | inl e ↦ inr (h.0, e)
+      | inr d ↦ inl (inr (h.0, omega (arith, h.1, d)))
     ]
 
-    done_before : (n a : ℕ) → ((n ≡ node) × (a ≡ letter) → ⊥) → IsDone order place (letter + 1) n a → IsDone order place letter n a
+    done_before : (n a : ℕ) → ((n ≡ node) × (a ≡ letter) → ⊥) → ComesBefore node (letter + 1) n a → ComesBefore node letter n a
     done_before n a d done = elim (done_next n a done) [
       | inl soon ↦ soon
       | inr same ↦ absurd (d same)
@@ -205,7 +195,7 @@ module _ {rules : List (Word × Word)} (falling : AreFalling rules) {t : Tree} (
       pub entry_within : to < length t.states
       entry_within = (target_right r (behind_reads r e) child child_here).within
 
-      pub entry_step : IsLinkedTo rules t order place (letter + 1) entered
+      pub entry_step : IsLinkedTo rules t node (letter + 1) entered
       entry_step = record {
         tables = record {
           some = before.tables.some;
@@ -248,18 +238,18 @@ module _ {rules : List (Word × Word)} (falling : AreFalling rules) {t : Tree} (
             | inr d ↦ subst (λ z. z < length t.states) (sym (get_or-set_other f.links x i r.0 0 d)) (before.tables.links_within i h)
           ]
 
-          reads : (n a : ℕ) → n < length t.states → a < t.letters → IsDone order place (letter + 1) n a
+          reads : (n a : ℕ) → n < length t.states → a < t.letters → ComesBefore node (letter + 1) n a
               → Reads rules t.states (longer t.states n a) (state_at entered.targets n a) (target entered.ends n a)
-          reads = put_cases (λ n a z. n < length t.states → a < t.letters → IsDone order place (letter + 1) n a → Reads rules t.states (longer t.states n a) (unwrap_or z 0) (target entered.ends n a))
+          reads = put_cases (λ n a z. n < length t.states → a < t.letters → ComesBefore node (letter + 1) n a → Reads rules t.states (longer t.states n a) (unwrap_or z 0) (target entered.ends n a))
               f.targets _ node letter (Some to) target_put
               (λ hn ha done. subst (λ y. Reads rules t.states word to y) (sym end_put.put) now)
               (λ n a d hn ha done. subst (λ y. Reads rules t.states (longer t.states n a) (state_at f.targets n a) y) (sym (end_put.other n a d)) (before.reads n a hn ha (done_before n a d done)))
 
-          there : (n a : ℕ) → n < length t.states → a < t.letters → IsDone order place (letter + 1) n a → (to : ℕ) × (target entered.targets n a ≡ Some to)
-          there = put_cases (λ n a z. n < length t.states → a < t.letters → IsDone order place (letter + 1) n a → (to : ℕ) × (z ≡ Some to)) f.targets _ node letter (Some to) target_put
+          there : (n a : ℕ) → n < length t.states → a < t.letters → ComesBefore node (letter + 1) n a → (to : ℕ) × (target entered.targets n a ≡ Some to)
+          there = put_cases (λ n a z. n < length t.states → a < t.letters → ComesBefore node (letter + 1) n a → (to : ℕ) × (z ≡ Some to)) f.targets _ node letter (Some to) target_put
               (λ hn ha done. (to, refl)) (λ n a d hn ha done. before.there n a hn ha (done_before n a d done))
 
-          linked_is : (n a to : ℕ) → n < length t.states → a < t.letters → IsDone order place (letter + 1) n a → target t.children n a ≡ Some to
+          linked_is : (n a to : ℕ) → n < length t.states → a < t.letters → ComesBefore node (letter + 1) n a → target t.children n a ≡ Some to
               → (c : Option ℕ) → target t.children node letter ≡ c → IsLongest t.states (drop 1 (get_or t.states to [])) (get_or (linked c r.0 f.links) to 0)
           linked_is n a to hn ha done made None e = elim (done_next n a done) [
             | inl soon ↦ before.link n a to hn ha soon made
@@ -280,26 +270,25 @@ module _ {rules : List (Word × Word)} (falling : AreFalling rules) {t : Tree} (
                 ])
           ]
 
-          link : (n a to : ℕ) → n < length t.states → a < t.letters → IsDone order place (letter + 1) n a → target t.children n a ≡ Some to
+          link : (n a to : ℕ) → n < length t.states → a < t.letters → ComesBefore node (letter + 1) n a → target t.children n a ≡ Some to
               → IsLongest t.states (drop 1 (get_or t.states to [])) (get_or (linked child r.0 f.links) to 0)
           link n a to hn ha done made = linked_is n a to hn ha done made child refl
 
 -- a row at its end
-pub row_linked : (rules : List (Word × Word)) (t : Tree) (order : List ℕ) (place letter : ℕ) (f : Filling) → place < length order → t.letters ≤ letter
-    → IsLinkedTo rules t order place letter f → IsLinkedTo rules t order (place + 1) 0 f
-row_linked rules t order place letter f inside past is = record {
+pub row_linked : (rules : List (Word × Word)) (t : Tree) (node letter : ℕ) (f : Filling) → t.letters ≤ letter → IsLinkedTo rules t node letter f → IsLinkedTo rules t (node + 1) 0 f
+row_linked rules t node letter f past is = record {
   tables = is.tables;
   reads = λ n a hn ha done. is.reads n a hn ha (sooner n a ha done);
   there = λ n a hn ha done. is.there n a hn ha (sooner n a ha done);
   link = λ n a to hn ha done. is.link n a to hn ha (sooner n a ha done);
 }
   where
-    sooner : (n a : ℕ) → a < t.letters → IsDone order (place + 1) 0 n a → IsDone order place letter n a
-    sooner n a ha (inl h) = elim (cases_eq h.0 place) [
-      | inl e ↦ inr (inside, ap (λ z. get_or order z 0) (sym e) ∙ h.3, omega (arith, ha, past))
-      | inr d ↦ inl (h.0, omega (arith, h.1, d), h.2, h.3)
+    sooner : (n a : ℕ) → a < t.letters → ComesBefore (node + 1) 0 n a → ComesBefore node letter n a
+    sooner n a ha (inl h) = elim (cases_eq n node) [
+      | inl e ↦ inr (e, omega (arith, ha, past))
+      | inr d ↦ inl (omega (arith, h, d))
     ]
-    sooner n a ha (inr h) = absurd (omega (arith, h.2))
+    sooner n a ha (inr h) = absurd (omega (arith, h.1))
 
 -- tables without entries
 abbrev pub empty_filling : Tree → Filling
@@ -310,8 +299,8 @@ empty_filling t = record {
 }
 
 -- nothing comes before the first row
-pub none_linked : (rules : List (Word × Word)) (t : Tree) (order : List ℕ) → 0 < length t.states → IsLinkedTo rules t order 0 0 (empty_filling t)
-none_linked rules t order some = record {
+pub none_linked : (rules : List (Word × Word)) (t : Tree) → 0 < length t.states → IsLinkedTo rules t 0 0 (empty_filling t)
+none_linked rules t some = record {
   tables = record {
     some = some;
     target_rows = rows_bare (length t.states) t.letters;
@@ -325,17 +314,14 @@ none_linked rules t order some = record {
   link = λ n a to hn ha done. absurd (none n a done);
 }
   where
-    none : (n a : ℕ) → IsDone order 0 0 n a → ⊥
-    none n a (inl h) = omega (arith, h.1)
-    none n a (inr h) = omega (arith, h.2)
+    none : (n a : ℕ) → ComesBefore 0 0 n a → ⊥
+    none n a (inl h) = omega (arith, h)
+    none n a (inr h) = omega (arith, h.1)
 
 -- in the end each entry is right
-pub all_filled : (rules : List (Word × Word)) (t : Tree) (order : List ℕ) (f : Filling) → IsOrder t.states order → IsLinkedTo rules t order (length order) 0 f → IsFilled rules t f
-all_filled rules t order f ordered is = record {
+pub all_filled : (rules : List (Word × Word)) (t : Tree) (f : Filling) → IsLinkedTo rules t (length t.states) 0 f → IsFilled rules t f
+all_filled rules t f is = record {
   tables = is.tables;
-  reads = λ n a hn ha. is.reads n a hn ha (done n a hn);
-  full = λ n a hn ha. let within : n < length t.states = omega (arith, hn, is.tables.target_rows.count) in is.there n a within ha (done n a within);
+  reads = λ n a hn ha. is.reads n a hn ha (inl hn);
+  full = λ n a hn ha. let within : n < length t.states = omega (arith, hn, is.tables.target_rows.count) in is.there n a within ha (inl within);
 }
-  where
-    done : (n a : ℕ) → n < length t.states → IsDone order (length order) 0 n a
-    done n a hn = let has = ordered.each n hn in inl (has.0, has.1, has.1, item_at order n 0 has)

@@ -19,7 +19,7 @@ use Rattle.rewriting.specs.declared.reductions.Reduction.{Reduction}
 use Rattle.rewriting.specs.Lookups.{IsAtLetter, IsLookup, IsPlaced, IsReducingBy, IsRewritingAt, StandsLast, moves_of, no_moves, reads_to, states_by}
 use Rattle.rewriting.specs.declared.lookups.Lookup.{Lookup}
 use Rattle.rewriting.proofs.Standing.{listed_at, rule_read}
-use Rattle.rewriting.proofs.TrieLaws.{grown_start}
+use Rattle.rewriting.proofs.TrieLaws.{root_level, root_tree, rule_tree}
 use Rattle.rewriting.proofs.ReductionLaws.{last_read, reducing_start}
 use Rattle.rewriting.proofs.StateLaws.{empty_longest, end_found, end_kept, end_reduces, ends_more, longest_more, reduced_front}
 
@@ -136,7 +136,7 @@ all_lookup rules lookup letters falling table count first each newer = record {
 -- no rule
 empty_table : IsTableOf 0 [] no_moves
 empty_table =
-    let none = grown_start 0 [] in
+    let none = rule_tree [] 0 [] (root_tree 0) (λ n. omega arith) (root_level 0 []) (λ n h inside. absurd (omega (arith, h))) in
     record {
       letters = refl;
       over = λ i d within. absurd (omega (arith, within));

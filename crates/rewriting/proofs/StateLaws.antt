@@ -100,7 +100,7 @@ module _ (rules : List (Word × Word)) (falling : AreFalling rules) where
     left_state : (l r p : Word) (a : ℕ) → Listed rules l r → l ≡ p ++ a ∷ [] → Contains states p
     left_state l r p a listed e =
         let at = listed_at rules l r listed in
-        let has = are.lefts listed.0 listed.1 listed.1 (length p) in
+        let has = are.lefts listed.0 listed.1 (length p) in
         let has' : length p < length l → Contains states (take (length p) l) = subst (λ (q : Word × Word). length p < length q.0 → Contains states (take (length p) q.0)) at has in
         subst (λ w. Contains states w) (ap (take (length p)) e ∙ take_at p (a ∷ []) (length p) refl)
         (has' (omega (arith, ap length e, length-append p (a ∷ []))))

@@ -11,11 +11,11 @@ use Rattle.theory.proofs.FactsLaws.{last_letter}
 use Rattle.theory.specs.Graph.{Graph, IsGraph, path, target}
 use Rattle.cells.specs.Rows.{AreRows}
 use Rattle.cells.proofs.EntryLaws.{letters_past, rows_past, target_is}
+use Rattle.rewriting.proofs.TrieLaws.{state_over}
 use Rattle.rewriting.specs.Rules.{AreFalling}
 use Rattle.rewriting.specs.Tries.{Reads, longer, state_at, words_of}
 use Rattle.rewriting.specs.Tables.{Moves, move_by, move, edges, IsTable, IsTableOf}
 use Rattle.rewriting.proofs.Standing.{filled, listed_at, listed_falls}
-use Rattle.rewriting.proofs.LevelLaws.{state_over}
 use Rattle.rewriting.proofs.StateLists.{item_at}
 
 module _ (m : Moves) (is : IsTable m) where

@@ -1,16 +1,17 @@
 -- The tree of the states as it grows.
-use Rattle.std.proofs.Common.{◌≡◌, ℕ, zero, suc, ◌+◌, ◌<◌, ◌≤◌, List, [], ◌∷◌, ◌++◌, length, take, get_or, replicate, refl, sym, ◌∙◌, ap, subst, subst₂, arith, inl, inr, Option, Some, None, Contains, length-append, below_more}
+use Rattle.std.proofs.Common.{◌≡◌, ℕ, zero, suc, ◌+◌, ◌-◌, ◌<◌, ◌≤◌, List, [], ◌∷◌, ◌++◌, length, min, take, drop, get_or, replicate, refl, sym, ◌∙◌, ap, subst, subst₂, arith, inl, inr, Option, Some, None, Contains, length-append, length-take, below_more}
 use Rattle.std.proofs.lemmas.Bool.{cases_lt}
-use Rattle.std.proofs.lemmas.List.{get_or_append_left, get_or_push, same_from_push, take_more, length-map, map-append}
-use Rattle.std.proofs.lemmas.List.Elements.{Contains-push_cases}
+use Rattle.std.proofs.lemmas.List.{get_or_append_left, get_or_past, get_or_push, get_or-map, get_or-replicate, same_from_push, take-append-drop, take_all, take_more, length-map, map-append}
+use Rattle.std.proofs.lemmas.List.Elements.{Contains-append_left, Contains-push_cases}
 use Rattle.theory.specs.Word.{Word, IsOver}
 use Rattle.theory.specs.Graph.{Graph, target}
 use Rattle.cells.specs.Rows.{AreRows, IsPut, with_entry, with_node}
 use Rattle.cells.proofs.EntryLaws.{put_cases, rows_bare, rows_entry, rows_node, rows_past, rows_put, target_bare, target_node}
 use Rattle.rewriting.specs.Rules.{AreFalling, AreOver}
-use Rattle.rewriting.specs.States.{ArePrefixes, AreStatesTo, Grown}
-use Rattle.rewriting.specs.Tries.{FindsChild, left_at, state_of, states_of, tree_of, words_of, longer, IsChild, IsLeft, IsStateWord, IsTrie, IsMarked, IsGrown, IsGrowing, IsThere, IsNew, Tree}
-use Rattle.rewriting.proofs.StateLists.{contains_at, grown_there, grown_put, states_step}
+use Rattle.rewriting.specs.States.{ArePrefixes, HavePrefixes}
+use Rattle.rewriting.specs.Tries.{AreReadTo, FindsChild, HasGrown, left_at, state_of, states_of, tree_of, words_of, longer, IsChild, IsLeft, IsLevelTree, IsReadTo, IsRuleTree, IsStateWord, IsTrie, IsMarked, IsThere, IsNew, Tree}
+use Rattle.theory.proofs.Words.{over_left}
+use Rattle.rewriting.proofs.StateLists.{contains_at}
 use Rattle.rewriting.proofs.Standing.{filled, rule_read}
 use Rattle.rewriting.specs.declared.tries.Prefix.{Prefix}
 use Rattle.rewriting.specs.declared.tries.Trie.{Trie}
@@ -142,128 +143,234 @@ same_tree : (k l : ℕ) (us vs : List Word) (cs ds ls ms : Graph) → k ≡ l �
     → ◌≡◌ {A = Tree} (record { letters = k; states = us; children = cs; lefts = ls }) (record { letters = l; states = vs; children = ds; lefts = ms })
 same_tree k l us vs cs ds ls ms a b c d = rw (a, b, c, d) refl
 
+-- a word stands at the end of a list whose other words hold what it goes on from
+prefixes_put : (states : List Word) (p : Word) (a : ℕ) → ArePrefixes states → Contains states p → ArePrefixes (states ++ (p ++ a ∷ []) ∷ [])
+prefixes_put states p a is there = record {
+  some = omega (arith, is.some, length-append states ((p ++ a ∷ []) ∷ []));
+  root = get_or_append_left states ((p ++ a ∷ []) ∷ []) [] 0 is.some ∙ is.root;
+  closed = λ q b h. Contains-append_left states ((p ++ a ∷ []) ∷ []) q (elim (Contains-push_cases states (p ++ a ∷ []) (q ++ b ∷ []) h) [
+    | inl old ↦ is.closed q b old
+    | inr e ↦ subst (λ (w : Word). Contains states w) (same_from_push p q a b e).0 there
+  ]);
+}
+
+-- with a word its prefixes are there
+fronts_there : (states : List Word) → ArePrefixes states → (u : Word) (more count : ℕ) → count + more ≤ length u → Contains states (take (count + more) u) → Contains states (take count u)
+fronts_there states is u zero count h has = subst (λ n. Contains states (take n u)) (omega arith) has
+fronts_there states is u (suc more) count h has =
+    fronts_there states is u more count (omega (arith, h))
+    (is.closed (take (count + more) u) (get_or u (count + more) 0)
+    (subst (λ (w : Word). Contains states w) (ap (λ n. take n u) (omega arith) ∙ take_more u (count + more) 0 (omega (arith, h))) has))
+
+-- the bound of a tree by levels
+pub level_more : (rules : List (Word × Word)) (most : ℕ) (t : Tree) → IsLevelTree rules most t → IsLevelTree rules (most + 1) t
+level_more rules most t is = record { trie = is.trie; rises = is.rises; few = λ n h. let few = is.few n h in omega (arith, few) }
+
+pub grown_none : (t : Tree) → HasGrown t t
+grown_none t = record { letters = refl; states = λ n h. (h, refl); marked = λ u m. m }
+
+pub grown_both : (old mid new : Tree) → HasGrown old mid → HasGrown mid new → HasGrown old new
+grown_both old mid new f g = record {
+  letters = g.letters ∙ f.letters;
+  states = λ n h. let was = f.states n h in let is = g.states n was.0 in (is.0, is.1 ∙ was.1);
+  marked = λ u m. g.marked u (f.marked u m);
+}
+
+-- what was read stays so
+pub read_kept : (old new : Tree) (left : Word) (count node : ℕ) → HasGrown old new → IsReadTo old left count node → IsReadTo new left count node
+read_kept old new left count node grown read =
+    let now = grown.states node read.within in
+    record { within = now.0; is = now.1 ∙ read.is; marked = λ h. grown.marked left (read.marked h) }
+
 -- one letter more of a left side
-module _ (rules : List (Word × Word)) (old : Tree) (read : Prefix) (was now : Trie) (node letter to : ℕ) (is : IsGrowing rules old read (tree_of rules was) node)
-    (below : letter < was.letters) (next : take (read.count + 1) (left_at rules read.rule) ≡ state_of rules read ++ letter ∷ [])
-    (room : read.count + 1 < length (left_at rules read.rule)) (inside : read.rule < length rules) where
+module _ (rules : List (Word × Word)) (rule count node : ℕ) (was : Trie) (tree : IsLevelTree rules (count + 1) (tree_of rules was)) (inside : rule < length rules)
+    (read : IsReadTo (tree_of rules was) (left_at rules rule) count node) where
   abbrev t : Tree
   t = tree_of rules was
 
-  abbrev more : Prefix
-  more = record { rule = read.rule; count = read.count + 1 }
+  abbrev left : Word
+  left = left_at rules rule
 
-  word_is : longer t.states node letter ≡ state_of rules more
-  word_is = ap (λ u. u ++ letter ∷ []) is.is ∙ sym next
+  -- it has no more
+  pub read_past : length left ≤ count → IsReadTo t left (count + 1) node
+  read_past short = record { within = read.within; is = read.is ∙ ap (λ n. take n left) (omega (arith, short)); marked = λ _. read.marked short }
 
-  there : IsThere node letter was now to → IsGrowing rules old more (tree_of rules now) to
-  there h = subst (λ (n : Trie). IsGrowing rules old more (tree_of rules n) to) (sym h.same) (record {
-    letters = is.letters;
-    trie = is.trie;
-    marked = is.marked;
-    grown = grown_there old.states (left_at rules read.rule) (read.count + 1) t.states is.grown (contains_at t.states (state_of rules more) to child.0 (child.1 ∙ word_is));
-    within = child.0;
-    is = child.1 ∙ word_is;
-  })
-    where
-      child : (to < length t.states) × (get_or t.states to [] ≡ longer t.states node letter)
-      child = subst (λ c. IsChild t.states (longer t.states node letter) c) h.found (is.trie.child node letter is.within below)
+  module _ (letter : ℕ) (below : letter < was.letters) (long : count < length left) (next : take (count + 1) left ≡ take count left ++ letter ∷ []) where
+    node_is : get_or t.states node [] ≡ take count left
+    node_is = read.is ∙ ap (λ n. take n left) (omega (arith, long))
 
-  made : IsNew node letter more was now to → IsGrowing rules old more (tree_of rules now) to
-  made h = subst₂ (λ (n : Tree) (i : ℕ). IsGrowing rules old more n i) (sym tree_is) (sym number_is) (record {
-    letters = is.letters;
-    trie = trie_new rules t is.trie node letter is.within below h.missing grown.prefixes (inr (record { number = read.rule; count = read.count + 1; within = inside; proper = room; is = word_is }));
-    marked = λ n l inside. marked_new rules t is.trie node letter is.within below h.missing (left_at rules n) (is.marked n l inside);
-    grown = grown;
-    within = omega (arith, length-append t.states (longer t.states node letter ∷ []));
-    is = get_or_push t.states (longer t.states node letter) [] (length t.states) refl ∙ word_is;
-  })
-    where
-      number_is : to ≡ length t.states
-      number_is = h.number ∙ is.trie.child_rows.count
+    word_is : longer t.states node letter ≡ take (count + 1) left
+    word_is = ap (λ (u : Word). u ++ letter ∷ []) node_is ∙ sym next
 
-      tree_is : tree_of rules now ≡ grown_by rules t is.trie node letter is.within below h.missing
-      tree_is = same_tree now.letters was.letters (states_of rules now) (t.states ++ longer t.states node letter ∷ []) now.children _ now.lefts (with_node was.letters was.lefts)
-          h.letters (ap (words_of rules) h.prefixes ∙ map-append (state_of rules) was.prefixes.items (more ∷ []) ∙ ap (λ w. t.states ++ w ∷ []) (sym word_is))
-          (h.children ∙ ap (λ z. with_entry (with_node was.letters was.children) node letter (Some z)) number_is) h.lefts
+    -- the tree with the mark of the last letter
+    module _ (last : length left ≡ count + 1) where
+      abbrev pub marked_by : Tree
+      marked_by = record {
+        letters = t.letters;
+        states = t.states;
+        children = t.children;
+        lefts = with_entry t.lefts node letter (Some rule);
+      }
 
-      grown : Grown old.states (left_at rules read.rule) (read.count + 1 + 1) (t.states ++ longer t.states node letter ∷ [])
-      grown =
-          subst (λ w. Grown old.states (left_at rules read.rule) (read.count + 1 + 1) (t.states ++ w ∷ [])) (sym word_is)
-          (grown_put old.states (left_at rules read.rule) (read.count + 1) t.states is.grown room)
+      row : IsPut t.lefts marked_by.lefts node letter (Some rule)
+      row = rows_entry (length t.states) t.letters t.lefts tree.trie.left_rows node letter (Some rule) read.within below
 
-  pub growing_step : FindsChild node letter more was now to → IsGrowing rules old more (tree_of rules now) to
-  growing_step (inl h) = there h
-  growing_step (inr h) = made h
+      word : left ≡ longer t.states node letter
+      word = sym (take_all (count + 1) left (omega (arith, last))) ∙ sym word_is
 
--- a left side before its first letter
-pub growing_start : (rules : List (Word × Word)) (number : ℕ) (t : Tree) → IsGrown rules number t → IsGrowing rules t (record { rule = number; count = 0 }) t 0
-growing_start rules number t is = record {
-  letters = refl;
+      kept : (u : Word) → IsMarked t u → IsMarked marked_by u
+      kept u m =
+          let mark = put_cases (λ n a to. target t.lefts n a ≡ Some m.number → (q : ℕ) × (to ≡ Some q)) t.lefts _ node letter (Some rule) row (λ e. (rule, refl)) (λ n a d e. (m.number, e)) m.node m.letter m.marked in
+          record { node = m.node; letter = m.letter; number = mark.0; node_within = m.node_within; letter_within = m.letter_within; is = m.is; marked = mark.1 }
+
+      pub marked_tree : IsLevelTree rules (count + 1) marked_by
+      marked_tree = record {
+        trie = record {
+          prefixes = tree.trie.prefixes;
+          distinct = tree.trie.distinct;
+          only = tree.trie.only;
+          child_rows = tree.trie.child_rows;
+          left_rows = rows_put (length t.states) t.letters t.lefts tree.trie.left_rows node letter (Some rule) read.within;
+          child = tree.trie.child;
+          left = put_cases (λ n a to. n < length t.states → a < t.letters → IsLeft rules (longer t.states n a) to) t.lefts _ node letter (Some rule) row (λ hn ha. (inside, word)) (λ n a d. tree.trie.left n a);
+        };
+        rises = tree.rises;
+        few = tree.few;
+      }
+
+      pub marked_grown : HasGrown t marked_by
+      marked_grown = record { letters = refl; states = λ n h. (h, refl); marked = kept }
+
+      pub marked_read : IsReadTo marked_by left (count + 1) node
+      marked_read = record {
+        within = read.within;
+        is = read.is ∙ ap (λ n. take n left) (omega (arith, last));
+        marked = λ _. record { node = node; letter = letter; number = rule; node_within = read.within; letter_within = below; is = word; marked = row.put };
+      }
+
+    -- the tree in which the letter leads on
+    module _ (now : Trie) (to : ℕ) (room : count + 1 < length left) where
+      -- what is shown of it
+      pub record LeadsOn : Type 0 where
+        pub level : IsLevelTree rules (count + 1) (tree_of rules now)
+        pub grown : HasGrown t (tree_of rules now)
+        pub reads : IsReadTo (tree_of rules now) left (count + 1) to
+
+      read_at : (new : Tree) → to < length new.states → get_or new.states to [] ≡ take (count + 1) left → IsReadTo new left (count + 1) to
+      read_at new within is = record { within = within; is = is ∙ ap (λ n. take n left) (omega (arith, room)); marked = λ h. absurd (omega (arith, h, room)) }
+
+      child_there : IsThere node letter was now to → (to < length t.states) × (get_or t.states to [] ≡ longer t.states node letter)
+      child_there h = subst (λ c. IsChild t.states (longer t.states node letter) c) h.found (tree.trie.child node letter read.within below)
+
+      there : IsThere node letter was now to → LeadsOn
+      there h = record {
+        level = subst (λ (n : Trie). IsLevelTree rules (count + 1) (tree_of rules n)) (sym h.same) tree;
+        grown = subst (λ (n : Trie). HasGrown t (tree_of rules n)) (sym h.same) (grown_none t);
+        reads = subst (λ (n : Trie). IsReadTo (tree_of rules n) left (count + 1) to) (sym h.same) (read_at t (child_there h).0 ((child_there h).1 ∙ word_is));
+      }
+
+      module _ (h : IsNew node letter (record { rule = rule; count = count + 1 }) was now to) where
+        abbrev made : Tree
+        made = grown_by rules t tree.trie node letter read.within below h.missing
+
+        number_is : to ≡ length t.states
+        number_is = h.number ∙ tree.trie.child_rows.count
+
+        made_is : tree_of rules now ≡ made
+        made_is = same_tree now.letters was.letters (states_of rules now) made.states now.children made.children now.lefts made.lefts
+            h.letters (ap (words_of rules) h.prefixes ∙ map-append (state_of rules) was.prefixes.items (record { rule = rule; count = count + 1 } ∷ []) ∙ ap (λ (w : Word). t.states ++ w ∷ []) (sym word_is))
+            (h.children ∙ ap (λ z. with_entry (with_node was.letters was.children) node letter (Some z)) number_is) h.lefts
+
+        made_size : length made.states ≡ length t.states + 1
+        made_size = length-append t.states (longer t.states node letter ∷ [])
+
+        made_word : (n : ℕ) → n < length t.states → get_or made.states n [] ≡ get_or t.states n []
+        made_word n h = get_or_append_left t.states (longer t.states node letter ∷ []) [] n h
+
+        made_last : get_or made.states (length t.states) [] ≡ take (count + 1) left
+        made_last = get_or_push t.states (longer t.states node letter) [] (length t.states) refl ∙ word_is
+
+        last_size : length (get_or made.states (length t.states) []) ≡ count + 1
+        last_size = ap length made_last ∙ length-take (count + 1) left ∙ omega (arith, room)
+
+        few : (n : ℕ) → n < length made.states → length (get_or made.states n []) ≤ count + 1
+        few n hn = elim (cases_lt n (length t.states)) [
+          | inl l ↦ subst (λ (u : Word). length u ≤ count + 1) (sym (made_word n l)) (tree.few n l)
+          | inr m ↦ let e : n ≡ length t.states = omega (arith, m, hn, made_size) in subst (λ z. length (get_or made.states z []) ≤ count + 1) (sym e) (omega (arith, last_size))
+        ]
+
+        rises : (i j : ℕ) → i ≤ j → j < length made.states → length (get_or made.states i []) ≤ length (get_or made.states j [])
+        rises i j h hj = elim (cases_lt j (length t.states)) [
+          | inl l ↦ subst₂ (λ (u v : Word). length u ≤ length v) (sym (made_word i (omega (arith, h, l)))) (sym (made_word j l)) (tree.rises i j h l)
+          | inr m ↦
+              let e : j ≡ length t.states = omega (arith, m, hj, made_size) in
+              let bound = few i (omega (arith, h, hj)) in
+              subst (λ z. length (get_or made.states i []) ≤ length (get_or made.states z [])) (sym e) (omega (arith, bound, last_size))
+        ]
+
+        new : LeadsOn
+        new = record {
+          level = subst (λ (n : Tree). IsLevelTree rules (count + 1) n) (sym made_is) (record {
+            trie = trie_new rules t tree.trie node letter read.within below h.missing
+                (prefixes_put t.states (get_or t.states node []) letter tree.trie.prefixes (contains_at t.states (get_or t.states node []) node read.within refl))
+                (inr (record { number = rule; count = count + 1; within = inside; proper = room; is = word_is }));
+            rises = rises;
+            few = few;
+          });
+          grown = subst (λ (n : Tree). HasGrown t n) (sym made_is) (record {
+            letters = refl;
+            states = λ n h. (omega (arith, h, made_size), made_word n h);
+            marked = λ u m. marked_new rules t tree.trie node letter read.within below h.missing u m;
+          });
+          reads = subst (λ (n : Tree). IsReadTo n left (count + 1) to) (sym made_is)
+              (read_at made (omega (arith, number_is, made_size)) (ap (λ z. get_or made.states z []) number_is ∙ made_last));
+        }
+
+      pub read_step : FindsChild node letter (record { rule = rule; count = count + 1 }) was now to → LeadsOn
+      read_step (inl h) = there h
+      read_step (inr h) = new h
+
+-- a level with one left side more
+pub read_more : (rules : List (Word × Word)) (rule count node : ℕ) (next : List ℕ) (old new : Tree) → length next ≡ rule → HasGrown old new → AreReadTo rules rule count next old
+    → IsReadTo new (left_at rules rule) count node → AreReadTo rules (rule + 1) count (next ++ node ∷ []) new
+read_more rules rule count node next old new size grown are read =
+    below_more (λ n. n < length rules → IsReadTo new (left_at rules n) count (get_or (next ++ node ∷ []) n 0)) rule
+    (λ n h inside. subst (λ z. IsReadTo new (left_at rules n) count z) (sym (get_or_append_left next (node ∷ []) 0 n (omega (arith, h, size)))) (read_kept old new (left_at rules n) count _ grown (are n h inside)))
+    (λ inside. subst (λ z. IsReadTo new (left_at rules rule) count z) (sym (get_or_push next node 0 rule size)) read)
+
+-- when all letters have been read
+pub rule_tree : (rules : List (Word × Word)) (most : ℕ) (nodes : List ℕ) (t : Tree) → ((n : ℕ) → length (left_at rules n) ≤ most) → IsLevelTree rules most t
+    → AreReadTo rules (length rules) most nodes t → IsRuleTree rules t
+rule_tree rules most nodes t long is are = record {
   trie = is.trie;
-  marked = is.marked;
-  grown = record {
-    prefixes = is.are.prefixes;
-    kept = λ w h. h;
-    added = λ c h. let none : 0 ≡ c = omega (arith, h) in subst (λ z. Contains t.states (take z (left_at rules number))) none (contains_at t.states [] 0 is.are.prefixes.some is.are.prefixes.root);
-  };
-  within = is.are.prefixes.some;
-  is = is.are.prefixes.root;
+  are = record { prefixes = is.trie.prefixes; lefts = there };
+  marked = λ n h. (are n h h).marked (long n);
+  rises = is.rises;
 }
+  where
+    there : (n : ℕ) → n < length rules → HavePrefixes t.states (left_at rules n) (length (left_at rules n))
+    there n inside c less =
+        let read = are n inside inside in
+        let few = long n in
+        let size : min most (length (left_at rules n) - 1) ≡ c + (length (left_at rules n) - 1 - c) = omega (arith, few, less) in
+        let front : get_or t.states (get_or nodes n 0) [] ≡ take (c + (length (left_at rules n) - 1 - c)) (left_at rules n) = read.is ∙ ap (λ z. take z (left_at rules n)) size in
+        fronts_there t.states is.trie.prefixes (left_at rules n) (length (left_at rules n) - 1 - c) c (omega (arith, less)) (contains_at t.states _ (get_or nodes n 0) read.within front)
 
--- a left side at its last letter
-module _ (rules : List (Word × Word)) (old t : Tree) (read : Prefix) (node letter : ℕ) (before : AreStatesTo rules read.rule old.states) (is : IsGrowing rules old read t node)
-    (inside : read.rule < length rules) (below : letter < t.letters) (long : read.count + 1 ≡ length (left_at rules read.rule)) (whole : left_at rules read.rule ≡ state_of rules read ++ letter ∷ []) where
-  -- the tree with its mark
-  abbrev pub marked_by : Tree
-  marked_by = record {
-    letters = t.letters;
-    states = t.states;
-    children = t.children;
-    lefts = with_entry t.lefts node letter (Some read.rule);
-  }
-
-  row : IsPut t.lefts marked_by.lefts node letter (Some read.rule)
-  row = rows_entry (length t.states) t.letters t.lefts is.trie.left_rows node letter (Some read.rule) is.within below
-
-  word : left_at rules read.rule ≡ longer t.states node letter
-  word = whole ∙ ap (λ u. u ++ letter ∷ []) (sym is.is)
-
-  left : (n a : ℕ) → n < length t.states → a < t.letters → IsLeft rules (longer t.states n a) (target marked_by.lefts n a)
-  left = put_cases (λ n a to. n < length t.states → a < t.letters → IsLeft rules (longer t.states n a) to) t.lefts _ node letter (Some read.rule) row (λ hn ha. (inside, word)) (λ n a d. is.trie.left n a)
-
-  now : IsMarked marked_by (left_at rules read.rule)
-  now = record {
-    node = node;
-    letter = letter;
-    number = read.rule;
-    node_within = is.within;
-    letter_within = below;
-    is = word;
-    marked = row.put;
-  }
-
-  still : (n a m : ℕ) → target t.lefts n a ≡ Some m → (q : ℕ) × (target marked_by.lefts n a ≡ Some q)
-  still n a m = put_cases (λ n a to. target t.lefts n a ≡ Some m → (q : ℕ) × (to ≡ Some q)) t.lefts _ node letter (Some read.rule) row (λ e. (read.rule, refl)) (λ n a d e. (m, e)) n a
-
-  kept : (u : Word) → IsMarked t u → IsMarked marked_by u
-  kept u m =
-      let mark = still m.node m.letter m.number m.marked in
-      record { node = m.node; letter = m.letter; number = mark.0; node_within = m.node_within; letter_within = m.letter_within; is = m.is; marked = mark.1 }
-
-  pub growing_end : IsGrown rules (read.rule + 1) marked_by
-  growing_end = record {
-    trie = record {
-      prefixes = is.trie.prefixes;
-      distinct = is.trie.distinct;
-      only = is.trie.only;
-      child_rows = is.trie.child_rows;
-      left_rows = rows_put (length t.states) t.letters t.lefts is.trie.left_rows node letter (Some read.rule) is.within;
-      child = is.trie.child;
-      left = left;
-    };
-    are = states_step rules read.rule old.states (left_at rules read.rule) t.states before refl (subst (λ c. Grown old.states (left_at rules read.rule) c t.states) long is.grown);
-    marked = below_more (λ n. n < length rules → IsMarked marked_by (left_at rules n)) read.rule (λ n l h. kept (left_at rules n) (is.marked n l h)) (λ _. now);
-  }
+-- the letters of a state are those of a left side
+pub state_over : (k : ℕ) (rules : List (Word × Word)) (prefixes : List Prefix) → AreOver k rules → (n : ℕ) → IsOver k (get_or (words_of rules prefixes) n [])
+state_over k rules prefixes over n = elim (cases_lt n (length prefixes)) [
+  | inl l ↦
+      let p = get_or prefixes n (record { rule = 0; count = 0 }) in
+      let at : get_or (words_of rules prefixes) n [] ≡ take p.count (left_at rules p.rule) = get_or-map (state_of rules) prefixes n (record { rule = 0; count = 0 }) [] l in
+      subst (λ u. IsOver k u) (sym at) (over_left k (take p.count (left_at rules p.rule)) (drop p.count (left_at rules p.rule)) (subst (λ u. IsOver k u) (sym (take-append-drop p.count (left_at rules p.rule))) (left_over p.rule)))
+  | inr m ↦ subst (λ u. IsOver k u) (sym (get_or_past (words_of rules prefixes) n [] (omega (arith, m, words_count rules prefixes)))) tt
+]
+  where
+    left_over : (i : ℕ) → IsOver k (left_at rules i)
+    left_over i = elim (cases_lt i (length rules)) [
+      | inl l ↦ (over i ([], []) l).0
+      | inr m ↦ subst (λ (r : Word × Word). IsOver k r.0) (sym (get_or_past rules i ([], []) m)) tt
+    ]
 
 -- the empty word alone
 abbrev pub root_tree : ℕ → Tree
@@ -274,10 +381,10 @@ root_tree k = record {
   lefts = replicate k None ∷ [];
 }
 
-pub grown_start : (k : ℕ) (rules : List (Word × Word)) → IsGrown rules 0 (root_tree k)
-grown_start k rules = record {
+pub root_level : (k : ℕ) (rules : List (Word × Word)) → IsLevelTree rules 0 (root_tree k)
+root_level k rules = record {
   trie = record {
-    prefixes = prefixes;
+    prefixes = record { some = omega arith; root = refl; closed = λ p a h. absurd (no_longer p a h) };
     distinct = λ i j hi hj e. omega (arith, hi, hj);
     only = λ n h. inl (let e : n ≡ 0 = omega (arith, h) in ap (λ (i : ℕ). get_or {A = Word} ([] ∷ []) i []) e);
     child_rows = rows_bare 1 k;
@@ -285,8 +392,8 @@ grown_start k rules = record {
     child = λ n a hn ha. subst (λ t. IsChild ([] ∷ []) (longer ([] ∷ []) n a) t) (sym (target_bare 1 k n a)) (no_longer (get_or ([] ∷ []) n []) a);
     left = λ n a hn ha. subst (λ t. IsLeft rules (longer ([] ∷ []) n a) t) (sym (target_bare 1 k n a)) tt;
   };
-  are = record { prefixes = prefixes; lefts = λ n h. absurd (omega (arith, h)) };
-  marked = λ n h. absurd (omega (arith, h));
+  rises = λ i j h hj. omega (arith, size i (omega (arith, h, hj)));
+  few = λ n h. omega (arith, size n h);
 }
   where
     no_longer : (p : Word) (a : ℕ) → Contains ([] ∷ []) (p ++ a ∷ []) → ⊥
@@ -295,8 +402,17 @@ grown_start k rules = record {
         let e : [] ≡ p ++ a ∷ [] = ap (λ n. get_or ([] ∷ []) n (p ++ a ∷ [])) (sym z) ∙ h.2 in
         omega (arith, ap length e, length-append p (a ∷ []))
 
-    prefixes : ArePrefixes ([] ∷ [])
-    prefixes = record { some = omega arith; root = refl; closed = λ p a h. absurd (no_longer p a h) }
+    size : (n : ℕ) → n < 1 → length (get_or {A = Word} ([] ∷ []) n []) ≡ 0
+    size n h = let e : n ≡ 0 = omega (arith, h) in ap (λ (i : ℕ). length (get_or {A = Word} ([] ∷ []) i [])) e
+
+-- before its first letter a left side has led to the root
+pub root_read : (k : ℕ) (rules : List (Word × Word)) → AreFalling rules → (number : ℕ) → AreReadTo rules number 0 (replicate number 0) (root_tree k)
+root_read k rules falling number n h inside =
+    subst (λ z. IsReadTo (root_tree k) (left_at rules n) 0 z) (sym (get_or-replicate number n 0 0 h))
+    (record { within = omega arith; is = none; marked = λ short. absurd (omega (arith, short, filled (left_at rules n) (get_or rules n ([], [])).1 (falling n ([], []) inside))) })
+  where
+    none : [] ≡ take (min 0 (length (left_at rules n) - 1)) (left_at rules n)
+    none = let zero : 0 ≡ min 0 (length (left_at rules n) - 1) = omega arith in ap (λ z. take z (left_at rules n)) zero
 
 -- the left side of a rule, as the code reads it
 module _ (rules : List (Word × Word)) {number : ℕ} {rule : Word × Word} {letters : Word} (inside : number < length rules) (read : rule ≡ get_or rules number rule) (is : letters ≡ rule.0) where

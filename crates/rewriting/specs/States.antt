@@ -41,19 +41,9 @@ pub record ArePrefixes (states : List Word) : Type 0 where
 abbrev pub HavePrefixes : List Word → Word → ℕ → Type 0
 HavePrefixes states u count = (c : ℕ) → c < count → Contains states (take c u)
 
--- the proper prefixes of the first left sides are there, so many
-pub record AreStatesTo (rules : List (Word × Word)) (number : ℕ) (states : List Word) : Type 0 where
+-- the proper prefixes of left sides are there
+pub record AreStates (rules : List (Word × Word)) (states : List Word) : Type 0 where
   pub prefixes : ArePrefixes states
-  pub lefts : (n : ℕ)
-      → n < number → n < length rules
+  pub lefts : (n : ℕ) → n < length rules
       → HavePrefixes states (slice_index_or rules n ([], [])).0
       (length (slice_index_or rules n ([], [])).0)
-
-abbrev pub AreStates : List (Word × Word) → List Word → Type 0
-AreStates rules = AreStatesTo rules (length rules)
-
--- the words after states have grown: the old words, and the shorter prefixes of u
-pub record Grown (old : List Word) (u : Word) (count : ℕ) (states : List Word) : Type 0 where
-  pub prefixes : ArePrefixes states
-  pub kept : (w : Word) → Contains old w → Contains states w
-  pub added : HavePrefixes states u count

@@ -1,13 +1,11 @@
 -- The tree of the states, and the tables that are read from it (Aho and Corasick 1975).
-use Rattle.std.specs.Prelude.{◌≡◌, ◌≢◌, ℕ, ◌+◌, ◌<◌, ◌≤◌, ◌⊎◌, List, [], ◌∷◌, ◌++◌, length, map, take, drop, slice_index_or, slice_set, Contains, Option, None, Some, unwrap_or}
+use Rattle.std.specs.Prelude.{◌≡◌, ◌≢◌, ℕ, ◌-◌, ◌<◌, ◌≤◌, ◌⊎◌, List, [], ◌∷◌, ◌++◌, length, map, min, take, drop, slice_index_or, slice_set, Contains, Option, None, Some, unwrap_or}
 use Rattle.theory.specs.Word.{Word}
 use Rattle.theory.specs.Graph.{Graph, IsComplete, target}
 use Rattle.cells.specs.Rows.{AreRows, with_entry, with_node}
-use Rattle.rewriting.specs.Rules.{AreOver}
-use Rattle.rewriting.specs.States.{ArePrefixes, AreStatesTo, EndsAt, Grown, HasEnd, IsLongest}
+use Rattle.rewriting.specs.States.{ArePrefixes, AreStates, EndsAt, HasEnd, IsLongest}
 use Rattle.rewriting.specs.declared.tries.Prefix.{Prefix}
 use Rattle.rewriting.specs.declared.tries.Trie.{Trie}
-use Rattle.rewriting.specs.declared.levels.Levels.{Levels}
 use Rattle.rewriting.specs.declared.links.Tables.{Tables}
 
 -- the left side of the rule at a place
@@ -88,25 +86,40 @@ pub record IsMarked (t : Tree) (left : Word) : Type 0 where
   pub is : left ≡ longer t.states node letter
   pub marked : target t.lefts node letter ≡ Some number
 
--- the left sides of the first rules are marked, so many
-abbrev pub AreMarkedTo : List (Word × Word) → ℕ → Tree → Type 0
-AreMarkedTo rules number t = (n : ℕ) → n < number → n < length rules → IsMarked t (left_at rules n)
-
--- the tree of the first rules, so many
-pub record IsGrown (rules : List (Word × Word)) (number : ℕ) (t : Tree) : Type 0 where
+-- a tree of words of at most so many letters, the shorter ones first
+pub record IsLevelTree (rules : List (Word × Word)) (most : ℕ) (t : Tree) : Type 0 where
   pub trie : IsTrie rules t
-  pub are : AreStatesTo rules number t.states
-  pub marked : AreMarkedTo rules number t
+  pub rises : (i j : ℕ) → i ≤ j → j < length t.states
+      → length (slice_index_or t.states i []) ≤ length (slice_index_or t.states j [])
+  pub few : (n : ℕ) → n < length t.states → length (slice_index_or t.states n []) ≤ most
 
--- the tree while a left side is read, so many letters of it, up to a node
-pub record IsGrowing (rules : List (Word × Word)) (old : Tree) (read : Prefix) (t : Tree)
-    (node : ℕ) : Type 0 where
-  pub letters : t.letters ≡ old.letters
-  pub trie : IsTrie rules t
-  pub marked : AreMarkedTo rules read.rule t
-  pub grown : Grown old.states (left_at rules read.rule) (read.count + 1) t.states
+-- so many letters of a left side, or all but the last, lead to the node; it is marked if it has no
+-- more
+pub record IsReadTo (t : Tree) (left : Word) (count node : ℕ) : Type 0 where
   pub within : node < length t.states
-  pub is : slice_index_or t.states node [] ≡ state_of rules read
+  pub is : slice_index_or t.states node [] ≡ take (min count (length left - 1)) left
+  pub marked : length left ≤ count → IsMarked t left
+
+-- the same of the first left sides, so many, and a node for each
+abbrev pub AreReadTo : List (Word × Word) → ℕ → ℕ → List ℕ → Tree → Type 0
+AreReadTo rules number count nodes t = (n : ℕ) → n < number → n < length rules
+    → IsReadTo t (left_at rules n) count (slice_index_or nodes n 0)
+
+-- the states of the old tree are in the new one, by the same numbers, and so are its marks
+pub record HasGrown (old new : Tree) : Type 0 where
+  pub letters : new.letters ≡ old.letters
+  pub states : (n : ℕ) → n < length old.states
+      → (n < length new.states)
+      × (slice_index_or new.states n [] ≡ slice_index_or old.states n [])
+  pub marked : (u : Word) → IsMarked old u → IsMarked new u
+
+-- the tree of the rules, the shorter states first
+pub record IsRuleTree (rules : List (Word × Word)) (t : Tree) : Type 0 where
+  pub trie : IsTrie rules t
+  pub are : AreStates rules t.states
+  pub marked : (n : ℕ) → n < length rules → IsMarked t (left_at rules n)
+  pub rises : (i j : ℕ) → i ≤ j → j < length t.states
+      → length (slice_index_or t.states i []) ≤ length (slice_index_or t.states j [])
 
 -- the child that is there
 pub record IsThere (node letter : ℕ) (old new : Trie) (to : ℕ) : Type 0 where
@@ -141,58 +154,9 @@ tree_of rules trie = record {
   lefts = trie.lefts;
 }
 
--- the tree of the first rules, so many
-abbrev pub IsTreeTo : List (Word × Word) → ℕ → Trie → Type 0
-IsTreeTo rules number trie = IsGrown rules number (tree_of rules trie)
-
 -- the tree of all rules
 abbrev pub IsTreeOf : List (Word × Word) → Trie → Type 0
-IsTreeOf rules = IsTreeTo rules (length rules)
-
--- numbers of states, each once or more, the shorter states first
-pub record IsOrder (states : List Word) (order : List ℕ) : Type 0 where
-  pub within : (j : ℕ) → j < length order → slice_index_or order j 0 < length states
-  pub each : (n : ℕ) → n < length states → Contains order n
-  pub rises : (i j : ℕ) → i ≤ j → j < length order
-      → length (slice_index_or states (slice_index_or order i 0) [])
-      ≤ length (slice_index_or states (slice_index_or order j 0) [])
-
--- x is the child of the node by a letter below the bound
-pub record IsChildOf (children : Graph) (node bound x : ℕ) : Type 0 where
-  pub letter : ℕ
-  pub below : letter < bound
-  pub is : target children node letter ≡ Some x
-
--- the children of the node by letters below the bound have been added
-pub record Gathers (children : Graph) (node bound : ℕ) (old new : List ℕ) : Type 0 where
-  pub kept : (x : ℕ) → Contains old x → Contains new x
-  pub from : (x : ℕ) → Contains new x → Contains old x ⊎ IsChildOf children node bound x
-  pub all : (x : ℕ) → IsChildOf children node bound x → Contains new x
-
--- the children of the first nodes of the list, so many
-pub record AreChildren (k : ℕ) (children : Graph) (level : List ℕ) (count : ℕ)
-    (new : List ℕ) : Type 0 where
-  pub from : (x : ℕ) → Contains new x
-      → (j : ℕ) × (j < count) × (j < length level)
-      × IsChildOf children (slice_index_or level j 0) k x
-  pub all : (j x : ℕ) → j < count → j < length level
-      → IsChildOf children (slice_index_or level j 0) k x → Contains new x
-
--- the states of at most so many letters, the shorter first, and those of just so many
-pub record IsOrderTo (states : List Word) (most : ℕ) (order level : List ℕ) : Type 0 where
-  pub within : (j : ℕ) → j < length order
-      → (slice_index_or order j 0 < length states)
-      × (length (slice_index_or states (slice_index_or order j 0) []) ≤ most)
-  pub each : (n : ℕ) → n < length states → length (slice_index_or states n []) ≤ most
-      → Contains order n
-  pub rises : (i j : ℕ) → i ≤ j → j < length order
-      → length (slice_index_or states (slice_index_or order i 0) [])
-      ≤ length (slice_index_or states (slice_index_or order j 0) [])
-  pub level_within : (j : ℕ) → j < length level
-      → (slice_index_or level j 0 < length states)
-      × (length (slice_index_or states (slice_index_or level j 0) []) ≡ most)
-  pub level_each : (n : ℕ) → n < length states → length (slice_index_or states n []) ≡ most
-      → Contains level n
+IsTreeOf rules trie = IsRuleTree rules (tree_of rules trie)
 
 -- whether a left side stands at the end of u, and of which rule
 abbrev pub IsEnd : List (Word × Word) → Word → Option ℕ → Type 0
@@ -205,12 +169,9 @@ pub record Reads (rules : List (Word × Word)) (states : List Word) (u : Word) (
   pub longest : IsLongest states u target
   pub ends : IsEnd rules u end
 
--- the row of the node comes before the place in the order, or it is the row there and the letter
--- comes before the letter
-abbrev pub IsDone : List ℕ → ℕ → ℕ → ℕ → ℕ → Type 0
-IsDone order place letter n a =
-    ((j : ℕ) × (j < place) × (j < length order) × (slice_index_or order j 0 ≡ n))
-    ⊎ ((place < length order) × (slice_index_or order place 0 ≡ n) × (a < letter))
+-- the entry of the state n and the letter a comes before that of the node and the letter
+abbrev pub ComesBefore : ℕ → ℕ → ℕ → ℕ → Type 0
+ComesBefore node letter n a = (n < node) ⊎ ((n ≡ node) × (a < letter))
 
 -- the state of an entry, and the first where there is none
 abbrev pub state_at : Graph → ℕ → ℕ → ℕ
@@ -232,16 +193,16 @@ pub record AreTables (t : Tree) (f : Filling) : Type 0 where
   pub targets_within : (i a : ℕ) → state_at f.targets i a < length t.states
   pub links_within : (i : ℕ) → i < length t.states → slice_index_or f.links i 0 < length t.states
 
--- the entries before the place in the order and the letter are right
-pub record IsLinkedTo (rules : List (Word × Word)) (t : Tree) (order : List ℕ) (place letter : ℕ)
+-- the entries before that of the node and the letter are right
+pub record IsLinkedTo (rules : List (Word × Word)) (t : Tree) (node letter : ℕ)
     (f : Filling) : Type 0 where
   pub tables : AreTables t f
-  pub reads : (n a : ℕ) → n < length t.states → a < t.letters → IsDone order place letter n a
+  pub reads : (n a : ℕ) → n < length t.states → a < t.letters → ComesBefore node letter n a
       → Reads rules t.states (longer t.states n a) (state_at f.targets n a) (target f.ends n a)
-  pub there : (n a : ℕ) → n < length t.states → a < t.letters → IsDone order place letter n a
+  pub there : (n a : ℕ) → n < length t.states → a < t.letters → ComesBefore node letter n a
       → (to : ℕ) × (target f.targets n a ≡ Some to)
   -- the link of a state leads to the longest state at its end that is not all of it
-  pub link : (n a to : ℕ) → n < length t.states → a < t.letters → IsDone order place letter n a
+  pub link : (n a to : ℕ) → n < length t.states → a < t.letters → ComesBefore node letter n a
       → target t.children n a ≡ Some to
       → IsLongest t.states (drop 1 (slice_index_or t.states to [])) (slice_index_or f.links to 0)
 
@@ -267,12 +228,6 @@ abbrev pub linked : Option ℕ → ℕ → List ℕ → List ℕ
 linked None to links = links
 linked (Some child) to links = slice_set links child to
 
--- the tree of the rules, and all its states in order
-pub record AreLevels (levels : Levels) : Type 0 where
-  pub over : AreOver levels.trie.now.letters levels.rules.now
-  pub grown : IsTreeOf levels.rules.now levels.trie.now
-  pub order : IsOrder (states_of levels.rules.now levels.trie.now) levels.order.now
-
 -- what is filled
 abbrev pub filling_of : Tables → Filling
 filling_of tables = record {
@@ -281,11 +236,10 @@ filling_of tables = record {
   ends = tables.ends;
 }
 
--- the entries before a place in the order and a letter are right
-abbrev pub AreLinkedTo : Levels → ℕ → ℕ → Tables → Type 0
-AreLinkedTo levels place letter tables =
-    IsLinkedTo levels.rules.now (tree_of levels.rules.now levels.trie.now) levels.order.now
-    place letter (filling_of tables)
+-- the entries before that of a node and a letter are right
+abbrev pub AreLinkedTo : List (Word × Word) → Trie → ℕ → ℕ → Tables → Type 0
+AreLinkedTo rules trie node letter tables =
+    IsLinkedTo rules (tree_of rules trie) node letter (filling_of tables)
 
 -- each entry of the tables of a tree is right
 abbrev pub AreFilled : List (Word × Word) → Trie → Tables → Type 0

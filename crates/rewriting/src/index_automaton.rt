@@ -5,12 +5,11 @@ ghost use Rattle.theory.specs.Word.{Word as Letters};
 ghost use Rattle.theory.specs.Graph.{target as target_of, path as path_of, IsGraph};
 ghost use Rattle.rewriting.specs.Rules.{AreFalling, AreOver};
 ghost use Rattle.rewriting.specs.Tables.{IsTable, IsTableOf, Moves, edges, move_by};
-ghost use Rattle.rewriting.specs.Tries.{IsTreeOf, Reads, longer, words_of, AreFilled};
+ghost use Rattle.rewriting.specs.Tries.{Reads, longer, words_of};
 
-use crate::levels::Levels;
-use crate::links::{Tables, tables_of};
+use crate::links::tables_of;
 use crate::rule_lists::Rules;
-use crate::tries::{Prefix, Trie, trie_of};
+use crate::tries::{Prefix, trie_of};
 use cells::Cells;
 use ports::NoMemory;
 use std::alloc::Global;
@@ -58,22 +57,6 @@ fn move_by(end: Option<usize>, target: Option<usize>) -> Option<usize>
     }
 }
 
-// The tables of the tree of the rules.
-fn linked(alloc: Global, rules: &Rules, trie: &Trie) -> Result<Tables, NoMemory>
-    requires few { trie.now.letters ≤ 256 }
-    requires over { AreOver trie.now.letters rules.now }
-    requires grown { IsTreeOf rules.now trie.now }
-    ensures { IfOk result (AreFilled rules.now trie.now) }
-{
-    let order = trie.order(alloc, rules)?;
-    let levels = Levels {
-        rules,
-        trie,
-        order: order.as_slice(),
-    };
-    tables_of(alloc, &levels)
-}
-
 impl IndexAutomaton {
     /// The table of the rules. Refused only where memory is wanting.
     pub fn of(alloc: Global, letters: usize, rules: &Rules) -> Result<IndexAutomaton, NoMemory>
@@ -82,7 +65,7 @@ impl IndexAutomaton {
         ensures { IfOk result (IsTableOf letters rules.now) }
     {
         let trie = trie_of(alloc, letters, rules)?;
-        let tables = linked(alloc, rules, &trie)?;
+        let tables = tables_of(alloc, rules, &trie)?;
         Ok(IndexAutomaton {
             letters: trie.letters,
             prefixes: trie.prefixes,

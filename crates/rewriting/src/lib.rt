@@ -9,7 +9,6 @@
 mod factors;
 mod index_automaton;
 mod kept_rules;
-mod levels;
 mod links;
 mod lookups;
 mod newer;

@@ -2,9 +2,11 @@
 // (Aho and Corasick 1975).
 ghost use Rattle.std.specs.Prelude.{◌≡◌, ℕ, ◌+◌, ◌<◌, ◌≤◌, length, replicate, Option, IfOk};
 ghost use Rattle.std.specs.Option.{ForSome};
-ghost use Rattle.rewriting.specs.Tries.{IsBehind, linked, AreFilled, AreLevels, AreLinkedTo, filling_of};
+ghost use Rattle.rewriting.specs.Rules.{AreOver};
+ghost use Rattle.rewriting.specs.Tries.{IsBehind, linked, AreFilled, AreLinkedTo, IsTreeOf, filling_of};
 
-use crate::levels::Levels;
+use crate::rule_lists::Rules;
+use crate::tries::Trie;
 use cells::{Cells, NUMBERS_AT_MOST};
 use ports::NoMemory;
 use std::alloc::Global;
@@ -53,17 +55,15 @@ impl Tables {
     }
 
     // The entries of a state and letter, when those of shorter states are there.
-    fn link_entry(&mut self, levels: &Levels, index: usize, letter: Letter)
-        requires levels { AreLevels levels.now }
-        requires index { index < length levels.now.order.now }
-        requires letter { letter < levels.now.trie.now.letters }
-        requires linked { AreLinkedTo levels.now index letter self.old }
-        ensures { AreLinkedTo levels.now index (letter + 1) self.new }
+    fn link_entry(&mut self, rules: &Rules, trie: &Trie, node: usize, letter: Letter)
+        requires over { AreOver trie.now.letters rules.now }
+        requires tree { IsTreeOf rules.now trie.now }
+        requires node { node < length trie.now.prefixes.items }
+        requires letter { letter < trie.now.letters }
+        requires linked { AreLinkedTo rules.now trie.now node letter self.old }
+        ensures { AreLinkedTo rules.now trie.now node (letter + 1) self.new }
     {
-        let _count = levels.rules.len();
-        let trie = levels.trie;
-        let order = levels.order;
-        let node = order[index];
+        let _count = rules.len();
         let behind = self.read_behind(node, letter);
         let child = trie.children.get(node, letter);
         let end = trie.lefts.get(node, letter).or(behind.1);
@@ -74,36 +74,35 @@ impl Tables {
     }
 
     // The entries of a state.
-    fn link_row(&mut self, levels: &Levels, index: usize)
-        requires few { levels.now.trie.now.letters ≤ 256 }
-        requires levels { AreLevels levels.now }
-        requires index { index < length levels.now.order.now }
-        requires linked { AreLinkedTo levels.now index 0 self.old }
-        ensures { AreLinkedTo levels.now (index + 1) 0 self.new }
+    fn link_row(&mut self, rules: &Rules, trie: &Trie, node: usize)
+        requires few { trie.now.letters ≤ 256 }
+        requires over { AreOver trie.now.letters rules.now }
+        requires tree { IsTreeOf rules.now trie.now }
+        requires node { node < length trie.now.prefixes.items }
+        requires linked { AreLinkedTo rules.now trie.now node 0 self.old }
+        ensures { AreLinkedTo rules.now trie.now (node + 1) 0 self.new }
     {
-        let trie = levels.trie;
         for letter in 0..trie.letters {
-            self.link_entry(levels, index, Letter::new(letter as u8));
+            self.link_entry(rules, trie, node, Letter::new(letter as u8));
         }
     }
 }
 
 /// The tables of the tree, the shorter states first. Refused only where memory is wanting.
-pub fn tables_of(alloc: Global, levels: &Levels) -> Result<Tables, NoMemory>
-    requires few { levels.now.trie.now.letters ≤ 256 }
-    requires levels { AreLevels levels.now }
-    ensures { IfOk result (AreFilled levels.now.rules.now levels.now.trie.now) }
+pub fn tables_of(alloc: Global, rules: &Rules, trie: &Trie) -> Result<Tables, NoMemory>
+    requires few { trie.now.letters ≤ 256 }
+    requires over { AreOver trie.now.letters rules.now }
+    requires tree { IsTreeOf rules.now trie.now }
+    ensures { IfOk result (AreFilled rules.now trie.now) }
 {
-    let trie = levels.trie;
-    let order = levels.order;
     let states = trie.prefixes.len();
     let mut tables = Tables {
         targets: Cells::of(alloc, states, trie.letters)?,
         ends: Cells::of(alloc, states, trie.letters)?,
         links: noughts(alloc, states)?,
     };
-    for index in 0..order.len() {
-        tables.link_row(levels, index);
+    for node in 0..states {
+        tables.link_row(rules, trie, node);
     }
     Ok(tables)
 }

@@ -1,9 +1,9 @@
 // The states as a tree: each is a left side's first letters, and a child is one letter longer (Aho
 // and Corasick 1975).
-ghost use Rattle.std.specs.Prelude.{◌≡◌, ◌+◌, ◌<◌, [], ◌∷◌, length, replicate, None, Some, IfOk, OnOk};
+ghost use Rattle.std.specs.Prelude.{◌≡◌, ◌+◌, ◌<◌, ◌≤◌, [], ◌∷◌, length, replicate, None, Some, IfOk, OnOk};
 ghost use Rattle.cells.specs.Rows.{AreRows};
 ghost use Rattle.rewriting.specs.Rules.{AreOver};
-ghost use Rattle.rewriting.specs.Tries.{FindsChild, IsTreeOf, IsTreeTo};
+ghost use Rattle.rewriting.specs.Tries.{AreReadTo, FindsChild, HasGrown, IsLevelTree, IsReadTo, IsTreeOf, left_at, tree_of};
 
 use crate::rule_lists::Rules;
 use cells::{Cells, NUMBERS_AT_MOST};
@@ -68,43 +68,89 @@ impl Trie {
         Ok(child)
     }
 
-    // The proper prefixes of the left side of a rule become states, and its last letter is marked.
-    fn insert(&mut self, rules: &Rules, rule: usize) -> Result<(), NoMemory>
+    // Reads one letter more of the left side of a rule, of which so many lead to the node, and gives
+    // the node to which they lead then. The last letter leads to none, and is marked.
+    fn read_on(
+        &mut self,
+        rules: &Rules,
+        rule: usize,
+        count: usize,
+        node: usize,
+    ) -> Result<usize, NoMemory>
         requires few { rule < NUMBERS_AT_MOST }
         requires over { AreOver self.old.letters rules.now }
         requires rule { rule < length rules.now }
-        requires grown { IsTreeTo rules.now rule self.old }
-        ensures letters { OnOk result (self.new.letters ≡ self.old.letters) }
-        ensures grown { OnOk result (IsTreeTo rules.now (rule + 1) self.new) }
+        requires tree { IsLevelTree rules.now (count + 1) (tree_of rules.now self.old) }
+        requires read { IsReadTo (tree_of rules.now self.old) (left_at rules.now rule) count node }
+        ensures tree { OnOk result
+            (IsLevelTree rules.now (count + 1) (tree_of rules.now self.new)) }
+        ensures grown { OnOk result
+            (HasGrown (tree_of rules.now self.old) (tree_of rules.now self.new)) }
+        ensures read { IfOk result
+            (IsReadTo (tree_of rules.now self.new) (left_at rules.now rule) (count + 1)) }
     {
         let left = rules.rule(rule).0.letters();
-        let last = left.len() - 1;
-        let mut node = 0;
-        for count in 0..last {
-            let prefix = Prefix {
-                rule,
-                count: count + 1,
-            };
-            node = self.descend(node, left[count], prefix)?;
+        if left.len() <= count {
+            return Ok(node);
         }
-        self.lefts.put_number(node, left[last], Some(rule));
-        Ok(())
+        let letter = left[count];
+        let count = count + 1;
+        if left.len() == count {
+            self.lefts.put_number(node, letter, Some(rule));
+            return Ok(node);
+        }
+        let next = self.descend(node, letter, Prefix { rule, count })?;
+        Ok(next)
+    }
+
+    // Reads one letter more of each left side, of which so many lead to the nodes, and gives those
+    // to which they lead then.
+    fn read_level(
+        &mut self,
+        alloc: Global,
+        rules: &Rules,
+        count: usize,
+        nodes: &[usize],
+    ) -> Result<Vec<usize>, NoMemory>
+        requires few { length rules.now ≤ NUMBERS_AT_MOST }
+        requires over { AreOver self.old.letters rules.now }
+        requires count { count < usize.MAX }
+        requires nodes { length nodes.now ≡ length rules.now }
+        requires tree { IsLevelTree rules.now count (tree_of rules.now self.old) }
+        requires read { AreReadTo rules.now (length rules.now) count nodes.now
+            (tree_of rules.now self.old) }
+        ensures letters { OnOk result (self.new.letters ≡ self.old.letters) }
+        ensures tree { OnOk result
+            (IsLevelTree rules.now (count + 1) (tree_of rules.now self.new)) }
+        ensures nodes { IfOk result (λ next. length next.items ≡ length rules.now) }
+        ensures read { IfOk result (λ next. AreReadTo rules.now (length rules.now) (count + 1)
+            next.items (tree_of rules.now self.new)) }
+    {
+        let mut next = Vec::with_capacity(alloc, nodes.len())?;
+        for rule in 0..nodes.len() {
+            let node = self.read_on(rules, rule, count, nodes[rule])?;
+            next.push(node)?;
+        }
+        Ok(next)
     }
 }
 
-/// The tree of the empty word and the proper prefixes of the left sides. Refused only where memory
-/// is wanting: more rules or states than entries of four bytes can tell apart do not fit.
+/// The tree of the empty word and the proper prefixes of the left sides, level by level: the shorter
+/// states first. Refused only where memory is wanting: more rules or states than entries of four
+/// bytes can tell apart do not fit.
 pub fn trie_of(alloc: Global, letters: usize, rules: &Rules) -> Result<Trie, NoMemory>
     requires { AreOver letters rules.now }
     ensures letters { IfOk result (λ t. t.letters ≡ letters) }
-    ensures grown { IfOk result (IsTreeOf rules.now) }
+    ensures tree { IfOk result (IsTreeOf rules.now) }
 {
-    if NUMBERS_AT_MOST < rules.items.len() {
+    let number = rules.len();
+    if NUMBERS_AT_MOST < number {
         return Err(NoMemory);
     }
     let mut trie = root_alone(alloc, letters)?;
-    for rule in 0..rules.items.len() {
-        trie.insert(rules, rule)?;
+    let mut nodes = Vec::from_elem(alloc, 0, number)?;
+    for count in 0..rules.longest_left() {
+        nodes = trie.read_level(alloc, rules, count, nodes.as_slice())?;
     }
     Ok(trie)
 }

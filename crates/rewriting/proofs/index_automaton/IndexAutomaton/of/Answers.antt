@@ -11,16 +11,16 @@ returns c =
       letters = c.in_ok-trie.ensures.letters;
       over = c.requires.over;
       states = record {
-        are = c.in_ok-trie.ensures.grown.are;
-        distinct = c.in_ok-trie.ensures.grown.trie.distinct;
-        only = c.in_ok-trie.ensures.grown.trie.only;
+        are = c.in_ok-trie.ensures.tree.are;
+        distinct = c.in_ok-trie.ensures.tree.trie.distinct;
+        only = c.in_ok-trie.ensures.tree.trie.only;
       };
       reads = λ n a hn ha. c.in_ok-tables.ensures.reads n a (omega (arith, hn, size)) (omega (arith, ha, c.in_ok-trie.ensures.letters));
       full = λ n a hn ha. c.in_ok-tables.ensures.full n a hn (omega (arith, ha, c.in_ok-trie.ensures.letters));
     }
 
-pub linked-requires-clause-over : goal.linked-requires-clause-over
-linked-requires-clause-over c = subst (λ k. AreOver k c.args.rules.now) (sym c.in_ok-trie.ensures.letters) c.requires.over
+pub tables_of-requires-clause-over : goal.tables_of-requires-clause-over
+tables_of-requires-clause-over c = subst (λ k. AreOver k c.args.rules.now) (sym c.in_ok-trie.ensures.letters) c.requires.over
 
 pub invariant_of-result : goal.invariant_of-result
 invariant_of-result c =

@@ -4,6 +4,4 @@ use Rattle.rewriting.proofs.LinkLaws.{row_linked}
 use Rattle.rewriting.proofs.links.Tables.link_row.Goals as goal
 
 pub returns : goal.returns
-returns c =
-    row_linked c.args.levels.now.rules.now (tree_of c.args.levels.now.rules.now c.args.levels.now.trie.now) c.args.levels.now.order.now c.args.index c.loop-letter.letter
-    (filling_of c.loop-letter.self) c.requires.index (omega arith) c.loop-letter.invariant
+returns c = row_linked c.args.rules.now (tree_of c.args.rules.now c.args.trie.now) c.args.node c.loop-letter.letter (filling_of c.loop-letter.self) (omega arith) c.loop-letter.invariant
