@@ -14,7 +14,7 @@ use Rattle.coincidence.specs.Closing.{IsRead}
 use Rattle.coincidence.specs.DueSpec.{IsDueFrom, IsDueAt}
 use Rattle.coincidence.specs.Pending.{IsAmong, Crosses}
 use Rattle.coincidence.specs.Links.{Links, IsChain, IsLinked, chain_count}
-use Rattle.coincidence.specs.Reading.{IsCut, IsQuietBoth, IsAsked, IsDueBoth, IsDueBehind, IsDueAlong, IsDueThrough, IsFrontKnown}
+use Rattle.coincidence.specs.Reading.{IsCut, IsQuietBoth, IsAsked, IsDueBoth, IsDueBehind, IsDueAlong, IsDueThrough}
 use Rattle.coincidence.specs.declared.due.Due.{Due}
 use Rattle.coincidence.specs.declared.due.Due.TheVariants.{Nothing, Edge, Join}
 use Rattle.coincidence.proofs.DueLaws.{split_last}
@@ -52,11 +52,6 @@ stopped_quiet g node side other none = (λ j a m k. absurd (whole m k.2), λ j a
         let long : length side - 1 ≡ length w = omega (arith, ap length e, length-append w (a ∷ [])) in
         let is : take (length side - 1) side ≡ w = ap (λ z. take z side) long ∙ ap (take (length w)) e ∙ take-append_seam w (a ∷ []) in
         let no : None ≡ Some j = sym none ∙ ap (path g node) is ∙ h in cc
-
--- where a side was read on to
-pub front_known : (g : Graph) (side : Word) (place middle : ℕ) (front : Option ℕ) → ((n : ℕ) → path g n (take place side) ≡ Some middle → front ≡ path g n (take (length side - 1) side)) → IsFrontKnown g side place middle front
-front_known g side place middle None is = tt
-front_known g side place middle (Some at) is = λ n leads. sym (is n leads)
 
 -- sides that lead to one node ask for nothing
 pub met_quiet : (g : Graph) (node n : ℕ) (r s : Word) → path g node r ≡ Some n → path g node s ≡ Some n → IsDueFrom g node r s Nothing × IsDueFrom g node s r Nothing

@@ -1,5 +1,5 @@
 -- What is read across an edge.
-use Rattle.std.specs.Prelude.{◌≡◌, ◌≢◌, ℕ, ◌+◌, ◌-◌, ◌<◌, List, [], ◌∷◌, ◌++◌, ◌⊎◌, Option, Some, None, IfSome, length, slice_get, take}
+use Rattle.std.specs.Prelude.{◌≡◌, ◌≢◌, ℕ, ◌+◌, ◌<◌, List, [], ◌∷◌, ◌++◌, ◌⊎◌, Some, None, length, slice_get}
 use Rattle.theory.specs.Word.{Word}
 use Rattle.theory.specs.Congruence.{EitherWay}
 use Rattle.theory.specs.Graph.{Graph, target, path}
@@ -52,13 +52,6 @@ pub record IsCut (g : Graph) (node : ℕ) (side : Word) (place : ℕ) : Type 0 w
   pub behind : slice_get side (place + 1) ≡ Some next
   pub more : place + 2 < length side
   pub stops : path g node (letter ∷ next ∷ []) ≡ None
-
--- from each node from which the letters of the side before the place lead to the middle, all but
--- its last letter lead to the front, if there is one
-abbrev pub IsFrontKnown : Graph → Word → ℕ → ℕ → Option ℕ → Type 0
-IsFrontKnown g side place middle front = IfSome front (λ at. (n : ℕ)
-    → path g n (take place side) ≡ Some middle
-    → path g n (take (length side - 1) side) ≡ Some at)
 
 -- what a pair gives where a side crosses the edge
 abbrev pub IsDueAlong : Graph → ℕ → ℕ → Word → Word → Word → Due → Type 0

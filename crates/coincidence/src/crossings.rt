@@ -3,7 +3,7 @@ ghost use Rattle.std.specs.Prelude.{◌≡◌, ℕ, ◌-◌, ◌<◌, ◌≤◌,
 ghost use Rattle.theory.specs.Word.{Word as Letters};
 ghost use Rattle.theory.specs.Graph.{path as path_of, target as target_of};
 ghost use Rattle.coincidence.specs.Merging.{EdgesReached, IsReached};
-ghost use Rattle.coincidence.specs.Reading.{IsCut, IsDueBoth, IsDueBehind, IsDueAlong, IsDueThrough, IsFrontKnown};
+ghost use Rattle.coincidence.specs.Reading.{IsCut, IsDueBoth, IsDueBehind, IsDueAlong, IsDueThrough};
 ghost use Rattle.coincidence.specs.Rings.{IsPeriod};
 ghost use Rattle.coincidence.specs.Seen.{AreSidesOf, HoldWhereSeen};
 ghost use Rattle.coincidence.specs.declared.due.Due.TheVariants.{Nothing};
@@ -40,11 +40,8 @@ fn front_from(edges: &Edges, node: usize, side: &Word, place: usize) -> Option<u
     Some(at)
 }
 
-// A side of which so many letters are left is read on to its end before it is read back.
-const READ_ON_AT_MOST: usize = 16;
-
-// A side of a pair that is read up to a place of it, where it has come to a node in the middle; the
-// other side; and where all but the last letter of the side lead, if it was read on.
+// A side of a pair that is read up to a place of it, where it has come to a node in the middle, and
+// the other side.
 #[derive(Drop)]
 struct Crossing<'a> {
     pairs: &'a Pairs,
@@ -53,23 +50,6 @@ struct Crossing<'a> {
     place: usize,
     middle: usize,
     other: &'a Word,
-    front: Option<usize>,
-}
-
-// Where all but the last letter of the side lead.
-fn front_of(edges: &Edges, crossing: &Crossing) -> Option<usize>
-    requires place { crossing.now.place < length crossing.now.side.now }
-    requires front { IsFrontKnown edges.now.graph crossing.now.side.now crossing.now.place
-        crossing.now.middle crossing.now.front }
-    ensures { (n : ℕ) → path_of edges.now.graph n
-        (take crossing.now.place crossing.now.side.now) ≡ Some crossing.now.middle
-        → result ≡ path_of edges.now.graph n
-        (take (length crossing.now.side.now - 1) crossing.now.side.now) }
-{
-    match crossing.front {
-        Some(front) => Some(front),
-        None => front_from(edges, crossing.middle, crossing.side, crossing.place),
-    }
 }
 
 // What a pair asks for at a node from which the one side leads to a place of it, unless it was seen
@@ -78,8 +58,6 @@ fn due_beyond(edges: &Edges, node: usize, crossing: &Crossing, seen: &mut Seen) 
     requires place { crossing.now.place < length crossing.now.side.now }
     requires middle { path_of edges.now.graph node
         (take crossing.now.place crossing.now.side.now) ≡ Some crossing.now.middle }
-    requires front { IsFrontKnown edges.now.graph crossing.now.side.now crossing.now.place
-        crossing.now.middle crossing.now.front }
     requires pair { AreSidesOf crossing.now.pairs.now crossing.now.number crossing.now.side.now
         crossing.now.other.now }
     requires node { IsReached edges.now.graph node }
@@ -91,7 +69,7 @@ fn due_beyond(edges: &Edges, node: usize, crossing: &Crossing, seen: &mut Seen) 
     if seen.has(node, crossing.number) {
         return Due::Nothing;
     }
-    let Some(one) = front_of(edges, crossing) else {
+    let Some(one) = front_from(edges, crossing.middle, crossing.side, crossing.place) else {
         return Due::Nothing;
     };
     match asked_beside(edges, node, crossing.side, one, crossing.other) {
@@ -112,8 +90,6 @@ fn due_behind(edges: &Edges, node: usize, count: usize, crossing: &Crossing, see
         → path_of edges.now.graph n (take count crossing.now.side.now) ≡ Some node
         → path_of edges.now.graph n (take crossing.now.place crossing.now.side.now)
         ≡ Some crossing.now.middle }
-    requires front { IsFrontKnown edges.now.graph crossing.now.side.now crossing.now.place
-        crossing.now.middle crossing.now.front }
     requires pair { AreSidesOf crossing.now.pairs.now crossing.now.number crossing.now.side.now
         crossing.now.other.now }
     requires reached { (n : ℕ)
@@ -155,8 +131,7 @@ fn none_before(edges: &Edges, node: usize, side: &Word, place: usize) -> bool
 }
 
 // What a pair asks for where the one side is read across this node, with so many letters before it.
-// Most often nothing is read back: the pair was seen to hold, nothing leads to the node, or the side
-// does not lead on to its last letter.
+// Most often nothing is read: the pair was seen to hold, or nothing leads to the node.
 fn due_across(edges: &Edges, node: usize, one: &OneSide, place: usize, seen: &mut Seen) -> Due
     requires place { place < length one.now.side.now }
     requires pair { AreSidesOf one.now.pairs.now one.now.number one.now.side.now
@@ -174,13 +149,6 @@ fn due_across(edges: &Edges, node: usize, one: &OneSide, place: usize, seen: &mu
     if 0 < place && none_before(edges, node, one.side, place) {
         return Due::Nothing;
     }
-    let mut front = None;
-    if one.side.len() - place <= READ_ON_AT_MOST {
-        front = front_from(edges, node, one.side, place);
-        if front.is_none() {
-            return Due::Nothing;
-        }
-    }
     let crossing = Crossing {
         pairs: one.pairs,
         number: one.number,
@@ -188,7 +156,6 @@ fn due_across(edges: &Edges, node: usize, one: &OneSide, place: usize, seen: &mu
         place,
         middle: node,
         other: one.other,
-        front,
     };
     due_behind(edges, node, place, &crossing, seen)
 }

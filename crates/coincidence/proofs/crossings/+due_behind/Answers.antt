@@ -1,4 +1,4 @@
-use Rattle.std.proofs.Common.{◌≡◌, ℕ, ◌-◌, ◌∙◌, Some, ap, arith, take, subst, sym}
+use Rattle.std.proofs.Common.{◌-◌, ◌∙◌, ap, arith, take, subst, sym}
 use Rattle.theory.specs.Graph.{path}
 use Rattle.coincidence.specs.Reading.{IsDueBehind}
 use Rattle.coincidence.specs.declared.due.Due.TheVariants.{Nothing}
@@ -51,17 +51,23 @@ due_beyond-requires-clause-middle t c = c.requires.middle c.args.node (ap (λ z.
 pub due_behind-requires : goal.due_behind-requires
 due_behind-requires t c =
     let here = subst (λ z. IsListing c.args.edges.now c.args.node c.letter-letter.result (λ source. IsDueBehind c.args.edges.now.graph source (take (c.args.count - 1) c.args.crossing.now.side.now) c.args.crossing.now.side.now c.args.crossing.now.other.now Nothing) z) c.in-Some.is c.loop-at.invariant.listing in
-    let leads = listing_leads c.args.edges.now c.args.node c.letter-letter.result (λ source. IsDueBehind c.args.edges.now.graph source (take (c.args.count - 1) c.args.crossing.now.side.now) c.args.crossing.now.side.now c.args.crossing.now.other.now Nothing) c.in-Some.source here in
-    let goes : (n : ℕ) → path c.args.edges.now.graph n (take (c.args.count - 1) c.args.crossing.now.side.now) ≡ Some c.in-Some.source → path c.args.edges.now.graph n (take c.args.count c.args.crossing.now.side.now) ≡ Some c.args.node = λ n front. ap (path c.args.edges.now.graph n) (front_last c.args.crossing.now.side.now c.args.count c.letter-letter.result c.if-count-eq0.false (omega (arith, c.requires.count, c.requires.place)) c.letter-letter.ensures)
-    ∙ path_more c.args.edges.now.graph n c.in-Some.source (take (c.args.count - 1) c.args.crossing.now.side.now) c.letter-letter.result front ∙ leads in (
+    let leads = listing_leads c.args.edges.now c.args.node c.letter-letter.result (λ source. IsDueBehind c.args.edges.now.graph source (take (c.args.count - 1) c.args.crossing.now.side.now) c.args.crossing.now.side.now c.args.crossing.now.other.now Nothing) c.in-Some.source here in (
       omega (arith, c.decreases, c.if-count-eq0.false),
       (
         omega (arith, c.requires.count),
         (
           c.requires.place,
           (
-            λ n front. c.requires.middle n (goes n front),
-            (c.requires.front, (c.requires.pair, (λ n front. c.requires.reached n (goes n front), c.loop-at.invariant.seen))),
+            λ n front. c.requires.middle n (ap (path c.args.edges.now.graph n) (front_last c.args.crossing.now.side.now c.args.count c.letter-letter.result c.if-count-eq0.false (omega (arith, c.requires.count, c.requires.place)) c.letter-letter.ensures)
+                ∙ path_more c.args.edges.now.graph n c.in-Some.source (take (c.args.count - 1) c.args.crossing.now.side.now) c.letter-letter.result front ∙ leads),
+            (
+              c.requires.pair,
+              (
+                λ n front. c.requires.reached n (ap (path c.args.edges.now.graph n) (front_last c.args.crossing.now.side.now c.args.count c.letter-letter.result c.if-count-eq0.false (omega (arith, c.requires.count, c.requires.place)) c.letter-letter.ensures)
+                    ∙ path_more c.args.edges.now.graph n c.in-Some.source (take (c.args.count - 1) c.args.crossing.now.side.now) c.letter-letter.result front ∙ leads),
+                c.loop-at.invariant.seen,
+              ),
+            ),
           ),
         ),
       ),

@@ -1,11 +1,8 @@
-use Rattle.std.proofs.Common.{[], ◌∙◌, subst, sym, take}
+use Rattle.std.proofs.Common.{[], take}
 use Rattle.coincidence.specs.declared.due.Due.TheVariants.{Nothing}
-use Rattle.coincidence.specs.Reading.{IsFrontKnown}
-use Rattle.coincidence.proofs.PlaceLaws.{none_of}
-use Rattle.coincidence.proofs.ReadLaws.{behind_here, front_known, met_quiet, stopped_quiet}
+use Rattle.coincidence.proofs.ReadLaws.{behind_here, met_quiet}
 use Rattle.coincidence.proofs.SeenLaws.{reached_behind, sides_meet}
 use Rattle.coincidence.proofs.crossings.due_across.Goals as goal
-use Rattle.coincidence.proofs.crossings.due_across.Goals.{then-len-place-le-READ_ON_AT_MOST+else-is_none, else-len-place-le-READ_ON_AT_MOST}
 
 pub due_behind-requires-clause-reached : goal.due_behind-requires-clause-reached
 due_behind-requires-clause-reached c = λ n e. reached_behind c.args.edges.now.graph c.args.node n (take c.args.place c.args.one.now.side.now) c.requires.reached c.requires.node e
@@ -18,14 +15,3 @@ returns-then-has-clause-due c =
     let met = sides_meet c.args.one.now.pairs.now c.args.one.now.number side other g c.args.node ([], []) c.requires.pair
     (c.requires.seen c.args.node c.args.one.now.number ([], []) (c.has.ensures c.if-has.true) c.requires.node) in
     behind_here g c.args.node c.args.place side side other Nothing c.if-place-eq0.true (met_quiet g c.args.node met.0 side other met.1 met.2)
-
-pub returns-then-is_none-clause-due : goal.returns-then-is_none-clause-due
-returns-then-is_none-clause-due c = λ n leads.
-    stopped_quiet c.args.edges.now.graph n c.args.one.now.side.now c.args.one.now.other.now (sym (c.front_from-front.ensures n leads) ∙ none_of c.front_from-front.result c.if-is_none.ensures)
-
-pub due_behind-requires-clause-front : goal.due_behind-requires-clause-front
-due_behind-requires-clause-front c = elim c.if-len-place-le-READ_ON_AT_MOST.branch [
-  | then-len-place-le-READ_ON_AT_MOST+else-is_none w ↦ subst (IsFrontKnown c.args.edges.now.graph c.args.one.now.side.now c.args.place c.args.node) (sym w.front-is)
-      (front_known c.args.edges.now.graph c.args.one.now.side.now c.args.place c.args.node w.front_from-front.result w.front_from-front.ensures)
-  | else-len-place-le-READ_ON_AT_MOST w ↦ subst (IsFrontKnown c.args.edges.now.graph c.args.one.now.side.now c.args.place c.args.node) (sym w.front-is) tt
-]

@@ -10,10 +10,10 @@ returns-then-has-clause-due c =
     met_quiet c.args.edges.now.graph c.args.node met.0 c.args.crossing.now.side.now c.args.crossing.now.other.now met.1 met.2
 
 pub returns-in_default-clause-due : goal.returns-in_default-clause-due
-returns-in_default-clause-due c = stopped_quiet c.args.edges.now.graph c.args.node c.args.crossing.now.side.now c.args.crossing.now.other.now (sym (c.front_of.ensures c.args.node c.requires.middle) ∙ c.in_default.is)
+returns-in_default-clause-due c = stopped_quiet c.args.edges.now.graph c.args.node c.args.crossing.now.side.now c.args.crossing.now.other.now (sym (c.front_from.ensures c.args.node c.requires.middle) ∙ c.in_default.is)
 
 pub asked_beside-requires : goal.asked_beside-requires
-asked_beside-requires c = sym (c.front_of.ensures c.args.node c.requires.middle) ∙ c.in-Some.is
+asked_beside-requires c = sym (c.front_from.ensures c.args.node c.requires.middle) ∙ c.in-Some.is
 
 pub returns-in-None-clause-due : goal.returns-in-None-clause-due
 returns-in-None-clause-due c =
